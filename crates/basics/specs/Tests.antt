@@ -1,0 +1,23 @@
+-- Tests: a choice by a Bool, a test asked with its outcome, and what a conjunction says of its parts.
+use mathlib.Core.Path.{_≡_, refl}
+use mathlib.Core.Bool.{Bool, true, false, _&&_}
+
+abbrev pub either {ℓ} : {X : Type ℓ} → Bool → X → X → X
+either true x y = x
+either false x y = y
+
+-- a test is passed or not, with the fact
+pub ask {ℓ} : {X : Type ℓ} (b : Bool) → (b ≡ true → X) → (b ≡ false → X) → X
+ask true f g = f refl
+ask false f g = g refl
+
+pub and-left : (a b : Bool) → a && b ≡ true → a ≡ true
+and-left true b e = refl
+and-left false b e = e
+
+pub and-right : (a b : Bool) → a && b ≡ true → b ≡ true
+and-right true b e = e
+and-right false b e = cc
+
+pub and-both : {a b : Bool} → a ≡ true → b ≡ true → a && b ≡ true
+and-both p q = rw (p, q)

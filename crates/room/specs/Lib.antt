@@ -1,0 +1,4 @@
+pub mod Room
+pub mod Units
+pub mod RoomLaws
+pub mod MoveLaws

@@ -1,0 +1,223 @@
+-- Laws of the moves: a neighbour is inside exactly when its position is, moves are symmetric, and a flat step changes a distance by at most 1, a
+-- stair by at most 2.
+use mathlib.Core.Path.{_≡_, refl, sym, ap, _∙_}
+use mathlib.Core.Logic.{_⊎_, inl, inr}
+use mathlib.Core.Bool.{Bool, true, false, _&&_}
+use mathlib.Core.List.{List, [], _∷_}
+use Prim.Native.Nat.{ℕ, _+_, _-_, _*_, _≤_, _<_}
+use native.Mathlib.Omega.{arith}
+use lib.Dec.{leb, eqb}
+use borrow.Author.Tests.{leb-true, eqb-true, le-leb}
+use Rattle.basics.specs.Tests.{either, ask, and-left, and-right, and-both}
+use Rattle.basics.specs.Lists.{In, every, every-in}
+use Rattle.room.specs.declared.Room.{Room}
+use Rattle.room.specs.declared.Pos.{Pos}
+use Rattle.room.specs.declared.Move.{Move}
+use Rattle.room.specs.declared.Neighbour.{Neighbour}
+use Rattle.room.specs.declared.Neighbour.the-variants.{Inside, Outside}
+use Rattle.room.specs.Room.{Good, Within, Moved, at, by, volume, cellOf, posOf, moves, inOrOut, between, stays, shifted, neighbour, apart, distance}
+use Rattle.room.specs.RoomLaws.{cell-in, cell-pos, pos-cell, pos-in}
+
+-- ---- a neighbour is inside exactly when its position is
+
+ruleset passed = (and-left, and-right, leb-true)
+
+one-less : {a : ℕ} → 1 ≤ a → a - 1 + 1 ≡ a
+one-less h = omega arith
+
+one-less-in : {a side : ℕ} → 1 ≤ a → a ≤ side → a - 1 < side
+one-less-in h k = omega arith
+
+reached : (R : Room) (p : Pos) (m : Move) → stays R p m ≡ true → Moved p m (shifted p m) × Within R (shifted p m)
+unfolding stays between
+reached R p m e =
+    let a : 1 ≤ p .x + m .x = search passed in
+    let b : p .x + m .x ≤ R .wide = search passed in
+    let c : 1 ≤ p .y + m .y = search passed in
+    let d : p .y + m .y ≤ R .high = search passed in
+    let f : 1 ≤ p .z + m .z = search passed in
+    let g : p .z + m .z ≤ R .deep = search passed in (
+      record { x-by = one-less a; y-by = one-less c; z-by = one-less f },
+      record { x-in = one-less-in a b; y-in = one-less-in c d; z-in = one-less-in f g },
+    )
+
+pub stays-by : (R : Room) (p : Pos) (m : Move) (q : Pos) → Moved p m q → Within R q → stays R p m ≡ true
+unfolding stays between
+stays-by R p m q v w = and-both (one (v .x-by) (w .x-in)) (and-both (one (v .y-by) (w .y-in)) (one (v .z-by) (w .z-in)))
+  where
+    one : {a b side : ℕ} → b + 1 ≡ a → b < side → between 1 a side ≡ true
+    one {a} {b} {side} e h = and-both (le-leb 1 a (omega arith)) (le-leb a side (omega arith))
+
+-- a move leads to one position only
+pub moved-one : (p : Pos) (m : Move) (q r : Pos) → Moved p m q → Moved p m r → q ≡ r
+moved-one p m q r v w =
+    let a : q .x ≡ r .x = omega (arith, v .x-by, w .x-by) in
+    let b : q .y ≡ r .y = omega (arith, v .y-by, w .y-by) in
+    let c : q .z ≡ r .z = omega (arith, v .z-by, w .z-by) in
+    λ i. record { x = a i; y = b i; z = c i }
+
+-- what it means that the move m leads from cell n to cell v
+pub record Leads (R : Room) (n : ℕ) (m : Move) (v : ℕ) : Type 0 where
+  pub inside : v < volume R
+  pub there : Within R (posOf R v)
+  pub moved : Moved (posOf R n) m (posOf R v)
+
+pub leads : (R : Room) (n : ℕ) (m : Move) (v : ℕ) → neighbour R n m ≡ Inside v → Leads R n m v
+unfolding neighbour
+leads R n m v e = ask (stays R (posOf R n) m) (λ t. yes-in t (rw t at e)) (λ f. no-out (rw f at e))
+  where
+    yes-in : stays R (posOf R n) m ≡ true → Inside (cellOf R (shifted (posOf R n) m)) ≡ Inside v → Leads R n m v
+    yes-in t q =
+        let r = reached R (posOf R n) m t in
+        let c : cellOf R (shifted (posOf R n) m) ≡ v = cc in
+        let b : posOf R v ≡ shifted (posOf R n) m = ap (posOf R) (sym c) ∙ pos-cell R (shifted (posOf R n) m) (r .1) in
+        record { inside = rw c at (cell-in R (shifted (posOf R n) m) (r .1)); there = rw b (r .1); moved = rw b (r .0) }
+
+    no-out : Outside ≡ Inside v → Leads R n m v
+    no-out q = let z : _≡_ {A = ℕ} 0 1 = cc in absurd (omega arith)
+
+pub leads-to : (R : Room) (n : ℕ) (m : Move) (q : Pos) → Moved (posOf R n) m q → Within R q → neighbour R n m ≡ Inside (cellOf R q)
+unfolding neighbour
+leads-to R n m q v w =
+    let t = stays-by R (posOf R n) m q v w in
+    let e = moved-one (posOf R n) m _ q (reached R (posOf R n) m t .0) v in
+    rw (t, e)
+
+pub leads-out : (R : Room) (n : ℕ) (m : Move) → neighbour R n m ≡ Outside → (q : Pos) → Moved (posOf R n) m q → Within R q → ⊥
+leads-out R n m e q v w = let f = leads-to R n m q v w in let z : _≡_ {A = ℕ} 0 1 = cc in omega arith
+
+-- the tests one by one, as the code makes them
+module _ (R : Room) (n : ℕ) (m : Move) where
+  pub out-x : between 1 (posOf R n .x + m .x) (R .wide) ≡ false → Outside ≡ neighbour R n m
+  unfolding neighbour stays
+  out-x e = rw e
+
+  module _ (x-in : between 1 (posOf R n .x + m .x) (R .wide) ≡ true) where
+    pub out-y : between 1 (posOf R n .y + m .y) (R .high) ≡ false → Outside ≡ neighbour R n m
+    unfolding neighbour stays
+    out-y e = rw (x-in, e)
+
+    module _ (y-in : between 1 (posOf R n .y + m .y) (R .high) ≡ true) where
+      pub out-z : between 1 (posOf R n .z + m .z) (R .deep) ≡ false → Outside ≡ neighbour R n m
+      unfolding neighbour stays
+      out-z e = rw (x-in, y-in, e)
+
+      module _ (z-in : between 1 (posOf R n .z + m .z) (R .deep) ≡ true) where
+        all-in : stays R (posOf R n) m ≡ true
+        unfolding stays
+        all-in = rw (x-in, y-in, z-in)
+
+        module _ (p : Pos) (e : p ≡ posOf R n) where
+          pub shifted-in : Within R (shifted p m)
+          shifted-in = rw e (reached R (posOf R n) m all-in .1)
+
+          pub in-all : (v : ℕ) → v ≡ cellOf R (shifted p m) → Inside v ≡ neighbour R n m
+          unfolding neighbour
+          in-all v f = rw (f, all-in, e)
+
+-- ---- moves are symmetric
+
+abbrev pub opposite : Move → Move
+opposite m = by (2 - m .x) (2 - m .y) (2 - m .z)
+
+abbrev same : Move → Move → Bool
+same a b = eqb (a .x) (b .x) && (eqb (a .y) (b .y) && eqb (a .z) (b .z))
+
+abbrev among : Move → List Move → Bool
+among m [] = false
+among m (k ∷ ks) = either (same m k) true (among m ks)
+
+same-is : (a b : Move) → same a b ≡ true → a ≡ b
+same-is a b e =
+    let p : a .x ≡ b .x = eqb-true _ _ (and-left _ _ e) in
+    let q : a .y ≡ b .y = eqb-true _ _ (and-left _ _ (and-right (eqb (a .x) (b .x)) _ e)) in
+    let r : a .z ≡ b .z = eqb-true _ _ (and-right (eqb (a .y) (b .y)) _ (and-right (eqb (a .x) (b .x)) _ e)) in
+    λ i. record { x = p i; y = q i; z = r i }
+
+among-is : (m : Move) (ks : List Move) → among m ks ≡ true → In m ks
+among-is m [] e = let z : _≡_ {A = ℕ} 0 1 = cc in omega arith
+among-is m (k ∷ ks) e = ask (same m k) (λ t. inl (same-is m k t)) (λ f. inr (among-is m ks (rw f at e)))
+
+pub opposite-in : (m : Move) → In m moves → In (opposite m) moves
+unfolding moves
+opposite-in m i = among-is (opposite m) moves (every-in (λ k. among (opposite k) moves) moves refl m i)
+
+-- each part of a move is at most 2; one of x and z changes, by 1, and y by at most 1
+abbrev partsSmall : Move → Bool
+partsSmall m = leb (m .x) 2 && (leb (m .y) 2 && leb (m .z) 2)
+
+abbrev oneAside : Move → Bool
+oneAside m = eqb (apart (m .x) 1 + apart (m .z) 1) 1
+
+pub record Small (m : Move) : Type 0 where
+  pub x-small : m .x ≤ 2
+  pub y-small : m .y ≤ 2
+  pub z-small : m .z ≤ 2
+  pub aside : apart (m .x) 1 + apart (m .z) 1 ≡ 1
+
+pub small : (m : Move) → In m moves → Small m
+unfolding moves
+small m i =
+    let a = every-in partsSmall moves refl m i in
+    record {
+      x-small = search passed;
+      y-small = search passed;
+      z-small = search passed;
+      aside = eqb-true _ _ (every-in oneAside moves refl m i);
+    }
+
+pub moved-back : (p : Pos) (m : Move) (q : Pos) → Small m → Moved p m q → Moved q (opposite m) p
+moved-back p m q s v = record {
+  x-by = omega (arith, s .x-small, v .x-by);
+  y-by = omega (arith, s .y-small, v .y-by);
+  z-by = omega (arith, s .z-small, v .z-by);
+}
+
+pub symmetric : (R : Room) → Good R → (n : ℕ) (m : Move) (v : ℕ) → n < volume R → In m moves → neighbour R n m ≡ Inside v → neighbour R v (opposite m) ≡ Inside n
+symmetric R G n m v h i e =
+    leads-to R v (opposite m) (posOf R n) (moved-back (posOf R n) m (posOf R v) (small m i) (leads R n m v e .moved)) (pos-in R G n h)
+    ∙ ap Inside (cell-pos R n)
+
+-- ---- the distance changes by at most 1 on a flat step and 2 on a stair
+
+-- flat is the move that leaves y as it is
+abbrev pub flat : Move → Bool
+flat m = eqb (m .y) 1
+
+unfoldable pub most : Move → ℕ
+most m = either (flat m) 1 2
+
+-- in one direction
+shift : (a o g t : ℕ) → t + 1 ≡ a + o → apart a g ≤ apart t g + apart o 1
+shift a o g t e = omega arith
+
+shifts : (p : Pos) (m : Move) (q g : Pos) → Moved p m q
+    → apart (p .x) (g .x) + apart (p .y) (g .y) + apart (p .z) (g .z)
+    ≤ apart (q .x) (g .x) + apart (q .y) (g .y) + apart (q .z) (g .z) + (apart (m .x) 1 + apart (m .y) 1 + apart (m .z) 1)
+shifts p m q g v =
+    omega (
+      arith,
+      shift (p .x) (m .x) (g .x) (q .x) (v .x-by),
+      shift (p .y) (m .y) (g .y) (q .y) (v .y-by),
+      shift (p .z) (m .z) (g .z) (q .z) (v .z-by),
+    )
+
+change : (m : Move) → Small m → apart (m .x) 1 + apart (m .y) 1 + apart (m .z) 1 ≤ most m
+unfolding most
+change m s =
+    ask (flat m) (λ t. rw t (omega (arith, s .aside, eqb-true (m .y) 1 t))) (λ f. rw f (omega (arith, s .aside, s .y-small)))
+
+pub nearer : (R : Room) (n : ℕ) (m : Move) (v g : ℕ) → In m moves → neighbour R n m ≡ Inside v → distance R n g ≤ distance R v g + most m
+unfolding distance
+nearer R n m v g i e = omega (arith, shifts (posOf R n) m (posOf R v) (posOf R g) (leads R n m v e .moved), change m (small m i))
+
+most-opposite : (m : Move) → In m moves → most (opposite m) ≡ most m
+unfolding moves most
+most-opposite m i = eqb-true _ _ (every-in (λ k. eqb (most (opposite k)) (most k)) moves refl m i)
+
+pub farther : (R : Room) (n : ℕ) (m : Move) (v g : ℕ) → In m moves → neighbour R n m ≡ Inside v → distance R v g ≤ distance R n g + most m
+unfolding distance
+farther R n m v g i e =
+    let back = moved-back (posOf R n) m (posOf R v) (small m i) (leads R n m v e .moved) in
+    let o = opposite-in m i in
+    omega (arith, shifts (posOf R v) (opposite m) (posOf R n) (posOf R g) back, change (opposite m) (small (opposite m) o), most-opposite m i)

@@ -1,0 +1,105 @@
+-- "The room" of the requirement: sides, cell numbers, the twelve moves, the cell beneath, distances. Definitions alone; their laws are in the
+-- files named Laws.
+use mathlib.Core.Path.{_≡_}
+use mathlib.Core.Bool.{Bool, true, false, _&&_}
+use mathlib.Core.List.{List, [], _∷_}
+use Prim.Native.Nat.{ℕ, _+_, _-_, _*_, _/_, _%_, _≤_, _<_}
+use lib.Dec.{leb, ltb}
+use Rattle.room.specs.declared.Room.{Room}
+use Rattle.room.specs.declared.Pos.{Pos}
+use Rattle.room.specs.declared.Move.{Move}
+use Rattle.room.specs.declared.Neighbour.{Neighbour}
+use Rattle.room.specs.declared.Neighbour.the-variants.{Inside, Outside}
+
+-- "Sides X, Y, Z are 1 to 64; the room has V = XYZ cells, at most 16,384."
+abbrev pub maxSide : ℕ
+maxSide = 64
+
+abbrev pub maxVolume : ℕ
+maxVolume = 16384
+
+abbrev pub volume : Room → ℕ
+volume R = R .wide * R .high * R .deep
+
+-- a is from low to high
+unfoldable pub between : ℕ → ℕ → ℕ → Bool
+between low a high = leb low a && leb a high
+
+-- what number 2 judges
+unfoldable pub sidesGood : Room → Bool
+sidesGood R = between 1 (R .wide) maxSide && (between 1 (R .high) maxSide && (between 1 (R .deep) maxSide && leb (volume R) maxVolume))
+
+-- a room that number 2 does not refuse
+pub record Good (R : Room) : Type 0 where
+  pub x-some : 1 ≤ R .wide
+  pub x-most : R .wide ≤ maxSide
+  pub y-some : 1 ≤ R .high
+  pub y-most : R .high ≤ maxSide
+  pub z-some : 1 ≤ R .deep
+  pub z-most : R .deep ≤ maxSide
+  pub few : volume R ≤ maxVolume
+
+-- "Cell (x, y, z) has number (xY + y)Z + z", and back
+abbrev pub at : ℕ → ℕ → ℕ → Pos
+at a b c = record { x = a; y = b; z = c }
+
+unfoldable pub cellOf : Room → Pos → ℕ
+cellOf R p = (p .x * R .high + p .y) * R .deep + p .z
+
+unfoldable pub posOf : Room → ℕ → Pos
+posOf R n = at (n / R .deep / R .high) (n / R .deep % R .high) (n % R .deep)
+
+-- the position is in the room
+pub record Within (R : Room) (p : Pos) : Type 0 where
+  pub x-in : p .x < R .wide
+  pub y-in : p .y < R .high
+  pub z-in : p .z < R .deep
+
+unfoldable pub within : Room → Pos → Bool
+within R p = ltb (p .x) (R .wide) && (ltb (p .y) (R .high) && ltb (p .z) (R .deep))
+
+-- "The twelve moves in order: (1,0), (-1,0), (0,1), (0,-1) in (x,z), each with dy -1, 0, 1." Each part is one more than its change, so that 0, 1
+-- and 2 stand for -1, 0 and 1
+abbrev pub by : ℕ → ℕ → ℕ → Move
+by dx dy dz = record { x = dx; y = dy; z = dz }
+
+unfoldable pub moves : List Move
+moves =
+    by 2 0 1 ∷ by 2 1 1 ∷ by 2 2 1
+    ∷ by 0 0 1 ∷ by 0 1 1 ∷ by 0 2 1
+    ∷ by 1 0 2 ∷ by 1 1 2 ∷ by 1 2 2
+    ∷ by 1 0 0 ∷ by 1 1 0 ∷ by 1 2 0
+    ∷ []
+
+-- q is where the move m leads from p
+pub record Moved (p : Pos) (m : Move) (q : Pos) : Type 0 where
+  pub x-by : q .x + 1 ≡ p .x + m .x
+  pub y-by : q .y + 1 ≡ p .y + m .y
+  pub z-by : q .z + 1 ≡ p .z + m .z
+
+abbrev pub inOrOut : Bool → ℕ → Neighbour
+inOrOut true n = Inside n
+inOrOut false n = Outside
+
+-- the move m from p stays in the room
+unfoldable pub stays : Room → Pos → Move → Bool
+stays R p m =
+    between 1 (p .x + m .x) (R .wide) && (between 1 (p .y + m .y) (R .high) && between 1 (p .z + m .z) (R .deep))
+
+abbrev pub shifted : Pos → Move → Pos
+shifted p m = at (p .x + m .x - 1) (p .y + m .y - 1) (p .z + m .z - 1)
+
+-- the cell that the move m leads to from cell n; `Outside` where that is not in the room
+unfoldable pub neighbour : Room → ℕ → Move → Neighbour
+neighbour R n m = inOrOut (stays R (posOf R n) m) (cellOf R (shifted (posOf R n) m))
+
+-- the cell right beneath cell n
+unfoldable pub beneath : Room → ℕ → Neighbour
+beneath R n = inOrOut (leb 1 (posOf R n .y)) (n - R .deep)
+
+-- |dx|+|dy|+|dz|
+abbrev pub apart : ℕ → ℕ → ℕ
+apart a b = (a - b) + (b - a)
+
+unfoldable pub distance : Room → ℕ → ℕ → ℕ
+distance R a b = apart (posOf R a .x) (posOf R b .x) + apart (posOf R a .y) (posOf R b .y) + apart (posOf R a .z) (posOf R b .z)

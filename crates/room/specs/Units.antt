@@ -1,0 +1,71 @@
+-- Kinds, facings, port kinds, and the config with its ranges, as "The room" of the requirement has them.
+use mathlib.Core.Bool.{Bool, _&&_}
+use Prim.Native.Nat.{ℕ, _≤_}
+use lib.Dec.{leb}
+use Rattle.room.specs.Room.{between}
+use Rattle.room.specs.declared.RouterConfig.{RouterConfig}
+
+-- "Kinds 0 to 12 follow the order of BlockKind". Those that a rule names:
+abbrev pub air : ℕ
+air = 0
+
+abbrev pub solid : ℕ
+solid = 1
+
+abbrev pub transparent : ℕ
+transparent = 2
+
+abbrev pub redstoneWire : ℕ
+redstoneWire = 3
+
+abbrev pub redstoneTorch : ℕ
+redstoneTorch = 4
+
+abbrev pub repeater : ℕ
+repeater = 5
+
+abbrev pub lever : ℕ
+lever = 7
+
+abbrev pub redstoneBlock : ℕ
+redstoneBlock = 11
+
+abbrev pub maxKind : ℕ
+maxKind = 12
+
+abbrev pub kindKnown : ℕ → Bool
+kindKnown kind = leb kind maxKind
+
+-- "Facing: 0 none, 1 North (z-1), 2 East (x+1), 3 South (z+1), 4 West (x-1), 5 Up, 6 Down."
+abbrev pub facingKnown : ℕ → Bool
+facingKnown facing = leb facing 6
+
+abbrev pub facingHorizontal : ℕ → Bool
+facingHorizontal facing = between 1 facing 4
+
+-- "Port kind: 0 Wire, 1 BlockPower."
+abbrev pub portKnown : ℕ → Bool
+portKnown port = leb port 1
+
+-- "Each cost is 0 to 100,000, the node limit 0 to 200,000."
+abbrev pub maxCost : ℕ
+maxCost = 100000
+
+abbrev pub maxNodes : ℕ
+maxNodes = 200000
+
+-- what number 3 judges
+unfoldable pub configGood : RouterConfig → Bool
+configGood C =
+    leb (C .limit .0) maxNodes && (leb (C .horizontal .0) maxCost && (leb (C .stair .0) maxCost && leb (C .support .0) maxCost))
+
+-- a config that number 3 does not refuse
+pub record Fair (C : RouterConfig) : Type 0 where
+  pub limit-most : C .limit .0 ≤ maxNodes
+  pub horizontal-most : C .horizontal .0 ≤ maxCost
+  pub stair-most : C .stair .0 ≤ maxCost
+  pub support-most : C .support .0 ≤ maxCost
+
+-- "Costs 10, 25, 15, node limit 30,000", DustRoute's default
+abbrev pub usualConfig : RouterConfig
+usualConfig = record { limit = record { 0 = 30000 }; horizontal = record { 0 = 10 }; stair = record { 0 = 25 }; support = record { 0 = 15 } }

@@ -1,0 +1,310 @@
+// The room: its sides, the numbers of its cells, the twelve moves, the cell beneath, distances; kinds, facings and port
+// kinds; cost and node count as units of their own; the config with its ranges.
+ghost use mathlib.Core.Path.{_≡_};
+ghost use Prim.Native.Nat.{_≤_, _<_};
+ghost use lib.ListN.{getD};
+ghost use Rattle.room.specs.Room.{Good, Within, between, sidesGood, volume, cellOf, posOf, within, by, moves, neighbour, beneath, apart, distance};
+ghost use Rattle.room.specs.Units.{kindKnown, facingKnown, facingHorizontal, portKnown, configGood, usualConfig};
+
+pub const MAX_SIDE: usize = 64;
+
+pub const MAX_VOLUME: usize = 16384;
+
+pub const MAX_COST: u32 = 100000;
+
+pub const MAX_NODES: u32 = 200000;
+
+// The kinds of a block, in the order of DustRoute's BlockKind.
+pub const AIR: u8 = 0;
+
+pub const SOLID: u8 = 1;
+
+pub const TRANSPARENT: u8 = 2;
+
+pub const REDSTONE_WIRE: u8 = 3;
+
+pub const REDSTONE_TORCH: u8 = 4;
+
+pub const REPEATER: u8 = 5;
+
+pub const COMPARATOR: u8 = 6;
+
+pub const LEVER: u8 = 7;
+
+pub const BUTTON: u8 = 8;
+
+pub const PRESSURE_PLATE: u8 = 9;
+
+pub const REDSTONE_LAMP: u8 = 10;
+
+pub const REDSTONE_BLOCK: u8 = 11;
+
+pub const PISTON: u8 = 12;
+
+// The facings: none, four horizontal ones, two others.
+pub const NO_FACING: u8 = 0;
+
+pub const NORTH: u8 = 1;
+
+pub const EAST: u8 = 2;
+
+pub const SOUTH: u8 = 3;
+
+pub const WEST: u8 = 4;
+
+pub const UP: u8 = 5;
+
+pub const DOWN: u8 = 6;
+
+// The port kinds.
+pub const WIRE: u8 = 0;
+
+pub const BLOCK_POWER: u8 = 1;
+
+// A cost, in tenths. A struct of its own, so that it can't be mixed with a count.
+pub struct Cost(pub u32);
+
+// A count of cells expanded.
+pub struct Nodes(pub u32);
+
+// What a search pays for its steps, and how many cells it may expand.
+pub struct RouterConfig {
+    pub limit: Nodes,
+    pub horizontal: Cost,
+    pub stair: Cost,
+    pub support: Cost,
+}
+
+// A room by its sides X, Y and Z. Everything outside is Solid.
+pub struct Room {
+    pub wide: usize,
+    pub high: usize,
+    pub deep: usize,
+}
+
+pub struct Pos {
+    pub x: usize,
+    pub y: usize,
+    pub z: usize,
+}
+
+// A move. Each part is one more than its change: 0, 1 and 2 stand for -1, 0 and 1.
+pub struct Move {
+    pub x: usize,
+    pub y: usize,
+    pub z: usize,
+}
+
+// Where a move leads: to a cell, or out of the room.
+pub enum Neighbour {
+    Inside(usize),
+    Outside,
+}
+
+// Whether a is from low to high.
+fn in_range(low: usize, a: usize, high: usize) -> bool
+    ensures { λ r. ⌜ r ≡ between low a high ⌝ }
+{
+    if a < low {
+        return false;
+    }
+    a <= high
+}
+
+pub fn kind_known(kind: u8) -> bool
+    ensures { λ r. ⌜ r ≡ kindKnown kind ⌝ }
+{
+    kind <= PISTON
+}
+
+pub fn facing_known(facing: u8) -> bool
+    ensures { λ r. ⌜ r ≡ facingKnown facing ⌝ }
+{
+    facing <= DOWN
+}
+
+pub fn facing_horizontal(facing: u8) -> bool
+    ensures { λ r. ⌜ r ≡ facingHorizontal facing ⌝ }
+{
+    in_range(NORTH as usize, facing as usize, WEST as usize)
+}
+
+pub fn port_known(port: u8) -> bool
+    ensures { λ r. ⌜ r ≡ portKnown port ⌝ }
+{
+    port <= BLOCK_POWER
+}
+
+impl RouterConfig {
+    // DustRoute's default.
+    pub fn usual() -> RouterConfig
+        ensures { λ r. ⌜ r ≡ usualConfig ⌝ }
+    {
+        RouterConfig {
+            limit: Nodes(30000),
+            horizontal: Cost(10),
+            stair: Cost(25),
+            support: Cost(15),
+        }
+    }
+
+    // Number 3 is due where this is false.
+    pub fn good(self) -> bool
+        ensures { λ r. ⌜ r ≡ configGood self ⌝ }
+    {
+        if MAX_NODES < self.limit.0 {
+            return false;
+        }
+        if MAX_COST < self.horizontal.0 {
+            return false;
+        }
+        if MAX_COST < self.stair.0 {
+            return false;
+        }
+        self.support.0 <= MAX_COST
+    }
+}
+
+// |a - b|
+fn apart_by(a: usize, b: usize) -> usize
+    ensures { λ r. ⌜ r ≡ apart a b ⌝ }
+{
+    if a < b { b - a } else { a - b }
+}
+
+impl Room {
+    // The moves in their order: east, west, south, north, each down, level, up.
+    pub const MOVES: [Move; 12] = [
+        Move { x: 2, y: 0, z: 1 },
+        Move { x: 2, y: 1, z: 1 },
+        Move { x: 2, y: 2, z: 1 },
+        Move { x: 0, y: 0, z: 1 },
+        Move { x: 0, y: 1, z: 1 },
+        Move { x: 0, y: 2, z: 1 },
+        Move { x: 1, y: 0, z: 2 },
+        Move { x: 1, y: 1, z: 2 },
+        Move { x: 1, y: 2, z: 2 },
+        Move { x: 1, y: 0, z: 0 },
+        Move { x: 1, y: 1, z: 0 },
+        Move { x: 1, y: 2, z: 0 },
+    ];
+
+    // Number 2 is due where this is false.
+    pub fn good(self) -> bool
+        ensures { λ r. ⌜ r ≡ sidesGood self ⌝ }
+    {
+        if !in_range(1, self.wide, MAX_SIDE) {
+            return false;
+        }
+        if !in_range(1, self.high, MAX_SIDE) {
+            return false;
+        }
+        if !in_range(1, self.deep, MAX_SIDE) {
+            return false;
+        }
+        self.wide * self.high * self.deep <= MAX_VOLUME
+    }
+
+    // V, the number of cells.
+    pub fn volume(self) -> usize
+        requires { ⌜ Good self ⌝ }
+        ensures { λ r. ⌜ r ≡ volume self ⌝ }
+    {
+        self.wide * self.high * self.deep
+    }
+
+    // Whether a position is in the room.
+    pub fn holds(self, p: Pos) -> bool
+        ensures { λ r. ⌜ r ≡ within self p ⌝ }
+    {
+        if self.wide <= p.x {
+            return false;
+        }
+        if self.high <= p.y {
+            return false;
+        }
+        p.z < self.deep
+    }
+
+    // The number of the cell at a position.
+    pub fn cell(self, p: Pos) -> usize
+        requires { ⌜ Good self ⌝ }
+        requires { ⌜ Within self p ⌝ }
+        ensures { λ r. ⌜ r ≡ cellOf self p ⌝ }
+    {
+        (p.x * self.high + p.y) * self.deep + p.z
+    }
+
+    // The position of a cell.
+    pub fn pos(self, cell: usize) -> Pos
+        requires { ⌜ Good self ⌝ }
+        ensures { λ r. ⌜ r ≡ posOf self cell ⌝ }
+    {
+        let row = cell / self.deep;
+        Pos {
+            x: row / self.high,
+            y: row % self.high,
+            z: cell % self.deep,
+        }
+    }
+
+    // The k-th of the moves.
+    pub fn move_at(k: usize) -> Move
+        requires { ⌜ k < 12 ⌝ }
+        ensures { λ r. ⌜ r ≡ getD moves k (by 0 0 0) ⌝ }
+    {
+        Room::MOVES[k]
+    }
+
+    // Where a move leads from a cell.
+    pub fn neighbour(self, cell: usize, m: Move) -> Neighbour
+        requires { ⌜ Good self ⌝ }
+        requires { ⌜ cell < volume self ⌝ }
+        requires { ⌜ (m .x ≤ 2) × (m .y ≤ 2) × (m .z ≤ 2) ⌝ }
+        ensures { λ r. ⌜ r ≡ neighbour self cell m ⌝ }
+    {
+        let p = self.pos(cell);
+        let x = p.x + m.x;
+        let y = p.y + m.y;
+        let z = p.z + m.z;
+        if !in_range(1, x, self.wide) {
+            return Neighbour::Outside;
+        }
+        if !in_range(1, y, self.high) {
+            return Neighbour::Outside;
+        }
+        if !in_range(1, z, self.deep) {
+            return Neighbour::Outside;
+        }
+        Neighbour::Inside(self.cell(Pos {
+            x: x - 1,
+            y: y - 1,
+            z: z - 1,
+        }))
+    }
+
+    // The cell right beneath a cell.
+    pub fn beneath(self, cell: usize) -> Neighbour
+        requires { ⌜ Good self ⌝ }
+        ensures { λ r. ⌜ r ≡ beneath self cell ⌝ }
+    {
+        let p = self.pos(cell);
+        if p.y < 1 {
+            Neighbour::Outside
+        } else {
+            Neighbour::Inside(cell - self.deep)
+        }
+    }
+
+    // The distance |dx|+|dy|+|dz| of two cells.
+    pub fn distance(self, a: usize, b: usize) -> usize
+        requires { ⌜ Good self ⌝ }
+        requires { ⌜ a < volume self ⌝ }
+        requires { ⌜ b < volume self ⌝ }
+        ensures { λ r. ⌜ r ≡ distance self a b ⌝ }
+    {
+        let p = self.pos(a);
+        let q = self.pos(b);
+        apart_by(p.x, q.x) + apart_by(p.y, q.y) + apart_by(p.z, q.z)
+    }
+}
