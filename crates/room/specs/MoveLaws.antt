@@ -83,6 +83,10 @@ leads-to R n m q v w =
     let e = moved-one (posOf R n) m _ q (reached R (posOf R n) m t .0) v in
     rw (t, e)
 
+pub not-stays : (R : Room) (n : ℕ) (m : Move) → stays R (posOf R n) m ≡ false → neighbour R n m ≡ Outside
+unfolding neighbour
+not-stays R n m e = rw e
+
 pub leads-out : (R : Room) (n : ℕ) (m : Move) → neighbour R n m ≡ Outside → (q : Pos) → Moved (posOf R n) m q → Within R q → ⊥
 leads-out R n m e q v w = let f = leads-to R n m q v w in let z : _≡_ {A = ℕ} 0 1 = cc in omega arith
 

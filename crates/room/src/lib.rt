@@ -166,7 +166,7 @@ impl RouterConfig {
 }
 
 // |a - b|
-fn apart_by(a: usize, b: usize) -> usize
+pub fn apart_by(a: usize, b: usize) -> usize
     ensures { λ r. ⌜ r ≡ apart a b ⌝ }
 {
     if a < b { b - a } else { a - b }

@@ -1,0 +1,221 @@
+-- At any costs and any estimate: every list keeps its length, every number stays in range, and no known cost is above the cells less one times the
+-- dearest move. The reason: a cell first known adds one move to a cell known before, and a cell known already only gets cheaper.
+use mathlib.Core.Path.{_≡_, refl, sym, ap, _∙_}
+use mathlib.Core.Logic.{_⊎_, inl, inr}
+use mathlib.Core.List.{List, [], _∷_}
+use Prim.Native.Nat.{ℕ, suc, _+_, _-_, _*_, _≤_, _<_, zero-le}
+use native.Mathlib.Omega.{arith}
+use native.Mathlib.Nat.{mul-suc, mul-comm, mul-le-mul-left, eq-zero-or-pos, suc-pred-eq-of-pos}
+use lib.ListN.{length, getD, set, replicate, length-set, length-replicate}
+use Rattle.basics.specs.Lists.{In}
+use Rattle.best_first.specs.Search.{Graph, Move, Entry, State, Taken, push, counted, outset}
+use Rattle.best_first.specs.Ways.{Sound}
+use Rattle.best_first.specs.Statements.{Taking, stored, cost-of, Reached, at-outset, then, Bounded}
+use Rattle.best_first.specs.Lists.{After, hit, miss, after, zeros, in-reach, marked, marked-le, marked-none, marked-new, marked-old}
+use Rattle.best_first.specs.Entries.{same-sym, same-in}
+use Rattle.best_first.specs.Equations.{offered, Gain}
+use Rattle.best_first.specs.Reached.{through}
+use Rattle.best_first.specs.Orders.{Alike}
+
+record Fits (G : Graph) (dearest : ℕ) (known : List ℕ) (e : Entry) : Type 0 where
+  cell-in : e .cell < G .size
+  reached : 0 < getD known (e .cell) 0
+  low : e .key + dearest ≤ dearest * marked known + G .estimate (e .cell)
+
+-- the same with the cells counted that are known yet, and with the moves `due` still to be tried
+pub record Sane (G : Graph) (degree dearest : ℕ) (due : List Move) (s : State) : Type 0 where
+  pub known-length : length (s .known) ≡ G .size
+  pub previous-length : length (s .previous) ≡ G .size
+  low : (v : ℕ) → 0 < stored s v → stored s v + dearest ≤ suc (dearest * marked (s .known))
+  pub previous-in : (v : ℕ) → getD (s .previous) v 0 ≤ G .size
+  fits : (e : Entry) → In e (s .waiting) → Fits G dearest (s .known) e
+  pub balance : s .expanded + length (s .waiting) ≡ suc (s .serial)
+  pub serial : s .serial + length due ≤ degree * s .expanded
+
+pub alike-sane : {G : Graph} {degree dearest : ℕ} {due : List Move} {s t : State} → Alike s t → Sane G degree dearest due s → Sane G degree dearest due t
+alike-sane {G} {degree} {dearest} L A = record {
+  known-length = rw (L .known) at (A .known-length);
+  previous-length = rw (L .previous) at (A .previous-length);
+  low = rw (L .known) at (A .low);
+  previous-in = rw (L .previous) at (A .previous-in);
+  fits = λ e i. rw (L .known) at (A .fits e (same-in (same-sym (L .waiting)) e i));
+  balance = omega (arith, A .balance, L .expanded, L .serial, L .waiting .many);
+  serial = rw (L .expanded, L .serial) at (A .serial);
+}
+
+-- the moves `due` of u, whose cost is d, are still to be tried
+pub record Still (G : Graph) (degree dearest u d : ℕ) (due : List Move) (s : State) : Type 0 where
+  pub sane : Sane G degree dearest due s
+  pub now : stored s u ≡ suc d
+  pub lawful : (m : Move) → In m due → In m (G .moves u)
+
+pub alike-still : {G : Graph} {degree dearest u d : ℕ} {due : List Move} {s t : State} → Alike s t → Still G degree dearest u d due s → Still G degree dearest u d due t
+alike-still L A = record { sane = alike-sane L (A .sane); now = rw (L .known) at (A .now); lawful = A .lawful }
+
+module _ {G : Graph} {degree dearest : ℕ} (S : Sound G degree dearest) where
+  pub bounded : {due : List Move} {s : State} → Sane G degree dearest due s → Bounded G degree dearest s
+  bounded {due} {s} A = record {
+    known-length = A .known-length;
+    previous-length = A .previous-length;
+    cost = λ v. cost v (eq-zero-or-pos (stored s v));
+    previous-in = A .previous-in;
+    cell-in = λ e i. A .fits e i .cell-in;
+    cell-known = λ e i. A .fits e i .reached;
+    key = λ e i. omega (arith, A .fits e i .low, most);
+    balance = A .balance;
+    serial = omega (arith, A .serial);
+  }
+    where
+      most : dearest * marked (s .known) ≤ (G .size - 1) * dearest + dearest
+      most =
+          let k : marked (s .known) ≤ suc (G .size - 1) = omega (arith, marked-le (s .known), A .known-length) in
+          omega (arith, mul-le-mul-left dearest k, mul-suc dearest (G .size - 1), mul-comm dearest (G .size - 1))
+
+      cost : (v : ℕ) → (stored s v ≡ 0) ⊎ (0 < stored s v) → stored s v ≤ (G .size - 1) * dearest + 1
+      cost v (inl e) = omega arith
+      cost v (inr p) = omega (arith, A .low v p, most)
+
+  -- ---- a move that is no cheaper, and one that is
+
+  module _ {u d : ℕ} {m : Move} {ms : List Move} {s : State} (A : Still G degree dearest u d (m ∷ ms) s) where
+    pub skip-still : Still G degree dearest u d ms s
+    skip-still = record {
+      sane = record {
+        known-length = A .sane .known-length;
+        previous-length = A .sane .previous-length;
+        low = A .sane .low;
+        previous-in = A .sane .previous-in;
+        fits = A .sane .fits;
+        balance = A .sane .balance;
+        serial = omega (arith, A .sane .serial);
+      };
+      now = A .now;
+      lawful = λ n i. A .lawful n (inr i);
+    }
+
+    module _ (gain : Gain (suc (d + m .cost)) (stored s (m .to))) where
+      to-in : m .to < G .size
+      to-in = S .inside u m (A .lawful m (inl refl))
+
+      at : (v : ℕ) → After (s .known) (m .to) (suc (d + m .cost)) v
+      at v = after (s .known) (m .to) (suc (d + m .cost)) v (omega (arith, to-in, A .sane .known-length))
+
+      -- a first known cell adds one to the count, and its cost is one move above that of u
+      more : (marked (s .known) ≤ marked (offered s d m))
+          × (suc (d + m .cost) + dearest ≤ suc (dearest * marked (offered s d m)))
+      more = go gain
+        where
+          u-low : stored s u + dearest ≤ suc (dearest * marked (s .known))
+          u-low = A .sane .low u (omega (arith, A .now))
+
+          go : Gain (suc (d + m .cost)) (stored s (m .to))
+              → (marked (s .known) ≤ marked (offered s d m))
+              × (suc (d + m .cost) + dearest ≤ suc (dearest * marked (offered s d m)))
+          go (inl e) = rw (marked-new (s .known) (m .to) (d + m .cost) (omega (arith, to-in, A .sane .known-length)) e, mul-suc)
+              (omega (arith, u-low, A .now, S .dear u m (A .lawful m (inl refl))))
+          go (inr l) = rw (marked-old (s .known) (m .to) (d + m .cost) (omega arith)) (omega (arith, A .sane .low (m .to) (omega arith)))
+
+      rises : dearest * marked (s .known) ≤ dearest * marked (offered s d m)
+      rises = mul-le-mul-left dearest (more .0)
+
+      pub push-still : Still G degree dearest u d ms (push G u (m .to) (d + m .cost) s)
+      unfolding push
+      push-still = record {
+        sane = record {
+          known-length = simp length-set (A .sane .known-length);
+          previous-length = simp length-set (A .sane .previous-length);
+          low = λ v p. low v p (at v);
+          previous-in = λ v. previous v (after (s .previous) (m .to) (suc u) v (omega (arith, to-in, A .sane .previous-length)));
+          fits = fits;
+          balance = omega (arith, A .sane .balance);
+          serial = omega (arith, A .sane .serial);
+        };
+        now = now (at u);
+        lawful = λ n i. A .lawful n (inr i);
+      }
+        where
+          low : (v : ℕ) → 0 < getD (offered s d m) v 0 → After (s .known) (m .to) (suc (d + m .cost)) v
+              → getD (offered s d m) v 0 + dearest ≤ suc (dearest * marked (offered s d m))
+          low v p (hit e q) = omega (arith, more)
+          low v p (miss n q) = omega (arith, A .sane .low v (omega arith), rises)
+
+          previous : (v : ℕ) → After (s .previous) (m .to) (suc u) v → getD (set (s .previous) (m .to) (suc u)) v 0 ≤ G .size
+          previous v (hit e q) = omega (arith, in-reach (s .known) u (omega (arith, A .now)), A .sane .known-length)
+          previous v (miss n q) = omega (arith, A .sane .previous-in v)
+
+          live : (v : ℕ) → 0 < stored s v → After (s .known) (m .to) (suc (d + m .cost)) v → 0 < getD (offered s d m) v 0
+          live v p (hit e q) = omega arith
+          live v p (miss n q) = omega arith
+
+          new : After (s .known) (m .to) (suc (d + m .cost)) (m .to) → 0 < getD (offered s d m) (m .to) 0
+          new (hit e q) = omega arith
+          new (miss n q) = absurd (n refl)
+
+          fits : (e : Entry) → In e ((push G u (m .to) (d + m .cost) s) .waiting) → Fits G dearest (offered s d m) e
+          fits e (inl p) = rw p (record { cell-in = to-in; reached = new (at (m .to)); low = omega (arith, more) })
+          fits e (inr i) =
+              let o = A .sane .fits e i in
+              record { cell-in = o .cell-in; reached = live (e .cell) (o .reached) (at (e .cell)); low = omega (arith, o .low, rises) }
+
+          -- its own moves never make u cheaper
+          now : After (s .known) (m .to) (suc (d + m .cost)) u → getD (offered s d m) u 0 ≡ suc d
+          now (hit e q) = absurd (same gain)
+            where
+              same : Gain (suc (d + m .cost)) (stored s (m .to)) → ⊥
+              same (inl z) = omega (arith, A .now, ap (stored s) e)
+              same (inr l) = omega (arith, A .now, ap (stored s) e)
+          now (miss n q) = q ∙ A .now
+
+  -- ---- a taking
+
+  pub take-still : {s : State} {t : Taken} → Sane G degree dearest [] s → Taking (s .waiting) t
+      → Still G degree dearest (t .next .cell) (cost-of s (t .next .cell)) (G .moves (t .next .cell)) (counted s (t .left))
+  take-still {s} {t} A k = record {
+    sane = record {
+      known-length = A .known-length;
+      previous-length = A .previous-length;
+      low = A .low;
+      previous-in = A .previous-in;
+      fits = λ e i. A .fits e (k .left-in e i);
+      balance = omega (arith, A .balance, k .len);
+      serial = rw mul-suc (omega (arith, A .serial, S .few (t .next .cell)));
+    };
+    now = sym (suc-pred-eq-of-pos (A .fits (t .next) (k .from) .reached));
+    lawful = λ m i. i;
+  }
+
+  pub outset-sane : Sane G degree dearest [] (outset G)
+  unfolding outset
+  outset-sane = record {
+    known-length = simp (length-set, length-replicate);
+    previous-length = simp length-replicate;
+    low = λ v. low v (at v);
+    previous-in = λ v. omega (arith, zeros (G .size) v);
+    fits = λ e. elim [ inl p ↦ rw p (record { cell-in = S .start-in; reached = live (at (G .start)); low = rw (one, mul-suc) (omega arith) }) | inr i ↦ absurd i ];
+    balance = refl;
+    serial = zero-le;
+  }
+    where
+      long : G .start < length {A = ℕ} (replicate (G .size) 0)
+      long = omega (arith, S .start-in, length-replicate {A = ℕ} (G .size) 0)
+
+      at : (v : ℕ) → After (replicate (G .size) 0) (G .start) 1 v
+      at v = after (replicate (G .size) 0) (G .start) 1 v long
+
+      one : marked (set (replicate (G .size) 0) (G .start) 1) ≡ 1
+      one = marked-new (replicate (G .size) 0) (G .start) 0 long (zeros (G .size) (G .start)) ∙ ap suc (marked-none (G .size))
+
+      low : (v : ℕ) → After (replicate (G .size) 0) (G .start) 1 v → 0 < getD (set (replicate (G .size) 0) (G .start) 1) v 0
+          → getD (set (replicate (G .size) 0) (G .start) 1) v 0 + dearest ≤ suc (dearest * marked (set (replicate (G .size) 0) (G .start) 1))
+      low v (hit e q) p = rw (one, mul-suc) (omega arith)
+      low v (miss n q) p = absurd (omega (arith, zeros (G .size) v))
+
+      live : After (replicate (G .size) 0) (G .start) 1 (G .start) → 0 < getD (set (replicate (G .size) 0) (G .start) 1) (G .start) 0
+      live (hit e q) = omega arith
+      live (miss n q) = absurd (n refl)
+
+  pub sane : {l : List ℕ} {s : State} → Reached G l s → Sane G degree dearest [] s
+  sane at-outset = outset-sane
+  sane (then {s = s} t R k g e) =
+      (rw e at (through G (t .next .cell) (cost-of s (t .next .cell)) (λ ms l r. Still G degree dearest (t .next .cell) (cost-of s (t .next .cell)) ms r) (λ l. Unit {0})
+      (λ m ms l r A f. skip-still A) (λ m ms l r A f p. push-still A f) (λ m ms l r A f p. tt) (G .moves (t .next .cell)) [] (counted s (t .left)) (take-still (sane R) k))) .sane

@@ -1,0 +1,177 @@
+-- The equations of the search, one for each branch of its definitions.
+use mathlib.Core.Path.{_≡_, refl, _∙_}
+use mathlib.Core.Logic.{_⊎_, inl, inr, _≢_}
+use mathlib.Core.Bool.{true, false}
+use mathlib.Core.List.{List, [], _∷_, _++_}
+use Prim.Native.Nat.{ℕ, zero, suc, _+_, _≤_, _<_, suc-le-suc}
+use native.Mathlib.Omega.{arith}
+use lib.ListN.{length, getD, set}
+use lib.Dec.{eqb}
+use borrow.Author.Tests.{ltb-true, ltb-false, lt-ltb, le-ltb, eqb-true, eqb-false, eq-eqb, ne-eqb}
+use Rattle.basics.specs.Tests.{ask}
+use Rattle.best_first.specs.Search.{Graph, Move, Entry, State, Taken, Pushed, full, on, offer, expand, push, cheaper, trace, least, Answer, no-route, limit-passed, queue-full, ends, expands, arrived, counted, turn, run}
+use Rattle.best_first.specs.Statements.{Taking, stored, cost-of}
+use Rattle.best_first.specs.Entries.{taking}
+
+-- the known costs once the move m of a cell of cost d has been taken up
+abbrev pub offered : State → ℕ → Move → List ℕ
+offered s d m = set (s .known) (m .to) (suc (d + m .cost))
+
+-- ---- is a cost lower than what is noted?
+
+-- x is lower than what is noted (costs with 1 added), or nothing is
+abbrev pub Gain : ℕ → ℕ → Type 0
+Gain x k = (k ≡ 0) ⊎ (x < k)
+
+pub cheaper-true : (c k : ℕ) → cheaper c k ≡ true → Gain (suc c) k
+cheaper-true c zero e = inl refl
+cheaper-true c (suc k) e = inr (suc-le-suc (ltb-true c k e))
+
+pub cheaper-false : (c k : ℕ) → cheaper c k ≡ false → (0 < k) × (k ≤ suc c)
+cheaper-false c zero e = let z : _≡_ {A = ℕ} 0 1 = cc in omega arith
+cheaper-false c (suc k) e = omega (arith, ltb-false c k e)
+
+pub is-cheaper : (c k : ℕ) → Gain (suc c) k → cheaper c k ≡ true
+is-cheaper c zero h = refl
+is-cheaper c (suc k) (inl e) = absurd (omega arith)
+is-cheaper c (suc k) (inr h) = lt-ltb c k (omega arith)
+
+pub no-cheaper : (c k : ℕ) → 0 < k → k ≤ suc c → cheaper c k ≡ false
+no-cheaper c zero p q = absurd (omega arith)
+no-cheaper c (suc k) p q = le-ltb c k (omega arith)
+
+-- ---- one offer
+
+module _ (G : Graph) (u v c : ℕ) (s : State) where
+  pub offer-skip : cheaper c (stored s v) ≡ false → offer G u v c s ≡ on s
+  unfolding offer
+  offer-skip e = rw e
+
+  pub offer-push : cheaper c (stored s v) ≡ true → length (s .waiting) < G .places → offer G u v c s ≡ on (push G u v c s)
+  unfolding offer
+  offer-push e r = rw (e, lt-ltb _ _ r)
+
+  pub offer-full : cheaper c (stored s v) ≡ true → G .places ≤ length (s .waiting) → offer G u v c s ≡ full
+  unfolding offer
+  offer-full e r = rw (e, le-ltb _ _ r)
+
+-- ---- the moves one by one
+
+pub expand-none : (G : Graph) (u d : ℕ) (s : State) → expand G u d [] s ≡ on s
+unfolding expand
+expand-none G u d s = refl
+
+module _ (G : Graph) (u d : ℕ) (m : Move) (ms : List Move) (s : State) where
+  pub expand-on : (r : State) → offer G u (m .to) (d + m .cost) s ≡ on r → expand G u d (m ∷ ms) s ≡ expand G u d ms r
+  unfolding expand
+  expand-on r e = rw (e, expand)
+
+  pub expand-stop : offer G u (m .to) (d + m .cost) s ≡ full → expand G u d (m ∷ ms) s ≡ full
+  unfolding expand
+  expand-stop e = rw (e, expand)
+
+  pub expand-skip : cheaper (d + m .cost) (stored s (m .to)) ≡ false → expand G u d (m ∷ ms) s ≡ expand G u d ms s
+  expand-skip e = expand-on s (offer-skip G u _ _ s e)
+
+  pub expand-push : cheaper (d + m .cost) (stored s (m .to)) ≡ true → length (s .waiting) < G .places
+      → expand G u d (m ∷ ms) s ≡ expand G u d ms (push G u (m .to) (d + m .cost) s)
+  expand-push e r = expand-on _ (offer-push G u _ _ s e r)
+
+  pub expand-full : cheaper (d + m .cost) (stored s (m .to)) ≡ true → G .places ≤ length (s .waiting) → expand G u d (m ∷ ms) s ≡ full
+  expand-full e r = expand-stop (offer-full G u _ _ s e r)
+
+-- moves in two parts
+module _ (G : Graph) (u d : ℕ) (ns : List Move) where
+  pub expand-both-parts : (ms : List Move) (s r : State) → expand G u d ms s ≡ on r → expand G u d (ms ++ ns) s ≡ expand G u d ns r
+  unfolding expand
+  expand-both-parts [] s r e = let q : s ≡ r = cc in rw q
+  expand-both-parts (m ∷ ms) s r e = go _ refl (λ t. expand-both-parts ms t r)
+    where
+      go : (x : Pushed) → offer G u (m .to) (d + m .cost) s ≡ x → ((t : State) → expand G u d ms t ≡ on r → expand G u d (ms ++ ns) t ≡ expand G u d ns r)
+          → expand G u d (m ∷ ms ++ ns) s ≡ expand G u d ns r
+      go full f ih = let q = expand-stop G u d m ms s f in let z : _≡_ {A = ℕ} 0 1 = cc in absurd (omega arith)
+      go (on t) f ih = expand-on G u d m (ms ++ ns) s t f ∙ ih t (let q = expand-on G u d m ms s t f in cc)
+
+  pub expand-first-part : (ms : List Move) (s : State) → expand G u d ms s ≡ full → expand G u d (ms ++ ns) s ≡ full
+  unfolding expand
+  expand-first-part [] s e = let z : _≡_ {A = ℕ} 0 1 = cc in absurd (omega arith)
+  expand-first-part (m ∷ ms) s e = go _ refl (λ t. expand-first-part ms t)
+    where
+      go : (x : Pushed) → offer G u (m .to) (d + m .cost) s ≡ x → ((t : State) → expand G u d ms t ≡ full → expand G u d (ms ++ ns) t ≡ full)
+          → expand G u d (m ∷ ms ++ ns) s ≡ full
+      go full f ih = expand-stop G u d m (ms ++ ns) s f
+      go (on t) f ih = expand-on G u d m (ms ++ ns) s t f ∙ ih t (let q = expand-on G u d m ms s t f in cc)
+
+-- ---- a taking
+
+module _ (G : Graph) (s : State) where
+  pub turn-none : s .waiting ≡ [] → turn G s ≡ ends (no-route (s .expanded))
+  unfolding turn
+  turn-none e = rw e
+
+  module _ (e : Entry) (es : List Entry) (q : s .waiting ≡ e ∷ es) where
+    pub turn-goal : least e es .next .cell ≡ G .goal → turn G s ≡ ends (arrived G s)
+    unfolding turn
+    turn-goal t = rw (q, eq-eqb _ _ t)
+
+    pub turn-on : least e es .next .cell ≢ G .goal → turn G s ≡ expands (least e es .next .cell) (counted s (least e es .left))
+    unfolding turn
+    turn-on t = rw (q, ne-eqb _ _ t)
+
+-- nothing waits, or the goal is taken, or a cell is to be expanded
+pub data Turned (G : Graph) (s : State) : Type 0 where
+  nothing : s .waiting ≡ [] → turn G s ≡ ends (no-route (s .expanded)) → Turned G s
+  goal-taken : (t : Taken) → Taking (s .waiting) t → t .next .cell ≡ G .goal → turn G s ≡ ends (arrived G s) → Turned G s
+  goes-on : (t : Taken) → Taking (s .waiting) t → t .next .cell ≢ G .goal → turn G s ≡ expands (t .next .cell) (counted s (t .left)) → Turned G s
+
+pub turned : (G : Graph) (s : State) → Turned G s
+turned G s = go (s .waiting) refl
+  where
+    go : (w : List Entry) → s .waiting ≡ w → Turned G s
+    go [] q = nothing q (turn-none G s q)
+    go (e ∷ es) q =
+        let k : Taking (s .waiting) (least e es) = rw q (taking e es) in
+        ask (eqb (least e es .next .cell) (G .goal)) (λ t. goal-taken (least e es) k (eqb-true _ _ t) (turn-goal G s e es q (eqb-true _ _ t)))
+        (λ f. goes-on (least e es) k (eqb-false _ _ f) (turn-on G s e es q (eqb-false _ _ f)))
+
+-- ---- a run
+
+module _ (G : Graph) (s : State) where
+  pub run-ends : (b : ℕ) (a : Answer) → turn G s ≡ ends a → run G b s ≡ a
+  unfolding run
+  run-ends zero a e = rw (e, run)
+  run-ends (suc b) a e = rw (e, run)
+
+  module _ (u : ℕ) (t : State) (e : turn G s ≡ expands u t) where
+    pub run-limit : run G zero s ≡ limit-passed (t .expanded)
+    unfolding run
+    run-limit = rw (e, run)
+
+    pub run-full : (b : ℕ) → expand G u (cost-of t u) (G .moves u) t ≡ full → run G (suc b) s ≡ queue-full (t .expanded)
+    unfolding run
+    run-full b r = rw (e, r, run)
+
+    pub run-on : (b : ℕ) (t′ : State) → expand G u (cost-of t u) (G .moves u) t ≡ on t′ → run G (suc b) s ≡ run G b t′
+    unfolding run
+    run-on b t′ r = rw (e, r, run)
+
+-- ---- the path by predecessors
+
+pub trace-start : (n : ℕ) (previous : List ℕ) (v : ℕ) (rest : List ℕ) → getD previous v 0 ≡ 0 → trace (suc n) previous v rest ≡ v ∷ rest
+unfolding trace
+trace-start n previous v rest e = rw (e, trace)
+
+pub trace-back : (n : ℕ) (previous : List ℕ) (v u : ℕ) (rest : List ℕ) → getD previous v 0 ≡ suc u → trace (suc n) previous v rest ≡ trace n previous u (v ∷ rest)
+unfolding trace
+trace-back n previous v u rest e = rw (e, trace)
+
+-- the path has at most n cells
+pub trace-short : (n : ℕ) (previous : List ℕ) (v : ℕ) (rest : List ℕ) → length (trace n previous v rest) ≤ n + length rest
+unfolding trace
+trace-short zero previous v rest = omega arith
+trace-short (suc n) previous v rest = go (getD previous v 0) refl (λ u. trace-short n previous u (v ∷ rest))
+  where
+    go : (k : ℕ) → getD previous v 0 ≡ k → ((u : ℕ) → length (trace n previous u (v ∷ rest)) ≤ n + suc (length rest))
+        → length (trace (suc n) previous v rest) ≤ suc n + length rest
+    go zero e ih = rw (e, trace) (omega arith)
+    go (suc u) e ih = rw (e, trace) (omega (arith, ih u))

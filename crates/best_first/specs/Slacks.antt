@@ -1,0 +1,218 @@
+-- With a consistent estimate, a sharper bound on the pushes: the slacks of the moves that push a cell fall strictly, so a cell is pushed no more often
+-- than the slacks of the moves into it have values.
+use mathlib.Core.Path.{_≡_, refl, sym, ap, _∙_}
+use mathlib.Core.Logic.{_⊎_, inl, inr, _≢_}
+use mathlib.Core.List.{List, [], _∷_}
+use Prim.Native.Nat.{ℕ, suc, _+_, _-_, _*_, _≤_, _<_, zero-le}
+use native.Mathlib.Omega.{arith}
+use native.Mathlib.Decide.{ℕ-discrete}
+use native.Mathlib.Nat.{mul-comm, suc-mul}
+use lib.ListN.{length, getD}
+use lib.Dec.{eqb, ltb}
+use borrow.Author.Tests.{eq-eqb, ne-eqb, ltb-true, lt-ltb, le-ltb}
+use Rattle.basics.specs.Tests.{ask}
+use Rattle.basics.specs.Lists.{In}
+use Rattle.best_first.specs.Search.{Graph, Move, Entry, State, push, counted, best-first}
+use Rattle.best_first.specs.Ways.{Sound, Consistent}
+use Rattle.best_first.specs.Statements.{times, total, stored, pushes, slack, Slacks}
+use Rattle.best_first.specs.Sums.{total-same, total-more, single, single-most, Single, there, elsewhere, at-single}
+use Rattle.best_first.specs.Equations.{Gain, offered}
+use Rattle.best_first.specs.Links.{not-start}
+use Rattle.best_first.specs.Base.{Mid, same, now-known}
+use Rattle.best_first.specs.Paced.{Measure, pushes-hold, Frugal, frugal}
+
+-- how many elements are less than n
+abbrev lesser : ℕ → List ℕ → ℕ
+lesser n l = times (λ x. ltb x n) l
+
+lesser-le : (n m : ℕ) (l : List ℕ) → n ≤ m → lesser n l ≤ lesser m l
+unfolding times
+lesser-le n m [] h = zero-le
+lesser-le n m (x ∷ l) h =
+    ask (ltb x n) (λ t. rw (t, lt-ltb x m (omega (arith, ltb-true x n t))) (omega (arith, lesser-le n m l h))) (λ f. rw f (omega (arith, lesser-le n m l h)))
+
+lesser-lt : (n m : ℕ) (l : List ℕ) → n < m → In n l → lesser n l < lesser m l
+unfolding times
+lesser-lt n m [] h i = absurd i
+lesser-lt n m (x ∷ l) h (inl e) =
+    rw (le-ltb x n (omega (arith, e)), lt-ltb x m (omega (arith, e))) (omega (arith, lesser-le n m l (omega arith)))
+lesser-lt n m (x ∷ l) h (inr i) =
+    ask (ltb x n) (λ t. rw (t, lt-ltb x m (omega (arith, ltb-true x n t))) (omega (arith, lesser-lt n m l h i))) (λ f. rw f (omega (arith, lesser-lt n m l h i)))
+
+lesser-all : (n : ℕ) (l : List ℕ) → lesser n l ≤ length l
+unfolding times
+lesser-all n [] = zero-le
+lesser-all n (x ∷ l) = ask (ltb x n) (λ t. rw t (omega (arith, lesser-all n l))) (λ f. rw f (omega (arith, lesser-all n l)))
+
+-- the place of a move's slack among the values
+slot : {G : Graph} {k : ℕ} → Slacks G k → ℕ → Move → ℕ
+slot {G} Z u m = lesser (slack G u m) (Z .values (m .to))
+
+module _ {G : Graph} {k : ℕ} (Z : Slacks G k) where
+  slot-below : (u : ℕ) (m : Move) → In m (G .moves u) → slot Z u m < k
+  unfolding slot
+  slot-below u m i =
+      omega (arith, lesser-lt (slack G u m) (suc (slack G u m)) (Z .values (m .to)) (omega arith) (Z .among u m i), lesser-all (suc (slack G u m)) (Z .values (m .to)), Z .few (m .to))
+
+  slot-order : (u v : ℕ) (m n : Move) → In m (G .moves u) → m .to ≡ n .to → slack G u m < slack G v n → slot Z u m < slot Z v n
+  unfolding slot
+  slot-order u v m n i e h =
+      omega (arith, lesser-lt (slack G u m) (slack G v n) (Z .values (m .to)) h (Z .among u m i), ap (λ (w : ℕ). lesser (slack G v n) (Z .values w)) e)
+
+-- the last push into v: by a move of so much slack that v, at its known cost, is not above the last key taken by more; lower slots are left
+record Last (G : Graph) (k : ℕ) (Z : Slacks G k) (top : ℕ) (pushed : List ℕ) (s : State) (v : ℕ) : Type 0 where
+  by : ℕ
+  move : Move
+  lawful : In move (G .moves by)
+  leads-to : move .to ≡ v
+  reached : 0 < stored s v
+  near : stored s v + G .estimate by ≤ suc top + move .cost
+  used : times (eqb v) pushed + slot Z by move ≤ k
+
+record Slotted (G : Graph) (k : ℕ) (Z : Slacks G k) (top : ℕ) (pushed : List ℕ) (s : State) : Type 0 where
+  last : (v : ℕ) → (times (eqb v) pushed ≡ 0) ⊎ Last G k Z top pushed s v
+  start-never : times (eqb (G .start)) pushed ≡ 0
+  whole : length pushed ≤ total (G .size) (λ v. times (eqb v) pushed)
+
+-- ---- one push
+
+module _ {G : Graph} {degree dearest : ℕ} (S : Sound G degree dearest) (K : Consistent G) (k : ℕ) (Z : Slacks G k) {closed ages pushed : List ℕ} {u d top : ℕ} {m : Move} {ms : List Move}
+    {s : State} (M : Mid G closed ages u d (m ∷ ms) s) (now : top ≡ d + G .estimate u) (A : Slotted G k Z top pushed s) (gain : Gain (suc (d + m .cost)) (stored s (m .to))) where
+  lawful : In m (G .moves u)
+  lawful = M .lawful m (inl refl)
+
+  here : times (eqb (m .to)) (m .to ∷ pushed) ≡ suc (times (eqb (m .to)) pushed)
+  unfolding times
+  here = rw (eq-eqb (m .to) (m .to) refl) (omega arith)
+
+  away : (v : ℕ) → v ≢ m .to → times (eqb v) (m .to ∷ pushed) ≡ times (eqb v) pushed
+  unfolding times
+  away v n = rw (ne-eqb v (m .to) n) (omega arith)
+
+  -- the slack is less than that of the push before
+  lower : (L : Last G k Z top pushed s (m .to)) → slot Z u m < slot Z (L .by) (L .move)
+  unfolding slack
+  lower L = slot-order Z u (L .by) m (L .move) lawful (sym (L .leads-to)) (go gain)
+    where
+      go : Gain (suc (d + m .cost)) (stored s (m .to)) → m .cost + G .estimate (m .to) - G .estimate u < L .move .cost + G .estimate (L .move .to) - G .estimate (L .by)
+      go (inl z) = absurd (omega (arith, L .reached))
+      go (inr l) = omega (arith, L .near, ap (G .estimate) (L .leads-to), K .falls u m lawful, K .falls (L .by) (L .move) (L .lawful))
+
+  new : (times (eqb (m .to)) pushed ≡ 0) ⊎ Last G k Z top pushed s (m .to) → Last G k Z top (m .to ∷ pushed) (push G u (m .to) (d + m .cost) s) (m .to)
+  unfolding push
+  new c = record {
+    by = u;
+    move = m;
+    lawful = lawful;
+    leads-to = refl;
+    reached = omega (arith, now-known M S gain);
+    near = omega (arith, now-known M S gain);
+    used = used c;
+  }
+    where
+      used : (times (eqb (m .to)) pushed ≡ 0) ⊎ Last G k Z top pushed s (m .to) → times (eqb (m .to)) (m .to ∷ pushed) + slot Z u m ≤ k
+      used (inl z) = omega (arith, here, slot-below Z u m lawful)
+      used (inr L) = omega (arith, here, lower L, L .used)
+
+  push-slotted : Slotted G k Z top (m .to ∷ pushed) (push G u (m .to) (d + m .cost) s)
+  unfolding push
+  push-slotted = record {
+    last = λ v. last v (ℕ-discrete v (m .to)) (A .last v);
+    start-never = away (G .start) (λ e. no-start (sym e)) ∙ A .start-never;
+    whole = omega (arith, A .whole, total-more (G .size) (m .to) 1 _ _ (S .inside u m lawful) (λ v _. more v (at-single _ _ v)));
+  }
+    where
+      no-start : m .to ≢ G .start
+      no-start = not-start S (M .base .linked) u m lawful (omega (arith, M .now)) (suc (d + m .cost)) (omega (arith, M .now)) gain
+
+      more : (v : ℕ) → Single (m .to) 1 v → times (eqb v) pushed + single (m .to) 1 v ≤ times (eqb v) (m .to ∷ pushed)
+      more v (there e q) = rw (← e) (omega (arith, here, single-most (m .to) 1 (m .to)))
+      more v (elsewhere n q) = omega (arith, away v (λ e. n (sym e)))
+
+      last : (v : ℕ) → Dec (v ≡ m .to) → (times (eqb v) pushed ≡ 0) ⊎ Last G k Z top pushed s v
+          → (times (eqb v) (m .to ∷ pushed) ≡ 0) ⊎ Last G k Z top (m .to ∷ pushed) (push G u (m .to) (d + m .cost) s) v
+      last v (yes e) c = inr (rw e (new (rw e at c)))
+      last v (no n) (inl z) = inl (away v n ∙ z)
+      last v (no n) (inr L) =
+          let q : getD (offered s d m) v 0 ≡ stored s v = same M S gain v n in
+          inr (record {
+            by = L .by;
+            move = L .move;
+            lawful = L .lawful;
+            leads-to = L .leads-to;
+            reached = omega (arith, L .reached);
+            near = omega (arith, L .near);
+            used = omega (arith, L .used, away v n);
+          })
+
+-- ---- the pushes counted
+
+module _ {G : Graph} {k : ℕ} {Z : Slacks G k} {top : ℕ} {pushed : List ℕ} {s : State} (A : Slotted G k Z top pushed s) where
+  each : (v : ℕ) → times (eqb v) pushed ≤ k
+  each v = elim (A .last v) [ inl z ↦ omega arith | inr L ↦ omega (arith, L .used) ]
+
+  all : G .start < G .size → length pushed ≤ k * (G .size - 1)
+  all h = omega (
+    arith,
+    A .whole,
+    total-more (G .size) (G .start) k _ (λ v. k) h (λ v _. at v (at-single _ _ v)),
+    total-same (G .size) k,
+    mul-comm (G .size - 1) k,
+    suc-mul (G .size - 1) k,
+    ap (λ (n : ℕ). n * k) size,
+  )
+    where
+      size : G .size ≡ suc (G .size - 1)
+      size = omega arith
+
+      at : (v : ℕ) → Single (G .start) k v → times (eqb v) pushed + single (G .start) k v ≤ k
+      at v (there e q) = omega (arith, ap (λ (n : ℕ). times (eqb n) pushed) e, A .start-never)
+      at v (elsewhere n q) = omega (arith, each v)
+
+-- ---- throughout
+
+module _ {G : Graph} {k : ℕ} (Z : Slacks G k) where
+  -- the last key taken rises
+  later : {top next : ℕ} {pushed : List ℕ} {s : State} (left : List Entry) → top ≤ next → Slotted G k Z top pushed s → Slotted G k Z next pushed (counted s left)
+  later {top} {next} {pushed} {s} left h A = record { last = λ v. last v (A .last v); start-never = A .start-never; whole = A .whole }
+    where
+      last : (v : ℕ) → (times (eqb v) pushed ≡ 0) ⊎ Last G k Z top pushed s v → (times (eqb v) pushed ≡ 0) ⊎ Last G k Z next pushed (counted s left) v
+      last v (inl z) = inl z
+      last v (inr L) = inr (record {
+        by = L .by;
+        move = L .move;
+        lawful = L .lawful;
+        leads-to = L .leads-to;
+        reached = L .reached;
+        near = omega (arith, L .near);
+        used = L .used;
+      })
+
+  module _ {degree dearest : ℕ} (S : Sound G degree dearest) (K : Consistent G) where
+    slotting : Measure G
+    unfolding times
+    slotting = record {
+      Held = λ closed due top pushed s. Slotted G k Z top pushed s;
+      begins = record { last = λ v. inl refl; start-never = refl; whole = zero-le };
+      later = λ next left l A. later left l A;
+      opens = λ B t o A. A;
+      skips = λ A. A;
+      adds = λ M A now o gain. push-slotted S K k Z M now A gain;
+    }
+
+    pub slot-cell : (limit v : ℕ) → times (eqb v) (pushes G limit) ≤ k
+    unfolding slotting times
+    slot-cell limit v = pushes-hold S K slotting (λ l. times (eqb v) l ≤ k) (λ x l h. omega arith) (λ closed due top pushed s o A. each A v) limit
+
+    pub slot-start : (limit : ℕ) → times (eqb (G .start)) (pushes G limit) ≡ 0
+    unfolding slotting times
+    slot-start limit =
+        pushes-hold S K slotting (λ l. times (eqb (G .start)) l ≡ 0) (λ x l h. omega arith) (λ closed due top pushed s o A. A .start-never) limit
+
+    pub slot-all : (limit : ℕ) → length (pushes G limit) ≤ k * (G .size - 1)
+    unfolding slotting
+    slot-all limit = pushes-hold S K slotting (λ l. length l ≤ k * (G .size - 1)) (λ x l h. omega arith) (λ closed due top pushed s o A. all A (S .start-in)) limit
+
+    pub slot-frugal : (limit : ℕ) → Frugal G (k * (G .size - 1)) (best-first G limit)
+    unfolding slotting
+    slot-frugal = frugal S K slotting (k * (G .size - 1)) (λ closed due top pushed s o A. all A (S .start-in))

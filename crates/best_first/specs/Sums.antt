@@ -1,0 +1,74 @@
+-- Sums over the cells below a number, and how many cells or moves of a list pass a test.
+use mathlib.Core.Path.{_≡_, refl, ap}
+use mathlib.Core.Logic.{_≢_}
+use mathlib.Core.Bool.{Bool, true}
+use Prim.Native.Nat.{ℕ, zero, suc, _+_, _*_, _≤_, _<_, zero-le}
+use native.Mathlib.Omega.{arith}
+use native.Mathlib.Nat.{suc-mul, zero-mul}
+use lib.Dec.{eqb}
+use borrow.Author.Tests.{eqb-true, eqb-false}
+use Rattle.basics.specs.Tests.{ask, either}
+use Rattle.best_first.specs.Statements.{bit, total}
+
+pub total-le : (n : ℕ) (f g : ℕ → ℕ) → ((x : ℕ) → x < n → f x ≤ g x) → total n f ≤ total n g
+unfolding total
+total-le zero f g h = zero-le
+total-le (suc n) f g h = omega (arith, total-le n f g (λ x l. h x (omega arith)), h n (omega arith))
+
+pub total-add : (n : ℕ) (f g : ℕ → ℕ) → total n (λ x. f x + g x) ≡ total n f + total n g
+unfolding total
+total-add zero f g = refl
+total-add (suc n) f g = omega (arith, total-add n f g)
+
+pub total-same : (n k : ℕ) → total n (λ x. k) ≡ n * k
+unfolding total
+total-same zero k = rw zero-mul
+total-same (suc n) k = rw suc-mul (omega (arith, total-same n k))
+
+-- a at v, and 0 elsewhere
+abbrev pub single : ℕ → ℕ → ℕ → ℕ
+single v a x = either (eqb v x) a 0
+
+pub data Single (v a x : ℕ) : Type 0 where
+  there : v ≡ x → single v a x ≡ a → Single v a x
+  elsewhere : v ≢ x → single v a x ≡ 0 → Single v a x
+
+pub at-single : (v a x : ℕ) → Single v a x
+at-single v a x = ask (eqb v x) (λ t. there (eqb-true v x t) (rw t)) (λ f. elsewhere (eqb-false v x f) (rw f))
+
+pub single-most : (v a x : ℕ) → single v a x ≤ a
+single-most v a x = elim (at-single v a x) [ there e q ↦ omega arith | elsewhere d q ↦ omega arith ]
+
+single-past : (v a n : ℕ) → n ≤ v → total n (single v a) ≡ 0
+unfolding total
+single-past v a zero h = refl
+single-past v a (suc n) h = go (at-single v a n) (single-past v a n (omega arith))
+  where
+    go : Single v a n → total n (single v a) ≡ 0 → total n (single v a) + single v a n ≡ 0
+    go (there e q) ih = absurd (omega arith)
+    go (elsewhere d q) ih = omega arith
+
+total-single : (v a n : ℕ) → v < n → total n (single v a) ≡ a
+unfolding total
+total-single v a zero h = absurd (omega arith)
+total-single v a (suc n) h = go (at-single v a n) (total-single v a n)
+  where
+    go : Single v a n → (v < n → total n (single v a) ≡ a) → total n (single v a) + single v a n ≡ a
+    go (there e q) ih = omega (arith, single-past v a n (omega arith))
+    go (elsewhere d q) ih = omega (arith, ih (omega arith))
+
+-- f is g everywhere below n, and a more at v
+pub total-more : (n v a : ℕ) (f g : ℕ → ℕ) → v < n → ((x : ℕ) → x < n → f x + single v a x ≤ g x) → total n f + a ≤ total n g
+total-more n v a f g h k = omega (arith, total-le n (λ x. f x + single v a x) g k, total-add n f (single v a), total-single v a n h)
+
+-- a test that at most one number passes
+module _ (p : ℕ → Bool) (only : (a b : ℕ) → p a ≡ true → p b ≡ true → a ≡ b) where
+  none-below : (a n : ℕ) → p a ≡ true → n ≤ a → total n (λ x. bit (p x)) ≡ 0
+  unfolding total
+  none-below a zero t h = refl
+  none-below a (suc n) t h = ask (p n) (λ u. absurd (omega (arith, only a n t u))) (λ f. omega (arith, ap bit f, none-below a n t (omega arith)))
+
+  pub total-one : (n : ℕ) → total n (λ x. bit (p x)) ≤ 1
+  unfolding total
+  total-one zero = zero-le
+  total-one (suc n) = ask (p n) (λ t. omega (arith, ap bit t, none-below n n t (omega arith))) (λ f. omega (arith, ap bit f, total-one n))

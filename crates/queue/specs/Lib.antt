@@ -1,0 +1,5 @@
+pub mod Queue
+pub mod BagLaws
+pub mod HeapLaws
+pub mod LeastLaws
+pub mod PlaceLaws
