@@ -1,8 +1,13 @@
--- Membership in a list, and a rule that one computed test shows of every member.
-use mathlib.Core.Path.{_≡_}
+-- Membership in a list, tests over a list, and a rule that one computed test shows of every member.
+use mathlib.Core.Path.{_≡_, refl, ap, _∙_}
 use mathlib.Core.Logic.{_⊎_, inl, inr}
-use mathlib.Core.Bool.{Bool, true, _&&_}
+use mathlib.Core.Bool.{Bool, true, false, _&&_, _||_}
 use mathlib.Core.List.{List, [], _∷_}
+use Prim.Native.Nat.{ℕ, zero, suc, _+_, _≤_, _<_}
+use native.Mathlib.Numerals.{add-one}
+use native.Mathlib.Nat.{le-of-suc-le-suc, not-suc-le-zero}
+use lib.ListN.{length, getD, drop, drop-of-length-le}
+use lib.Seq.{drop-cons}
 use Rattle.basics.specs.Tests.{and-left, and-right}
 
 -- x stands in the list
@@ -15,7 +20,33 @@ abbrev pub every : {X : Type 0} → (X → Bool) → List X → Bool
 every p [] = true
 every p (x ∷ xs) = p x && every p xs
 
+-- the test passes at one of the members
+abbrev pub any : {X : Type 0} → (X → Bool) → List X → Bool
+any p [] = false
+any p (x ∷ xs) = p x || any p xs
+
+-- one computed test shows a rule of every member
 pub every-in : {X : Type 0} (p : X → Bool) (xs : List X) → every p xs ≡ true → (x : X) → In x xs → p x ≡ true
 every-in p [] e x i = absurd i
 every-in p (y ∷ ys) e x (inl q) = rw q (and-left (p y) (every p ys) e)
 every-in p (y ∷ ys) e x (inr i) = every-in p ys (and-right (p y) (every p ys) e) x i
+
+-- the members of a list of numbers tested one by one, from the i-th on
+module _ (p : ℕ → Bool) (l : List ℕ) (i : ℕ) where
+  every-from : i < length l → every p (drop i l) ≡ (p (getD l i 0) && every p (drop (i + 1) l))
+  every-from h = rw add-one (ap (every p) (drop-cons l i 0 h))
+
+  pub every-passed : i < length l → p (getD l i 0) ≡ true → every p (drop (i + 1) l) ≡ every p (drop i l)
+  every-passed h e = rw (every-from h, e)
+
+  pub every-failed : i < length l → p (getD l i 0) ≡ false → false ≡ every p (drop i l)
+  every-failed h e = rw (every-from h, e)
+
+  pub every-end : length l ≤ i → true ≡ every p (drop i l)
+  every-end h = rw (drop-of-length-le l h)
+
+-- what stands at a place of the list stands in it
+pub in-at : {X : Type 0} (xs : List X) (k : ℕ) (d : X) → k < length xs → In (getD xs k d) xs
+in-at [] k d h = absurd (not-suc-le-zero h)
+in-at (x ∷ xs) zero d h = inl refl
+in-at (x ∷ xs) (suc k) d h = inr (in-at xs k d (le-of-suc-le-suc h))

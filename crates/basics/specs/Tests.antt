@@ -1,6 +1,9 @@
--- Tests: a choice by a Bool, a test asked with its outcome, and what a conjunction says of its parts.
+-- Tests: a choice by a Bool, a test asked with its outcome, what a conjunction says of its parts, and what follows where two different
+-- constructors would be equal.
 use mathlib.Core.Path.{_≡_, refl}
 use mathlib.Core.Bool.{Bool, true, false, _&&_}
+use Prim.Native.Nat.{ℕ}
+use native.Mathlib.Omega.{arith}
 
 abbrev pub either {ℓ} : {X : Type ℓ} → Bool → X → X → X
 either true x y = x
@@ -21,3 +24,7 @@ and-right false b e = cc
 
 pub and-both : {a b : Bool} → a ≡ true → b ≡ true → a && b ≡ true
 and-both p q = rw (p, q)
+
+-- two different constructors are never equal: `never (cc)`, as `cc` shows that 0 would be 1
+pub never {ℓ} : {X : Type ℓ} → _≡_ {A = ℕ} 0 1 → X
+never e = absurd (omega arith)

@@ -1,21 +1,22 @@
--- Laws of the moves: a neighbour is inside exactly when its position is, moves are symmetric, and a flat step changes a distance by at most 1, a
--- stair by at most 2.
+-- Laws of the moves: a neighbour is inside exactly when its position is, moves are symmetric, a facing's flat move is one of them, and a flat step
+-- changes a distance by at most 1, a stair by at most 2.
 use mathlib.Core.Path.{_≡_, refl, sym, ap, _∙_}
-use mathlib.Core.Logic.{_⊎_, inl, inr}
+use mathlib.Core.Logic.{inl, inr}
 use mathlib.Core.Bool.{Bool, true, false, _&&_}
 use mathlib.Core.List.{List, [], _∷_}
-use Prim.Native.Nat.{ℕ, _+_, _-_, _*_, _≤_, _<_}
+use Prim.Native.Nat.{ℕ, _+_, _-_, _≤_, _<_}
 use native.Mathlib.Omega.{arith}
 use lib.Dec.{leb, eqb}
+use lib.ListN.{getD}
 use borrow.Author.Tests.{leb-true, eqb-true, le-leb}
-use Rattle.basics.specs.Tests.{either, ask, and-left, and-right, and-both}
-use Rattle.basics.specs.Lists.{In, every, every-in}
+use Rattle.basics.specs.Tests.{either, ask, and-left, and-right, and-both, never}
+use Rattle.basics.specs.Lists.{In, every-in, in-at}
 use Rattle.room.specs.declared.Room.{Room}
 use Rattle.room.specs.declared.Pos.{Pos}
 use Rattle.room.specs.declared.Move.{Move}
-use Rattle.room.specs.declared.Neighbour.{Neighbour}
 use Rattle.room.specs.declared.Neighbour.the-variants.{Inside, Outside}
-use Rattle.room.specs.Room.{Good, Within, Moved, at, by, volume, cellOf, posOf, moves, inOrOut, between, stays, shifted, neighbour, apart, distance}
+use Rattle.room.specs.Room.{Good, Within, Moved, at, by, volume, cellOf, posOf, moves, between, stays, shifted, neighbourAt, neighbour, beneath, apart, distance}
+use Rattle.room.specs.Units.{north, east, south, facingHorizontal, facingMove, ahead}
 use Rattle.room.specs.RoomLaws.{cell-in, cell-pos, pos-cell, pos-in}
 
 -- ---- a neighbour is inside exactly when its position is
@@ -74,7 +75,7 @@ leads R n m v e = ask (stays R (posOf R n) m) (λ t. yes-in t (rw t at e)) (λ f
         record { inside = rw c at (cell-in R (shifted (posOf R n) m) (r .1)); there = rw b (r .1); moved = rw b (r .0) }
 
     no-out : Outside ≡ Inside v → Leads R n m v
-    no-out q = let z : _≡_ {A = ℕ} 0 1 = cc in absurd (omega arith)
+    no-out q = never (cc)
 
 pub leads-to : (R : Room) (n : ℕ) (m : Move) (q : Pos) → Moved (posOf R n) m q → Within R q → neighbour R n m ≡ Inside (cellOf R q)
 unfolding neighbour
@@ -88,36 +89,45 @@ unfolding neighbour
 not-stays R n m e = rw e
 
 pub leads-out : (R : Room) (n : ℕ) (m : Move) → neighbour R n m ≡ Outside → (q : Pos) → Moved (posOf R n) m q → Within R q → ⊥
-leads-out R n m e q v w = let f = leads-to R n m q v w in let z : _≡_ {A = ℕ} 0 1 = cc in omega arith
+leads-out R n m e q v w = let f = leads-to R n m q v w in never (cc)
+
+-- the cell beneath a cell of the room is in the room
+pub beneath-in : (R : Room) (n b : ℕ) → n < volume R → beneath R n ≡ Inside b → b < volume R
+unfolding beneath
+beneath-in R n b h e = ask (leb 1 (posOf R n .y)) (λ t. down (rw t at e)) (λ f. out (rw f at e))
+  where
+    down : Inside (n - R .deep) ≡ Inside b → b < volume R
+    down q = let c : n - R .deep ≡ b = cc in omega arith
+
+    out : Outside ≡ Inside b → b < volume R
+    out q = let z : _≡_ {A = ℕ} 0 1 = cc in absurd (omega arith)
 
 -- the tests one by one, as the code makes them
-module _ (R : Room) (n : ℕ) (m : Move) where
-  pub out-x : between 1 (posOf R n .x + m .x) (R .wide) ≡ false → Outside ≡ neighbour R n m
-  unfolding neighbour stays
+module _ (R : Room) (p : Pos) (m : Move) where
+  pub out-x : between 1 (p .x + m .x) (R .wide) ≡ false → Outside ≡ neighbourAt R p m
+  unfolding stays
   out-x e = rw e
 
-  module _ (x-in : between 1 (posOf R n .x + m .x) (R .wide) ≡ true) where
-    pub out-y : between 1 (posOf R n .y + m .y) (R .high) ≡ false → Outside ≡ neighbour R n m
-    unfolding neighbour stays
+  module _ (x-in : between 1 (p .x + m .x) (R .wide) ≡ true) where
+    pub out-y : between 1 (p .y + m .y) (R .high) ≡ false → Outside ≡ neighbourAt R p m
+    unfolding stays
     out-y e = rw (x-in, e)
 
-    module _ (y-in : between 1 (posOf R n .y + m .y) (R .high) ≡ true) where
-      pub out-z : between 1 (posOf R n .z + m .z) (R .deep) ≡ false → Outside ≡ neighbour R n m
-      unfolding neighbour stays
+    module _ (y-in : between 1 (p .y + m .y) (R .high) ≡ true) where
+      pub out-z : between 1 (p .z + m .z) (R .deep) ≡ false → Outside ≡ neighbourAt R p m
+      unfolding stays
       out-z e = rw (x-in, y-in, e)
 
-      module _ (z-in : between 1 (posOf R n .z + m .z) (R .deep) ≡ true) where
-        all-in : stays R (posOf R n) m ≡ true
+      module _ (z-in : between 1 (p .z + m .z) (R .deep) ≡ true) where
+        all-in : stays R p m ≡ true
         unfolding stays
         all-in = rw (x-in, y-in, z-in)
 
-        module _ (p : Pos) (e : p ≡ posOf R n) where
-          pub shifted-in : Within R (shifted p m)
-          shifted-in = rw e (reached R (posOf R n) m all-in .1)
+        pub shifted-in : Within R (shifted p m)
+        shifted-in = reached R p m all-in .1
 
-          pub in-all : (v : ℕ) → v ≡ cellOf R (shifted p m) → Inside v ≡ neighbour R n m
-          unfolding neighbour
-          in-all v f = rw (f, all-in, e)
+        pub in-all : (v : ℕ) → v ≡ cellOf R (shifted p m) → Inside v ≡ neighbourAt R p m
+        in-all v f = rw (f, all-in)
 
 -- ---- moves are symmetric
 
@@ -139,7 +149,7 @@ same-is a b e =
     λ i. record { x = p i; y = q i; z = r i }
 
 among-is : (m : Move) (ks : List Move) → among m ks ≡ true → In m ks
-among-is m [] e = let z : _≡_ {A = ℕ} 0 1 = cc in omega arith
+among-is m [] e = never (cc)
 among-is m (k ∷ ks) e = ask (same m k) (λ t. inl (same-is m k t)) (λ f. inr (among-is m ks (rw f at e)))
 
 pub opposite-in : (m : Move) → In m moves → In (opposite m) moves
@@ -170,6 +180,10 @@ small m i =
       aside = eqb-true _ _ (every-in oneAside moves refl m i);
     }
 
+pub move-small : (k : ℕ) → k < 12 → Small (getD moves k (by 0 0 0))
+unfolding moves
+move-small k h = small (getD moves k (by 0 0 0)) (in-at moves k (by 0 0 0) h)
+
 pub moved-back : (p : Pos) (m : Move) (q : Pos) → Small m → Moved p m q → Moved q (opposite m) p
 moved-back p m q s v = record {
   x-by = omega (arith, s .x-small, v .x-by);
@@ -181,6 +195,20 @@ pub symmetric : (R : Room) → Good R → (n : ℕ) (m : Move) (v : ℕ) → n <
 symmetric R G n m v h i e =
     leads-to R v (opposite m) (posOf R n) (moved-back (posOf R n) m (posOf R v) (small m i) (leads R n m v e .moved)) (pos-in R G n h)
     ∙ ap Inside (cell-pos R n)
+
+-- ---- the flat move of a facing
+
+pub facing-in : (facing : ℕ) → In (facingMove facing) moves
+unfolding facingMove moves
+facing-in facing =
+    ask (eqb facing north) (λ e. rw e (among-is (by 1 1 0) moves refl))
+    (λ n. ask (eqb facing east) (λ e. rw (n, e) (among-is (by 2 1 1) moves refl))
+    (λ m. ask (eqb facing south) (λ e. rw (n, m, e) (among-is (by 1 1 2) moves refl)) (λ k. rw (n, m, k) (among-is (by 0 1 1) moves refl))))
+
+pub ahead-in : (R : Room) (n facing v : ℕ) → ahead R n facing ≡ Inside v → v < volume R
+unfolding ahead
+ahead-in R n facing v e =
+    ask (facingHorizontal facing) (λ t. leads R n (facingMove facing) v (rw t at e) .inside) (λ f. never (cc (rw f at e)))
 
 -- ---- the distance changes by at most 1 on a flat step and 2 on a stair
 

@@ -1,5 +1,5 @@
--- "The room" of the requirement: sides, cell numbers, the twelve moves, the cell beneath, distances. Definitions alone; their laws are in the
--- files named Laws.
+-- "The room" of the requirement: sides, cell numbers, the twelve moves, the cells beneath and above, distances. Definitions alone; their laws are
+-- in the files named Laws.
 use mathlib.Core.Path.{_≡_}
 use mathlib.Core.Bool.{Bool, true, false, _&&_}
 use mathlib.Core.List.{List, [], _∷_}
@@ -89,13 +89,19 @@ stays R p m =
 abbrev pub shifted : Pos → Move → Pos
 shifted p m = at (p .x + m .x - 1) (p .y + m .y - 1) (p .z + m .z - 1)
 
--- the cell that the move m leads to from cell n; `Outside` where that is not in the room
-unfoldable pub neighbour : Room → ℕ → Move → Neighbour
-neighbour R n m = inOrOut (stays R (posOf R n) m) (cellOf R (shifted (posOf R n) m))
+-- the cell that the move m leads to from position p, and from cell n; `Outside` where that is not in the room
+abbrev pub neighbourAt : Room → Pos → Move → Neighbour
+neighbourAt R p m = inOrOut (stays R p m) (cellOf R (shifted p m))
 
--- the cell right beneath cell n
+unfoldable pub neighbour : Room → ℕ → Move → Neighbour
+neighbour R n m = neighbourAt R (posOf R n) m
+
+-- the cell right beneath cell n, and right above it
 unfoldable pub beneath : Room → ℕ → Neighbour
 beneath R n = inOrOut (leb 1 (posOf R n .y)) (n - R .deep)
+
+unfoldable pub above : Room → ℕ → Neighbour
+above R n = inOrOut (ltb (posOf R n .y + 1) (R .high)) (n + R .deep)
 
 -- |dx|+|dy|+|dz|
 abbrev pub apart : ℕ → ℕ → ℕ

@@ -1,18 +1,20 @@
 -- Laws of the room: what its tests say, and that numbering is a bijection between the positions inside and the numbers below V that keeps the
 -- order of (x, y, z).
-use mathlib.Core.Path.{_≡_, refl, sym, ap, _∙_}
+use mathlib.Core.Path.{_≡_, sym, ap}
 use mathlib.Core.Logic.{_⊎_, inl, inr}
 use mathlib.Core.Bool.{true}
-use Prim.Native.Nat.{ℕ, _+_, _-_, _*_, _/_, _%_, _≤_, _<_, pred}
-use native.Mathlib.Nat.{div-add-mod', mul-le-mul-left, mul-le-mul-right, mul-le-mul, mod-lt, mod-le, div-lt-iff-lt-mul, div-mul-le-self}
+use Prim.Native.Nat.{ℕ, _+_, _*_, _/_, _≤_, _<_}
+use native.Mathlib.Nat.{add-assoc, add-mul, div-add-mod', mul-le-mul-left, mul-le-mul-right, mul-le-mul, mod-lt, mod-le, div-lt-iff-lt-mul, div-mul-le-self}
 use native.Mathlib.Decide.{decLe}
 use native.Mathlib.Omega.{arith}
+use lib.Dec.{ltb}
 use lib.Arith.{digits-lt, digits-div, digits-mod}
 use borrow.Author.Tests.{leb-true, ltb-true, le-leb, lt-ltb}
-use Rattle.basics.specs.Tests.{and-left, and-right, and-both}
+use Rattle.basics.specs.Tests.{ask, and-left, and-right, and-both, never}
 use Rattle.room.specs.declared.Room.{Room}
 use Rattle.room.specs.declared.Pos.{Pos}
-use Rattle.room.specs.Room.{Good, Within, maxSide, maxVolume, volume, between, sidesGood, at, cellOf, posOf, within, apart}
+use Rattle.room.specs.declared.Neighbour.the-variants.{Inside, Outside}
+use Rattle.room.specs.Room.{Good, Within, maxSide, maxVolume, volume, between, sidesGood, at, cellOf, posOf, within, above, apart}
 
 ruleset passed = (and-left, and-right, leb-true, ltb-true)
 
@@ -120,6 +122,28 @@ order-back R p q v w h = go (compare p q)
     go (inl b) = b
     go (inr (inl e)) = absurd (omega (arith, ap (cellOf R) e))
     go (inr (inr b)) = absurd (omega (arith, order R q p w v b))
+
+-- ---- the cell right above a cell
+
+one-up : (R : Room) (n : ℕ) → n + R .deep ≡ cellOf R (at (posOf R n .x) (posOf R n .y + 1) (posOf R n .z))
+unfolding cellOf
+one-up R n =
+    let p = posOf R n in
+    omega (arith, cell-pos R n, ap (λ (k : ℕ). k * R .deep) (add-assoc (p .x * R .high) (p .y) 1), add-mul (p .x * R .high + p .y) 1 (R .deep))
+
+pub above-in : (R : Room) → Good R → (n v : ℕ) → n < volume R → above R n ≡ Inside v → v < volume R
+unfolding above
+above-in R G n v h e = ask (ltb (posOf R n .y + 1) (R .high)) (λ t. higher t (rw t at e)) (λ f. none (rw f at e))
+  where
+    higher : ltb (posOf R n .y + 1) (R .high) ≡ true → Inside (n + R .deep) ≡ Inside v → v < volume R
+    higher t q =
+        let w = pos-in R G n h in
+        let up : Within R (at (posOf R n .x) (posOf R n .y + 1) (posOf R n .z)) = record { x-in = w .x-in; y-in = ltb-true _ _ t; z-in = w .z-in } in
+        let s : n + R .deep ≡ v = cc in
+        omega (arith, one-up R n, cell-in R _ up)
+
+    none : Outside ≡ Inside v → v < volume R
+    none q = never (cc)
 
 -- ---- what the code computes on the way is small
 

@@ -1,8 +1,13 @@
--- Kinds, facings, port kinds, and the config with its ranges, as "The room" of the requirement has them.
+-- Kinds, facings with the cell ahead, port kinds, and the config with its ranges, as "The room" of the requirement has them.
 use mathlib.Core.Bool.{Bool, _&&_}
 use Prim.Native.Nat.{ℕ, _≤_}
-use lib.Dec.{leb}
-use Rattle.room.specs.Room.{between}
+use lib.Dec.{leb, eqb}
+use Rattle.basics.specs.Tests.{either}
+use Rattle.room.specs.Room.{between, by, neighbour}
+use Rattle.room.specs.declared.Room.{Room}
+use Rattle.room.specs.declared.Move.{Move}
+use Rattle.room.specs.declared.Neighbour.{Neighbour}
+use Rattle.room.specs.declared.Neighbour.the-variants.{Outside}
 use Rattle.room.specs.declared.RouterConfig.{RouterConfig}
 
 -- "Kinds 0 to 12 follow the order of BlockKind". Those that a rule names:
@@ -40,10 +45,34 @@ kindKnown kind = leb kind maxKind
 abbrev pub facingKnown : ℕ → Bool
 facingKnown facing = leb facing 6
 
+abbrev pub north : ℕ
+north = 1
+
+abbrev pub east : ℕ
+east = 2
+
+abbrev pub south : ℕ
+south = 3
+
+abbrev pub west : ℕ
+west = 4
+
 abbrev pub facingHorizontal : ℕ → Bool
-facingHorizontal facing = between 1 facing 4
+facingHorizontal facing = between north facing west
+
+-- the flat move of a horizontal facing; West's stands last and needs no test
+unfoldable pub facingMove : ℕ → Move
+facingMove facing =
+    either (eqb facing north) (by 1 1 0) (either (eqb facing east) (by 2 1 1) (either (eqb facing south) (by 1 1 2) (by 0 1 1)))
+
+-- cell n plus its facing: none unless that is horizontal and the cell in the room
+unfoldable pub ahead : Room → ℕ → ℕ → Neighbour
+ahead R n facing = either (facingHorizontal facing) (neighbour R n (facingMove facing)) Outside
 
 -- "Port kind: 0 Wire, 1 BlockPower."
+abbrev pub wire : ℕ
+wire = 0
+
 abbrev pub portKnown : ℕ → Bool
 portKnown port = leb port 1
 

@@ -1,10 +1,10 @@
-// The room: its sides, the numbers of its cells, the twelve moves, the cell beneath, distances; kinds, facings and port
-// kinds; cost and node count as units of their own; the config with its ranges.
+// The room: its sides, the numbers of its cells, the twelve moves, the cells beneath, above and ahead, distances; kinds,
+// facings and port kinds; cost and node count as units of their own; the config with its ranges.
 ghost use mathlib.Core.Path.{_≡_};
 ghost use Prim.Native.Nat.{_≤_, _<_};
 ghost use lib.ListN.{getD};
-ghost use Rattle.room.specs.Room.{Good, Within, between, sidesGood, volume, cellOf, posOf, within, by, moves, neighbour, beneath, apart, distance};
-ghost use Rattle.room.specs.Units.{kindKnown, facingKnown, facingHorizontal, portKnown, configGood, usualConfig};
+ghost use Rattle.room.specs.Room.{Good, Within, between, sidesGood, volume, cellOf, posOf, within, by, moves, neighbourAt, neighbour, beneath, above, apart, distance};
+ghost use Rattle.room.specs.Units.{kindKnown, facingKnown, facingHorizontal, facingMove, ahead, portKnown, configGood, usualConfig};
 
 pub const MAX_SIDE: usize = 64;
 
@@ -127,6 +127,22 @@ pub fn facing_horizontal(facing: u8) -> bool
     ensures { λ r. ⌜ r ≡ facingHorizontal facing ⌝ }
 {
     in_range(NORTH as usize, facing as usize, WEST as usize)
+}
+
+// The flat move of a horizontal facing.
+fn facing_move(facing: u8) -> Move
+    ensures { λ r. ⌜ r ≡ facingMove facing ⌝ }
+{
+    if facing == NORTH {
+        return Move { x: 1, y: 1, z: 0 };
+    }
+    if facing == EAST {
+        return Move { x: 2, y: 1, z: 1 };
+    }
+    if facing == SOUTH {
+        return Move { x: 1, y: 1, z: 2 };
+    }
+    Move { x: 0, y: 1, z: 1 }
 }
 
 pub fn port_known(port: u8) -> bool
@@ -256,14 +272,13 @@ impl Room {
         Room::MOVES[k]
     }
 
-    // Where a move leads from a cell.
-    pub fn neighbour(self, cell: usize, m: Move) -> Neighbour
+    // Where a move leads from a position.
+    pub fn neighbour_at(self, p: Pos, m: Move) -> Neighbour
         requires { ⌜ Good self ⌝ }
-        requires { ⌜ cell < volume self ⌝ }
+        requires { ⌜ Within self p ⌝ }
         requires { ⌜ (m .x ≤ 2) × (m .y ≤ 2) × (m .z ≤ 2) ⌝ }
-        ensures { λ r. ⌜ r ≡ neighbour self cell m ⌝ }
+        ensures { λ r. ⌜ r ≡ neighbourAt self p m ⌝ }
     {
-        let p = self.pos(cell);
         let x = p.x + m.x;
         let y = p.y + m.y;
         let z = p.z + m.z;
@@ -283,6 +298,28 @@ impl Room {
         }))
     }
 
+    // Where a move leads from a cell.
+    pub fn neighbour(self, cell: usize, m: Move) -> Neighbour
+        requires { ⌜ Good self ⌝ }
+        requires { ⌜ cell < volume self ⌝ }
+        requires { ⌜ (m .x ≤ 2) × (m .y ≤ 2) × (m .z ≤ 2) ⌝ }
+        ensures { λ r. ⌜ r ≡ neighbour self cell m ⌝ }
+    {
+        self.neighbour_at(self.pos(cell), m)
+    }
+
+    // The cell ahead of a cell in a facing's direction: none unless the facing is horizontal.
+    pub fn ahead(self, cell: usize, facing: u8) -> Neighbour
+        requires { ⌜ Good self ⌝ }
+        requires { ⌜ cell < volume self ⌝ }
+        ensures { λ r. ⌜ r ≡ ahead self cell facing ⌝ }
+    {
+        if !facing_horizontal(facing) {
+            return Neighbour::Outside;
+        }
+        self.neighbour(cell, facing_move(facing))
+    }
+
     // The cell right beneath a cell.
     pub fn beneath(self, cell: usize) -> Neighbour
         requires { ⌜ Good self ⌝ }
@@ -293,6 +330,20 @@ impl Room {
             Neighbour::Outside
         } else {
             Neighbour::Inside(cell - self.deep)
+        }
+    }
+
+    // The cell right above a cell.
+    pub fn above(self, cell: usize) -> Neighbour
+        requires { ⌜ Good self ⌝ }
+        requires { ⌜ cell < volume self ⌝ }
+        ensures { λ r. ⌜ r ≡ above self cell ⌝ }
+    {
+        let p = self.pos(cell);
+        if p.y + 1 < self.high {
+            Neighbour::Inside(cell + self.deep)
+        } else {
+            Neighbour::Outside
         }
     }
 

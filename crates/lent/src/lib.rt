@@ -1,0 +1,36 @@
+// Lent memory: cleared to its very end, at each width in use.
+ghost use mathlib.Core.Path.{_≡_};
+ghost use lib.ListN.{length, replicate};
+
+pub fn clear_bytes(s: &mut [u8])
+    ensures { λ _. ⌜ now (s .exit) ≡ replicate (length (now (s .entry))) 0 ⌝ }
+{
+    let n = s.len();
+    let mut i: usize = 0;
+    while i < n {
+        s[i] = 0;
+        i += 1;
+    }
+}
+
+pub fn clear_words(s: &mut [u32])
+    ensures { λ _. ⌜ now (s .exit) ≡ replicate (length (now (s .entry))) 0 ⌝ }
+{
+    let n = s.len();
+    let mut i: usize = 0;
+    while i < n {
+        s[i] = 0;
+        i += 1;
+    }
+}
+
+pub fn clear_longs(s: &mut [u64])
+    ensures { λ _. ⌜ now (s .exit) ≡ replicate (length (now (s .entry))) 0 ⌝ }
+{
+    let n = s.len();
+    let mut i: usize = 0;
+    while i < n {
+        s[i] = 0;
+        i += 1;
+    }
+}

@@ -1,0 +1,152 @@
+-- What `astar_route` answers, and what every lent buffer then holds, as "Numbers that come back" has it for a search. Each input determines all of
+-- it.
+use mathlib.Core.Path.{_≡_}
+use mathlib.Core.Bool.{Bool, true, false, _&&_}
+use mathlib.Core.List.{List, [], _∷_, _++_}
+use Prim.Native.Nat.{ℕ, _-_, _/_}
+use lib.Dec.{leb, ltb, eqb}
+use lib.ListN.{length, replicate}
+use Rattle.basics.specs.Tests.{either}
+use Rattle.basics.specs.Lists.{every}
+use Rattle.room.specs.declared.Room.{Room}
+use Rattle.room.specs.declared.RouterConfig.{RouterConfig}
+use Rattle.room.specs.Room.{sidesGood, volume}
+use Rattle.room.specs.Units.{configGood, kindKnown}
+use Rattle.best_first.specs.Search as search
+use Rattle.routing.specs.declared.Answer.{Answer}
+use Rattle.routing.specs.declared.Answer.the-variants.{Routed, Refused, NotRouteable, NoRoute, LimitPassed, QueueFull}
+use Rattle.routing.specs.declared.Refusal.{Refusal}
+use Rattle.routing.specs.declared.Refusal.the-variants.{Sides, Config, Buffer, Code, Position}
+use Rattle.routing.specs.declared.Lengths.{Lengths}
+use Rattle.routing.specs.declared.Judgement.{Judgement}
+use Rattle.routing.specs.declared.Judgement.the-variants.{Fit, Unfit}
+use Rattle.routing.specs.Routing.{Task, routeable, searched}
+
+-- what is handed over; of the lent buffers only their lengths count. A place of the queue takes two numbers
+pub record Input : Type 0 where
+  pub room : Room
+  pub config : RouterConfig
+  pub kinds : List ℕ
+  pub start : ℕ
+  pub goal : ℕ
+  pub lengths : Lengths
+
+abbrev pub taskOf : Input → Task
+taskOf I = record { room = I .room; config = I .config; kinds = I .kinds; start = I .start; goal = I .goal; places = I .lengths .queue / 2 }
+
+-- number 6: "kinds not exactly V, an output or work buffer under V (branch buffer and queue exempt), queue of length 0"
+unfoldable pub buffersGood : Room → List ℕ → Lengths → Bool
+buffersGood R kinds L =
+    eqb (length kinds) (volume R)
+    && (leb (volume R) (L .path) && (leb (volume R) (L .known) && (leb (volume R) (L .previous) && (leb (volume R) (L .classes) && leb 1 (L .queue / 2)))))
+
+-- number 4: "a search's ends are cell numbers, outside when V or more"
+unfoldable pub endsInside : Room → ℕ → ℕ → Bool
+endsInside R start goal = ltb start (volume R) && ltb goal (volume R)
+
+-- "A search checks 2, 3, 6, 5, 4, 10 and gives 11 to 13."
+unfoldable pub judged : Input → Judgement
+judged I =
+    either (sidesGood (I .room))
+    (either (configGood (I .config))
+    (either (buffersGood (I .room) (I .kinds) (I .lengths))
+    (either (every kindKnown (I .kinds)) (either (endsInside (I .room) (I .start) (I .goal)) Fit (Unfit Position)) (Unfit Code)) (Unfit Buffer)) (Unfit Config))
+    (Unfit Sides)
+
+abbrev pub answered : search.Answer → Answer
+answered (search.route path cost x) = Routed (record { length = length path; cost = record { 0 = cost }; expanded = record { 0 = x } })
+answered (search.no-route x) = NoRoute (record { 0 = x })
+answered (search.limit-passed x) = LimitPassed (record { 0 = x })
+answered (search.queue-full x) = QueueFull (record { 0 = x })
+
+-- number 10: "start, else goal, not routeable"
+unfoldable pub fitAnswer : Input → Answer
+fitAnswer I =
+    either (routeable (taskOf I) (I .start))
+    (either (routeable (taskOf I) (I .goal)) (answered (searched (taskOf I))) (NotRouteable (I .goal)))
+    (NotRouteable (I .start))
+
+abbrev pub answerFor : Judgement → Input → Answer
+answerFor Fit I = fitAnswer I
+answerFor (Unfit why) I = Refused why
+
+unfoldable pub answerOf : Input → Answer
+answerOf I = answerFor (judged I) I
+
+-- the paper's number of each answer, 0 for a route, and its detail
+abbrev pub refusalNumber : Refusal → ℕ
+refusalNumber Sides = 2
+refusalNumber Config = 3
+refusalNumber Position = 4
+refusalNumber Code = 5
+refusalNumber Buffer = 6
+
+abbrev pub numberOf : Answer → ℕ
+numberOf (Routed r) = 0
+numberOf (Refused why) = refusalNumber why
+numberOf (NotRouteable cell) = 10
+numberOf (NoRoute x) = 11
+numberOf (LimitPassed x) = 12
+numberOf (QueueFull x) = 13
+
+abbrev pub detailOf : Answer → ℕ
+detailOf (Routed r) = 0
+detailOf (Refused why) = 0
+detailOf (NotRouteable cell) = cell
+detailOf (NoRoute x) = x .0
+detailOf (LimitPassed x) = x .0
+detailOf (QueueFull x) = x .0
+
+-- ---- the lent buffers
+
+-- "Numbers 1 to 6 touch nothing"
+abbrev pub touches : Answer → Bool
+touches (Routed r) = true
+touches (Refused why) = false
+touches (NotRouteable cell) = true
+touches (NoRoute x) = true
+touches (LimitPassed x) = true
+touches (QueueFull x) = true
+
+-- the route's cells, none where there is no route
+abbrev pub cellsOf : search.Answer → List ℕ
+cellsOf (search.route path cost x) = path
+cellsOf (search.no-route x) = []
+cellsOf (search.limit-passed x) = []
+cellsOf (search.queue-full x) = []
+
+abbrev pub cellsFor : Answer → Input → List ℕ
+cellsFor (Routed r) I = cellsOf (searched (taskOf I))
+cellsFor (Refused why) I = []
+cellsFor (NotRouteable cell) I = []
+cellsFor (NoRoute x) I = []
+cellsFor (LimitPassed x) I = []
+cellsFor (QueueFull x) I = []
+
+-- "7 to 15 leave every lent writable buffer zero. A success writes the answer, zeros behind it, and zeroes work memory."
+abbrev pub outputAfter : Answer → List ℕ → List ℕ → List ℕ
+outputAfter a cells buffer = either (touches a) (cells ++ replicate (length buffer - length cells) 0) buffer
+
+abbrev pub workAfter : Answer → List ℕ → List ℕ
+workAfter a buffer = either (touches a) (replicate (length buffer) 0) buffer
+
+-- the promise of `astar_route`
+pub record Promise (I : Input) (path known previous classes queue : List ℕ) (r : Answer) (path′ known′ previous′ classes′ queue′ : List ℕ) : Type 0 where
+  pub answer : r ≡ answerOf I
+  pub path-is : path′ ≡ outputAfter (answerOf I) (cellsFor (answerOf I) I) path
+  pub known-is : known′ ≡ workAfter (answerOf I) known
+  pub previous-is : previous′ ≡ workAfter (answerOf I) previous
+  pub classes-is : classes′ ≡ workAfter (answerOf I) classes
+  pub queue-is : queue′ ≡ workAfter (answerOf I) queue
+
+abbrev pub lengthsOf : List ℕ → List ℕ → List ℕ → List ℕ → List ℕ → Lengths
+lengthsOf path known previous classes queue = record {
+  path = length path;
+  known = length known;
+  previous = length previous;
+  classes = length classes;
+  queue = length queue;
+}
+
+abbrev pub input : Room → RouterConfig → List ℕ → ℕ → ℕ → Lengths → Input
+input R C kinds start goal L = record { room = R; config = C; kinds = kinds; start = start; goal = goal; lengths = L }

@@ -1,0 +1,95 @@
+-- What the contracts of the public search's parts cite.
+use mathlib.Core.Path.{_≡_}
+use mathlib.Core.Bool.{true}
+use mathlib.Core.List.{List, [], _++_}
+use Prim.Native.Nat.{ℕ, _-_, _/_, _≤_, _<_, pred}
+use lib.ListN.{length, getD, drop, replicate}
+use Rattle.room.specs.declared.Room.{Room}
+use Rattle.room.specs.declared.RouterConfig.{RouterConfig}
+use Rattle.room.specs.Room.{Good, volume}
+use Rattle.basics.specs.Tests.{either}
+use Rattle.room.specs.Units.{Fair, air}
+use Rattle.routing.specs.declared.Outcome.{Outcome}
+use Rattle.routing.specs.declared.Outcome.the-variants.{Arrived, NoRoute, LimitPassed, QueueFull}
+use Rattle.best_first.specs.Search as search
+use Rattle.best_first.specs.Search.{trace}
+use Rattle.room.specs.declared.Nodes.{Nodes}
+use Rattle.routing.specs.declared.Lengths.{Lengths}
+use Rattle.routing.specs.declared.Route.{Route}
+use Rattle.routing.specs.declared.Ends.{Ends}
+use Rattle.routing.specs.declared.Ends.the-variants.{Good as EndsGood, Bad as EndsBad}
+use Rattle.routing.specs.declared.Answer.{Answer}
+use Rattle.routing.specs.Routing.{Task, routeableKind, graph, searched}
+use Rattle.routing.specs.Steps.{placesOf}
+use Rattle.routing.specs.Traces.{Linked}
+use Rattle.routing.specs.Turns.{Told}
+use Rattle.routing.specs.Answers.{answered, cellsOf}
+
+abbrev pub searchTask : Room → RouterConfig → List ℕ → ℕ → ℕ → List ℕ → Task
+searchTask R C kinds start goal queue = record { room = R; config = C; kinds = kinds; start = start; goal = goal; places = placesOf queue }
+
+-- an input that no number from 2 to 6 refuses, with work memory of exactly V cells
+pub record Searchable (R : Room) (C : RouterConfig) (kinds : List ℕ) (start goal : ℕ) (known previous classes queue : List ℕ) : Type 0 where
+  pub good : Good R
+  pub fair : Fair C
+  pub kinds-length : length kinds ≡ volume R
+  pub start-in : start < volume R
+  pub goal-in : goal < volume R
+  pub known-length : length known ≡ volume R
+  pub previous-length : length previous ≡ volume R
+  pub classes-length : length classes ≡ volume R
+  pub places-some : 0 < placesOf queue
+
+-- the outcome is the defined search's
+pub record Found (T : Task) (o : Outcome) (known previous : List ℕ) : Type 0 where
+  pub told : Told (graph T) (searched T) known previous o
+
+-- what the outcome asks of the slices, so that the path can be written
+abbrev pub Showable : Outcome → ℕ → List ℕ → List ℕ → Type 0
+Showable (Arrived x) goal known previous = Linked previous × (0 < getD known goal 0)
+Showable (NoRoute x) goal known previous = Unit {0}
+Showable (LimitPassed x) goal known previous = Unit {0}
+Showable (QueueFull x) goal known previous = Unit {0}
+
+-- the answer, and the path written to a cleared buffer
+pub record Shown (o : Outcome) (cells goal : ℕ) (known previous path : List ℕ) (r : Answer) (path′ : List ℕ) : Type 0 where
+  pub shows : (T : Task) → volume (T .room) ≡ cells → T .goal ≡ goal → Found T o known previous
+      → (r ≡ answered (searched T)) × (path′ ≡ cellsOf (searched T) ++ replicate (length path - length (cellsOf (searched T))) 0)
+
+-- the path by predecessors, and the goal's known cost
+pub record Written (cells goal : ℕ) (known previous path : List ℕ) (expanded : Nodes) (r : Route) (path′ : List ℕ) : Type 0 where
+  pub length-is : r .length ≡ length (trace cells previous goal [])
+  pub cost-is : r .cost .0 ≡ pred (getD known goal 0)
+  pub expanded-is : r .expanded ≡ expanded
+  pub path-is : path′ ≡ trace cells previous goal [] ++ drop (length (trace cells previous goal [])) path
+
+-- all zero, to its very end
+abbrev pub Emptied : List ℕ → List ℕ → Type 0
+Emptied before after = after ≡ replicate (length before) 0
+
+-- which end is not routeable: the start, else the goal
+abbrev pub endsOf : List ℕ → ℕ → ℕ → Ends
+endsOf kinds start goal =
+    either (routeableKind true (getD kinds start air)) (either (routeableKind true (getD kinds goal air)) EndsGood (EndsBad goal)) (EndsBad start)
+
+-- an input that no number from 2 to 6 refuses
+pub record Roomy (R : Room) (C : RouterConfig) (kinds : List ℕ) (start goal : ℕ) (L : Lengths) : Type 0 where
+  pub good : Good R
+  pub fair : Fair C
+  pub kinds-length : length kinds ≡ volume R
+  pub start-in : start < volume R
+  pub goal-in : goal < volume R
+  pub path-room : volume R ≤ L .path
+  pub known-room : volume R ≤ L .known
+  pub previous-room : volume R ≤ L .previous
+  pub classes-room : volume R ≤ L .classes
+  pub places-some : 0 < L .queue / 2
+
+-- a search's answer, its path in the cleared output, and all work memory cleared
+pub record Fitted (a : search.Answer) (path known previous classes queue : List ℕ) (r : Answer) (path′ known′ previous′ classes′ queue′ : List ℕ) : Type 0 where
+  pub answer : r ≡ answered a
+  pub path-is : path′ ≡ cellsOf a ++ replicate (length path - length (cellsOf a)) 0
+  pub known-is : Emptied known known′
+  pub previous-is : Emptied previous previous′
+  pub classes-is : Emptied classes classes′
+  pub queue-is : Emptied queue queue′

@@ -1,0 +1,134 @@
+-- The parts of the public search put together.
+use mathlib.Core.Path.{_≡_, refl, sym, ap, _∙_}
+use mathlib.Core.List.{List, [], _∷_, _++_}
+use Prim.Native.Nat.{ℕ, zero, suc, _-_, _≤_, _<_, pred}
+use native.Mathlib.Nat.{sub-zero, zero-sub, suc-sub-suc}
+use native.Mathlib.Omega.{arith}
+use lib.ListN.{length, getD, take, drop, replicate}
+use lib.Seq.{take-at, length-take-le, length-front}
+use Rattle.room.specs.declared.Room.{Room}
+use Rattle.room.specs.declared.RouterConfig.{RouterConfig}
+use Rattle.room.specs.declared.Pos.{Pos}
+use Rattle.room.specs.Room.{volume, posOf}
+use Rattle.best_first.specs.Search.{trace, route}
+use Rattle.best_first.specs.Equations.{trace-short}
+use Rattle.room.specs.declared.Nodes.{Nodes}
+use Rattle.routing.specs.declared.Route.{Route}
+use Rattle.routing.specs.declared.Answer.the-variants.{Routed, NoRoute as NoRoute′, LimitPassed as LimitPassed′, QueueFull as QueueFull′}
+use Rattle.routing.specs.declared.Outcome.{Outcome}
+use Rattle.routing.specs.declared.Outcome.the-variants.{Arrived, NoRoute, LimitPassed, QueueFull}
+use Rattle.routing.specs.Routing.{Task, graphOf, graph, searched}
+use Rattle.routing.specs.Classes.{Plain, withEnd}
+use Rattle.routing.specs.SameGraph.{made-length, made-graph}
+use Rattle.routing.specs.Turns.{Fresh, Ran, Told}
+use Rattle.routing.specs.Entry.{searchTask, Searchable, Found, Showable, Written, Emptied, Roomy}
+use Rattle.routing.specs.Answers.{lengthsOf, answered, cellsOf}
+use Rattle.routing.specs.Traces.{traceLength, trace-length}
+
+-- memory cleared and classes filled in, the search can run; what it comes to is what the definition says
+module _ {R : Room} {C : RouterConfig} {kinds : List ℕ} {start goal : ℕ} {known₀ previous₀ classes₀ queue : List ℕ}
+    (S : Searchable R C kinds start goal known₀ previous₀ classes₀ queue) {classes : List ℕ} (P : Plain R kinds classes) where
+  abbrev T : Task
+  T = searchTask R C kinds start goal queue
+
+  pub searchable-fresh : (known previous : List ℕ) (from to : Pos) → known ≡ replicate (length known₀) 0 → previous ≡ replicate (length previous₀) 0
+      → from ≡ posOf R start → to ≡ posOf R goal
+      → Fresh R C (withEnd R kinds goal (withEnd R kinds start classes)) known previous queue (record { cell = start; at = from }) (record { cell = goal; at = to })
+  searchable-fresh known previous from to k p f t = record {
+    good = S .good;
+    fair = S .fair;
+    classes-length = made-length T classes P (S .start-in) (S .goal-in);
+    known-zero = k ∙ ap (λ (n : ℕ). replicate n 0) (S .known-length);
+    previous-zero = p ∙ ap (λ (n : ℕ). replicate n 0) (S .previous-length);
+    start-placed = record { inside = S .start-in; is = f };
+    goal-placed = record { inside = S .goal-in; is = t };
+    places-some = S .places-some;
+  }
+
+  pub searchable-found : (from to : Pos) (o : Outcome) (known previous : List ℕ)
+      → Ran R C (withEnd R kinds goal (withEnd R kinds start classes)) queue (record { cell = start; at = from }) (record { cell = goal; at = to }) o known previous
+      → Found T o known previous
+  unfolding searched
+  searchable-found from to o known previous r = record { told = rw (made-graph T classes P (S .start-in) (S .goal-in)) at (r .told) }
+
+-- ---- the answer
+
+drop-zeros : (k n : ℕ) → drop k (replicate n 0) ≡ replicate {A = ℕ} (n - k) 0
+drop-zeros zero n = rw sub-zero
+drop-zeros (suc k) zero = rw zero-sub
+drop-zeros (suc k) (suc n) = rw suc-sub-suc (drop-zeros k n)
+
+-- the path has at most V cells
+pub path-short : (cells : ℕ) (previous : List ℕ) (goal : ℕ) → length (trace cells previous goal []) ≤ cells
+path-short cells previous goal = omega (arith, trace-short cells previous goal [])
+
+pub counted-is : (cells : ℕ) (previous : List ℕ) (goal : ℕ) → traceLength cells previous goal ≡ length (trace cells previous goal [])
+counted-is cells previous goal = omega (arith, trace-length cells previous goal [])
+
+-- there is no route: the buffer stays cleared
+bare : (path : List ℕ) → path ≡ replicate (length path) 0 → path ≡ [] ++ replicate (length path - 0) 0
+bare path z = rw sub-zero z
+
+module _ {cells goal : ℕ} {known previous path : List ℕ} where
+  module _ {T : Task} (v : volume (T .room) ≡ cells) (g : T .goal ≡ goal) where
+    pub shown-route : {x : Nodes} {r : Route} {path′ : List ℕ} → path ≡ replicate (length path) 0 → Found T (Arrived x) known previous
+        → Written cells goal known previous path x r path′
+        → (Routed r ≡ answered (searched T)) × (path′ ≡ cellsOf (searched T) ++ replicate (length path - length (cellsOf (searched T))) 0)
+    unfolding graphOf
+    shown-route {x} {r} {path′} z F W =
+        let e : searched T ≡ route (trace cells previous goal []) (pred (getD known goal 0)) (x .0) = rw (← v, ← g) (F .told .is) in
+        let d : drop (length (trace cells previous goal [])) path ≡ replicate (length path - length (trace cells previous goal [])) 0 =
+        ap (drop (length (trace cells previous goal []))) z ∙ drop-zeros (length (trace cells previous goal [])) (length path) in
+        let s : Routed r ≡ answered (route (trace cells previous goal []) (pred (getD known goal 0)) (x .0)) =
+        λ i. Routed (record { length = W .length-is i; cost = record { 0 = W .cost-is i }; expanded = W .expanded-is i }) in
+        (rw e s, rw e (W .path-is ∙ ap (λ (l : List ℕ). trace cells previous goal [] ++ l) d))
+
+    module _ (z : path ≡ replicate (length path) 0) (x : Nodes) where
+      pub shown-none : Found T (NoRoute x) known previous → (NoRoute′ x ≡ answered (searched T)) × (path ≡ cellsOf (searched T) ++ replicate (length path - length (cellsOf (searched T))) 0)
+      shown-none F = rw (F .told) (refl, bare path z)
+
+      pub shown-limit : Found T (LimitPassed x) known previous → (LimitPassed′ x ≡ answered (searched T)) × (path ≡ cellsOf (searched T) ++ replicate (length path - length (cellsOf (searched T))) 0)
+      shown-limit F = rw (F .told) (refl, bare path z)
+
+      pub shown-full : Found T (QueueFull x) known previous → (QueueFull′ x ≡ answered (searched T)) × (path ≡ cellsOf (searched T) ++ replicate (length path - length (cellsOf (searched T))) 0)
+      shown-full F = rw (F .told) (refl, bare path z)
+
+-- ---- work memory of which the first V numbers are lent on
+
+module _ (front whole : List ℕ) (v : ℕ) (kept : length front ≡ length (take v whole)) where
+  -- as much is lent again as before
+  pub again : v ≤ length whole → take v (front ++ drop v whole) ≡ front
+  again h = take-at front (drop v whole) v (kept ∙ length-take-le v whole h)
+
+  pub again-length : v ≤ length whole → v ≡ length (take v (front ++ drop v whole))
+  again-length h = sym (ap length (again h) ∙ kept ∙ length-take-le v whole h)
+
+  pub emptied-whole : (after : List ℕ) → after ≡ replicate (length (front ++ drop v whole)) 0 → Emptied whole after
+  emptied-whole after e = e ∙ ap (λ (n : ℕ). replicate n 0) (length-front whole front v kept)
+
+pub lent-length : (whole : List ℕ) (v : ℕ) → v ≤ length whole → v ≡ length (take v whole)
+lent-length whole v h = sym (length-take-le v whole h)
+
+-- the path can be written
+pub found-showable : (T : Task) (o : Outcome) (known previous : List ℕ) → length previous ≡ volume (T .room) → Found T o known previous
+    → Showable o (T .goal) known previous
+unfolding graphOf
+found-showable T (Arrived x) known previous e F = (λ v. rw e (F .told .linked v), F .told .reached)
+found-showable T (NoRoute x) known previous e F = tt
+found-showable T (LimitPassed x) known previous e F = tt
+found-showable T (QueueFull x) known previous e F = tt
+
+pub searchable : {R : Room} {C : RouterConfig} {kinds : List ℕ} {start goal : ℕ} (path known previous classes queue : List ℕ) {v : ℕ}
+    → Roomy R C kinds start goal (lengthsOf path known previous classes queue) → v ≡ volume R
+    → Searchable R C kinds start goal (take v known) (take v previous) (take v classes) queue
+searchable {R} {C} {kinds} {start} {goal} path known previous classes queue {v} P e = record {
+  good = P .good;
+  fair = P .fair;
+  kinds-length = P .kinds-length;
+  start-in = P .start-in;
+  goal-in = P .goal-in;
+  known-length = rw e (length-take-le (volume R) known (P .known-room));
+  previous-length = rw e (length-take-le (volume R) previous (P .previous-room));
+  classes-length = rw e (length-take-le (volume R) classes (P .classes-room));
+  places-some = P .places-some;
+}

@@ -1,0 +1,200 @@
+-- The promise of the public search, by its cases; and that it determines everything.
+use mathlib.Core.Path.{_≡_, refl, sym, ap, _∙_}
+use mathlib.Core.Bool.{Bool, true, false, _&&_}
+use mathlib.Core.List.{List, [], _∷_, _++_}
+use Prim.Native.Nat.{ℕ, _-_, _/_, _≤_, _<_}
+use native.Mathlib.Nat.{sub-zero}
+use native.Mathlib.Omega.{arith}
+use lib.Dec.{leb, ltb, eqb}
+use lib.ListN.{length, getD, replicate}
+use borrow.Author.Tests.{leb-true, ltb-true, eqb-true, eq-eqb}
+use Rattle.basics.specs.Tests.{either, ask, and-left, and-right}
+use Rattle.basics.specs.Lists.{every}
+use Rattle.room.specs.declared.Room.{Room}
+use Rattle.room.specs.declared.RouterConfig.{RouterConfig}
+use Rattle.room.specs.Room.{Good, sidesGood, volume}
+use Rattle.room.specs.Units.{Fair, configGood, kindKnown, air}
+use Rattle.room.specs.RoomLaws.{good}
+use Rattle.room.specs.UnitLaws.{fair}
+use Rattle.best_first.specs.Search as search
+use Rattle.routing.specs.declared.Lengths.{Lengths}
+use Rattle.routing.specs.declared.Refusal.{Refusal}
+use Rattle.routing.specs.declared.Refusal.the-variants.{Sides, Config, Buffer, Code, Position}
+use Rattle.routing.specs.declared.Judgement.{Judgement}
+use Rattle.routing.specs.declared.Judgement.the-variants.{Fit, Unfit}
+use Rattle.routing.specs.declared.Ends.the-variants.{Good as EndsGood, Bad as EndsBad}
+use Rattle.routing.specs.declared.Answer.{Answer}
+use Rattle.routing.specs.declared.Answer.the-variants.{Refused, NotRouteable}
+use Rattle.routing.specs.Routing.{Task, isEnd, routeableKind, routeable, searched}
+use Rattle.routing.specs.Answers.{Input, taskOf, buffersGood, endsInside, judged, answered, fitAnswer, answerOf, touches, cellsOf, cellsFor, Promise, input, lengthsOf}
+use Rattle.routing.specs.Entry.{endsOf, Roomy, Emptied, Fitted, searchTask}
+
+-- ---- an input that is judged fit
+
+differ : {X : Type 0} (why : Refusal) → Unfit why ≡ Fit → X
+differ why e = let z : _≡_ {A = ℕ} 0 1 = cc in absurd (omega-none z)
+  where
+    omega-none : _≡_ {A = ℕ} 0 1 → ⊥
+    omega-none z = omega arith
+
+record Passed (R : Room) (C : RouterConfig) (kinds : List ℕ) (start goal : ℕ) (L : Lengths) : Type 0 where
+  sides : sidesGood R ≡ true
+  config : configGood C ≡ true
+  buffers : buffersGood R kinds L ≡ true
+  codes : every kindKnown kinds ≡ true
+  ends : endsInside R start goal ≡ true
+
+module _ {R : Room} {C : RouterConfig} {kinds : List ℕ} {start goal : ℕ} {L : Lengths} where
+  passed : judged (input R C kinds start goal L) ≡ Fit → Passed R C kinds start goal L
+  unfolding judged
+  passed e =
+      ask (sidesGood R)
+      (λ a. ask (configGood C)
+      (λ b. ask (buffersGood R kinds L)
+      (λ c. ask (every kindKnown kinds)
+      (λ d. ask (endsInside R start goal)
+      (λ f. record { sides = a; config = b; buffers = c; codes = d; ends = f })
+      (λ n. differ Position (rw (a, b, c, d, n) at e)))
+      (λ n. differ Code (rw (a, b, c, n) at e)))
+      (λ n. differ Buffer (rw (a, b, n) at e)))
+      (λ n. differ Config (rw (a, n) at e)))
+      (λ n. differ Sides (rw n at e))
+
+  ruleset tests = (and-left, and-right, leb-true, ltb-true, eqb-true)
+
+  pub roomy : judged (input R C kinds start goal L) ≡ Fit → Roomy R C kinds start goal L
+  unfolding buffersGood endsInside
+  roomy e =
+      let p = passed e in
+      let b : (eqb (length kinds) (volume R)
+      && (leb (volume R) (L .path) && (leb (volume R) (L .known) && (leb (volume R) (L .previous) && (leb (volume R) (L .classes) && leb 1 (L .queue / 2)))))) ≡ true = p .buffers in
+      let i : (ltb start (volume R) && ltb goal (volume R)) ≡ true = p .ends in
+      record {
+        good = good R (p .sides);
+        fair = fair C (p .config);
+        kinds-length = search tests;
+        start-in = search tests;
+        goal-in = search tests;
+        path-room = search tests;
+        known-room = search tests;
+        previous-room = search tests;
+        classes-room = search tests;
+        places-some = search tests;
+      }
+
+-- ---- the cases
+
+other-end : {cell : ℕ} → EndsGood ≡ EndsBad cell → ⊥
+other-end e = let z : _≡_ {A = ℕ} 0 1 = cc in omega arith
+
+touched : (a : search.Answer) → touches (answered a) ≡ true
+touched (search.route p c x) = refl
+touched (search.no-route x) = refl
+touched (search.limit-passed x) = refl
+touched (search.queue-full x) = refl
+
+module _ (R : Room) (C : RouterConfig) (kinds : List ℕ) (start goal : ℕ) (path known previous classes queue : List ℕ) where
+  abbrev I : Input
+  I = input R C kinds start goal (lengthsOf path known previous classes queue)
+
+  -- refused before anything is touched
+  pub promise-unfit : (why : Refusal) → judged I ≡ Unfit why
+      → Promise I path known previous classes queue (Refused why) path known previous classes queue
+  unfolding answerOf
+  promise-unfit why e = record {
+    answer = rw e;
+    path-is = rw e;
+    known-is = rw e;
+    previous-is = rw e;
+    classes-is = rw e;
+    queue-is = rw e;
+  }
+
+  module _ (fit : judged I ≡ Fit) where
+    start-is : routeable (taskOf I) start ≡ routeableKind true (getD kinds start air)
+    unfolding routeable
+    start-is = rw (eq-eqb start start refl)
+
+    goal-is : routeable (taskOf I) goal ≡ routeableKind true (getD kinds goal air)
+    unfolding routeable
+    goal-is = rw (eq-eqb goal goal refl, end (eqb goal start))
+      where
+        end : (b : Bool) → either b true true ≡ true
+        end true = refl
+        end false = refl
+
+    -- number 10
+    pub promise-end : (cell : ℕ) {path′ known′ previous′ classes′ queue′ : List ℕ} → EndsBad cell ≡ endsOf kinds start goal → Emptied path path′ → Emptied known known′ → Emptied previous previous′
+        → Emptied classes classes′ → Emptied queue queue′
+        → Promise I path known previous classes queue (NotRouteable cell) path′ known′ previous′ classes′ queue′
+    unfolding answerOf fitAnswer
+    promise-end cell e a b c d f = record {
+      answer = sym is;
+      path-is = rw (is, sub-zero) a;
+      known-is = rw is b;
+      previous-is = rw is c;
+      classes-is = rw is d;
+      queue-is = rw is f;
+    }
+      where
+        is : answerOf I ≡ NotRouteable cell
+        is =
+            rw (fit, start-is, goal-is)
+            (ask (routeableKind true (getD kinds start air))
+            (λ s. ask (routeableKind true (getD kinds goal air))
+            (λ g. absurd (other-end (sym (rw (s, g) at e))))
+            (λ g. rw (s, g) (let q : EndsBad cell ≡ EndsBad goal = rw (s, g) at e in let k : cell ≡ goal = cc in rw k)))
+            (λ s. rw s (let q : EndsBad cell ≡ EndsBad start = rw s at e in let k : cell ≡ start = cc in rw k)))
+
+    cells-are : (a : search.Answer) → searched (taskOf I) ≡ a → cellsFor (answered a) I ≡ cellsOf a
+    cells-are (search.route p c x) e = ap cellsOf e
+    cells-are (search.no-route x) e = refl
+    cells-are (search.limit-passed x) e = refl
+    cells-are (search.queue-full x) e = refl
+
+    both-free : EndsGood ≡ endsOf kinds start goal → answerOf I ≡ answered (searched (taskOf I))
+    unfolding answerOf fitAnswer
+    both-free e =
+        rw (fit, start-is, goal-is)
+        (ask (routeableKind true (getD kinds start air))
+        (λ s. ask (routeableKind true (getD kinds goal air)) (λ g. rw (s, g)) (λ g. absurd (other-end (rw (s, g) at e))))
+        (λ s. absurd (other-end (rw s at e))))
+
+    -- the defined search
+    pub promise-searched : (r : Answer) {path′ known′ previous′ classes′ queue′ : List ℕ} → EndsGood ≡ endsOf kinds start goal
+        → Fitted (searched (searchTask R C kinds start goal queue)) path known previous classes queue r path′ known′ previous′ classes′ queue′
+        → Promise I path known previous classes queue r path′ known′ previous′ classes′ queue′
+    promise-searched r e F =
+        let is = both-free e in
+        let t = touched (searched (taskOf I)) in
+        record {
+          answer = F .answer ∙ sym is;
+          path-is = rw (is, t, cells-are (searched (taskOf I)) refl) (F .path-is);
+          known-is = rw (is, t) (F .known-is);
+          previous-is = rw (is, t) (F .previous-is);
+          classes-is = rw (is, t) (F .classes-is);
+          queue-is = rw (is, t) (F .queue-is);
+        }
+
+-- ---- two results that keep the promise coincide
+
+pub record Same (r s : Answer) (path path′ known known′ previous previous′ classes classes′ queue queue′ : List ℕ) : Type 0 where
+  pub answer : r ≡ s
+  pub path-same : path ≡ path′
+  pub known-same : known ≡ known′
+  pub previous-same : previous ≡ previous′
+  pub classes-same : classes ≡ classes′
+  pub queue-same : queue ≡ queue′
+
+pub coincide : {I : Input} {path known previous classes queue : List ℕ} {r s : Answer} {path₁ known₁ previous₁ classes₁ queue₁ path₂ known₂ previous₂ classes₂ queue₂ : List ℕ}
+    → Promise I path known previous classes queue r path₁ known₁ previous₁ classes₁ queue₁
+    → Promise I path known previous classes queue s path₂ known₂ previous₂ classes₂ queue₂
+    → Same r s path₁ path₂ known₁ known₂ previous₁ previous₂ classes₁ classes₂ queue₁ queue₂
+coincide P Q = record {
+  answer = P .answer ∙ sym (Q .answer);
+  path-same = P .path-is ∙ sym (Q .path-is);
+  known-same = P .known-is ∙ sym (Q .known-is);
+  previous-same = P .previous-is ∙ sym (Q .previous-is);
+  classes-same = P .classes-is ∙ sym (Q .classes-is);
+  queue-same = P .queue-is ∙ sym (Q .queue-is);
+}

@@ -1,0 +1,231 @@
+// The public search, over lent memory.
+ghost use mathlib.Core.Path.{_≡_};
+ghost use mathlib.Core.Bool.{true};
+ghost use mathlib.Core.List.{[], _++_};
+ghost use Prim.Native.Nat.{_-_, _≤_, _<_};
+ghost use lib.ListN.{length, getD, replicate};
+ghost use Rattle.routing.specs.Traces.{Linked};
+ghost use Rattle.room.specs.Room.{Good, volume};
+ghost use Rattle.room.specs.Units.{Fair};
+ghost use Rattle.routing.specs.Answers.{input, lengthsOf, judged, Promise};
+ghost use Rattle.routing.specs.Entry.{Searchable, Found, searchTask, Showable, Shown, Written, Emptied, endsOf, Roomy, Fitted};
+ghost use Rattle.routing.specs.Routing.{searched};
+use crate::Answer;
+use crate::Ends;
+use crate::Judgement;
+use crate::Lengths;
+use crate::Outcome;
+use crate::Route;
+use crate::Spot;
+use crate::classes::fill_classes;
+use crate::classes::make_end;
+use crate::classes::routeable_kind;
+use crate::judge::judge;
+use crate::search::run;
+use crate::trace::trace_into;
+use crate::trace::trace_length;
+use room::Cost;
+use room::Nodes;
+use room::Room;
+use room::RouterConfig;
+
+// Searches over memory of exactly V cells, whatever it holds.
+fn search_room(
+    room: Room,
+    config: RouterConfig,
+    kinds: &[u8],
+    start: usize,
+    goal: usize,
+    known: &mut [u32],
+    previous: &mut [u32],
+    classes: &mut [u8],
+    queue: &mut [u64],
+) -> Outcome
+    requires { ⌜ Searchable room config (now kinds) start goal (now known) (now previous) (now classes) (now queue) ⌝ }
+    ensures { λ r. ⌜ Found (searchTask room config (now (kinds .entry)) start goal (now (queue .entry))) r (now (known .exit)) (now (previous .exit)) ⌝ }
+{
+    lent::clear_words(known);
+    lent::clear_words(previous);
+    fill_classes(room, kinds, classes);
+    make_end(room, kinds, classes, start);
+    make_end(room, kinds, classes, goal);
+    let from = Spot {
+        cell: start,
+        at: room.pos(start),
+    };
+    let to = Spot {
+        cell: goal,
+        at: room.pos(goal),
+    };
+    run(room, config, classes, known, previous, queue, from, to)
+}
+
+// The path is counted and written to a cleared buffer.
+fn show_route(
+    cells: usize,
+    goal: usize,
+    known: &[u32],
+    previous: &[u32],
+    path: &mut [u32],
+    expanded: Nodes,
+) -> Route
+    requires { ⌜ (goal < cells) × (cells ≤ 16384) × (length (now known) ≡ cells) × (length (now previous) ≡ cells) × (cells ≤ length (now path)) ⌝ }
+    requires { ⌜ Linked (now previous) ⌝ }
+    requires { ⌜ 0 < getD (now known) goal 0 ⌝ }
+    ensures { λ r. ⌜ Written cells goal (now (known .entry)) (now (previous .entry)) (now (path .entry)) expanded r (now (path .exit)) ⌝ }
+{
+    let length = trace_length(previous, goal, cells);
+    trace_into(previous, goal, cells, path, length);
+    Route {
+        length: length,
+        cost: Cost(known[goal] - 1),
+        expanded: expanded,
+    }
+}
+
+fn answer_of(
+    outcome: Outcome,
+    cells: usize,
+    goal: usize,
+    known: &[u32],
+    previous: &[u32],
+    path: &mut [u32],
+) -> Answer
+    requires { ⌜ (goal < cells) × (cells ≤ 16384) × (length (now known) ≡ cells) × (length (now previous) ≡ cells) × (cells ≤ length (now path)) ⌝ }
+    requires { ⌜ now path ≡ replicate (length (now path)) 0 ⌝ }
+    requires { ⌜ Showable outcome goal (now known) (now previous) ⌝ }
+    ensures { λ r. ⌜ Shown outcome cells goal (now (known .entry)) (now (previous .entry)) (now (path .entry)) r (now (path .exit)) ⌝ }
+{
+    match outcome {
+        Outcome::Arrived(expanded) => {
+            Answer::Routed(show_route(cells, goal, known, previous, path, expanded))
+        }
+        Outcome::NoRoute(expanded) => Answer::NoRoute(expanded),
+        Outcome::LimitPassed(expanded) => Answer::LimitPassed(expanded),
+        Outcome::QueueFull(expanded) => Answer::QueueFull(expanded),
+    }
+}
+
+// Work memory is cleared, to its very end.
+fn clear_work(known: &mut [u32], previous: &mut [u32], classes: &mut [u8], queue: &mut [u64])
+    ensures { λ _. ⌜ Emptied (now (known .entry)) (now (known .exit)) × Emptied (now (previous .entry)) (now (previous .exit)) × Emptied (now (classes .entry)) (now (classes .exit)) × Emptied (now (queue .entry)) (now (queue .exit)) ⌝ }
+{
+    lent::clear_words(known);
+    lent::clear_words(previous);
+    lent::clear_bytes(classes);
+    lent::clear_longs(queue);
+}
+
+// The end that is not routeable: the start, else the goal.
+fn bad_end(kinds: &[u8], start: usize, goal: usize) -> Ends
+    requires { ⌜ (start < length (now kinds)) × (goal < length (now kinds)) ⌝ }
+    ensures { λ r. ⌜ r ≡ endsOf (now (kinds .entry)) start goal ⌝ }
+{
+    if !routeable_kind(true, kinds[start]) {
+        return Ends::Bad(start);
+    }
+    if !routeable_kind(true, kinds[goal]) {
+        return Ends::Bad(goal);
+    }
+    Ends::Good
+}
+
+// The defined search, with both ends routeable: its answer, its path, and all work memory cleared.
+fn answer_fit(
+    room: Room,
+    config: RouterConfig,
+    kinds: &[u8],
+    start: usize,
+    goal: usize,
+    path: &mut [u32],
+    known: &mut [u32],
+    previous: &mut [u32],
+    classes: &mut [u8],
+    queue: &mut [u64],
+) -> Answer
+    requires { ⌜ Roomy room config (now kinds) start goal (lengthsOf (now path) (now known) (now previous) (now classes) (now queue)) ⌝ }
+    ensures { λ r. ⌜ Fitted (searched (searchTask room config (now (kinds .entry)) start goal (now (queue .entry)))) (now (path .entry)) (now (known .entry)) (now (previous .entry)) (now (classes .entry)) (now (queue .entry)) r (now (path .exit)) (now (known .exit)) (now (previous .exit)) (now (classes .exit)) (now (queue .exit)) ⌝ }
+{
+    let cells = room.volume();
+    let outcome = search_room(
+        room,
+        config,
+        kinds,
+        start,
+        goal,
+        &mut known[..cells],
+        &mut previous[..cells],
+        &mut classes[..cells],
+        queue,
+    );
+    lent::clear_words(path);
+    let answer = answer_of(
+        outcome,
+        cells,
+        goal,
+        &known[..cells],
+        &previous[..cells],
+        path,
+    );
+    clear_work(known, previous, classes, queue);
+    answer
+}
+
+// An end is not routeable: every buffer is cleared.
+fn refuse_end(
+    cell: usize,
+    path: &mut [u32],
+    known: &mut [u32],
+    previous: &mut [u32],
+    classes: &mut [u8],
+    queue: &mut [u64],
+) -> Answer
+    ensures { λ r. ⌜ (r ≡ Answer.NotRouteable cell) × Emptied (now (path .entry)) (now (path .exit)) × Emptied (now (known .entry)) (now (known .exit)) × Emptied (now (previous .entry)) (now (previous .exit)) × Emptied (now (classes .entry)) (now (classes .exit)) × Emptied (now (queue .entry)) (now (queue .exit)) ⌝ }
+{
+    lent::clear_words(path);
+    clear_work(known, previous, classes, queue);
+    Answer::NotRouteable(cell)
+}
+
+// Whether a way leads from the start to the goal, and the cheapest known one, over a room of kinds. The path goes to the
+// front of `path`; the others are work memory. See the promise in specs/Answers.antt.
+pub fn astar_route(
+    room: Room,
+    config: RouterConfig,
+    kinds: &[u8],
+    start: usize,
+    goal: usize,
+    path: &mut [u32],
+    known: &mut [u32],
+    previous: &mut [u32],
+    classes: &mut [u8],
+    queue: &mut [u64],
+) -> Answer
+    ensures { λ r. ⌜ Promise (input room config (now (kinds .entry)) start goal (lengthsOf (now (path .entry)) (now (known .entry)) (now (previous .entry)) (now (classes .entry)) (now (queue .entry)))) (now (path .entry)) (now (known .entry)) (now (previous .entry)) (now (classes .entry)) (now (queue .entry)) r (now (path .exit)) (now (known .exit)) (now (previous .exit)) (now (classes .exit)) (now (queue .exit)) ⌝ }
+{
+    let lengths = Lengths {
+        path: path.len(),
+        known: known.len(),
+        previous: previous.len(),
+        classes: classes.len(),
+        queue: queue.len(),
+    };
+    if let Judgement::Unfit(why) = judge(room, config, kinds, start, goal, lengths) {
+        return Answer::Refused(why);
+    }
+    if let Ends::Bad(cell) = bad_end(kinds, start, goal) {
+        return refuse_end(cell, path, known, previous, classes, queue);
+    }
+    answer_fit(
+        room,
+        config,
+        kinds,
+        start,
+        goal,
+        path,
+        known,
+        previous,
+        classes,
+        queue,
+    )
+}

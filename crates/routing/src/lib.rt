@@ -1,0 +1,86 @@
+// One search over a room of kinds.
+mod astar;
+mod classes;
+mod expand;
+mod judge;
+mod search;
+mod trace;
+
+// How many entries wait, and the last serial given.
+pub struct Line {
+    pub waiting: usize,
+    pub serial: u64,
+}
+
+// What trying a cell's moves comes to: the search goes on, or a push found the queue full.
+pub enum Step {
+    On(Line),
+    Full,
+}
+
+// A cell and its position.
+pub struct Spot {
+    pub cell: usize,
+    pub at: room::Pos,
+}
+
+// How a search has ended, with the expanded count.
+pub enum Outcome {
+    Arrived(room::Nodes),
+    NoRoute(room::Nodes),
+    LimitPassed(room::Nodes),
+    QueueFull(room::Nodes),
+}
+
+// What one taking comes to.
+pub enum Turn {
+    GoesOn(Line),
+    Ended(Outcome),
+}
+
+// A route: how many cells its path has, its cost in tenths, and how many cells were expanded.
+pub struct Route {
+    pub length: usize,
+    pub cost: room::Cost,
+    pub expanded: room::Nodes,
+}
+
+// The lengths of the lent buffers.
+pub struct Lengths {
+    pub path: usize,
+    pub known: usize,
+    pub previous: usize,
+    pub classes: usize,
+    pub queue: usize,
+}
+
+// Why an input is refused before anything is touched: numbers 2, 3, 6, 5 and 4.
+pub enum Refusal {
+    Sides,
+    Config,
+    Buffer,
+    Code,
+    Position,
+}
+
+pub enum Judgement {
+    Fit,
+    Unfit(Refusal),
+}
+
+// Whether both ends are routeable, or which is not: the start, else the goal.
+pub enum Ends {
+    Good,
+    Bad(usize),
+}
+
+// What a search answers: a route; a refusal; the end that is not routeable (10); or no route (11), the node limit passed
+// (12), the queue full (13), each with the expanded count.
+pub enum Answer {
+    Routed(Route),
+    Refused(Refusal),
+    NotRouteable(usize),
+    NoRoute(room::Nodes),
+    LimitPassed(room::Nodes),
+    QueueFull(room::Nodes),
+}

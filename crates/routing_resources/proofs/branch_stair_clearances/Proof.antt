@@ -1,0 +1,128 @@
+-- `branch_stair_clearances` meets its contract: each turn marks the clearance of one pair of the branch.
+use mathlib.Core.Path.{_≡_, refl}
+use mathlib.Core.Bool.{Bool, false, _||_}
+use mathlib.Core.List.{List, [], _∷_}
+use Prim.Native.Nat.{ℕ, _+_, _-_, _≤_, _<_}
+use native.Mathlib.Nat.{le-of-suc-le-suc, not-suc-le-zero}
+use native.Mathlib.Numerals.{add-one}
+use native.Mathlib.Omega.{arith}
+use lib.ListN.{length, getD, drop, length-drop}
+use lib.Seq.{drop-cons}
+use borrow.Author.Needs.{needs}
+use Rattle.room.specs.declared.Room.{Room}
+use Rattle.room.specs.Room.{volume}
+use Rattle.routing_resources.specs.Marks.{isCell}
+use Rattle.routing_resources.specs.MarkLaws.{Turn, first-turn, next-turn, last-turn}
+use Rattle.routing_resources.specs.Resources.{clearanceOf, isClearance, AllCells}
+use Rattle.routing_resources.specs.ResourceLaws.{clearance-in}
+use Rattle.routing_resources.proofs.branch_stair_clearances.Statement.{statement}
+use Rattle.routing_resources.proofs.branch_stair_clearances.Tie as tie
+
+-- the clearances from the i-th cell of the branch on
+abbrev clears : Room → List ℕ → ℕ → ℕ → Bool
+clears R branch i = isClearance R (drop i branch)
+
+one-more : (R : Room) (branch : List ℕ) (i : ℕ) → i + 1 < length branch → (v : ℕ)
+    → clears R branch i v ≡ isCell (clearanceOf R (getD branch i 0) (getD branch (i + 1) 0)) v || clears R branch (i + 1) v
+unfolding isClearance
+one-more R branch i h v =
+    let rest = drop-cons branch (i + 1) 0 h in
+    let all : drop i branch ≡ getD branch i 0 ∷ drop (i + 1) branch = rw add-one (drop-cons branch i 0 (omega arith)) in
+    rw (all, rest)
+
+one-cell : (R : Room) (branch : List ℕ) → length branch ≤ 1 → (v : ℕ) → isClearance R branch v ≡ false
+unfolding isClearance
+one-cell R [] h v = refl
+one-cell R (a ∷ []) h v = refl
+one-cell R (a ∷ (b ∷ rest)) h v = absurd (not-suc-le-zero (le-of-suc-le-suc h))
+
+all-cleared : (R : Room) (branch : List ℕ) (i : ℕ) → length branch ≤ i + 1 → (v : ℕ) → clears R branch i v ≡ false
+all-cleared R branch i h v = one-cell R (drop i branch) (rw (length-drop i branch) (omega arith)) v
+
+ends-in : (R : Room) (branch : List ℕ) → AllCells R branch → (i : ℕ) → i + 1 < length branch → (a b : ℕ) → a ≡ getD branch i 0 → b ≡ getD branch (i + 1) 0
+    → (a < volume R) × (b < volume R)
+ends-in R branch cells i h a b e f = (rw e (cells .inside i (omega arith)), rw f (cells .inside (i + 1) h))
+
+abbrev Inv-loop : tie.InvT-loop
+Inv-loop room branch marks₀ i₀ marks i = (i ≤ length branch) × Turn 1 (clears room branch) marks₀ marks i
+
+abbrev μ-loop : tie.MeasureT-loop
+μ-loop room branch marks₀ i₀ marks i = length branch - i
+
+loop-holds : tie.Need-loop-holds Inv-loop μ-loop
+loop-holds c = (omega arith, first-turn _ _ _)
+
+add-loop : tie.Need-add-loop Inv-loop μ-loop
+add-loop c = search needs
+
+mul-wide : tie.Need-mul-wide Inv-loop μ-loop
+mul-wide c = search needs
+
+shared-slice-read-wide : tie.Need-shared-slice-read-wide Inv-loop μ-loop
+shared-slice-read-wide c = search needs
+
+wide-requires : tie.Need-wide-requires Inv-loop μ-loop
+wide-requires c κs = search needs
+
+add-wide : tie.Need-add-wide Inv-loop μ-loop
+add-wide c = search needs
+
+mul-wide-2 : tie.Need-mul-wide-2 Inv-loop μ-loop
+mul-wide-2 c = search needs
+
+shared-slice-read-wide-2 : tie.Need-shared-slice-read-wide-2 Inv-loop μ-loop
+shared-slice-read-wide-2 c = search needs
+
+wide-requires-2 : tie.Need-wide-requires-2 Inv-loop μ-loop
+wide-requires-2 c κs = search needs
+
+clearance-requires : tie.Need-clearance-requires Inv-loop μ-loop
+clearance-requires c κs =
+    let start = c .before .before .before .before .before .before .before .before in
+    let ends = ends-in _ _ (start .pre .1 .0) (c .before .before .before .before .before .loop .i) (c .before .before .before .before .loop-test .taken) _ _ (c .before .before .wide .ensures) (c .wide2 .ensures) in
+    (start .pre .0, (ends .0, ends .1))
+
+put-mark-requires : tie.Need-put-mark-requires Inv-loop μ-loop
+put-mark-requires c κs =
+    let start = c .before .before .before .before .before .before .before .before .before .before in
+    let ends = ends-in _ _ (start .pre .1 .0) (c .before .before .before .before .before .before .before .loop .i) (c .before .before .before .before .before .before .loop-test .taken) _ _ (c .before .before .before .before .wide .ensures) (c .before .before .wide2 .ensures) in
+    λ v e. rw (c .before .before .before .before .before .before .before .loop .inv .1 .long, start .pre .1 .1) (clearance-in _ (start .pre .0) _ _ (ends .0) (ends .1) v (rw (c .before .clearance .ensures) at e))
+
+add-i : tie.Need-add-i Inv-loop μ-loop
+add-i c = search needs
+
+loop-less : tie.Need-loop-less Inv-loop μ-loop
+loop-less c = search needs
+
+loop-again : tie.Need-loop-again Inv-loop μ-loop
+loop-again c =
+    (omega arith, let more = one-more _ _ (c .before .before .before .before .before .before .before .before .before .before .loop .i) (c .before .before .before .before .before .before .before .before .before .loop-test .taken) in next-turn (c .before .before .before .before .before .before .before .before .before .before .loop .inv .1) _ (c .before .before .put-mark .ensures) (rw (c .before .before .before .before .clearance .ensures, c .before .before .before .before .before .before .before .wide .ensures, c .before .before .before .before .before .wide2 .ensures) more))
+
+same-length : tie.Need-same-length Inv-loop μ-loop
+same-length c = c .before .loop .inv .1 .long
+
+returns : tie.Need-returns Inv-loop μ-loop
+returns c = last-turn (c .before .loop .inv .1) (all-cleared _ _ _ (c .loop-test .left))
+
+pub branch-stair-clearances-spec : {M : Type 1} → statement M
+branch-stair-clearances-spec =
+    tie.close
+    (tie.spec
+    Inv-loop
+    μ-loop
+    loop-holds
+    add-loop
+    mul-wide
+    shared-slice-read-wide
+    wide-requires
+    add-wide
+    mul-wide-2
+    shared-slice-read-wide-2
+    wide-requires-2
+    clearance-requires
+    put-mark-requires
+    add-i
+    loop-less
+    loop-again
+    same-length
+    returns)

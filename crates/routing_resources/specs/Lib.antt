@@ -1,0 +1,4 @@
+pub mod Marks
+pub mod MarkLaws
+pub mod Resources
+pub mod ResourceLaws

@@ -1,0 +1,114 @@
+-- Laws of marks: what each byte is, that marking is determined, composes and commutes, how a loop marks in turns, and what unmarking leaves.
+use mathlib.Core.Path.{_≡_, refl, sym, ap, _∙_}
+use mathlib.Core.Bool.{Bool, true, false, not, _&&_, _||_, or-comm}
+use mathlib.Core.List.{List, [], _∷_}
+use Prim.Native.Nat.{ℕ, zero, suc, _+_, _<_}
+use native.Mathlib.Nat.{le-of-suc-le-suc, not-suc-le-zero}
+use native.Mathlib.Omega.{arith}
+use lib.Dec.{eqb}
+use lib.ListN.{length, getD, set, length-set, length-replicate, getD-replicate}
+use lib.Seq.{getD-set-same, getD-set-other, ext-getD}
+use borrow.Author.Tests.{eqb-true, eqb-false}
+use Rattle.basics.specs.Tests.{either, ask}
+use Rattle.routing_resources.specs.Marks.{withByte, markedBy, unmarkedBy, isMarked, noMarks}
+
+both-bytes : (byte m : ℕ) (p q : Bool) → either q byte (either p byte m) ≡ either (p || q) byte m
+both-bytes byte m true true = refl
+both-bytes byte m true false = refl
+both-bytes byte m false true = refl
+both-bytes byte m false false = refl
+
+left-bytes : (p q : Bool) → either q 0 (either p 1 0) ≡ either {X = ℕ} (p && not q) 1 0
+left-bytes true true = refl
+left-bytes true false = refl
+left-bytes false true = refl
+left-bytes false false = refl
+
+module _ (byte : ℕ) where
+  pub with-length : (p : ℕ → Bool) (ms : List ℕ) → length (withByte byte p ms) ≡ length ms
+  unfolding withByte
+  with-length p [] = refl
+  with-length p (m ∷ ms) = ap suc (with-length (λ v. p (suc v)) ms)
+
+  pub with-at : (p : ℕ → Bool) (ms : List ℕ) (v : ℕ) → v < length ms → getD (withByte byte p ms) v 0 ≡ either (p v) byte (getD ms v 0)
+  unfolding withByte
+  with-at p [] v h = absurd (not-suc-le-zero h)
+  with-at p (m ∷ ms) zero h = refl
+  with-at p (m ∷ ms) (suc v) h = with-at (λ v. p (suc v)) ms v (le-of-suc-le-suc h)
+
+  -- a list of these bytes is no other
+  pub with-is : (p : ℕ → Bool) (ms ls : List ℕ) → length ls ≡ length ms
+      → ((v : ℕ) → v < length ms → getD ls v 0 ≡ either (p v) byte (getD ms v 0))
+      → ls ≡ withByte byte p ms
+  with-is p ms ls e f =
+      ext-getD 0 ls (withByte byte p ms) (e ∙ sym (with-length p ms)) (λ v h. f v (omega arith) ∙ sym (with-at p ms v (omega arith)))
+
+  -- to write one byte is to write it where the test is for that cell
+  pub with-set : (ms : List ℕ) (cell : ℕ) → set ms cell byte ≡ withByte byte (eqb cell) ms
+  with-set ms cell = with-is (eqb cell) ms (set ms cell byte) (length-set ms cell byte) one
+    where
+      one : (v : ℕ) → v < length ms → getD (set ms cell byte) v 0 ≡ either (eqb cell v) byte (getD ms v 0)
+      one v h =
+          ask (eqb cell v)
+          (λ t. let e : cell ≡ v = eqb-true cell v t in rw (t, e) (getD-set-same ms v byte 0 h))
+          (λ f. rw f (getD-set-other ms cell v byte 0 (λ e. eqb-false cell v f (sym e))))
+
+  pub with-none : (p : ℕ → Bool) (ms : List ℕ) → ((v : ℕ) → v < length ms → p v ≡ false) → withByte byte p ms ≡ ms
+  with-none p ms n = sym (with-is p ms ms refl (λ v h. rw (n v h)))
+
+  pub with-same : (p q : ℕ → Bool) (ms : List ℕ) → ((v : ℕ) → v < length ms → p v ≡ q v) → withByte byte p ms ≡ withByte byte q ms
+  with-same p q ms s = with-is q ms _ (with-length p ms) (λ v h. with-at p ms v h ∙ rw (s v h))
+
+  -- one test after another is both at once, in either order
+  pub with-or : (p q : ℕ → Bool) (ms : List ℕ) → withByte byte q (withByte byte p ms) ≡ withByte byte (λ v. p v || q v) ms
+  with-or p q ms = with-is _ ms _ (with-length q (withByte byte p ms) ∙ with-length p ms) (λ v h. both v h)
+    where
+      both : (v : ℕ) → v < length ms → getD (withByte byte q (withByte byte p ms)) v 0 ≡ either (p v || q v) byte (getD ms v 0)
+      both v h =
+          with-at q (withByte byte p ms) v (rw (with-length p ms) h)
+          ∙ rw (with-at p ms v h) (both-bytes byte (getD ms v 0) (p v) (q v))
+
+  pub with-swap : (p q : ℕ → Bool) (ms : List ℕ) → withByte byte q (withByte byte p ms) ≡ withByte byte p (withByte byte q ms)
+  with-swap p q ms = with-or p q ms ∙ with-same _ _ ms (λ v h. or-comm (p v) (q v)) ∙ sym (with-or q p ms)
+
+-- Writing in turns: `rest k` tests for the cells that the turns from k on write, `rest 0` for all of them. Those that are left, written to the
+-- marks of now, make what all make of the marks at the start
+pub record Turn (byte : ℕ) (rest : ℕ → ℕ → Bool) (start marks : List ℕ) (k : ℕ) : Type 0 where
+  pub long : length marks ≡ length start
+  pub left : withByte byte (rest k) marks ≡ withByte byte (rest 0) start
+
+pub first-turn : (byte : ℕ) (rest : ℕ → ℕ → Bool) (start : List ℕ) → Turn byte rest start start 0
+first-turn byte rest start = record { long = refl; left = refl }
+
+module _ {byte : ℕ} {rest : ℕ → ℕ → Bool} {start marks : List ℕ} {k : ℕ} (turn : Turn byte rest start marks k) where
+  pub next-turn : (p : ℕ → Bool) {marks′ : List ℕ} → marks′ ≡ withByte byte p marks → ((v : ℕ) → rest k v ≡ p v || rest (k + 1) v)
+      → Turn byte rest start marks′ (k + 1)
+  next-turn p e s = record {
+    long = ap length e ∙ with-length byte p marks ∙ turn .long;
+    left =
+        ap (withByte byte (rest (k + 1))) e
+        ∙ with-or byte p (rest (k + 1)) marks
+        ∙ with-same byte _ _ marks (λ v h. sym (s v))
+        ∙ turn .left;
+  }
+
+  pub last-turn : ((v : ℕ) → rest k v ≡ false) → marks ≡ withByte byte (rest 0) start
+  last-turn n = sym (with-none byte (rest k) marks (λ v h. n v)) ∙ turn .left
+
+-- what is marked afterwards
+module _ (p : ℕ → Bool) (ms : List ℕ) (v : ℕ) (h : v < length ms) where
+  pub marked-after : isMarked (markedBy p ms) v ≡ p v || isMarked ms v
+  marked-after = ask (p v) (λ t. rw (with-at 1 p ms v h, t)) (λ f. rw (with-at 1 p ms v h, f))
+
+  pub unmarked-after : isMarked (unmarkedBy p ms) v ≡ not (p v) && isMarked ms v
+  unmarked-after = ask (p v) (λ t. rw (with-at 0 p ms v h, t)) (λ f. rw (with-at 0 p ms v h, f))
+
+-- cells marked and then taken out again, from no mark on
+pub taken-out : (p q : ℕ → Bool) (n : ℕ) → unmarkedBy q (markedBy p (noMarks n)) ≡ markedBy (λ v. p v && not (q v)) (noMarks n)
+taken-out p q n = with-is 1 _ (noMarks n) _ (with-length 0 q (markedBy p (noMarks n)) ∙ with-length 1 p (noMarks n)) one
+  where
+    one : (v : ℕ) → v < length (noMarks n) → getD (unmarkedBy q (markedBy p (noMarks n))) v 0 ≡ either (p v && not (q v)) 1 (getD (noMarks n) v 0)
+    one v h =
+        let b : v < n = rw (length-replicate {A = ℕ} n 0) at h in
+        with-at 0 q (markedBy p (noMarks n)) v (rw (with-length 1 p (noMarks n)) h)
+        ∙ rw (with-at 1 p (noMarks n) v h, getD-replicate {A = ℕ} n v 0 0 b) (left-bytes (p v) (q v))

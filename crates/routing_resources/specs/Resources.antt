@@ -1,0 +1,37 @@
+-- What a wire keeps clear of others, as "The tree of one net" of the requirement has it. Definitions alone; their laws are in ResourceLaws.
+use mathlib.Core.Bool.{Bool, false, _||_}
+use mathlib.Core.List.{List, [], _∷_}
+use Prim.Native.Nat.{ℕ, _<_}
+use lib.Dec.{ltb, eqb}
+use lib.ListN.{length, getD}
+use Rattle.basics.specs.Tests.{either}
+use Rattle.basics.specs.Lists.{any}
+use Rattle.room.specs.declared.Room.{Room}
+use Rattle.room.specs.declared.Neighbour.{Neighbour}
+use Rattle.room.specs.Room.{volume, posOf, moves, neighbour, above}
+use Rattle.routing_resources.specs.Marks.{isCell}
+
+-- "Keepout of a cell: its four neighbours, each also one up and one down": where the twelve moves lead
+unfoldable pub inKeepout : Room → ℕ → ℕ → Bool
+inKeepout R cell v = any (λ m. isCell (neighbour R cell m) v) moves
+
+abbrev pub level : Room → ℕ → ℕ
+level R cell = posOf R cell .y
+
+-- of two cells of different levels, the lower one
+abbrev pub lower : Room → ℕ → ℕ → ℕ
+lower R a b = either (ltb (level R a) (level R b)) a b
+
+-- "the clearance (above the lower end)" of a stair between two cells; two cells of one level have none
+unfoldable pub clearanceOf : Room → ℕ → ℕ → Neighbour
+clearanceOf R a b = either (eqb (level R a) (level R b)) Neighbour.Outside (above R (lower R a b))
+
+-- v is the clearance of a stair along the branch
+unfoldable pub isClearance : Room → List ℕ → ℕ → Bool
+isClearance R [] v = false
+isClearance R (a ∷ []) v = false
+isClearance R (a ∷ (b ∷ rest)) v = isCell (clearanceOf R a b) v || isClearance R (b ∷ rest) v
+
+-- each of these is the number of a cell
+pub record AllCells (R : Room) (cells : List ℕ) : Type 0 where
+  pub inside : (i : ℕ) → i < length cells → getD cells i 0 < volume R
