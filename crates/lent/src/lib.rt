@@ -6,10 +6,10 @@ pub fn clear_bytes(s: &mut [u8])
     ensures { λ _. ⌜ now (s .exit) ≡ replicate (length (now (s .entry))) 0 ⌝ }
 {
     let n = s.len();
-    let mut i: usize = 0;
-    while i < n {
-        s[i] = 0;
-        i += 1;
+    let mut byte: usize = 0;
+    while byte < n {
+        s[byte] = 0;
+        byte += 1;
     }
 }
 
@@ -17,10 +17,10 @@ pub fn clear_words(s: &mut [u32])
     ensures { λ _. ⌜ now (s .exit) ≡ replicate (length (now (s .entry))) 0 ⌝ }
 {
     let n = s.len();
-    let mut i: usize = 0;
-    while i < n {
-        s[i] = 0;
-        i += 1;
+    let mut word: usize = 0;
+    while word < n {
+        s[word] = 0;
+        word += 1;
     }
 }
 
@@ -28,9 +28,9 @@ pub fn clear_longs(s: &mut [u64])
     ensures { λ _. ⌜ now (s .exit) ≡ replicate (length (now (s .entry))) 0 ⌝ }
 {
     let n = s.len();
-    let mut i: usize = 0;
-    while i < n {
-        s[i] = 0;
-        i += 1;
+    let mut long: usize = 0;
+    while long < n {
+        s[long] = 0;
+        long += 1;
     }
 }

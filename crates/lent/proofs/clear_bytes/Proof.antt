@@ -6,10 +6,10 @@ use Rattle.lent.proofs.clear_bytes.Statement.{statement}
 use Rattle.lent.proofs.clear_bytes.Tie as tie
 
 abbrev Inv-loop : tie.InvT-loop
-Inv-loop s₀ n i₀ s i = Cleared s₀ i s
+Inv-loop s₀ n byte₀ s byte = Cleared s₀ byte s
 
 abbrev μ-loop : tie.MeasureT-loop
-μ-loop s₀ n i₀ s i = n - i
+μ-loop s₀ n byte₀ s byte = n - byte
 
 loop-holds : tie.Need-loop-holds Inv-loop μ-loop
 loop-holds c = cleared-none
@@ -17,8 +17,8 @@ loop-holds c = cleared-none
 slice-write-s : tie.Need-slice-write-s Inv-loop μ-loop
 slice-write-s c = search needs
 
-add-i : tie.Need-add-i Inv-loop μ-loop
-add-i c = search needs
+add-byte : tie.Need-add-byte Inv-loop μ-loop
+add-byte c = search needs
 
 loop-less : tie.Need-loop-less Inv-loop μ-loop
 loop-less c = search needs
@@ -40,7 +40,7 @@ clear-bytes-spec =
     μ-loop
     loop-holds
     slice-write-s
-    add-i
+    add-byte
     loop-less
     loop-again
     same-length

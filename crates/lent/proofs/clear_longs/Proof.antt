@@ -6,10 +6,10 @@ use Rattle.lent.proofs.clear_longs.Statement.{statement}
 use Rattle.lent.proofs.clear_longs.Tie as tie
 
 abbrev Inv-loop : tie.InvT-loop
-Inv-loop s₀ n i₀ s i = Cleared s₀ i s
+Inv-loop s₀ n long₀ s long = Cleared s₀ long s
 
 abbrev μ-loop : tie.MeasureT-loop
-μ-loop s₀ n i₀ s i = n - i
+μ-loop s₀ n long₀ s long = n - long
 
 loop-holds : tie.Need-loop-holds Inv-loop μ-loop
 loop-holds c = cleared-none
@@ -20,8 +20,8 @@ mul-s c = search needs
 slice-write-s : tie.Need-slice-write-s Inv-loop μ-loop
 slice-write-s c = search needs
 
-add-i : tie.Need-add-i Inv-loop μ-loop
-add-i c = search needs
+add-long : tie.Need-add-long Inv-loop μ-loop
+add-long c = search needs
 
 loop-less : tie.Need-loop-less Inv-loop μ-loop
 loop-less c = search needs
@@ -44,7 +44,7 @@ clear-longs-spec =
     loop-holds
     mul-s
     slice-write-s
-    add-i
+    add-long
     loop-less
     loop-again
     same-length
