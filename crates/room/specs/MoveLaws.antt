@@ -4,13 +4,13 @@ use mathlib.Core.Path.{_≡_, refl, sym, ap, _∙_}
 use mathlib.Core.Logic.{inl, inr}
 use mathlib.Core.Bool.{Bool, true, false, _&&_}
 use mathlib.Core.List.{List, [], _∷_}
-use Prim.Native.Nat.{ℕ, _+_, _-_, _≤_, _<_}
+use Prim.Native.Nat.{ℕ, zero, suc, _+_, _-_, _≤_, _<_}
 use native.Mathlib.Omega.{arith}
 use lib.Dec.{leb, eqb}
 use lib.ListN.{getD}
-use borrow.Author.Tests.{leb-true, eqb-true, le-leb}
+use borrow.Author.Tests.{leb-true, eqb-true, le-leb, eq-eqb}
 use Rattle.basics.specs.Tests.{either, ask, and-left, and-right, and-both, never}
-use Rattle.basics.specs.Lists.{In, every-in, in-at}
+use Rattle.basics.specs.Lists.{In, every, every-in, in-at}
 use Rattle.room.specs.declared.Room.{Room}
 use Rattle.room.specs.declared.Pos.{Pos}
 use Rattle.room.specs.declared.Move.{Move}
@@ -179,6 +179,27 @@ small m i =
       z-small = search passed;
       aside = eqb-true _ _ (every-in oneAside moves refl m i);
     }
+
+-- each move of such parts is one of the twelve
+abbrev parts : List ℕ
+parts = 0 ∷ 1 ∷ 2 ∷ []
+
+part : (a : ℕ) → a ≤ 2 → In a parts
+part zero h = inl refl
+part (suc zero) h = inr (inl refl)
+part (suc (suc zero)) h = inr (inr (inl refl))
+part (suc (suc (suc a))) h = absurd (omega arith)
+
+abbrev listedIf : ℕ → ℕ → ℕ → Bool
+listedIf dx dy dz = either (oneAside (by dx dy dz)) (among (by dx dy dz) moves) true
+
+pub listed : (m : Move) → Small m → In m moves
+unfolding moves
+listed m s =
+    let x = every-in (λ dx. every (λ dy. every (listedIf dx dy) parts) parts) parts refl (m .x) (part (m .x) (s .x-small)) in
+    let y = every-in (λ dy. every (listedIf (m .x) dy) parts) parts x (m .y) (part (m .y) (s .y-small)) in
+    let z = every-in (listedIf (m .x) (m .y)) parts y (m .z) (part (m .z) (s .z-small)) in
+    among-is m moves (rw (eq-eqb _ 1 (s .aside)) at z)
 
 pub move-small : (k : ℕ) → k < 12 → Small (getD moves k (by 0 0 0))
 unfolding moves

@@ -97,6 +97,23 @@ detailOf (NoRoute x) = x .0
 detailOf (LimitPassed x) = x .0
 detailOf (QueueFull x) = x .0
 
+-- a route's cost, and its expanded count
+abbrev pub costOf : Answer → ℕ
+costOf (Routed r) = r .cost .0
+costOf (Refused why) = 0
+costOf (NotRouteable cell) = 0
+costOf (NoRoute x) = 0
+costOf (LimitPassed x) = 0
+costOf (QueueFull x) = 0
+
+abbrev pub expandedOf : Answer → ℕ
+expandedOf (Routed r) = r .expanded .0
+expandedOf (Refused why) = 0
+expandedOf (NotRouteable cell) = 0
+expandedOf (NoRoute x) = 0
+expandedOf (LimitPassed x) = 0
+expandedOf (QueueFull x) = 0
+
 -- ---- the lent buffers
 
 -- "Numbers 1 to 6 touch nothing"

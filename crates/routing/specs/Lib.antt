@@ -1,6 +1,5 @@
 pub mod Routing
 pub mod Lawful
-pub mod Samples
 pub mod GraphLaws
 pub mod Held
 pub mod HeldLaws

@@ -1,0 +1,152 @@
+-- A move of a room's graph is a lawful step at its cost, and a lawful step is such a move; so a way through the graph is a lawful way.
+use mathlib.Core.Path.{_≡_, refl, sym, ap, _∙_}
+use mathlib.Core.Logic.{inl, inr}
+use mathlib.Core.Bool.{true}
+use mathlib.Core.List.{List, [], _∷_, _++_}
+use Prim.Native.Nat.{ℕ, _+_, _-_, _≤_, _<_}
+use native.Mathlib.Omega.{arith}
+use lib.Dec.{eqb}
+use borrow.Author.Tests.{eqb-true, eqb-false, eq-eqb, ne-eqb}
+use Rattle.basics.specs.Tests.{ask}
+use Rattle.basics.specs.Lists.{In}
+use Rattle.room.specs.declared.Room.{Room}
+use Rattle.room.specs.declared.Move.{Move}
+use Rattle.room.specs.declared.RouterConfig.{RouterConfig}
+use Rattle.room.specs.declared.Neighbour.{Neighbour}
+use Rattle.room.specs.declared.Neighbour.the-variants.{Inside, Outside}
+use Rattle.room.specs.Room.{Good, Moved, volume, posOf, by, moves, neighbour, apart}
+use Rattle.room.specs.Units.{air, solid, transparent, redstoneBlock}
+use Rattle.room.specs.RoomLaws.{cell-pos, pos-in}
+use Rattle.room.specs.MoveLaws.{Small, small, listed, leads, leads-to}
+use Rattle.best_first.specs.Search
+use Rattle.best_first.specs.Ways.{Step, Way}
+use Rattle.routing.specs.Routing.{Task, routeable, bearing, classFor, entering, total, priceOf, moveInto, movesBy, graphOf, graph}
+use Rattle.routing.specs.GraphLaws.{made}
+use Rattle.routing.specs.Lawful.{supportOf, LawfulStep, stepCost, Leads, costFrom}
+
+-- ---- what a cell's class says
+
+support-laid : (kind : ℕ) → eqb (bearing kind) 2 ≡ eqb kind air
+unfolding bearing
+support-laid kind =
+    ask (eqb kind air) (λ a. rw a)
+    (λ a. ask (eqb kind solid) (λ b. rw (a, b))
+    (λ b. ask (eqb kind transparent) (λ c. rw (a, b, c)) (λ c. ask (eqb kind redstoneBlock) (λ d. rw (a, b, c, d)) (λ d. rw (a, b, c, d)))))
+
+module _ (T : Task) (v : ℕ) where
+  class-free : (entering T v ≡ 0 → ⊥) → routeable T v ≡ true
+  unfolding classFor routeable
+  class-free n = ask (routeable T v) (λ t. t) (λ f. absurd (n (rw f)))
+
+  class-is : routeable T v ≡ true → entering T v ≡ bearing (supportOf T v)
+  unfolding classFor routeable
+  class-is e = rw e
+
+-- ---- each move that leads to a cell that can be entered makes a move of the graph
+
+module _ (R : Room) (C : RouterConfig) (class : ℕ → ℕ) (u : ℕ) (m : Move) (v : ℕ) (leads-in : neighbour R u m ≡ Inside v) (can-enter : class v ≡ 0 → ⊥) where
+  abbrev g : Search.Move
+  g = record { to = v; cost = total (priceOf C m (class v)) }
+
+  makes : (ms : List Move) → In m ms → In g (movesBy R C class u ms)
+  unfolding movesBy
+  makes [] i = absurd i
+  makes (k ∷ ms) (inl e) = rw (sym e, leads-in, ne-eqb (class v) 0 can-enter) (inl refl)
+  makes (k ∷ ms) (inr i) = past (neighbour R u k) (makes ms i)
+    where
+      past : (w : Neighbour) → In g (movesBy R C class u ms) → In g (moveInto C class k w ++ movesBy R C class u ms)
+      past Outside j = j
+      past (Inside t) j = ask (eqb (class t) 0) (λ z. rw z j) (λ z. rw z (inr j))
+
+-- ---- a move by positions
+
+-- in one direction, from a to t by o
+module _ (a o t : ℕ) (e : t + 1 ≡ a + o) where
+  apart-by : apart a t ≡ apart o 1
+  apart-by = omega arith
+
+  unmoved-exactly : eqb o 1 ≡ eqb a t
+  unmoved-exactly =
+      ask (eqb o 1) (λ y. let k : a ≡ t = omega (arith, eqb-true o 1 y) in y ∙ sym (eq-eqb a t k))
+      (λ n. let k : a ≡ t → ⊥ = λ z. eqb-false o 1 n (omega arith) in n ∙ sym (ne-eqb a t k))
+
+reaches : (a t : ℕ) → apart a t ≤ 1 → t + 1 ≡ a + (t + 1 - a)
+reaches a t h = omega arith
+
+reaches-small : (a t : ℕ) → apart a t ≤ 1 → t + 1 - a ≤ 2
+reaches-small a t h = omega arith
+
+at-most-one : (o : ℕ) → o ≤ 2 → apart o 1 ≤ 1
+at-most-one o h = omega arith
+
+both-low : (a b : ℕ) → a + b ≡ 1 → (a ≤ 1) × (b ≤ 1)
+both-low a b e = (omega arith, omega arith)
+
+-- ---- steps and ways
+
+module _ (T : Task) where
+  price-exactly : (u v : ℕ) (m : Move) → Moved (posOf (T .room) u) m (posOf (T .room) v) → routeable T v ≡ true
+      → total (priceOf (T .config) m (entering T v)) ≡ stepCost T u v
+  unfolding priceOf stepCost
+  price-exactly u v m k e = rw (class-is T v e, support-laid (supportOf T v), unmoved-exactly _ _ _ (k .y-by))
+
+  module _ (u : ℕ) (from-in : u < volume (T .room)) where
+    move-lawful : (m : Move) (v : ℕ) → In m moves → neighbour (T .room) u m ≡ Inside v → (entering T v ≡ 0 → ⊥)
+        → LawfulStep T u v × (total (priceOf (T .config) m (entering T v)) ≡ stepCost T u v)
+    move-lawful m v i e n =
+        let l = leads (T .room) u m v e in
+        let s = small m i in
+        let free = class-free T v n in
+        let k : bearing (supportOf T v) ≡ 0 → ⊥ = λ z. n (class-is T v free ∙ z) in (
+          record {
+            from-in = from-in;
+            to-in = l .inside;
+            aside = rw (apart-by _ _ _ (l .moved .x-by), apart-by _ _ _ (l .moved .z-by)) (s .aside);
+            rise = rw (apart-by _ _ _ (l .moved .y-by)) (at-most-one (m .y) (s .y-small));
+            enters = free;
+            stands = omega arith;
+          },
+          price-exactly u v m (l .moved) free,
+        )
+
+    pub step-lawful : (v c : ℕ) → Step (graph T) u v c → LawfulStep T u v × (c ≡ stepCost T u v)
+    unfolding Step graphOf
+    step-lawful v c s =
+        let a = made (T .room) (T .config) (entering T) u moves (s .0) (s .1) in
+        let to : a .into ≡ v = ap (λ (g : Search.Move). g .to) (sym (a .is)) ∙ s .2 in
+        let cost : total (priceOf (T .config) (a .by) (entering T (a .into))) ≡ c = ap (λ (g : Search.Move). g .cost) (sym (a .is)) ∙ s .3 in
+        rw (← to, ← cost) (move-lawful (a .by) (a .into) (a .listed) (a .leads-in) (a .entered))
+
+  pub way-lawful : (l : List ℕ) (u t d : ℕ) → u < volume (T .room) → Way (graph T) u l t d → Leads T u l t × (d ≡ costFrom T u l)
+  way-lawful [] u t d h w = w
+  way-lawful (v ∷ l) u t d h w =
+      let s = step-lawful u h v (w .0) (w .2) in
+      let r = way-lawful l v t (w .1) (s .0 .to-in) (w .3) in
+      ((s .0, r .0), omega (arith, w .4, s .1, r .1))
+
+  module _ (good : Good (T .room)) where
+    pub lawful-step : (u v : ℕ) → LawfulStep T u v → Step (graph T) u v (stepCost T u v)
+    unfolding Step graphOf
+    lawful-step u v L =
+        let p = posOf (T .room) u in
+        let q = posOf (T .room) v in
+        let m = by (q .x + 1 - p .x) (q .y + 1 - p .y) (q .z + 1 - p .z) in
+        let low = both-low (apart (p .x) (q .x)) (apart (p .z) (q .z)) (L .aside) in
+        let moved : Moved p m q = record { x-by = reaches (p .x) (q .x) (low .0); y-by = reaches (p .y) (q .y) (L .rise); z-by = reaches (p .z) (q .z) (low .1) } in
+        let s : Small m = record {
+          x-small = reaches-small (p .x) (q .x) (low .0);
+          y-small = reaches-small (p .y) (q .y) (L .rise);
+          z-small = reaches-small (p .z) (q .z) (low .1);
+          aside = rw (← apart-by _ _ _ (moved .x-by), ← apart-by _ _ _ (moved .z-by)) (L .aside);
+        } in
+        let e : neighbour (T .room) u m ≡ Inside v = leads-to (T .room) u m q moved (pos-in (T .room) good v (L .to-in)) ∙ ap Inside (cell-pos (T .room) v) in
+        let can-enter : entering T v ≡ 0 → ⊥ = λ z. omega (arith, L .stands, sym (class-is T v (L .enters)) ∙ z) in (
+          record { to = v; cost = total (priceOf (T .config) m (entering T v)) },
+          makes (T .room) (T .config) (entering T) u m v e can-enter moves (listed m s),
+          refl,
+          price-exactly u v m moved (L .enters),
+        )
+
+    pub lawful-way : (l : List ℕ) (u t : ℕ) → Leads T u l t → Way (graph T) u l t (costFrom T u l)
+    lawful-way [] u t w = (w, refl)
+    lawful-way (v ∷ l) u t w = (stepCost T u v, costFrom T v l, lawful-step u v (w .0), lawful-way l v t (w .1), refl)
