@@ -1,0 +1,434 @@
+//! Small cases beside the samples, each for one rule: the settled readings, every refusal, and the order in which refusals
+//! are judged. Whoever answers cases can run them.
+
+use crate::Refusal;
+use crate::room::{Config, facing, kind};
+use crate::samples::{block_power, default_job, default_search, route, search_refused, wire};
+use crate::search::{Search, SearchAnswer};
+use crate::sheet::{Block, Job, Port, Sheet, TreeAnswer};
+
+pub fn searches() -> Vec<(&'static str, Search, SearchAnswer)> {
+    let mut list = search_readings();
+    list.extend(search_refusals());
+    list.extend(search_order());
+    list
+}
+
+pub fn sheets() -> Vec<(&'static str, Sheet, TreeAnswer)> {
+    let mut list = tree_readings();
+    list.push(zigzag());
+    list.extend(number_one());
+    list.extend(record_refusals());
+    list.extend(tree_refusals());
+    list.extend(tree_order());
+    list
+}
+
+/// A search in a room of Air with these costs.
+fn priced(sides: [u8; 3], [horizontal, stair, support]: [u32; 3], ends: [u32; 2]) -> Search {
+    let mut case = default_search(sides, ends[0], ends[1], &[]);
+    case.config = Config {
+        horizontal,
+        stair,
+        support,
+        ..case.config
+    };
+    case
+}
+
+/// Takes a fault out of a case.
+type Mend<C> = fn(&mut C);
+
+/// A case with one change.
+fn but<C>(mut case: C, change: impl FnOnce(&mut C)) -> C {
+    change(&mut case);
+    case
+}
+
+fn search_readings() -> Vec<(&'static str, Search, SearchAnswer)> {
+    let same = default_search([2, 2, 2], 5, 5, &[]);
+    let tight = but(same, |case| {
+        case.config.node_limit = 0;
+        case.queue = 1;
+    });
+    vec![
+        (
+            "start = goal needs no node and one queue place",
+            tight,
+            route(&[5], 0, 0),
+        ),
+        (
+            "below 10 and 20 a route need not be cheapest: 43 would do",
+            priced([1, 2, 2], [38, 3, 2], [0, 2]),
+            route(&[0, 3, 2], 45, 2),
+        ),
+        (
+            "a cell can be expanded again",
+            priced([1, 2, 4], [33, 41, 13], [4, 7]),
+            route(&[4, 1, 2, 7], 128, 9),
+        ),
+        (
+            "the dearest step is counted in full",
+            priced([2, 2, 1], [100_000; 3], [1, 3]),
+            route(&[1, 3], 200_000, 2),
+        ),
+    ]
+}
+
+/// Sample b: 3x1x1, 0 to 2.
+fn b() -> Search {
+    default_search([3, 1, 1], 0, 2, &[])
+}
+
+fn search_refusals() -> Vec<(&'static str, Search, SearchAnswer)> {
+    let refused =
+        |name, number, change: fn(&mut Search)| (name, but(b(), change), search_refused(number, 0));
+    vec![
+        refused("a side of 0", 2, |case| case.sides[1] = 0),
+        refused("a side of 65", 2, |case| case.sides[0] = 65),
+        refused("16,399 cells", 2, |case| case.sides = [23, 23, 31]),
+        refused("horizontal cost", 3, |case| {
+            case.config.horizontal = 100_001
+        }),
+        refused("stair cost", 3, |case| case.config.stair = 100_001),
+        refused("support cost", 3, |case| case.config.support = u32::MAX),
+        refused("node limit", 3, |case| case.config.node_limit = 200_001),
+        refused("a kind too few", 6, |case| case.kinds.truncate(2)),
+        refused("a kind too many", 6, |case| case.kinds.push(0)),
+        refused("a buffer under V", 6, |case| case.lent = 2),
+        refused("no queue place", 6, |case| case.queue = 0),
+        refused("kind 13", 5, |case| case.kinds[1] = 13),
+        refused("start outside", 4, |case| case.start = 3),
+        refused("goal outside", 4, |case| case.goal = u32::MAX),
+        (
+            "the start is judged before the goal",
+            default_search([3, 1, 1], 0, 2, &[(0, kind::SOLID), (2, kind::SOLID)]),
+            search_refused(10, 0),
+        ),
+    ]
+}
+
+/// All faults at once, then mended one by one in the order in which they are judged: 2, 3, 6, 5, 4, 10.
+fn search_order() -> Vec<(&'static str, Search, SearchAnswer)> {
+    let mut case = b();
+    case.sides = [0, 1, 1];
+    case.config.stair = 100_001;
+    case.queue = 0;
+    case.kinds = vec![kind::LEVER, 13, kind::AIR];
+    case.goal = 3;
+    let mends: [(u8, Mend<Search>); 6] = [
+        (2, |case| case.sides = [3, 1, 1]),
+        (3, |case| case.config.stair = 25),
+        (6, |case| case.queue = 36),
+        (5, |case| case.kinds[1] = kind::AIR),
+        (4, |case| case.goal = 2),
+        (10, |_| {}),
+    ];
+    let mut list = Vec::new();
+    for (number, mend) in mends {
+        let answer = search_refused(number, 0);
+        list.push(("a search judges 2, 3, 6, 5, 4, 10", case.clone(), answer));
+        mend(&mut case);
+    }
+    list
+}
+
+fn tree(branches: &[&[u16]], occupied: u32, repeaters: &[u16]) -> TreeAnswer {
+    TreeAnswer::Tree {
+        branches: branches.iter().map(|branch| branch.to_vec()).collect(),
+        occupied,
+        repeaters: repeaters.to_vec(),
+    }
+}
+
+fn refused(number: u8, detail: u32) -> TreeAnswer {
+    TreeAnswer::Refused(Refusal::new(number, detail))
+}
+
+fn sheet(job: &Job) -> Sheet {
+    Sheet::of_route(job.bytes())
+}
+
+fn block(node: u16, at: [u8; 3], kind: u8) -> Block {
+    Block {
+        node,
+        at,
+        kind,
+        facing: facing::NONE,
+    }
+}
+
+fn blocked_by(sides: [u8; 3], sinks: &[Port], blocks: &[Block]) -> Job {
+    Job {
+        blocks: blocks.to_vec(),
+        ..default_job(sides, sinks)
+    }
+}
+
+/// A sink at (x, 0, 0) without facing.
+fn plain_sink(x: u8) -> Port {
+    wire([x, 0, 0], facing::NONE)
+}
+
+fn tree_readings() -> Vec<(&'static str, Sheet, TreeAnswer)> {
+    let solid_source = blocked_by([3, 1, 1], &[], &[block(0, [0, 0, 0], kind::SOLID)]);
+    let cut_off = but(default_job([5, 1, 1], &[plain_sink(4)]), |job| {
+        job.conductors.push([1, 0, 0]);
+    });
+    let joined = default_job([5, 1, 1], &[plain_sink(4), plain_sink(2)]);
+    let out_of_room = but(default_job([2, 1, 1], &[plain_sink(1)]), |job| {
+        job.source.facing = facing::WEST;
+    });
+    vec![
+        (
+            "no sinks: the source's kind isn't looked at",
+            sheet(&solid_source),
+            tree(&[], 1, &[]),
+        ),
+        (
+            "a branch can hold a cell twice and have V + 1 cells",
+            sheet(&default_job([3, 1, 1], &[wire([1, 0, 0], facing::EAST)])),
+            tree(&[&[0, 1, 2, 1]], 3, &[]),
+        ),
+        (
+            "another net's conductor and its keepout are blocked",
+            sheet(&cut_off),
+            refused(14, 4),
+        ),
+        (
+            "the nearer sink goes first and its last cell isn't joinable; branches come in sheet order",
+            sheet(&joined),
+            tree(&[&[1, 2, 3, 4], &[0, 1, 2]], 5, &[]),
+        ),
+        (
+            "a source has no approach, so none outside",
+            sheet(&out_of_room),
+            tree(&[&[0, 1]], 2, &[]),
+        ),
+    ]
+}
+
+/// A way of one cell's width: 13 steps without a straight cell, then straight on to a BlockPower sink, which has no tail.
+fn zigzag() -> (&'static str, Sheet, TreeAnswer) {
+    let steps = (0..7).flat_map(|i| [[i, 0, i], [i + 1, 0, i]]);
+    let way: Vec<[u8; 3]> = steps.chain((7..12).map(|z| [7, 0, z])).collect();
+    let room = (0..8).flat_map(|x| (0..14).map(move |z| [x, 0, z]));
+    let mut job = default_job([8, 1, 14], &[block_power([7, 0, 12], facing::NORTH)]);
+    job.blocks = room
+        .filter(|at| !way.contains(at))
+        .map(|at| block(0, at, kind::SOLID))
+        .collect();
+    let branch: Vec<u16> = way
+        .iter()
+        .map(|[x, _, z]| u16::from(*x) * 14 + u16::from(*z))
+        .collect();
+    let first_straight = branch[14];
+    (
+        "where no cell fits for a repeater, the walk goes on to the next cell",
+        sheet(&job),
+        tree(&[&branch], 19, &[first_straight]),
+    )
+}
+
+/// Sheets that number 1 refuses, made from the sheet of one sink.
+fn number_one() -> Vec<(&'static str, Sheet, TreeAnswer)> {
+    let good = default_job([10, 1, 1], &[plain_sink(9)]);
+    let changed = |name, change: fn(&mut Vec<u8>)| {
+        let bytes = but(good.bytes(), change);
+        (name, Sheet::of_route(bytes), refused(1, 0))
+    };
+    let sinks = |count| default_job([10, 1, 1], &vec![plain_sink(9); count]);
+    vec![
+        changed("no bytes", Vec::clear),
+        changed("the head cut short", |bytes| bytes.truncate(4)),
+        changed("version 2", |bytes| bytes[0] = 2),
+        changed("a length too small", |bytes| bytes[4] -= 1),
+        changed("a byte left over", |bytes| bytes.push(0)),
+        changed("a byte left over, with its length", |bytes| {
+            bytes.push(0);
+            bytes[4] += 1;
+        }),
+        changed("a count past the end", |bytes| bytes[25] = 1),
+        ("17 sinks", sheet(&sinks(17)), refused(1, 0)),
+    ]
+}
+
+fn record_refusals() -> Vec<(&'static str, Sheet, TreeAnswer)> {
+    let good = blocked_by(
+        [3, 2, 1],
+        &[plain_sink(2)],
+        &[block(0, [1, 0, 0], kind::SOLID)],
+    );
+    let changed = |name, number, change: fn(&mut Job)| {
+        (name, sheet(&but(good.clone(), change)), refused(number, 0))
+    };
+    vec![
+        changed("sides", 2, |job| job.sides = [64, 5, 64]),
+        changed("a cost", 3, |job| job.config.support = 100_001),
+        changed("a block outside", 4, |job| job.blocks[0].at[1] = 2),
+        changed("a conductor outside", 4, |job| {
+            job.conductors.push([0, 0, 1])
+        }),
+        changed("a clearance outside", 4, |job| {
+            job.clearances.push([3, 0, 0])
+        }),
+        changed("a terminal outside", 4, |job| job.terminals.push([0, 2, 0])),
+        changed("a reserved cell outside", 4, |job| {
+            job.reserved.push([255; 3])
+        }),
+        changed("the source outside", 4, |job| job.source.at[0] = 3),
+        changed("a sink outside", 4, |job| job.sinks[0].at[0] = 3),
+        changed("Air in a block record", 5, |job| job.blocks[0].kind = 0),
+        changed("kind 13", 5, |job| job.blocks[0].kind = 13),
+        changed("a block's facing 7", 5, |job| job.blocks[0].facing = 7),
+        changed("port kind 2", 5, |job| job.source.kind = 2),
+        changed("a sink's facing 7", 5, |job| job.sinks[0].facing = 7),
+        changed("4 before 5 in one record", 4, |job| {
+            job.blocks[0].kind = 13;
+            job.blocks[0].at[0] = 3;
+        }),
+        changed("an earlier record's 5 before a later one's 4", 5, |job| {
+            job.blocks[0].kind = 13;
+            job.sinks[0].at[0] = 3;
+        }),
+    ]
+}
+
+/// A sheet with other buffers than those of program `route`.
+fn lent(job: &Job, change: impl FnOnce(&mut Sheet)) -> Sheet {
+    but(sheet(job), change)
+}
+
+fn tree_refusals() -> Vec<(&'static str, Sheet, TreeAnswer)> {
+    let none = default_job([3, 1, 1], &[]);
+    let line = default_job([3, 1, 1], &[plain_sink(2)]);
+    let twice = default_job([3, 1, 1], &[wire([1, 0, 0], facing::EAST)]);
+    let overlaps = |blocks: &[Block]| sheet(&blocked_by([4, 1, 1], &[], blocks));
+    let at = |node, x| block(node, [x, 0, 0], kind::SOLID);
+    let powered = |facing| {
+        sheet(&default_job(
+            [3, 1, 1],
+            &[plain_sink(1), block_power([1, 0, 0], facing)],
+        ))
+    };
+    let source = |facing| {
+        let job = but(default_job([3, 1, 1], &[]), |job| {
+            job.source = block_power([0; 3], facing)
+        });
+        sheet(&job)
+    };
+    let walled = blocked_by([4, 1, 1], &[plain_sink(1), plain_sink(3)], &[at(0, 2)]);
+    vec![
+        (
+            "a buffer under V",
+            lent(&none, |sheet| sheet.lent = 2),
+            refused(6, 0),
+        ),
+        (
+            "no queue place, even with no sinks",
+            lent(&none, |sheet| sheet.queue = 0),
+            refused(6, 0),
+        ),
+        (
+            "two nodes in one cell",
+            overlaps(&[at(0, 1), at(1, 1)]),
+            refused(7, 1),
+        ),
+        (
+            "one node twice in one cell",
+            overlaps(&[at(5, 2), at(5, 2)]),
+            refused(7, 2),
+        ),
+        (
+            "the repeat of least node, then least cell",
+            overlaps(&[at(9, 0), at(2, 3), at(2, 2), at(1, 3), at(1, 2), at(3, 0)]),
+            refused(7, 2),
+        ),
+        (
+            "BlockPower source without facing",
+            source(facing::NONE),
+            refused(8, 0),
+        ),
+        ("BlockPower sink facing Up", powered(5), refused(8, 2)),
+        (
+            "the source's terminal outside",
+            source(facing::WEST),
+            refused(9, 0),
+        ),
+        (
+            "a sink's terminal outside",
+            powered(facing::NORTH),
+            refused(9, 2),
+        ),
+        (
+            "a sink's approach outside",
+            powered(facing::EAST),
+            refused(9, 2),
+        ),
+        (
+            "in a corridor one queue place suffices",
+            lent(&twice, |sheet| sheet.queue = 1),
+            tree(&[&[0, 1, 2, 1]], 3, &[]),
+        ),
+        ("no goal left for a sink", sheet(&walled), refused(14, 3)),
+        (
+            "a branch buffer exactly full",
+            lent(&line, |sheet| sheet.branch = 3),
+            tree(&[&[0, 1, 2]], 3, &[]),
+        ),
+        (
+            "a branch buffer one short",
+            lent(&line, |sheet| sheet.branch = 2),
+            refused(15, 1),
+        ),
+        (
+            "the terminal counts",
+            lent(&twice, |sheet| sheet.branch = 3),
+            refused(15, 1),
+        ),
+        (
+            "15 before a later sink's 14",
+            lent(&walled, |sheet| sheet.branch = 1),
+            refused(15, 1),
+        ),
+        (
+            "13 in a tree",
+            lent(&default_job([3, 1, 3], &[wire([1, 0, 1], 0)]), |sheet| {
+                sheet.queue = 4
+            }),
+            refused(13, 2),
+        ),
+    ]
+}
+
+/// All faults at once, then mended one by one in the order in which they are judged.
+fn tree_order() -> Vec<(&'static str, Sheet, TreeAnswer)> {
+    let solid = block(3, [1, 0, 0], kind::SOLID);
+    let mut job = blocked_by([5, 1, 1], &[], &[solid, solid]);
+    job.sides = [0, 1, 1];
+    job.config.node_limit = 200_001;
+    job.reserved = vec![[5, 0, 0]];
+    job.source = block_power([0, 0, 0], facing::NONE);
+    job.sinks = vec![wire([4, 0, 0], facing::EAST); 17];
+    let mut queue = 0;
+    let mends: [(u8, u32, Mend<Job>); 9] = [
+        (1, 0, |job| job.sinks.truncate(1)),
+        (2, 0, |job| job.sides = [5, 1, 1]),
+        (3, 0, |job| job.config.node_limit = 200_000),
+        (4, 0, |job| job.reserved.clear()),
+        (6, 0, |_| {}),
+        (7, 1, |job| job.blocks.truncate(1)),
+        (8, 0, |job| job.source = wire([0, 0, 0], facing::NONE)),
+        (9, 1, |job| job.sinks[0].facing = facing::NONE),
+        (14, 4, |_| {}),
+    ];
+    let mut list = Vec::new();
+    for (number, detail, mend) in mends {
+        let case = lent(&job, |sheet| sheet.queue = queue);
+        let answer = refused(number, detail);
+        list.push(("a tree judges 1, 2, 3, 4, 6, 7, 8, 9, 14", case, answer));
+        queue = if number == 6 { 60 } else { queue };
+        mend(&mut job);
+    }
+    list
+}

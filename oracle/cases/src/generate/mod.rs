@@ -1,0 +1,158 @@
+//! Random cases. The same seed gives the same cases; each case of a list can be made by itself.
+
+mod damage;
+mod searches;
+mod sheets;
+mod site;
+mod terrain;
+
+pub use searches::random_search;
+pub use sheets::random_sheet;
+
+use crate::rng::Rng;
+use crate::room::{Config, MOST_CELLS, MOST_COST, MOST_NODES, Room};
+use crate::search::Search;
+use crate::sheet::Sheet;
+
+/// How large the rooms of random cases are.
+#[derive(Clone, Copy, Debug, Eq, PartialEq)]
+pub enum Profile {
+    /// Sides of 1 to 4.
+    Tiny,
+    /// Up to some hundred cells.
+    Small,
+    /// Up to some thousand cells.
+    Middle,
+    /// Up to 16,384 cells.
+    Large,
+    /// All of them, mostly tiny and small.
+    Mixed,
+}
+
+impl Profile {
+    pub const NAMES: [(&'static str, Self); 5] = [
+        ("tiny", Self::Tiny),
+        ("small", Self::Small),
+        ("middle", Self::Middle),
+        ("large", Self::Large),
+        ("mixed", Self::Mixed),
+    ];
+
+    pub fn named(name: &str) -> Option<Self> {
+        let mut names = Self::NAMES.into_iter();
+        names
+            .find(|(known, _)| *known == name)
+            .map(|(_, profile)| profile)
+    }
+}
+
+/// A list of random searches.
+pub fn searches(seed: u64, count: u32, profile: Profile) -> Vec<Search> {
+    (0..u64::from(count))
+        .map(|index| random_search(&mut Rng::for_case(seed, index), profile))
+        .collect()
+}
+
+/// A list of random sheets.
+pub fn sheets(seed: u64, count: u32, profile: Profile) -> Vec<Sheet> {
+    (0..u64::from(count))
+        .map(|index| random_sheet(&mut Rng::for_case(seed, index), profile))
+        .collect()
+}
+
+/// A lawful room. For the mixed profile its size is drawn by `shares`: tiny, small, middle, large.
+fn random_room(rng: &mut Rng, profile: Profile, shares: [usize; 4]) -> Room {
+    let size = match profile {
+        Profile::Mixed => random_size(rng, shares),
+        size => size,
+    };
+    loop {
+        let sides = match size {
+            Profile::Tiny => [rng.between(1, 4), rng.between(1, 4), rng.between(1, 4)],
+            Profile::Small => small_sides(rng),
+            Profile::Middle => [rng.between(4, 24), rng.between(1, 10), rng.between(4, 24)],
+            Profile::Large | Profile::Mixed => large_sides(rng),
+        };
+        let most_cells = match size {
+            Profile::Middle => 2_400,
+            _ => MOST_CELLS,
+        };
+        if let Some(room) = Room::new(sides.map(|side| side as u8), most_cells) {
+            return room;
+        }
+    }
+}
+
+fn random_size(rng: &mut Rng, shares: [usize; 4]) -> Profile {
+    let sizes = [Profile::Tiny, Profile::Small, Profile::Middle];
+    let mut draw = rng.below(shares.iter().sum());
+    for (size, share) in sizes.into_iter().zip(shares) {
+        if draw < share {
+            return size;
+        }
+        draw -= share;
+    }
+    Profile::Large
+}
+
+fn small_sides(rng: &mut Rng) -> [usize; 3] {
+    match rng.below(4) {
+        0 => [rng.between(9, 64), rng.between(1, 4), rng.between(1, 3)],
+        1 => [rng.between(1, 3), rng.between(1, 4), rng.between(9, 64)],
+        2 => [rng.between(3, 14), rng.between(1, 3), rng.between(3, 14)],
+        _ => [rng.between(2, 9), rng.between(2, 6), rng.between(2, 9)],
+    }
+}
+
+/// Rooms of over 5,000 cells, often exactly 16,384.
+fn large_sides(rng: &mut Rng) -> [usize; 3] {
+    const FULL: [[usize; 3]; 5] = [
+        [64, 4, 64],
+        [32, 16, 32],
+        [16, 64, 16],
+        [64, 64, 4],
+        [4, 64, 64],
+    ];
+    match rng.below(3) {
+        0 => rng.pick(&FULL),
+        1 => [63, rng.between(2, 4), 63],
+        _ => [
+            rng.between(18, 25),
+            rng.between(16, 25),
+            rng.between(18, 25),
+        ],
+    }
+}
+
+/// Costs in range: the default, above 10 and 20, below, none, at the limits, anywhere.
+fn random_config(rng: &mut Rng, room: &Room) -> Config {
+    let [horizontal, stair, support] = match rng.below(20) {
+        0..9 => {
+            let default = Config::DEFAULT;
+            [default.horizontal, default.stair, default.support]
+        }
+        9..12 => [rng.between(10, 40), rng.between(20, 80), rng.between(0, 60)].map(|c| c as u32),
+        12..15 => [rng.between(0, 12), rng.between(0, 25), rng.between(0, 20)].map(|c| c as u32),
+        15 => [0; 3],
+        16..18 => [(); 3].map(|()| rng.pick(&[0, 10, 20, 99_999, MOST_COST])),
+        _ => [(); 3].map(|()| rng.below(MOST_COST as usize + 1) as u32),
+    };
+    let twelve_a_cell = 12 * room.cells() as u32;
+    Config {
+        node_limit: rng.pick(&[30_000, 30_000, twelve_a_cell.min(MOST_NODES), MOST_NODES]),
+        horizontal,
+        stair,
+        support,
+    }
+}
+
+/// A number near `exact`: it, one less, one more, 0, 1, or anything below.
+fn around(rng: &mut Rng, exact: usize) -> usize {
+    match rng.below(8) {
+        0..3 => exact,
+        3..5 => exact.saturating_sub(1),
+        5 => exact + 1,
+        6 => rng.below(2),
+        _ => rng.below(exact + 1),
+    }
+}

@@ -1,0 +1,35 @@
+//! Cases for the oracle: what a search or a sheet asks, the answers that document 01 gives, the files they are kept in
+//! and the generator that makes them. The plain router here states document 01 a second time and shares no code with
+//! the published Rust: it judges the refusals that the Rust lacks and is a second opinion on all others.
+
+pub mod answers;
+pub mod examples;
+pub mod files;
+pub mod generate;
+pub mod repeaters;
+pub mod rng;
+pub mod room;
+pub mod samples;
+pub mod search;
+pub mod sheet;
+pub mod stats;
+pub mod text;
+pub mod tree;
+
+/// A refusal: its number and detail in document 01's table.
+#[derive(Clone, Copy, Debug, Eq, PartialEq)]
+pub struct Refusal {
+    pub number: u8,
+    pub detail: u32,
+}
+
+impl Refusal {
+    pub const fn new(number: u8, detail: u32) -> Self {
+        Self { number, detail }
+    }
+
+    /// Numbers 1 to 6 say nothing more.
+    pub const fn bare(number: u8) -> Self {
+        Self::new(number, 0)
+    }
+}

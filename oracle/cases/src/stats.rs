@@ -1,0 +1,130 @@
+//! What answered cases hold, by count.
+
+use std::collections::BTreeMap;
+use std::fmt::Display;
+
+use crate::room::{MOST_CELLS, Room, kind, port, sideways};
+use crate::search::{Search, SearchAnswer};
+use crate::sheet::{Job, Port, Sheet, TreeAnswer};
+use crate::tree::stairs;
+
+/// Counts under names, printed in the order of the names.
+#[derive(Default)]
+pub struct Tally(BTreeMap<String, usize>);
+
+impl Tally {
+    fn add(&mut self, name: impl Display) {
+        self.add_if(name, true);
+    }
+
+    fn add_if(&mut self, name: impl Display, holds: bool) {
+        *self.0.entry(name.to_string()).or_default() += usize::from(holds);
+    }
+
+    pub fn lines(&self) -> String {
+        let lines = self.0.iter();
+        lines
+            .map(|(name, count)| format!("{count:>8}  {name}\n"))
+            .collect()
+    }
+}
+
+fn size(room: &Room) -> &'static str {
+    match room.cells() {
+        0..=64 => "room: V up to 64",
+        65..=512 => "room: V up to 512",
+        513..=4_096 => "room: V up to 4,096",
+        4_097..MOST_CELLS => "room: V above 4,096",
+        _ => "room: V = 16,384",
+    }
+}
+
+fn has_stairs(room: &Room, path: &[u16]) -> bool {
+    let path: Vec<_> = path.iter().map(|cell| usize::from(*cell)).collect();
+    !stairs(room, &path).is_empty()
+}
+
+pub fn count_search(tally: &mut Tally, case: &Search, answer: &SearchAnswer) {
+    tally.add("searches");
+    match answer {
+        SearchAnswer::Refused(refusal) => tally.add(format!("number {:>2}", refusal.number)),
+        SearchAnswer::Route { path, .. } => {
+            tally.add("number  0: a route");
+            count_route(tally, case, path);
+        }
+    }
+    if let Ok(room) = case.judge() {
+        tally.add(size(&room));
+    }
+}
+
+fn count_route(tally: &mut Tally, case: &Search, path: &[u16]) {
+    let Ok(room) = case.judge() else { return };
+    let config = &case.config;
+    let wire = [case.start, case.goal]
+        .iter()
+        .any(|end| case.kinds[*end as usize] == kind::REDSTONE_WIRE);
+    tally.add_if("route: with stairs", has_stairs(&room, path));
+    tally.add_if("route: of one cell", path.len() == 1);
+    tally.add_if("route: over 20 cells", path.len() > 20);
+    tally.add_if("route: RedstoneWire at an end", wire);
+    let below = config.horizontal < 10 || config.stair < 20;
+    tally.add_if("route: costs below 10 or 20", below);
+}
+
+pub fn count_sheet(tally: &mut Tally, case: &Sheet, answer: &TreeAnswer) {
+    tally.add("sheets");
+    match answer {
+        TreeAnswer::Refused(refusal) => tally.add(format!("number {:>2}", refusal.number)),
+        TreeAnswer::Tree { .. } => tally.add("number  0: a tree"),
+    }
+    let Ok((job, room)) = case.judge(MOST_CELLS) else {
+        return;
+    };
+    tally.add("well formed");
+    tally.add(size(&room));
+    count_job(tally, &job);
+    if let TreeAnswer::Tree {
+        branches,
+        repeaters,
+        ..
+    } = answer
+    {
+        count_tree(tally, &room, branches, repeaters);
+    }
+}
+
+fn count_job(tally: &mut Tally, job: &Job) {
+    let sinks = &job.sinks;
+    tally.add_if(
+        "well formed: with other nets' conductors",
+        !job.conductors.is_empty(),
+    );
+    tally.add_if(
+        "well formed: source BlockPower",
+        job.source.kind == port::BLOCK_POWER,
+    );
+    let block_power = sinks.iter().any(|sink| sink.kind == port::BLOCK_POWER);
+    tally.add_if("well formed: a sink BlockPower", block_power);
+    let approached = |sink: &Port| sink.kind == port::WIRE && sideways(sink.facing).is_some();
+    let wire = sinks.iter().any(approached);
+    tally.add_if("well formed: a Wire sink with an approach", wire);
+}
+
+fn count_tree(tally: &mut Tally, room: &Room, branches: &[Vec<u16>], repeaters: &[u16]) {
+    let sinks = match branches.len() {
+        0 => "tree: no sinks",
+        1 => "tree: 1 sink",
+        2..=4 => "tree: 2 to 4 sinks",
+        5..=8 => "tree: 5 to 8 sinks",
+        _ => "tree: 9 to 16 sinks",
+    };
+    tally.add(sinks);
+    tally.add_if("tree: with repeaters", !repeaters.is_empty());
+    tally.add_if("tree: with 2 or more repeaters", repeaters.len() > 1);
+    let stairs = branches.iter().any(|branch| has_stairs(room, branch));
+    tally.add_if("tree: with stairs", stairs);
+    tally.add_if("tree: 2 or more sinks, stairs and repeaters", {
+        branches.len() > 1 && stairs && !repeaters.is_empty()
+    });
+}

@@ -1,0 +1,314 @@
+//! Text forms: one search as text, the answers as lines, and a sheet's job for a reader.
+
+use std::fmt::Write;
+
+use crate::Refusal;
+use crate::room::{Config, kind};
+use crate::search::{Search, SearchAnswer};
+use crate::sheet::{Job, Port, Sheet, TreeAnswer};
+
+/// What is written for a list: a blank before each.
+fn listed<T: ToString>(items: impl IntoIterator<Item = T>) -> String {
+    items
+        .into_iter()
+        .map(|item| format!(" {}", item.to_string()))
+        .collect()
+}
+
+fn refused(refusal: &Refusal) -> String {
+    format!("refused {} {}\n", refusal.number, refusal.detail)
+}
+
+/// `route COST EXPANDED` and `path` with its cells, or `refused` with number and detail.
+pub fn search_answer_lines(answer: &SearchAnswer) -> String {
+    match answer {
+        SearchAnswer::Refused(refusal) => refused(refusal),
+        SearchAnswer::Route {
+            path,
+            cost,
+            expanded,
+        } => format!("route {cost} {expanded}\npath{}\n", listed(path)),
+    }
+}
+
+/// The lines that program `route` prints.
+pub fn tree_answer_lines(answer: &TreeAnswer) -> String {
+    match answer {
+        TreeAnswer::Refused(refusal) => refused(refusal),
+        TreeAnswer::Tree {
+            branches,
+            occupied,
+            repeaters,
+        } => {
+            let lines: String = branches
+                .iter()
+                .map(|branch| format!("branch{}\n", listed(branch)))
+                .collect();
+            let count = branches.len();
+            format!(
+                "net {count} {occupied}\n{lines}repeaters{}\n",
+                listed(repeaters)
+            )
+        }
+    }
+}
+
+/// A search in the form that `parse_search` reads.
+pub fn search_lines(case: &Search) -> String {
+    let Config {
+        node_limit,
+        horizontal,
+        stair,
+        support,
+    } = case.config;
+    format!(
+        "room{}\nlimit {node_limit}\ncosts {horizontal} {stair} {support}\nends {} {}\nqueue {}\nlent {}\nkinds{}\n",
+        listed(case.sides),
+        case.start,
+        case.goal,
+        case.queue,
+        case.lent,
+        listed(runs(&case.kinds)),
+    )
+}
+
+/// Kinds as `KIND` or `KIND*COUNT`.
+fn runs(kinds: &[u8]) -> Vec<String> {
+    kinds
+        .chunk_by(|a, b| a == b)
+        .map(|run| match run.len() {
+            1 => run[0].to_string(),
+            length => format!("{}*{length}", run[0]),
+        })
+        .collect()
+}
+
+/// Reads a search: a line each for `room X Y Z` and `ends START GOAL`, and where they differ from the defaults
+/// `limit N`, `costs HORIZONTAL STAIR SUPPORT`, `queue N`, `lent N`, `kinds` with the whole list, `kind CELL KIND`.
+/// The defaults are 30,000; 10, 25, 15; 12V; V; Air everywhere. A line that begins with `#` is skipped.
+pub fn parse_search(text: &str) -> Result<Search, String> {
+    let mut draft = Draft::default();
+    for (line, number) in text.lines().zip(1..) {
+        draft
+            .line(line)
+            .map_err(|error| format!("line {number}: {error}"))?;
+    }
+    draft.search()
+}
+
+/// Larger lists of kinds are refused when read, so that a slip does not ask for gigabytes.
+const MOST_KINDS: usize = 1 << 20;
+
+#[derive(Default)]
+struct Draft {
+    room: Option<Vec<u32>>,
+    limit: Option<Vec<u32>>,
+    costs: Option<Vec<u32>>,
+    ends: Option<Vec<u32>>,
+    queue: Option<Vec<u32>>,
+    lent: Option<Vec<u32>>,
+    kinds: Option<Vec<u8>>,
+    changes: Vec<Vec<u32>>,
+}
+
+impl Draft {
+    fn line(&mut self, line: &str) -> Result<(), String> {
+        let mut words = line.split_whitespace();
+        let Some(key) = words.next().filter(|key| !key.starts_with('#')) else {
+            return Ok(());
+        };
+        let (place, count) = match key {
+            "room" => (&mut self.room, 3),
+            "limit" => (&mut self.limit, 1),
+            "costs" => (&mut self.costs, 3),
+            "ends" => (&mut self.ends, 2),
+            "queue" => (&mut self.queue, 1),
+            "lent" => (&mut self.lent, 1),
+            "kinds" => return fill(&mut self.kinds, key, kinds(words)?),
+            "kind" => {
+                self.changes.push(numbers(words, 2)?);
+                return Ok(());
+            }
+            _ => return Err(format!("unknown word {key:?}")),
+        };
+        fill(place, key, numbers(words, count)?)
+    }
+
+    fn search(self) -> Result<Search, String> {
+        let sides = self.room.ok_or("no line `room X Y Z`")?;
+        let ends = self.ends.ok_or("no line `ends START GOAL`")?;
+        let sides: Vec<u8> = sides
+            .iter()
+            .map(|side| u8::try_from(*side).map_err(|_| format!("room: {side} is over 255")))
+            .collect::<Result<_, _>>()?;
+        let cells: usize = sides.iter().map(|side| usize::from(*side)).product();
+        let mut kinds = match self.kinds {
+            Some(kinds) => kinds,
+            None if cells > MOST_KINDS => return Err("room: too many cells".into()),
+            None => vec![kind::AIR; cells],
+        };
+        for change in &self.changes {
+            change_kind(&mut kinds, change[0], change[1])?;
+        }
+        let default = Config::DEFAULT;
+        let costs = self
+            .costs
+            .unwrap_or(vec![default.horizontal, default.stair, default.support]);
+        let one = |line: Option<Vec<u32>>, default| line.map_or(default, |numbers| numbers[0]);
+        Ok(Search {
+            sides: [sides[0], sides[1], sides[2]],
+            config: Config {
+                node_limit: one(self.limit, default.node_limit),
+                horizontal: costs[0],
+                stair: costs[1],
+                support: costs[2],
+            },
+            start: ends[0],
+            goal: ends[1],
+            queue: one(self.queue, 12 * cells as u32),
+            lent: one(self.lent, cells as u32),
+            kinds,
+        })
+    }
+}
+
+fn fill<T>(place: &mut Option<T>, key: &str, value: T) -> Result<(), String> {
+    match place.replace(value) {
+        None => Ok(()),
+        Some(_) => Err(format!("a second line {key:?}")),
+    }
+}
+
+fn numbers<'a>(words: impl Iterator<Item = &'a str>, count: usize) -> Result<Vec<u32>, String> {
+    let numbers: Vec<u32> = words.map(number).collect::<Result<_, _>>()?;
+    if numbers.len() == count {
+        Ok(numbers)
+    } else {
+        Err(format!("{count} numbers wanted, {} found", numbers.len()))
+    }
+}
+
+/// A number from 0 to 4,294,967,295.
+pub fn number(word: &str) -> Result<u32, String> {
+    word.parse()
+        .map_err(|_| format!("not a number that fits four bytes: {word:?}"))
+}
+
+fn kinds<'a>(words: impl Iterator<Item = &'a str>) -> Result<Vec<u8>, String> {
+    let mut kinds = Vec::new();
+    for word in words {
+        let (kind, count) = word.split_once('*').unwrap_or((word, "1"));
+        let count = number(count)? as usize;
+        if kinds.len() + count > MOST_KINDS {
+            return Err("too many kinds".into());
+        }
+        kinds.resize(kinds.len() + count, byte(number(kind)?)?);
+    }
+    Ok(kinds)
+}
+
+fn byte(number: u32) -> Result<u8, String> {
+    u8::try_from(number).map_err(|_| format!("{number} is over 255"))
+}
+
+fn change_kind(kinds: &mut [u8], cell: u32, kind: u32) -> Result<(), String> {
+    let place = kinds
+        .get_mut(cell as usize)
+        .ok_or_else(|| format!("kind: cell {cell} is outside"))?;
+    *place = byte(kind)?;
+    Ok(())
+}
+
+/// A sheet's limits and job, for a reader; a sheet with number 1 is shown by its bytes.
+pub fn sheet_lines(case: &Sheet) -> String {
+    let Sheet {
+        queue,
+        branch,
+        lent,
+        bytes,
+    } = case;
+    let mut text = format!(
+        "queue {queue}\nbranch {branch}\nlent {lent}\nbytes {}\n",
+        bytes.len()
+    );
+    match Job::read(bytes) {
+        Ok(job) => text += &job_lines(&job),
+        Err(_) => text += &format!("hex{}\n", listed(hex_words(bytes))),
+    }
+    text
+}
+
+/// The first bytes, in hex.
+fn hex_words(bytes: &[u8]) -> Vec<String> {
+    let shown = &bytes[..bytes.len().min(64)];
+    let mut words: Vec<_> = shown.iter().map(|byte| format!("{byte:02X}")).collect();
+    if shown.len() < bytes.len() {
+        words.push("..".into());
+    }
+    words
+}
+
+fn job_lines(job: &Job) -> String {
+    let Config {
+        node_limit,
+        horizontal,
+        stair,
+        support,
+    } = job.config;
+    let mut text = format!(
+        "room{}\nlimit {node_limit}\ncosts {horizontal} {stair} {support}\n",
+        listed(job.sides)
+    );
+    for block in &job.blocks {
+        let (node, kind, facing) = (block.node, block.kind, block.facing);
+        let _ = writeln!(
+            text,
+            "block node {node} at{} kind {kind} facing {facing}",
+            listed(block.at)
+        );
+    }
+    for (name, list) in [
+        ("conductor", &job.conductors),
+        ("clearance", &job.clearances),
+        ("terminal", &job.terminals),
+        ("reserved", &job.reserved),
+    ] {
+        for at in list {
+            let _ = writeln!(text, "{name}{}", listed(at));
+        }
+    }
+    text += &port_line("source", &job.source);
+    for sink in &job.sinks {
+        text += &port_line("sink", sink);
+    }
+    text
+}
+
+fn port_line(name: &str, port: &Port) -> String {
+    format!(
+        "{name}{} port {} facing {}\n",
+        listed(port.at),
+        port.kind,
+        port.facing
+    )
+}
+
+/// Bytes from hex digits; blanks are skipped.
+pub fn parse_hex(text: &str) -> Result<Vec<u8>, String> {
+    let digits: Vec<u8> = text
+        .bytes()
+        .filter(|byte| !byte.is_ascii_whitespace())
+        .map(|byte| hex_digit(byte).ok_or_else(|| format!("not hex: {:?}", char::from(byte))))
+        .collect::<Result<_, _>>()?;
+    if digits.len() % 2 == 1 {
+        return Err("an odd number of hex digits".into());
+    }
+    Ok(digits
+        .chunks(2)
+        .map(|pair| pair[0] << 4 | pair[1])
+        .collect())
+}
+
+fn hex_digit(byte: u8) -> Option<u8> {
+    char::from(byte).to_digit(16).map(|digit| digit as u8)
+}

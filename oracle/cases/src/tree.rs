@@ -1,0 +1,420 @@
+//! The tree of one net: numbers 6 to 9, and the plain router that joins sink after sink to the tree.
+
+use std::collections::BTreeSet;
+
+use crate::Refusal;
+use crate::repeaters::place_repeaters;
+use crate::room::{DOWN, MOST_CELLS, Place, Room, UP, kind, moves, port, sideways};
+use crate::search::{End, Question, Searched, cells16};
+use crate::sheet::{Block, Job, Port, Sheet, TreeAnswer};
+
+/// Searches that one goal gets at most.
+pub const ATTEMPTS: usize = 64;
+
+/// Room for a tree: the queue's places and the branch buffer's cells.
+#[derive(Clone, Copy, Debug, Eq, PartialEq)]
+pub struct Limits {
+    pub queue: usize,
+    pub branch: usize,
+}
+
+impl Limits {
+    /// As the Rust has it: neither 13 nor 15 can come.
+    pub const NONE: Self = Self {
+        queue: usize::MAX,
+        branch: usize::MAX,
+    };
+}
+
+/// What program `route` has: at most 4,096 cells, a queue of 12,288 places, a branch buffer of 16,384 cells.
+pub const ROUTE_MOST_CELLS: usize = 4_096;
+pub const ROUTE_LIMITS: Limits = Limits {
+    queue: 12_288,
+    branch: 16_384,
+};
+
+impl Sheet {
+    /// The sheet as program `route` runs it.
+    pub fn of_route(bytes: Vec<u8>) -> Self {
+        Self {
+            queue: ROUTE_LIMITS.queue as u32,
+            branch: ROUTE_LIMITS.branch as u32,
+            lent: ROUTE_MOST_CELLS as u32,
+            bytes,
+        }
+    }
+
+    pub fn limits(&self) -> Limits {
+        Limits {
+            queue: self.queue as usize,
+            branch: self.branch as usize,
+        }
+    }
+
+    /// Numbers 1 to 6, none of which the Rust has. `most_cells` is 16,384, or 4,096 for program `route`.
+    pub fn judge(&self, most_cells: usize) -> Result<(Job, Room), Refusal> {
+        let job = Job::read(&self.bytes)?;
+        let room = job.judge(most_cells)?;
+        if (self.lent as usize) < room.cells() || self.queue == 0 {
+            return Err(Refusal::bare(6));
+        }
+        Ok((job, room))
+    }
+
+    pub fn plain_answer(&self) -> TreeAnswer {
+        self.plain_answer_within(MOST_CELLS)
+    }
+
+    pub fn plain_answer_within(&self, most_cells: usize) -> TreeAnswer {
+        self.judge(most_cells)
+            .and_then(|(job, room)| route_net_tree(&job, &room, self.limits()))
+            .map_or_else(TreeAnswer::Refused, |net| net.answer())
+    }
+}
+
+/// A routed net, and how much room it took.
+#[derive(Clone, Debug, Eq, PartialEq)]
+pub struct Net {
+    /// In sheet order.
+    pub branches: Vec<Vec<usize>>,
+    pub occupied: BTreeSet<usize>,
+    pub repeaters: BTreeSet<usize>,
+    pub measure: Measure,
+}
+
+/// The most that any search of a tree needed.
+#[derive(Clone, Copy, Debug, Default, Eq, PartialEq)]
+pub struct Measure {
+    pub most_waiting: usize,
+    pub most_attempts: usize,
+    pub expanded: u64,
+}
+
+impl Net {
+    pub fn answer(&self) -> TreeAnswer {
+        TreeAnswer::Tree {
+            branches: self.branches.iter().map(|cells| cells16(cells)).collect(),
+            occupied: self.occupied.len() as u32,
+            repeaters: self.repeaters.iter().map(|cell| *cell as u16).collect(),
+        }
+    }
+
+    pub fn branch_cells(&self) -> usize {
+        self.branches.iter().map(Vec::len).sum()
+    }
+}
+
+/// Numbers 7, 8, 9, then 13 or 14 and 15 sink by sink, or the net.
+pub fn route_net_tree(job: &Job, room: &Room, limits: Limits) -> Result<Net, Refusal> {
+    if let Some(cell) = overlap(job, room) {
+        return Err(Refusal::new(7, cell as u32));
+    }
+    let ends = realize(job, room)?;
+    let mut tree = Tree::new(job, room, &ends, limits);
+    let mut branches = vec![Vec::new(); ends.sinks.len()];
+    let mut used = 0;
+    for index in sink_order(room, &ends) {
+        let branch = tree.join(ends.sinks[index])?;
+        used += branch.len();
+        if used > limits.branch {
+            return Err(Refusal::new(15, index as u32 + 1));
+        }
+        branches[index] = branch;
+    }
+    let repeaters = place_repeaters(job, room, &ends, &branches);
+    Ok(Net {
+        branches,
+        occupied: tree.occupied,
+        repeaters,
+        measure: tree.measure,
+    })
+}
+
+/// The cell of the repeat: of all blocks whose cell a lower node or an earlier record of the same node holds, the one of
+/// least node, then least cell.
+fn overlap(job: &Job, room: &Room) -> Option<usize> {
+    let blocks = job.blocks.iter();
+    let mut blocks: Vec<_> = blocks.map(|b| (b.node, cell(room, b.at))).collect();
+    blocks.sort_by_key(|(node, _)| *node); // stable: records of one node keep their order
+    let mut held = BTreeSet::new();
+    let repeats = blocks.into_iter().filter(|(_, cell)| !held.insert(*cell));
+    repeats.min().map(|(_, cell)| cell)
+}
+
+/// The cell of a position that was judged to lie in the room.
+fn cell(room: &Room, at: [u8; 3]) -> usize {
+    room.cell(Place::from(at)).expect("a judged position")
+}
+
+/// The kinds of the unblocked room.
+fn kinds(job: &Job, room: &Room) -> Vec<u8> {
+    let mut kinds = vec![kind::AIR; room.cells()];
+    for block in &job.blocks {
+        kinds[cell(room, block.at)] = block.kind;
+    }
+    kinds
+}
+
+/// The cells where a net begins and ends. A source has no approach.
+#[derive(Clone, Debug, Eq, PartialEq)]
+pub struct Ends {
+    pub source: usize,
+    pub sinks: Vec<SinkEnds>,
+}
+
+#[derive(Clone, Copy, Debug, Eq, PartialEq)]
+pub struct SinkEnds {
+    pub terminal: usize,
+    pub approach: usize,
+}
+
+impl Ends {
+    /// Every terminal and approach of this net.
+    pub fn own(&self) -> BTreeSet<usize> {
+        let sinks = self.sinks.iter();
+        sinks
+            .flat_map(|sink| [sink.terminal, sink.approach])
+            .chain([self.source])
+            .collect()
+    }
+}
+
+/// All of 8, source first and sinks in sheet order, then all of 9.
+pub fn realize(job: &Job, room: &Room) -> Result<Ends, Refusal> {
+    let source = terminal(&job.source).ok_or(Refusal::new(8, 0))?;
+    let mut terminals = Vec::new();
+    for (sink, number) in job.sinks.iter().zip(1..) {
+        terminals.push(terminal(sink).ok_or(Refusal::new(8, number))?);
+    }
+    let inside = |place, number| room.cell(place).ok_or(Refusal::new(9, number));
+    let source = inside(source, 0)?;
+    let mut sinks = Vec::new();
+    for ((sink, place), number) in job.sinks.iter().zip(terminals).zip(1..) {
+        sinks.push(SinkEnds {
+            terminal: inside(place, number)?,
+            approach: inside(approach(sink, place), number)?,
+        });
+    }
+    Ok(Ends { source, sinks })
+}
+
+/// Wire: the position. BlockPower: the position plus its facing, none if that is not horizontal.
+fn terminal(port: &Port) -> Option<Place> {
+    let at = Place::from(port.at);
+    match port.kind {
+        port::WIRE => Some(at),
+        _ => sideways(port.facing).map(|offset| at.plus(offset)),
+    }
+}
+
+/// The terminal plus a horizontal facing, else the terminal itself.
+fn approach(sink: &Port, terminal: Place) -> Place {
+    sideways(sink.facing).map_or(terminal, |offset| terminal.plus(offset))
+}
+
+/// By distance from the source terminal to the approach, ties in sheet order.
+fn sink_order(room: &Room, ends: &Ends) -> Vec<usize> {
+    let mut order: Vec<_> = (0..ends.sinks.len()).collect();
+    order.sort_by_key(|index| room.distance(ends.source, ends.sinks[*index].approach));
+    order
+}
+
+/// The four neighbours of a cell, each also one up and one down. What lies outside has no effect.
+/// These are the cells that the twelve moves lead to.
+fn keepout(room: &Room, cell: usize) -> impl Iterator<Item = usize> {
+    moves().filter_map(move |offset| room.next(cell, offset))
+}
+
+/// The cells whose keepout the blocks ask for: each RedstoneTorch, RedstoneBlock and Lever, and a Repeater's output cell
+/// where that is a Solid block of the same node.
+fn powering(job: &Job, room: &Room) -> Vec<usize> {
+    let solid: BTreeSet<_> = job
+        .blocks
+        .iter()
+        .filter(|block| block.kind == kind::SOLID)
+        .map(|block| (block.node, cell(room, block.at)))
+        .collect();
+    let powering = |block: &Block| {
+        let cell = cell(room, block.at);
+        match block.kind {
+            kind::REDSTONE_TORCH | kind::REDSTONE_BLOCK | kind::LEVER => Some(cell),
+            kind::REPEATER => room
+                .next(cell, sideways(block.facing)?)
+                .filter(|output| solid.contains(&(block.node, *output))),
+            _ => None,
+        }
+    };
+    job.blocks.iter().filter_map(powering).collect()
+}
+
+/// One mark a cell: blocked before the first sink is searched.
+fn blocked_at_outset(job: &Job, room: &Room, ends: &Ends) -> Vec<bool> {
+    let mut blocked = vec![false; room.cells()];
+    for list in [
+        &job.conductors,
+        &job.clearances,
+        &job.terminals,
+        &job.reserved,
+    ] {
+        for at in list {
+            blocked[cell(room, *at)] = true;
+        }
+    }
+    let conductors = job.conductors.iter().map(|at| cell(room, *at));
+    for cell in conductors.chain(powering(job, room)) {
+        for kept in keepout(room, cell) {
+            blocked[kept] = true;
+        }
+    }
+    for own in ends.own() {
+        blocked[own] = false;
+        if let Some(beneath) = room.next(own, DOWN) {
+            blocked[beneath] = false;
+        }
+    }
+    blocked
+}
+
+/// The tree while it grows.
+struct Tree<'a> {
+    job: &'a Job,
+    room: &'a Room,
+    limits: Limits,
+    /// The unblocked room.
+    kinds: Vec<u8>,
+    blocked: Vec<bool>,
+    joinable: BTreeSet<usize>,
+    occupied: BTreeSet<usize>,
+    measure: Measure,
+}
+
+impl<'a> Tree<'a> {
+    fn new(job: &'a Job, room: &'a Room, ends: &Ends, limits: Limits) -> Self {
+        Self {
+            job,
+            room,
+            limits,
+            kinds: kinds(job, room),
+            blocked: blocked_at_outset(job, room, ends),
+            joinable: BTreeSet::from([ends.source]),
+            occupied: BTreeSet::from([ends.source]),
+            measure: Measure::default(),
+        }
+    }
+
+    /// Joins one sink to the tree and answers its branch, from the tree to the terminal.
+    fn join(&mut self, sink: SinkEnds) -> Result<Vec<usize>, Refusal> {
+        let mut branch = self.cheapest_route(sink.approach)?;
+        branch.reverse();
+        if sink.terminal != sink.approach {
+            branch.push(sink.terminal);
+        }
+        self.joinable.extend(&branch[..branch.len() - 1]);
+        self.occupied.extend(&branch);
+        for (_, clearance) in stairs(self.room, &branch) {
+            self.blocked[clearance] = true;
+        }
+        Ok(branch)
+    }
+
+    /// The first strictly cheapest route from the approach to a joinable cell, in number order.
+    fn cheapest_route(&mut self, approach: usize) -> Result<Vec<usize>, Refusal> {
+        let mut best: Option<(u64, Vec<usize>)> = None;
+        for goal in self.joinable.clone() {
+            let Some((cost, path)) = self.attempts(approach, goal)? else {
+                continue;
+            };
+            if best.as_ref().is_none_or(|(least, _)| cost < *least) {
+                best = Some((cost, path));
+            }
+        }
+        best.map(|(_, path)| path)
+            .ok_or(Refusal::new(14, approach as u32))
+    }
+
+    /// The searches of one goal. A search that gave no route ends the goal; 13 ends the tree.
+    fn attempts(
+        &mut self,
+        start: usize,
+        goal: usize,
+    ) -> Result<Option<(u64, Vec<usize>)>, Refusal> {
+        let mut blocked = self.blocked.clone();
+        for attempt in 1..=ATTEMPTS {
+            let searched = self.search(&blocked, start, goal);
+            self.measure
+                .note(attempt, searched.most_waiting, searched.expanded);
+            let (path, cost) = match searched.end {
+                End::Route { path, cost } => (path, cost),
+                End::QueueFull => return Err(Refusal::new(13, searched.expanded)),
+                _ => return Ok(None),
+            };
+            match self.conflict(&path) {
+                None => return Ok(Some((cost, path))),
+                Some(cell) if cell == start || cell == goal || blocked[cell] => return Ok(None),
+                Some(cell) => blocked[cell] = true,
+            }
+        }
+        Ok(None)
+    }
+
+    /// One search in which each blocked Air cell other than its start and goal counts as Solid, as a support too.
+    fn search(&self, blocked: &[bool], start: usize, goal: usize) -> Searched {
+        let mut kinds = self.kinds.clone();
+        for cell in 0..kinds.len() {
+            if blocked[cell] && cell != start && cell != goal && kinds[cell] == kind::AIR {
+                kinds[cell] = kind::SOLID;
+            }
+        }
+        let question = Question {
+            room: self.room,
+            kinds: &kinds,
+            start,
+            goal,
+            config: &self.job.config,
+            places: self.limits.queue,
+        };
+        question.search()
+    }
+
+    /// The first conflict of a path with the joinable cells, in the unblocked room. The path begins at the approach.
+    fn conflict(&self, path: &[usize]) -> Option<usize> {
+        let mut conductors = self.joinable.clone();
+        conductors.extend(path);
+        let above = |cell| self.room.next(cell, UP);
+        let conducts = |cell: &usize| conductors.contains(cell);
+        let on_another = |cell: &&usize| self.room.next(**cell, DOWN).is_some_and(|c| conducts(&c));
+        if let Some(upper) = conductors.iter().find(on_another) {
+            return Some(*upper);
+        }
+        for (second, clearance) in stairs(self.room, path) {
+            if self.kinds[clearance] != kind::AIR {
+                let on_path = path.iter().find(|cell| **cell == clearance);
+                return Some(*on_path.unwrap_or(&second));
+            }
+            if let Some(cell) = above(clearance).filter(conducts) {
+                return Some(cell);
+            }
+        }
+        None
+    }
+}
+
+impl Measure {
+    fn note(&mut self, attempt: usize, waiting: usize, expanded: u32) {
+        self.most_attempts = self.most_attempts.max(attempt);
+        self.most_waiting = self.most_waiting.max(waiting);
+        self.expanded += u64::from(expanded);
+    }
+}
+
+/// Along a path's stairs: the pair's second cell, and the clearance, which lies above the lower end.
+pub fn stairs(room: &Room, path: &[usize]) -> Vec<(usize, usize)> {
+    let height = |cell| room.place(cell).y;
+    path.windows(2)
+        .filter(|pair| height(pair[0]) != height(pair[1]))
+        .filter_map(|pair| {
+            let lower = *pair.iter().min_by_key(|cell| height(**cell))?;
+            Some((pair[1], room.next(lower, UP)?))
+        })
+        .collect()
+}

@@ -1,0 +1,122 @@
+//! One tree: the published `route_net_tree` against the plain router.
+
+use std::collections::BTreeSet;
+
+use cases::room::{MOST_CELLS, Room};
+use cases::search::cells16;
+use cases::sheet::{Job, Sheet, TreeAnswer};
+use cases::text::{sheet_lines, tree_answer_lines};
+use cases::tree::{Limits, ROUTE_MOST_CELLS, route_net_tree};
+use published::multinet::{MultiNetError, RoutedNet};
+use published::physical::PhysicalError;
+use published::port_realization::{realize_sink_endpoint, terminal_for_endpoint};
+use published::world::Pos;
+
+use crate::published_side::{cell_at, endpoint, guarded, routed_net};
+use crate::{Disagreement, Refusal};
+
+/// The answer to a sheet as the library's tree gives it, or how the published Rust and the plain router differ on it.
+pub fn check_sheet(case: &Sheet) -> Result<TreeAnswer, Disagreement> {
+    check(case, MOST_CELLS)
+}
+
+/// The answer of program `route`: its limits, and number 2 over 4,096 cells.
+pub fn check_route(bytes: Vec<u8>) -> Result<TreeAnswer, Disagreement> {
+    check(&Sheet::of_route(bytes), ROUTE_MOST_CELLS)
+}
+
+fn check(case: &Sheet, most_cells: usize) -> Result<TreeAnswer, Disagreement> {
+    let (job, room) = match case.judge(most_cells) {
+        Ok(judged) => judged,
+        Err(refusal) => return Ok(TreeAnswer::Refused(refusal)),
+    };
+    let answer = plain_answer(&job, &room, case.limits());
+    let expected = match &answer {
+        // Refusals that the Rust lacks and that are due before it routes: nothing to compare.
+        TreeAnswer::Refused(Refusal { number: 9, .. }) => return Ok(answer),
+        TreeAnswer::Refused(Refusal { number: 7, .. }) if repeats_within_a_node(&job) => {
+            return Ok(answer);
+        }
+        // The Rust's queue and branches have no end: compare with the plain router's unbounded.
+        TreeAnswer::Refused(Refusal {
+            number: 13 | 15, ..
+        }) => plain_answer(&job, &room, Limits::NONE),
+        other => other.clone(),
+    };
+    let found = published_answer(&job, &room);
+    if found.as_ref() == Ok(&expected) {
+        return Ok(answer);
+    }
+    let found = found.map_or_else(|error| error + "\n", |answer| tree_answer_lines(&answer));
+    Err(Disagreement(format!(
+        "sheet:\n{}plain router:\n{}published Rust:\n{found}",
+        sheet_lines(case),
+        tree_answer_lines(&expected)
+    )))
+}
+
+fn plain_answer(job: &Job, room: &Room, limits: Limits) -> TreeAnswer {
+    route_net_tree(job, room, limits).map_or_else(TreeAnswer::Refused, |net| net.answer())
+}
+
+/// The Rust keeps the later of two records of one node in one cell; document 01 refuses.
+fn repeats_within_a_node(job: &Job) -> bool {
+    let mut held = BTreeSet::new();
+    job.blocks
+        .iter()
+        .any(|block| !held.insert((block.node, block.at)))
+}
+
+fn published_answer(job: &Job, room: &Room) -> Result<TreeAnswer, String> {
+    let refused = |number, detail| Ok(TreeAnswer::Refused(Refusal::new(number, detail)));
+    match guarded(|| routed_net(room, job))? {
+        Ok(net) => tree_of(room, &net),
+        Err(MultiNetError::Physical(PhysicalError::CellOverlap(pos))) => {
+            refused(7, cell(room, pos)? as u32)
+        }
+        Err(MultiNetError::Port(_)) => refused(8, first_bad_port(job)?),
+        Err(MultiNetError::NoTreeConnection(pos)) => refused(14, cell(room, pos)? as u32),
+        Err(error) => Err(format!("an error of another kind: {error:?}")),
+    }
+}
+
+/// The Rust doesn't say which port has number 8: its two functions are asked port by port.
+fn first_bad_port(job: &Job) -> Result<u32, String> {
+    if terminal_for_endpoint(&endpoint(&job.source)).is_err() {
+        return Ok(0);
+    }
+    let sinks = job.sinks.iter().zip(1..);
+    sinks
+        .filter(|(sink, _)| realize_sink_endpoint(&endpoint(sink)).is_err())
+        .map(|(_, number)| number)
+        .next()
+        .ok_or("a port error without a bad port".into())
+}
+
+fn tree_of(room: &Room, net: &RoutedNet) -> Result<TreeAnswer, String> {
+    let branches = net.branches.iter().map(|branch| cells(room, branch));
+    let branches: Vec<_> = branches.collect::<Result<_, _>>()?;
+    let source = terminal_for_endpoint(&net.source).map_err(|error| error.to_string())?;
+    let mut laid: BTreeSet<Pos> = net.branches.iter().flatten().copied().collect();
+    laid.insert(source);
+    if net.occupied != laid {
+        return Err("occupied is not the source and the branches".into());
+    }
+    Ok(TreeAnswer::Tree {
+        branches,
+        occupied: net.occupied.len() as u32,
+        repeaters: cells(room, &net.repeaters)?,
+    })
+}
+
+fn cells<'a>(room: &Room, list: impl IntoIterator<Item = &'a Pos>) -> Result<Vec<u16>, String> {
+    let cells: Vec<_> = list
+        .into_iter()
+        .map(|pos| cell(room, *pos))
+        .collect::<Result<_, _>>()?;
+    Ok(cells16(&cells))
+}
+
+fn cell(room: &Room, pos: Pos) -> Result<usize, String> {
+    cell_at(room, pos).ok_or(format!("{pos:?} is outside"))
+}

@@ -1,0 +1,61 @@
+//! Searches and sheets under one roof, so that each command is written once.
+
+use cases::files::Case;
+use cases::stats::{Tally, count_search, count_sheet};
+use cases::text::{search_answer_lines, search_lines, sheet_lines, tree_answer_lines};
+use oracle::{
+    Disagreement, Profile, Rng, Search, SearchAnswer, Sheet, TreeAnswer, check_search, check_sheet,
+    random_search, random_sheet,
+};
+
+pub trait Asked: Case<Answer: Eq> {
+    fn random(rng: &mut Rng, profile: Profile) -> Self;
+    fn check(&self) -> Result<Self::Answer, Disagreement>;
+    fn count(&self, answer: &Self::Answer, tally: &mut Tally);
+    fn lines(&self) -> String;
+    fn answer_lines(answer: &Self::Answer) -> String;
+}
+
+impl Asked for Search {
+    fn random(rng: &mut Rng, profile: Profile) -> Self {
+        random_search(rng, profile)
+    }
+
+    fn check(&self) -> Result<SearchAnswer, Disagreement> {
+        check_search(self)
+    }
+
+    fn count(&self, answer: &SearchAnswer, tally: &mut Tally) {
+        count_search(tally, self, answer);
+    }
+
+    fn lines(&self) -> String {
+        search_lines(self)
+    }
+
+    fn answer_lines(answer: &SearchAnswer) -> String {
+        search_answer_lines(answer)
+    }
+}
+
+impl Asked for Sheet {
+    fn random(rng: &mut Rng, profile: Profile) -> Self {
+        random_sheet(rng, profile)
+    }
+
+    fn check(&self) -> Result<TreeAnswer, Disagreement> {
+        check_sheet(self)
+    }
+
+    fn count(&self, answer: &TreeAnswer, tally: &mut Tally) {
+        count_sheet(tally, self, answer);
+    }
+
+    fn lines(&self) -> String {
+        sheet_lines(self)
+    }
+
+    fn answer_lines(answer: &TreeAnswer) -> String {
+        tree_answer_lines(answer)
+    }
+}

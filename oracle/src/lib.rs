@@ -1,0 +1,38 @@
+//! The oracle: answers that the published Rust gives, with the refusals that it lacks judged by the wrapper. Each case
+//! is also answered by the plain router of `cases`; where the two could both speak and differ, that is a hard error.
+
+mod compare_search;
+mod compare_tree;
+mod published_side;
+
+use std::fmt::{Display, Formatter};
+
+pub use cases::Refusal;
+pub use cases::generate::{Profile, random_search, random_sheet};
+pub use cases::rng::Rng;
+pub use cases::search::{Search, SearchAnswer};
+pub use cases::sheet::{Sheet, TreeAnswer};
+
+pub use compare_search::check_search;
+pub use compare_tree::{check_route, check_sheet};
+
+/// The published Rust and the plain router differ on a case; the text shows the case and both answers.
+#[derive(Debug)]
+pub struct Disagreement(pub String);
+
+impl Display for Disagreement {
+    fn fmt(&self, f: &mut Formatter<'_>) -> std::fmt::Result {
+        f.write_str(&self.0)
+    }
+}
+
+/// The answer to a search. Panics with the case if the published Rust and the plain search differ.
+pub fn answer_search(case: &Search) -> SearchAnswer {
+    check_search(case).unwrap_or_else(|difference| panic!("{difference}"))
+}
+
+/// The answer to a sheet at its own limits, as the library's tree. Panics with the case if the published Rust and the
+/// plain router differ.
+pub fn answer_sheet(case: &Sheet) -> TreeAnswer {
+    check_sheet(case).unwrap_or_else(|difference| panic!("{difference}"))
+}

@@ -1,0 +1,102 @@
+//! The published Rust against document 01 and against the plain router.
+
+use cases::files::write_answered;
+use cases::generate::{searches, sheets};
+use cases::samples::{HEX_SHEET, HEX_SHEET_LINES, Sample, default_job, samples};
+use cases::text::{parse_hex, tree_answer_lines};
+use cases::{answers, examples};
+use oracle::{
+    Profile, Rng, Search, Sheet, answer_search, answer_sheet, check_route, random_search,
+    random_sheet,
+};
+
+#[test]
+fn samples_of_document_01() {
+    for (name, sample) in samples() {
+        match sample {
+            Sample::Search(case, answer) => assert_eq!(answer_search(&case), answer, "{name}"),
+            Sample::Sheet(case, answer) => assert_eq!(answer_sheet(&case), answer, "{name}"),
+        }
+    }
+}
+
+#[test]
+fn the_hex_sheet_is_printed() {
+    let answer = check_route(parse_hex(HEX_SHEET).unwrap()).unwrap();
+    assert_eq!(tree_answer_lines(&answer), HEX_SHEET_LINES);
+}
+
+#[test]
+fn route_has_fewer_cells() {
+    let printed = |sides| {
+        let answer = check_route(default_job(sides, &[]).bytes()).unwrap();
+        tree_answer_lines(&answer)
+    };
+    assert_eq!(printed([64, 1, 64]), "net 0 1\nrepeaters\n");
+    assert_eq!(printed([64, 2, 33]), "refused 2 0\n");
+}
+
+#[test]
+fn examples_of_searches() {
+    for (name, case, answer) in examples::searches() {
+        assert_eq!(answer_search(&case), answer, "{name}");
+    }
+}
+
+#[test]
+fn examples_of_sheets() {
+    for (name, case, answer) in examples::sheets() {
+        assert_eq!(answer_sheet(&case), answer, "{name}");
+    }
+}
+
+#[test]
+fn random_searches_agree() {
+    for (profile, count) in [
+        (Profile::Tiny, 4_000),
+        (Profile::Small, 2_000),
+        (Profile::Large, 5),
+    ] {
+        for index in 0..count {
+            answer_search(&random_search(&mut Rng::for_case(21, index), profile));
+        }
+    }
+}
+
+#[test]
+fn random_sheets_agree() {
+    for (profile, count) in [
+        (Profile::Tiny, 2_000),
+        (Profile::Small, 300),
+        (Profile::Large, 5),
+    ] {
+        for index in 0..count {
+            answer_sheet(&random_sheet(&mut Rng::for_case(22, index), profile));
+        }
+    }
+}
+
+/// The stored files are, byte for byte, what the generator and the published Rust make.
+#[test]
+fn stored_searches_are_made_again() {
+    let made = searches(
+        answers::SEARCHES.seed,
+        answers::SEARCHES.count,
+        Profile::Mixed,
+    );
+    let answered: Vec<(Search, _)> = made
+        .into_iter()
+        .map(|case| (case.clone(), answer_search(&case)))
+        .collect();
+    assert!(write_answered(&answered) == answers::SEARCHES.bytes());
+}
+
+#[test]
+fn stored_sheets_are_made_again() {
+    let made = sheets(answers::SHEETS.seed, answers::SHEETS.count, Profile::Mixed);
+    let answered: Vec<(Sheet, _)> = made
+        .into_iter()
+        .map(|case| (case.clone(), answer_sheet(&case)))
+        .collect();
+    assert!(write_answered(&answered) == answers::SHEETS.bytes());
+}
