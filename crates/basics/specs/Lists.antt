@@ -2,13 +2,13 @@
 use mathlib.Core.Path.{_≡_, refl, ap, _∙_}
 use mathlib.Core.Logic.{_⊎_, inl, inr}
 use mathlib.Core.Bool.{Bool, true, false, _&&_, _||_}
-use mathlib.Core.List.{List, [], _∷_}
+use mathlib.Core.List.{List, [], _∷_, _++_, map}
 use Prim.Native.Nat.{ℕ, zero, suc, _+_, _≤_, _<_}
 use native.Mathlib.Numerals.{add-one}
 use native.Mathlib.Nat.{le-of-suc-le-suc, not-suc-le-zero}
 use lib.ListN.{length, getD, drop, drop-of-length-le}
 use lib.Seq.{drop-cons}
-use Rattle.basics.specs.Tests.{and-left, and-right}
+use Rattle.basics.specs.Tests.{and-left, and-right, and-both}
 
 -- x stands in the list
 abbrev pub In : {X : Type 0} → X → List X → Type 0
@@ -30,6 +30,22 @@ pub every-in : {X : Type 0} (p : X → Bool) (xs : List X) → every p xs ≡ tr
 every-in p [] e x i = absurd i
 every-in p (y ∷ ys) e x (inl q) = rw q (and-left (p y) (every p ys) e)
 every-in p (y ∷ ys) e x (inr i) = every-in p ys (and-right (p y) (every p ys) e) x i
+
+pub every-all : {X : Type 0} (p : X → Bool) → ((x : X) → p x ≡ true) → (xs : List X) → every p xs ≡ true
+every-all p f [] = refl
+every-all p f (x ∷ xs) = and-both (f x) (every-all p f xs)
+
+pub every-append : {X : Type 0} (p : X → Bool) (xs ys : List X) → every p (xs ++ ys) ≡ every p xs && every p ys
+every-append p [] ys = refl
+every-append p (x ∷ xs) ys = on (p x) (every-append p xs ys)
+  where
+    on : (b : Bool) → every p (xs ++ ys) ≡ every p xs && every p ys → b && every p (xs ++ ys) ≡ b && every p xs && every p ys
+    on true e = e
+    on false e = refl
+
+pub every-map : {X Y : Type 0} (p : Y → Bool) (f : X → Y) (xs : List X) → every p (map f xs) ≡ every (λ x. p (f x)) xs
+every-map p f [] = refl
+every-map p f (x ∷ xs) = rw (every-map p f xs)
 
 -- the members of a list of numbers tested one by one, from the i-th on
 module _ (p : ℕ → Bool) (l : List ℕ) (i : ℕ) where

@@ -1,0 +1,61 @@
+-- `first_fault` meets its contract: the fault so far and the records that are left come to what is asked for.
+use mathlib.Core.Path.{refl, sym, _∙_}
+use borrow.Author.Tests.{not-true, not-false}
+use native.Mathlib.Omega.{arith}
+use borrow.Author.Needs.{needs}
+use Rattle.job_sheet.specs.ScanLaws.{Scanned, size-few, scan-stop, scan-done, scan-on}
+use Rattle.job_sheet.proofs.faults.first_fault.Statement.{statement}
+use Rattle.job_sheet.proofs.faults.first_fault.Tie as tie
+
+abbrev Inv-loop : tie.InvT-loop
+Inv-loop sheet room records fault₀ place₀ left₀ fault place left = Scanned sheet room records fault₀ place₀ left₀ fault place left
+
+abbrev μ-loop : tie.MeasureT-loop
+μ-loop sheet room records fault₀ place₀ left₀ fault place left = left
+
+loop-holds : tie.Need-loop-holds Inv-loop μ-loop
+loop-holds c = record { same = refl; inside = c .before .pre }
+
+is-good-requires : tie.Need-is-good-requires Inv-loop μ-loop
+is-good-requires c κs = search needs
+
+returns : tie.Need-returns Inv-loop μ-loop
+returns c = scan-stop (c .before .before .before .loop .inv) (sym (c .before .is-good .ensures) ∙ not-true _ (c .if1 .taken))
+
+record-fault-requires : tie.Need-record-fault-requires Inv-loop μ-loop
+record-fault-requires c κs = omega (arith, c .before .before .before .loop .inv .inside, c .before .before .before .before .before .good)
+
+size-requires : tie.Need-size-requires Inv-loop μ-loop
+size-requires c κs = search needs
+
+add-place : tie.Need-add-place Inv-loop μ-loop
+add-place c = omega (arith, c .before .before .before .before .before .loop .inv .inside, c .before .before .before .before .before .before .before .good, c .size .ensures, size-few (c .before .before .before .before .before .before .before .args .records))
+
+sub-left : tie.Need-sub-left Inv-loop μ-loop
+sub-left c = omega arith
+
+loop-less : tie.Need-loop-less Inv-loop μ-loop
+loop-less c = omega arith
+
+loop-again : tie.Need-loop-again Inv-loop μ-loop
+loop-again c = scan-on (c .before .before .before .before .before .loop .inv) (sym (c .before .before .before .is-good .ensures) ∙ not-false _ (c .before .before .if1 .left)) (c .before .before .before .before .loop-test .taken) _ (c .before .record-fault .ensures) _ (c .size .ensures)
+
+returns-2 : tie.Need-returns-2 Inv-loop μ-loop
+returns-2 c = scan-done (c .before .loop .inv) (c .loop-test .left)
+
+pub first-fault-spec : {M : Type 1} → statement M
+first-fault-spec =
+    tie.close
+    (tie.spec
+    Inv-loop
+    μ-loop
+    loop-holds
+    is-good-requires
+    returns
+    record-fault-requires
+    size-requires
+    add-place
+    sub-left
+    loop-less
+    loop-again
+    returns-2)

@@ -1,0 +1,32 @@
+-- `job_from` meets its contract: the parts stand where the layout says.
+use native.Mathlib.Omega.{arith}
+use Rattle.job_sheet.specs.LayoutLaws.{parts-in}
+use Rattle.job_sheet.specs.ReadLaws.{job-forth}
+use borrow.Author.Needs.{needs}
+use Rattle.job_sheet.proofs.job_from.Statement.{statement}
+use Rattle.job_sheet.proofs.job_from.Tie as tie
+
+room-from-requires : tie.Need-room-from-requires
+room-from-requires c κs = search needs
+
+config-from-requires : tie.Need-config-from-requires
+config-from-requires c κs = search needs
+
+endpoint-from-requires : tie.Need-endpoint-from-requires
+endpoint-from-requires c κs = omega (arith, parts-in _ (c .before .before .before .before .before .before .before .before .pre .1) _ (c .before .before .before .before .before .before .before .before .pre .0) .source, c .before .before .before .before .before .before .before .before .good)
+
+sinks-from-requires : tie.Need-sinks-from-requires
+sinks-from-requires c κs = (rw (c .before .before .before .before .before .before .before .before .before .pre .0) (c .before .before .before .before .before .before .before .before .before .pre .1 .few-sinks), parts-in _ (c .before .before .before .before .before .before .before .before .before .pre .1) _ (c .before .before .before .before .before .before .before .before .before .pre .0) .sinks)
+
+returns : tie.Need-returns
+returns c = job-forth _ (λ i. omega (arith, c .before .before .before .before .before .before .before .before .before .shared-slice-known .given i)) (c .before .before .before .before .before .before .before .before .before .before .pre .1) _ _ _ _ _ (c .before .before .before .room-from .ensures) (c .before .before .config-from .ensures) (c .before .before .before .before .before .before .before .before .before .before .pre .0) (c .before .endpoint-from .ensures) (c .sinks-from .ensures)
+
+pub job-from-spec : {M : Type 1} → statement M
+job-from-spec =
+    tie.close
+    (tie.spec
+    room-from-requires
+    config-from-requires
+    endpoint-from-requires
+    sinks-from-requires
+    returns)

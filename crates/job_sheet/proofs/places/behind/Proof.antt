@@ -1,0 +1,19 @@
+-- `behind` meets its contract: sizes and counts are small, so nothing wraps.
+use native.Mathlib.Nat.{le-of-lt}
+use native.Mathlib.Omega.{arith}
+use Rattle.room.specs.RoomLaws.{product-few}
+use borrow.Author.Needs.{needs}
+use Rattle.job_sheet.proofs.places.behind.Statement.{statement}
+use Rattle.job_sheet.proofs.places.behind.Tie as tie
+
+mul-result : tie.Need-mul-result
+mul-result c = record { fits = omega (arith, product-few _ _ (c .before .pre .0) (le-of-lt (c .before .pre .2))) }
+
+add-result : tie.Need-add-result
+add-result c = record { fits = omega (arith, product-few _ _ (c .before .before .pre .0) (le-of-lt (c .before .before .pre .2)), c .before .before .pre) }
+
+returns : tie.Need-returns
+returns c = search needs
+
+pub behind-spec : {M : Type 1} → statement M
+behind-spec = tie.close (tie.spec mul-result add-result returns)

@@ -1,0 +1,15 @@
+-- `refusal` meets its contract: it writes out the definition.
+use Rattle.job_sheet.specs.Sheet.{noJob}
+use borrow.Author.Needs.{needs}
+use Rattle.job_sheet.proofs.refusal.Statement.{statement}
+use Rattle.job_sheet.proofs.refusal.Tie as tie
+
+no-endpoint-requires : tie.Need-no-endpoint-requires
+no-endpoint-requires c κs = search needs
+
+returns : tie.Need-returns
+unfolding noJob
+returns c = rw (c .no-endpoint .ensures)
+
+pub refusal-spec : {M : Type 1} → statement M
+refusal-spec = tie.close (tie.spec no-endpoint-requires returns)

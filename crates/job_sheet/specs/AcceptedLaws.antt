@@ -1,0 +1,175 @@
+-- Where no fault is found, every record is sound, and stands where the job says.
+use mathlib.Core.Path.{_≡_, refl, sym, ap, _∙_}
+use mathlib.Core.Bool.{Bool, true, false, not}
+use mathlib.Core.List.{List, [], _∷_, map}
+use Prim.Native.Nat.{ℕ, _+_, _-_, _*_, _≤_, _<_}
+use borrow.Author.Tests.{leb-true, eqb-false, not-true}
+use lib.Dec.{eqb}
+use lib.ListN.{length, getD, drop, replicate, List·getD-append}
+use lib.Seq.{drop-drop}
+use Rattle.basics.specs.Tests.{ask, either, and-left, and-right, never}
+use Rattle.basics.specs.Lists.{every, every-in, every-map, in-at}
+use Rattle.room.specs.declared.Room.{Room}
+use Rattle.room.specs.declared.Pos.{Pos}
+use Rattle.room.specs.Room.{Within, within, sidesGood}
+use Rattle.room.specs.RoomLaws.{good, within-is}
+use Rattle.room.specs.UnitLaws.{fair}
+use Rattle.room.specs.Units.{air, kindKnown, facingKnown, portKnown, configGood}
+use Rattle.job_sheet.specs.declared.Block.{Block}
+use Rattle.job_sheet.specs.declared.Endpoint.{Endpoint}
+use Rattle.job_sheet.specs.declared.Part.{Part}
+use Rattle.job_sheet.specs.declared.Verdict.{Verdict}
+use Rattle.job_sheet.specs.declared.Verdict.the-variants.{Good, Sides, Config, Position, Code}
+use Rattle.job_sheet.specs.Sheet.{Contents, isGood, firstFault, sidesFault, configFault, positionFault, codeFault, blockFault, endpointFault, judged, bytesOf, maxSinks, blockSize, positionSize, behind, noEndpoint, sinksOf, layoutOf, jobOf}
+use Rattle.job_sheet.specs.Accepted.{SoundBlock, SoundEndpoint, BlockList, PositionList, SinkList, Usable, BlockAt, PositionAt}
+use Rattle.job_sheet.specs.Places.{noBlock, noPosition, positionIn, blockIn, blocksIn, positionsIn}
+use Rattle.job_sheet.specs.RecordLaws.{many-at}
+use Rattle.job_sheet.specs.LayoutLaws.{PartsIn, blocks-back, conductors-back, clearances-back, terminals-back, reserved-back}
+use Rattle.job_sheet.specs.FaultLaws.{every-joined, good-is, fault-first, good-first}
+
+ruleset parts = (and-left, and-right)
+
+-- ---- no fault at all
+
+first-good : (l : List Verdict) → firstFault l ≡ Good → every isGood l ≡ true
+first-good [] e = refl
+first-good (v ∷ l) e =
+    ask (isGood v) (λ g. rw g (first-good l (sym (good-first v l g) ∙ e))) (λ f. let z : v ≡ Good = sym (fault-first v l f) ∙ e in never (cc (ap isGood z)))
+
+-- a test whose failure is a fault was passed
+passed : (t : Bool) (v : Verdict) → isGood v ≡ false → isGood (either t Good v) ≡ true → t ≡ true
+passed true v f e = refl
+passed false v f e = sym f ∙ e
+
+module _ (R : Room) where
+  position-sound : (p : Pos) → isGood (positionFault R p) ≡ true → Within R p
+  position-sound p g = within-is R p (passed (within R p) Position refl g)
+
+  block-sound : (b : Block) → isGood (blockFault R b) ≡ true → SoundBlock R b
+  unfolding blockFault
+  block-sound b g =
+      let all = first-good _ (good-is _ g) in
+      let p : isGood (positionFault R (b .at)) ≡ true = search parts in
+      let k : isGood (codeFault (kindKnown (b .kind))) ≡ true = search parts in
+      let a : isGood (codeFault (not (eqb (b .kind) air))) ≡ true = search parts in
+      let f : isGood (codeFault (facingKnown (b .facing))) ≡ true = search parts in
+      record {
+        within = position-sound (b .at) p;
+        kind-known = leb-true _ _ (passed (kindKnown (b .kind)) Code refl k);
+        not-air = eqb-false _ _ (not-true _ (passed (not (eqb (b .kind) air)) Code refl a));
+        facing-known = leb-true _ _ (passed (facingKnown (b .facing)) Code refl f);
+      }
+
+  endpoint-sound : (e : Endpoint) → isGood (endpointFault R e) ≡ true → SoundEndpoint R e
+  unfolding endpointFault
+  endpoint-sound e g =
+      let all = first-good _ (good-is _ g) in
+      let p : isGood (positionFault R (e .at)) ≡ true = search parts in
+      let k : isGood (codeFault (portKnown (e .port))) ≡ true = search parts in
+      let f : isGood (codeFault (facingKnown (e .facing))) ≡ true = search parts in
+      record {
+        within = position-sound (e .at) p;
+        port-known = leb-true _ _ (passed (portKnown (e .port)) Code refl k);
+        facing-known = leb-true _ _ (passed (facingKnown (e .facing)) Code refl f);
+      }
+
+-- ---- of a job without fault, each part is good
+
+pub record NoFault (J : Contents) : Type 0 where
+  pub sides : sidesGood (J .room) ≡ true
+  pub config : configGood (J .config) ≡ true
+  pub blocks : every isGood (map (blockFault (J .room)) (J .blocks)) ≡ true
+  pub conductors : every isGood (map (positionFault (J .room)) (J .conductors)) ≡ true
+  pub clearances : every isGood (map (positionFault (J .room)) (J .clearances)) ≡ true
+  pub terminals : every isGood (map (positionFault (J .room)) (J .terminals)) ≡ true
+  pub reserved : every isGood (map (positionFault (J .room)) (J .reserved)) ≡ true
+  pub source : isGood (endpointFault (J .room) (J .source)) ≡ true
+  pub sinks : every isGood (map (endpointFault (J .room)) (J .sinks)) ≡ true
+
+pub no-fault : (J : Contents) → judged J ≡ Good → NoFault J
+unfolding judged
+no-fault J e =
+    let all = rw every-joined at (first-good _ e) in
+    let x : isGood (sidesFault (J .room)) ≡ true = search parts in
+    let c : isGood (configFault (J .config)) ≡ true = search parts in
+    record {
+      sides = passed (sidesGood (J .room)) Sides refl x;
+      config = passed (configGood (J .config)) Config refl c;
+      blocks = search parts depth 12;
+      conductors = search parts depth 12;
+      clearances = search parts depth 12;
+      terminals = search parts depth 12;
+      reserved = search parts depth 12;
+      source = search parts depth 12;
+      sinks = search parts depth 12;
+    }
+
+-- ---- the lists of a sheet of J's bytes
+
+module _ {X : Type 0} (fault : X → Verdict) (xs : List X) (e : every isGood (map fault xs) ≡ true) where
+  good-at : (i : ℕ) → i < length xs → (d : X) → isGood (fault (getD xs i d)) ≡ true
+  good-at i h d = every-in (λ x. isGood (fault x)) xs (rw every-map at e) (getD xs i d) (in-at xs i d h)
+
+module _ (J : Contents) (N : NoFault J) (I : PartsIn (bytesOf J) (layoutOf J)) where
+  block-list : BlockList (bytesOf J) (J .room) (layoutOf J .blocks) (J .blocks)
+  unfolding layoutOf
+  block-list = record {
+    inside = I .blocks;
+    are = blocks-back J;
+    sound = λ i h. rw (blocks-back J) (block-sound (J .room) _ (good-at (blockFault (J .room)) (J .blocks) (N .blocks) i h noBlock));
+  }
+
+  position-list : (p : Part) (ps : List Pos) → behind positionSize p ≤ length (bytesOf J) → positionsIn (bytesOf J) p ≡ ps → p .count ≡ length ps
+      → every isGood (map (positionFault (J .room)) ps) ≡ true → PositionList (bytesOf J) (J .room) p ps
+  position-list p ps inside are count e = record {
+    inside = inside;
+    are = are;
+    within = λ i h. rw are (position-sound (J .room) _ (good-at (positionFault (J .room)) ps e i (rw (← count) h) noPosition));
+  }
+
+  sink-at : (i : ℕ) → i < length (J .sinks) → getD (sinksOf (J .sinks) .ends) i noEndpoint ≡ getD (J .sinks) i noEndpoint
+  sink-at i h = List·getD-append (J .sinks) (replicate (maxSinks - length (J .sinks)) noEndpoint) noEndpoint i h
+
+  sink-list : length (J .sinks) ≤ maxSinks → SinkList (J .room) (sinksOf (J .sinks)) (J .sinks)
+  sink-list few = record {
+    few = few;
+    count-is = refl;
+    are = sink-at;
+    sound = λ i h. rw (sink-at i h) (endpoint-sound (J .room) _ (good-at (endpointFault (J .room)) (J .sinks) (N .sinks) i h noEndpoint));
+  }
+
+  pub usable-job : length (J .sinks) ≤ maxSinks → Usable (bytesOf J) (jobOf J) J
+  unfolding jobOf layoutOf
+  usable-job few = record {
+    room-is = refl;
+    room-good = good (J .room) (N .sides);
+    config-is = refl;
+    config-fair = fair (J .config) (N .config);
+    blocks = block-list;
+    conductors = position-list (layoutOf J .conductors) (J .conductors) (I .conductors) (conductors-back J) refl (N .conductors);
+    clearances = position-list (layoutOf J .clearances) (J .clearances) (I .clearances) (clearances-back J) refl (N .clearances);
+    terminals = position-list (layoutOf J .terminals) (J .terminals) (I .terminals) (terminals-back J) refl (N .terminals);
+    reserved = position-list (layoutOf J .reserved) (J .reserved) (I .reserved) (reserved-back J) refl (N .reserved);
+    source-is = refl;
+    source = endpoint-sound (J .room) (J .source) (N .source);
+    sinks = sink-list few;
+  }
+
+-- ---- record i of a part of a sheet
+
+module _ (s : List ℕ) (p : Part) (i : ℕ) (h : i < p .count) where
+  pub block-at : (r : Block) → r ≡ blockIn (drop (p .from + blockSize * i) s) → BlockAt s p i r
+  unfolding blocksIn
+  block-at r e =
+      let is : r ≡ getD (blocksIn s p) i noBlock =
+      rw (many-at blockIn blockSize (p .count) i (drop (p .from) s) noBlock h, drop-drop (blockSize * i) (p .from) s) e
+      in
+      record { is = is; accepted = λ R bs L. (is ∙ ap (λ l. getD l i noBlock) (L .are), rw is (L .sound i h)) }
+
+  pub position-at : (r : Pos) → r ≡ positionIn (drop (p .from + positionSize * i) s) 0 → PositionAt s p i r
+  unfolding positionsIn
+  position-at r e =
+      let is : r ≡ getD (positionsIn s p) i noPosition =
+      rw (many-at (λ l. positionIn l 0) positionSize (p .count) i (drop (p .from) s) noPosition h, drop-drop (positionSize * i) (p .from) s) e
+      in
+      record { is = is; accepted = λ R ps L. (is ∙ ap (λ l. getD l i noPosition) (L .are), rw is (L .within i h)) }

@@ -1,0 +1,127 @@
+-- Records are read back as they were written, and written as they were read: first one record of each sort, then lists of them.
+use mathlib.Core.Path.{_≡_, refl, sym, ap, _∙_}
+use mathlib.Core.List.{List, [], _∷_, _++_, map, append-assoc}
+use Prim.Native.Nat.{ℕ, suc, zero, _+_, _*_, _/_, _%_, _≤_, _<_}
+use native.Mathlib.Nat.{div-add-mod', mul-suc, mul-zero, add-zero, add-suc, suc-add, add-comm}
+use native.Mathlib.Omega.{arith}
+use lib.Arith.{digits-div, digits-mod}
+use lib.ListN.{length, getD, drop, length-append, length-drop}
+use lib.Seq.{drop-cons, drop-at, drop-drop, getD-drop}
+use Rattle.job_sheet.specs.Sheet.{two, four, joined, sides, costs, position, block, endpoint, blockSize, positionSize, endpointSize}
+use Rattle.job_sheet.specs.Places.{twoIn, fourIn, roomIn, configIn, positionIn, blockIn, endpointIn, many}
+
+-- ---- bytes
+
+-- what a slice of bytes holds
+abbrev pub Bytes : List ℕ → Type 0
+Bytes l = (i : ℕ) → getD l i 0 < 256
+
+pub bytes-drop : (n : ℕ) (l : List ℕ) → Bytes l → Bytes (drop n l)
+bytes-drop n l b i = rw getD-drop (b (n + i))
+
+-- k elements from place i on
+abbrev pub span : ℕ → ℕ → List ℕ → List ℕ
+span zero i l = []
+span (suc k) i l = getD l i 0 ∷ span k (suc i) l
+
+pub span-drop : (k i : ℕ) (l : List ℕ) → i + k ≤ length l → span k i l ++ drop (i + k) l ≡ drop i l
+span-drop zero i l h = rw add-zero
+span-drop (suc k) i l h =
+    let h′ : i < length l = omega arith in
+    rw (drop-cons l i 0 h′, add-suc, ← suc-add) (ap {B = List ℕ} (λ r. getD l i 0 ∷ r) (span-drop k (suc i) l (omega arith)))
+
+-- ---- one record
+
+pub two-back : (n : ℕ) → n / 256 * 256 + n % 256 ≡ n
+two-back n = div-add-mod' n 256
+
+pub four-back : (n : ℕ) (l : List ℕ) → fourIn (four n ++ l) 0 ≡ n
+four-back n l = rw (two-back, two-back, div-add-mod' n 65536)
+
+module _ (l : List ℕ) (b : Bytes l) (k : ℕ) where
+  pub two-forth : two (twoIn l k) ≡ getD l k 0 ∷ getD l (k + 1) 0 ∷ []
+  two-forth = λ i. digits-div (getD l k 0) (b (k + 1)) i ∷ digits-mod (getD l k 0) (b (k + 1)) i ∷ []
+
+  two-small : twoIn l k < 65536
+  two-small = omega (arith, b k, b (k + 1))
+
+four-forth : (l : List ℕ) → Bytes l → (k : ℕ) → four (fourIn l k) ≡ (getD l k 0 ∷ getD l (k + 1) 0 ∷ []) ++ (getD l (k + 2) 0 ∷ getD l (k + 2 + 1) 0 ∷ [])
+four-forth l b k =
+    let h = two-small l b (k + 2) in
+    (λ i. two (digits-div (twoIn l k) h i) ++ two (digits-mod (twoIn l k) h i)) ∙ (λ i. two-forth l b k i ++ two-forth l b (k + 2) i)
+
+-- how a value is written, read back, and how long it is
+pub record Coding {X : Type 0} (bytes : X → List ℕ) (value : List ℕ → X) (size : ℕ) : Type 0 where
+  pub sized : (x : X) → length (bytes x) ≡ size
+  pub back : (x : X) (l : List ℕ) → value (bytes x ++ l) ≡ x
+  pub forth : (l : List ℕ) → Bytes l → size ≤ length l → bytes (value l) ++ drop size l ≡ l
+
+pub fours : Coding four (λ l. fourIn l 0) 4
+fours = record { sized = λ x. refl; back = four-back; forth = λ l b h. (λ i. four-forth l b 0 i ++ drop 4 l) ∙ span-drop 4 0 l h }
+
+pub rooms : Coding sides roomIn 3
+rooms = record { sized = λ x. refl; back = λ x l. refl; forth = λ l b h. span-drop 3 0 l h }
+
+pub configs : Coding costs configIn 16
+configs = record {
+  sized = λ x. refl;
+  back = λ x l i. record {
+    limit = record { 0 = four-back (x .limit .0) l i };
+    horizontal = record { 0 = four-back (x .horizontal .0) l i };
+    stair = record { 0 = four-back (x .stair .0) l i };
+    support = record { 0 = four-back (x .support .0) l i };
+  };
+  forth = λ l b h. (λ i. joined (four-forth l b 0 i ∷ four-forth l b 4 i ∷ four-forth l b 8 i ∷ four-forth l b 12 i ∷ []) ++ drop 16 l) ∙ span-drop 16 0 l h;
+}
+
+pub positions : Coding position (λ l. positionIn l 0) positionSize
+positions = record { sized = λ x. refl; back = λ x l. refl; forth = λ l b h. span-drop 3 0 l h }
+
+pub endpoints : Coding endpoint endpointIn endpointSize
+endpoints = record { sized = λ x. refl; back = λ x l. refl; forth = λ l b h. span-drop 5 0 l h }
+
+pub blocks : Coding block blockIn blockSize
+blocks = record {
+  sized = λ x. refl;
+  back = λ x l i. record { node = two-back (x .node) i; at = x .at; kind = x .kind; facing = x .facing };
+  forth = λ l b h. (λ i. two-forth l b 0 i ++ (span 5 2 l ++ drop 7 l)) ∙ span-drop 7 0 l h;
+}
+
+-- ---- lists of records
+
+next-size : (size n : ℕ) → size * suc n ≡ size + size * n
+next-size size n = rw mul-suc (add-comm (size * n) size)
+
+next-drop : (size n : ℕ) (l : List ℕ) → drop (size * suc n) l ≡ drop (size * n) (drop size l)
+next-drop size n l = rw (next-size size n, ← drop-drop (size * n) size l)
+
+module _ {X : Type 0} (value : List ℕ → X) (size : ℕ) where
+  pub many-long : (n : ℕ) (l : List ℕ) → length (many value size n l) ≡ n
+  many-long zero l = refl
+  many-long (suc n) l = ap suc (many-long n (drop size l))
+
+  pub many-snoc : (n : ℕ) (l : List ℕ) → many value size (suc n) l ≡ many value size n l ++ (value (drop (size * n) l) ∷ [])
+  many-snoc zero l = rw mul-zero
+  many-snoc (suc n) l = rw (next-drop size n l) (ap (λ r. value l ∷ r) (many-snoc n (drop size l)))
+
+  pub many-at : (n i : ℕ) (l : List ℕ) (d : X) → i < n → getD (many value size n l) i d ≡ value (drop (size * i) l)
+  many-at zero i l d h = absurd (omega arith)
+  many-at (suc n) zero l d h = rw mul-zero
+  many-at (suc n) (suc i) l d h = rw (next-drop size i l) (many-at n i (drop size l) d (omega arith))
+
+module _ {X : Type 0} {bytes : X → List ℕ} {value : List ℕ → X} {size : ℕ} (K : Coding bytes value size) where
+  pub joined-long : (xs : List X) → length (joined (map bytes xs)) ≡ size * length xs
+  joined-long [] = sym (mul-zero size)
+  joined-long (x ∷ xs) = simp length-append (rw (K .sized x, joined-long xs, mul-suc) (add-comm size (size * length xs)))
+
+  pub many-back : (xs : List X) (l : List ℕ) → many value size (length xs) (joined (map bytes xs) ++ l) ≡ xs
+  many-back [] l = refl
+  many-back (x ∷ xs) l =
+      rw (append-assoc, K .back x (joined (map bytes xs) ++ l), drop-at (bytes x) (joined (map bytes xs) ++ l) size (K .sized x), many-back xs l)
+
+  pub many-forth : (n : ℕ) (l : List ℕ) → Bytes l → size * n ≤ length l → joined (map bytes (many value size n l)) ++ drop (size * n) l ≡ l
+  many-forth zero l b h = rw mul-zero
+  many-forth (suc n) l b h =
+      let e : size * suc n ≡ size + size * n = next-size size n in
+      let ih = many-forth n (drop size l) (bytes-drop size l b) (simp length-drop (omega (arith, e))) in
+      rw (append-assoc, next-drop size n l, ih) (K .forth l b (omega (arith, e)))
