@@ -13,7 +13,7 @@ const VALUED: [&str; 7] = [
     "--branch",
     "--lent",
 ];
-const BARE: [&str; 2] = ["--force", "--hex"];
+const BARE: [&str; 3] = ["--examples", "--force", "--hex"];
 
 pub struct Arguments {
     words: Vec<String>,

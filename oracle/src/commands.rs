@@ -22,8 +22,8 @@ oracle sheet [--hex] FILE|-                 prints what program `route` prints f
 oracle sheet [--hex] [--queue N] [--branch N] [--lent N] FILE|-
                                             the same as the library's tree, with such buffers
 oracle samples                              runs the samples of document 01
-oracle generate KIND --seed N --count N --out FILE [--profile P] [--force]
-                                            writes random cases
+oracle generate KIND --seed N --count N --out FILE [--profile P] [--examples] [--force]
+                                            writes random cases, with --examples behind the samples and examples
 oracle answer KIND IN OUT [--force]         answers the cases of a file
 oracle check KIND FILE                      answers them again and compares with the stored answers
 oracle compare KIND --seed N --count N [--profile P]
@@ -254,6 +254,7 @@ impl Draw {
 
 struct Made {
     draw: Draw,
+    examples: bool,
     out: String,
     force: bool,
 }
@@ -262,6 +263,7 @@ impl Made {
     fn request(arguments: &mut Arguments) -> Result<Self, String> {
         Ok(Self {
             draw: Draw::request(arguments)?,
+            examples: arguments.flag("--examples"),
             out: arguments.needed("--out")?,
             force: arguments.flag("--force"),
         })
@@ -270,7 +272,12 @@ impl Made {
 
 fn generate<C: Asked>(made: &Made) -> Result<(), Trouble> {
     may_write(&made.out, made.force)?;
-    let cases: Vec<C> = made.draw.cases().collect();
+    let mut cases = if made.examples {
+        C::examples()
+    } else {
+        Vec::new()
+    };
+    cases.extend(made.draw.cases::<C>());
     Ok(write_file(
         &made.out,
         made.force,

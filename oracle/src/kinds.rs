@@ -1,5 +1,6 @@
 //! Searches and sheets under one roof, so that each command is written once.
 
+use cases::examples::{search_cases, sheet_cases};
 use cases::files::Case;
 use cases::stats::{Tally, count_search, count_sheet};
 use cases::text::{search_answer_lines, search_lines, sheet_lines, tree_answer_lines};
@@ -10,6 +11,8 @@ use oracle::{
 
 pub trait Asked: Case<Answer: Eq> {
     fn random(rng: &mut Rng, profile: Profile) -> Self;
+    /// The samples of document 01 and the examples.
+    fn examples() -> Vec<Self>;
     fn check(&self) -> Result<Self::Answer, Disagreement>;
     fn count(&self, answer: &Self::Answer, tally: &mut Tally);
     fn lines(&self) -> String;
@@ -19,6 +22,10 @@ pub trait Asked: Case<Answer: Eq> {
 impl Asked for Search {
     fn random(rng: &mut Rng, profile: Profile) -> Self {
         random_search(rng, profile)
+    }
+
+    fn examples() -> Vec<Self> {
+        search_cases()
     }
 
     fn check(&self) -> Result<SearchAnswer, Disagreement> {
@@ -41,6 +48,10 @@ impl Asked for Search {
 impl Asked for Sheet {
     fn random(rng: &mut Rng, profile: Profile) -> Self {
         random_sheet(rng, profile)
+    }
+
+    fn examples() -> Vec<Self> {
+        sheet_cases()
     }
 
     fn check(&self) -> Result<TreeAnswer, Disagreement> {

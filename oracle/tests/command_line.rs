@@ -117,6 +117,23 @@ fn lists_are_made_answered_shown_and_checked() {
 }
 
 #[test]
+fn lists_can_begin_with_the_examples() {
+    let folder = folder("examples");
+    for (kind, first) in [("searches", "room 1 1 1\n"), ("sheets", "room 20 1 1\n")] {
+        let file = folder.join(kind).display().to_string();
+        let draw = ["--seed", "4", "--count", "2", "--examples"];
+        printed(
+            &[&["generate", kind, "--out", &file], draw.as_slice()].concat(),
+            b"",
+        );
+        let shown = printed(&["show", kind, &file], b"");
+        assert!(shown.contains("# case 40\n"), "{shown}");
+        let case = printed(&["show", kind, &file, "0"], b"");
+        assert!(case.contains(first), "{case}");
+    }
+}
+
+#[test]
 fn a_shown_search_can_be_run() {
     let folder = folder("shown");
     let file = folder.join("searches").display().to_string();

@@ -1,14 +1,10 @@
 //! The published Rust against document 01 and against the plain router.
 
 use cases::files::write_answered;
-use cases::generate::{searches, sheets};
 use cases::samples::{HEX_SHEET, HEX_SHEET_LINES, Sample, default_job, samples};
 use cases::text::{parse_hex, tree_answer_lines};
 use cases::{answers, examples};
-use oracle::{
-    Profile, Rng, Search, Sheet, answer_search, answer_sheet, check_route, random_search,
-    random_sheet,
-};
+use oracle::{Profile, Rng, answer_search, answer_sheet, check_route, random_search, random_sheet};
 
 #[test]
 fn samples_of_document_01() {
@@ -79,12 +75,7 @@ fn random_sheets_agree() {
 /// The stored files are, byte for byte, what the generator and the published Rust make.
 #[test]
 fn stored_searches_are_made_again() {
-    let made = searches(
-        answers::SEARCHES.seed,
-        answers::SEARCHES.count,
-        Profile::Mixed,
-    );
-    let answered: Vec<(Search, _)> = made
+    let answered: Vec<_> = answers::searches()
         .into_iter()
         .map(|case| (case.clone(), answer_search(&case)))
         .collect();
@@ -93,8 +84,7 @@ fn stored_searches_are_made_again() {
 
 #[test]
 fn stored_sheets_are_made_again() {
-    let made = sheets(answers::SHEETS.seed, answers::SHEETS.count, Profile::Mixed);
-    let answered: Vec<(Sheet, _)> = made
+    let answered: Vec<_> = answers::sheets()
         .into_iter()
         .map(|case| (case.clone(), answer_sheet(&case)))
         .collect();

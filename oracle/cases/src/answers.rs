@@ -2,6 +2,12 @@
 
 use std::path::PathBuf;
 
+use crate::examples::{search_cases, sheet_cases};
+use crate::generate::{self, Profile};
+use crate::search::Search;
+use crate::sheet::Sheet;
+
+/// A file of the samples and examples, followed by random cases of the mixed profile.
 pub struct Stored {
     pub file: &'static str,
     pub seed: u64,
@@ -11,7 +17,7 @@ pub struct Stored {
 pub const SEARCHES: Stored = Stored {
     file: "searches.bin",
     seed: 1,
-    count: 2_000,
+    count: 1_950,
 };
 
 pub const SHEETS: Stored = Stored {
@@ -27,4 +33,16 @@ impl Stored {
         let file = folder.join(self.file);
         std::fs::read(&file).unwrap_or_else(|error| panic!("{}: {error}", file.display()))
     }
+}
+
+/// The cases of `searches.bin`, made anew.
+pub fn searches() -> Vec<Search> {
+    let random = generate::searches(SEARCHES.seed, SEARCHES.count, Profile::Mixed);
+    search_cases().into_iter().chain(random).collect()
+}
+
+/// The cases of `sheets.bin`, made anew.
+pub fn sheets() -> Vec<Sheet> {
+    let random = generate::sheets(SHEETS.seed, SHEETS.count, Profile::Mixed);
+    sheet_cases().into_iter().chain(random).collect()
 }

@@ -3,7 +3,9 @@
 
 use crate::Refusal;
 use crate::room::{Config, facing, kind};
-use crate::samples::{block_power, default_job, default_search, route, search_refused, wire};
+use crate::samples::{
+    Sample, block_power, default_job, default_search, route, samples, search_refused, wire,
+};
 use crate::search::{Search, SearchAnswer};
 use crate::sheet::{Block, Job, Port, Sheet, TreeAnswer};
 
@@ -17,11 +19,36 @@ pub fn searches() -> Vec<(&'static str, Search, SearchAnswer)> {
 pub fn sheets() -> Vec<(&'static str, Sheet, TreeAnswer)> {
     let mut list = tree_readings();
     list.push(zigzag());
+    list.extend(fork());
     list.extend(number_one());
     list.extend(record_refusals());
     list.extend(tree_refusals());
     list.extend(tree_order());
     list
+}
+
+/// The samples of document 01 that are searches, then the examples, without their answers.
+pub fn search_cases() -> Vec<Search> {
+    let samples = samples().into_iter();
+    let samples = samples.filter_map(|(_, sample)| match sample {
+        Sample::Search(case, _) => Some(case),
+        Sample::Sheet(..) => None,
+    });
+    samples
+        .chain(searches().into_iter().map(|(_, case, _)| case))
+        .collect()
+}
+
+/// The samples of document 01 that are sheets, then the examples, without their answers.
+pub fn sheet_cases() -> Vec<Sheet> {
+    let samples = samples().into_iter();
+    let samples = samples.filter_map(|(_, sample)| match sample {
+        Sample::Search(..) => None,
+        Sample::Sheet(case, _) => Some(case),
+    });
+    samples
+        .chain(sheets().into_iter().map(|(_, case, _)| case))
+        .collect()
 }
 
 /// A search in a room of Air with these costs.
@@ -228,6 +255,30 @@ fn zigzag() -> (&'static str, Sheet, TreeAnswer) {
         sheet(&job),
         tree(&[&branch], 19, &[first_straight]),
     )
+}
+
+/// A corridor along x with a side arm at 12: a repeater at 13 is due for the far sink only, unless the near one was planned
+/// first and has its repeater at 11.
+fn fork() -> [(&'static str, Sheet, TreeAnswer); 2] {
+    let (far, near) = (plain_sink(18), wire([12, 0, 1], facing::NONE));
+    let walls = (0..19).filter(|x| *x != 12);
+    let walls: Vec<_> = walls.map(|x| block(0, [x, 0, 1], kind::SOLID)).collect();
+    let job = |sinks: [Port; 2]| sheet(&blocked_by([19, 1, 2], &sinks, &walls));
+    let cell = |x: u16| 2 * x;
+    let to_far: Vec<_> = (12..=18).map(cell).collect();
+    let to_near: Vec<_> = (0..=12).map(cell).chain([25]).collect();
+    [
+        (
+            "runs are planned in sheet order: near sink first",
+            job([near, far]),
+            tree(&[&to_near, &to_far], 20, &[cell(11)]),
+        ),
+        (
+            "runs are planned in sheet order: far sink first",
+            job([far, near]),
+            tree(&[&to_far, &to_near], 20, &[cell(11), cell(13)]),
+        ),
+    ]
 }
 
 /// Sheets that number 1 refuses, made from the sheet of one sink.

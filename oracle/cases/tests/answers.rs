@@ -1,10 +1,9 @@
-//! The stored answers: well formed, made from the seed that is named, and agreed to by the plain router.
+//! The stored answers: well formed, made as is said, and agreed to by the plain router.
 
 use std::collections::BTreeMap;
 
-use cases::answers::{SEARCHES, SHEETS};
+use cases::answers::{SEARCHES, SHEETS, searches, sheets};
 use cases::files::read;
-use cases::generate::{Profile, searches, sheets};
 use cases::room::MOST_CELLS;
 use cases::search::{Search, SearchAnswer};
 use cases::sheet::{Sheet, TreeAnswer};
@@ -20,10 +19,10 @@ fn count<T: Ord>(numbers: impl Iterator<Item = T>) -> BTreeMap<T, usize> {
 #[test]
 fn stored_searches() {
     let stored = read::<Search>(&SEARCHES.bytes()).unwrap();
-    let made = searches(SEARCHES.seed, SEARCHES.count, Profile::Mixed);
+    let made = searches();
     assert_eq!(stored.len(), made.len());
     for (index, ((case, answer), made)) in stored.iter().zip(&made).enumerate() {
-        assert!(case == made, "case {index} is not of this seed");
+        assert!(case == made, "case {index} is another");
         assert_eq!(answer.as_ref(), Some(&case.plain_answer()), "case {index}");
     }
     let numbers = count(stored.iter().map(|(_, answer)| match answer {
@@ -40,10 +39,10 @@ fn stored_searches() {
 #[test]
 fn stored_sheets() {
     let stored = read::<Sheet>(&SHEETS.bytes()).unwrap();
-    let made = sheets(SHEETS.seed, SHEETS.count, Profile::Mixed);
+    let made = sheets();
     assert_eq!(stored.len(), made.len());
     for (index, ((case, answer), made)) in stored.iter().zip(&made).enumerate() {
-        assert!(case == made, "case {index} is not of this seed");
+        assert!(case == made, "case {index} is another");
         assert_eq!(answer.as_ref(), Some(&case.plain_answer()), "case {index}");
     }
     let numbers = count(stored.iter().map(|(_, answer)| match answer {
