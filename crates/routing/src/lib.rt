@@ -6,6 +6,8 @@ mod judge;
 mod search;
 mod trace;
 
+pub use astar::astar_route;
+
 // How many entries wait, and the last serial given.
 pub struct Line {
     pub waiting: usize,

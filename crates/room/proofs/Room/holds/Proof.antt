@@ -1,8 +1,6 @@
 -- `Room::holds` meets its contract: each test is one of the definition's.
 use borrow.Author.Tests.{le-ltb, lt-ltb}
 use Rattle.room.specs.Room.{within}
-use borrow.Author.Tests.{le-ltb, lt-ltb}
-use Rattle.room.specs.Room.{within}
 use Rattle.room.proofs.Room.holds.Statement.{statement}
 use Rattle.room.proofs.Room.holds.Tie as tie
 

@@ -4,11 +4,6 @@ use mathlib.Core.Path.{sym, _∙_}
 use Prim.Native.Nat.{_+_, _-_, _*_}
 use lib.ListN.{getD}
 use Rattle.routing.specs.TryLaws.{out-below, out-above, landed, placed-small, rise-few, tried-out, tried-shut, tried-offered, price-most}
-use native.Mathlib.Omega.{arith}
-use mathlib.Core.Path.{sym, _∙_}
-use Prim.Native.Nat.{_+_, _-_, _*_}
-use lib.ListN.{getD}
-use Rattle.routing.specs.TryLaws.{out-below, out-above, landed, placed-small, rise-few, tried-out, tried-shut, tried-offered, price-most}
 use borrow.Author.Needs.{needs}
 use Rattle.routing.proofs.expand.try_move.Statement.{statement}
 use Rattle.routing.proofs.expand.try_move.Tie as tie

@@ -3,10 +3,6 @@ use borrow.Author.Tests.{not-true, not-false}
 use mathlib.Core.Path.{sym, _∙_}
 use Rattle.room.specs.RoomLaws.{good}
 use Rattle.routing.specs.Answers.{judged}
-use borrow.Author.Tests.{not-true, not-false}
-use mathlib.Core.Path.{sym, _∙_}
-use Rattle.room.specs.RoomLaws.{good}
-use Rattle.routing.specs.Answers.{judged}
 use borrow.Author.Needs.{needs}
 use Rattle.routing.proofs.judge.judge.Statement.{statement}
 use Rattle.routing.proofs.judge.judge.Tie as tie

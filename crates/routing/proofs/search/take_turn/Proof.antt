@@ -2,9 +2,6 @@
 use native.Mathlib.Omega.{arith}
 use mathlib.Core.Path.{refl}
 use Rattle.routing.specs.TurnLaws.{cell-in, cell-known, able, turn-goal, turn-limit, turn-full, turn-on}
-use native.Mathlib.Omega.{arith}
-use mathlib.Core.Path.{refl}
-use Rattle.routing.specs.TurnLaws.{cell-in, cell-known, able, turn-goal, turn-limit, turn-full, turn-on}
 use borrow.Author.Needs.{needs}
 use Rattle.routing.proofs.search.take_turn.Statement.{statement}
 use Rattle.routing.proofs.search.take_turn.Tie as tie

@@ -1,0 +1,57 @@
+-- What `dustroute_search` returns, and what every lent buffer then holds: the answer of `astar_route` as numbers. Each input determines all of it.
+use mathlib.Core.Path.{_≡_}
+use mathlib.Core.List.{List, [], _∷_}
+use Prim.Native.Nat.{ℕ}
+use lib.Dec.{leb}
+use lib.ListN.{length}
+use Rattle.basics.specs.Tests.{either}
+use Rattle.room.specs.declared.Room.{Room}
+use Rattle.room.specs.declared.RouterConfig.{RouterConfig}
+use Rattle.room.specs.Room.{sidesGood}
+use Rattle.room.specs.Units.{configGood}
+use Rattle.routing.specs.declared.Answer.{Answer}
+use Rattle.routing.specs.declared.Answer.the-variants.{Routed, Refused, NotRouteable, NoRoute, LimitPassed, QueueFull}
+use Rattle.routing.specs.declared.Refusal.{Refusal}
+use Rattle.routing.specs.declared.Refusal.the-variants.{Sides, Config, Buffer}
+use Rattle.routing.specs.Answers.{Input, answerOf, numberOf, detailOf, cellsFor, outputAfter, workAfter}
+
+abbrev pub roomOf : ℕ → ℕ → ℕ → Room
+roomOf wide high deep = record { wide = wide; high = high; deep = deep }
+
+abbrev pub configOf : ℕ → ℕ → ℕ → ℕ → RouterConfig
+configOf limit horizontal stair support = record {
+  limit = record { 0 = limit };
+  horizontal = record { 0 = horizontal };
+  stair = record { 0 = stair };
+  support = record { 0 = support };
+}
+
+-- a buffer of fewer than four values is number 6, at 6's place: 2 and 3 are judged before it
+abbrev pub shortRefusal : Room → RouterConfig → Refusal
+shortRefusal R C = either (sidesGood R) (either (configGood C) Buffer Config) Sides
+
+unfoldable pub exported : Input → List ℕ → Answer
+exported I values = either (leb 4 (length values)) (answerOf I) (Refused (shortRefusal (I .room) (I .config)))
+
+-- the four values: the detail, then a route's length, cost and expanded count, zero where there is no route
+abbrev pub routeValues : Answer → List ℕ
+routeValues (Routed r) = r .length ∷ r .cost .0 ∷ r .expanded .0 ∷ []
+routeValues (Refused why) = 0 ∷ 0 ∷ 0 ∷ []
+routeValues (NotRouteable cell) = 0 ∷ 0 ∷ 0 ∷ []
+routeValues (NoRoute x) = 0 ∷ 0 ∷ 0 ∷ []
+routeValues (LimitPassed x) = 0 ∷ 0 ∷ 0 ∷ []
+routeValues (QueueFull x) = 0 ∷ 0 ∷ 0 ∷ []
+
+abbrev pub valuesOf : Answer → List ℕ
+valuesOf a = detailOf a ∷ routeValues a
+
+-- The promise of `dustroute_search`. "Numbers 1 to 6 touch nothing", the values included; any other number writes the four values and zeros behind
+-- them.
+pub record Exported (I : Input) (path known previous classes queue values : List ℕ) (r : ℕ) (path′ known′ previous′ classes′ queue′ values′ : List ℕ) : Type 0 where
+  pub number : r ≡ numberOf (exported I values)
+  pub path-is : path′ ≡ outputAfter (exported I values) (cellsFor (exported I values) I) path
+  pub known-is : known′ ≡ workAfter (exported I values) known
+  pub previous-is : previous′ ≡ workAfter (exported I values) previous
+  pub classes-is : classes′ ≡ workAfter (exported I values) classes
+  pub queue-is : queue′ ≡ workAfter (exported I values) queue
+  pub values-is : values′ ≡ outputAfter (exported I values) (valuesOf (exported I values)) values

@@ -1,0 +1,142 @@
+// The search of one net's router, exported for other languages: numbers pass as themselves, a slice as a pointer and then
+// a length.
+ghost use mathlib.Core.Path.{_≡_};
+ghost use mathlib.Core.List.{[], _∷_, _++_};
+ghost use Prim.Native.Nat.{_-_, _≤_};
+ghost use lib.ListN.{length, replicate};
+ghost use Rattle.routing.specs.Answers.{refusalNumber, numberOf, outputAfter, input, lengthsOf};
+ghost use Rattle.dustroute.specs.Export.{roomOf, configOf, shortRefusal, valuesOf, Exported};
+use room::Cost;
+use room::Nodes;
+use room::Room;
+use room::RouterConfig;
+use routing::Answer;
+use routing::Refusal;
+
+// A refusal's number.
+fn refusal_number(why: Refusal) -> u32
+    ensures { λ r. ⌜ r ≡ refusalNumber why ⌝ }
+{
+    match why {
+        Refusal::Sides => 2,
+        Refusal::Config => 3,
+        Refusal::Position => 4,
+        Refusal::Code => 5,
+        Refusal::Buffer => 6,
+    }
+}
+
+// Fewer than four values are lent: 6, unless 2 or 3 comes before it.
+fn short_refusal(room: Room, config: RouterConfig) -> Refusal
+    ensures { λ r. ⌜ r ≡ shortRefusal room config ⌝ }
+{
+    if !room.good() {
+        return Refusal::Sides;
+    }
+    if !config.good() {
+        return Refusal::Config;
+    }
+    Refusal::Buffer
+}
+
+// Four values, and zeros behind them.
+fn write_values(values: &mut [u64], detail: u64, cells: u64, cost: u32, expanded: u32)
+    requires { ⌜ 4 ≤ length (now values) ⌝ }
+    ensures { λ _. ⌜ now (values .exit) ≡ (detail ∷ cells ∷ cost ∷ expanded ∷ []) ++ replicate (length (now (values .entry)) - 4) 0 ⌝ }
+{
+    lent::clear_longs(values);
+    values[0] = detail;
+    values[1] = cells;
+    values[2] = cost as u64;
+    values[3] = expanded as u64;
+}
+
+// Writes an answer's values and returns its number. A refusal by 2 to 6 writes nothing.
+fn tell(answer: Answer, values: &mut [u64]) -> u32
+    requires { ⌜ 4 ≤ length (now values) ⌝ }
+    ensures { λ r. ⌜ r ≡ numberOf answer ⌝ }
+    ensures { λ _. ⌜ now (values .exit) ≡ outputAfter answer (valuesOf answer) (now (values .entry)) ⌝ }
+{
+    match answer {
+        Answer::Routed(route) => {
+            write_values(
+                values,
+                0,
+                route.length as u64,
+                route.cost.0,
+                route.expanded.0,
+            );
+            0
+        }
+        Answer::Refused(why) => refusal_number(why),
+        Answer::NotRouteable(cell) => {
+            write_values(values, cell as u64, 0, 0, 0);
+            10
+        }
+        Answer::NoRoute(expanded) => {
+            write_values(values, expanded.0 as u64, 0, 0, 0);
+            11
+        }
+        Answer::LimitPassed(expanded) => {
+            write_values(values, expanded.0 as u64, 0, 0, 0);
+            12
+        }
+        Answer::QueueFull(expanded) => {
+            write_values(values, expanded.0 as u64, 0, 0, 0);
+            13
+        }
+    }
+}
+
+// One search over a room of kinds, as `routing::astar_route`. The number comes back, 0 for a route; its detail, and the
+// route's length, cost and expanded count, go to the first four of `values`. The path goes to the front of `path`; a place
+// of the queue takes two numbers. See the promise in specs/Export.antt.
+#[no_mangle]
+pub extern "C" fn dustroute_search(
+    wide: usize,
+    high: usize,
+    deep: usize,
+    limit: u32,
+    horizontal: u32,
+    stair: u32,
+    support: u32,
+    kinds: &[u8],
+    start: usize,
+    goal: usize,
+    path: &mut [u32],
+    known: &mut [u32],
+    previous: &mut [u32],
+    classes: &mut [u8],
+    queue: &mut [u64],
+    values: &mut [u64],
+) -> u32
+    ensures { λ r. ⌜ Exported (input (roomOf wide high deep) (configOf limit horizontal stair support) (now (kinds .entry)) start goal (lengthsOf (now (path .entry)) (now (known .entry)) (now (previous .entry)) (now (classes .entry)) (now (queue .entry)))) (now (path .entry)) (now (known .entry)) (now (previous .entry)) (now (classes .entry)) (now (queue .entry)) (now (values .entry)) r (now (path .exit)) (now (known .exit)) (now (previous .exit)) (now (classes .exit)) (now (queue .exit)) (now (values .exit)) ⌝ }
+{
+    let room = Room {
+        wide: wide,
+        high: high,
+        deep: deep,
+    };
+    let config = RouterConfig {
+        limit: Nodes(limit),
+        horizontal: Cost(horizontal),
+        stair: Cost(stair),
+        support: Cost(support),
+    };
+    if values.len() < 4 {
+        return refusal_number(short_refusal(room, config));
+    }
+    let answer = routing::astar_route(
+        room,
+        config,
+        kinds,
+        start,
+        goal,
+        path,
+        known,
+        previous,
+        classes,
+        queue,
+    );
+    tell(answer, values)
+}

@@ -1,0 +1,70 @@
+//! The proved search, called through its archive: compared with the oracle's answers on random searches, and timed.
+
+mod bench;
+mod clock;
+mod compare;
+mod flat;
+mod proved;
+
+use std::process::ExitCode;
+
+use oracle::Profile;
+
+const HELP: &str = "\
+driver compare searches --seed N --count N [--profile P] [--against oracle|plain]
+                compares random searches; P is tiny, small, middle, large or mixed (the default).
+                oracle (the default): the published Rust and the plain router, which must agree; plain: the latter alone
+driver bench    times the proved search, the published Rust and plain Rust over flat arrays
+Status 0: done; 1: answers differ; 2: bad input.
+";
+
+/// The value behind an option, if it is given.
+fn option<'a>(words: &'a [String], name: &str) -> Option<&'a str> {
+    let at = words.iter().position(|word| word == name)?;
+    words.get(at + 1).map(String::as_str)
+}
+
+fn number(words: &[String], name: &str) -> Result<u64, String> {
+    let word = option(words, name).ok_or(format!("{name} is missing"))?;
+    word.parse()
+        .map_err(|_| format!("{name} {word}: no number"))
+}
+
+fn compare(words: &[String]) -> Result<bool, String> {
+    let profile = option(words, "--profile").unwrap_or("mixed");
+    let draw = compare::Draw {
+        seed: number(words, "--seed")?,
+        count: number(words, "--count")?,
+        profile: Profile::named(profile).ok_or(format!("unknown profile {profile}"))?,
+        published: match option(words, "--against").unwrap_or("oracle") {
+            "oracle" => true,
+            "plain" => false,
+            other => return Err(format!("neither oracle nor plain: {other}")),
+        },
+    };
+    Ok(compare::compare(&draw))
+}
+
+fn run(words: &[String]) -> Result<bool, String> {
+    let command: Vec<&str> = words.iter().take(2).map(String::as_str).collect();
+    match command[..] {
+        ["compare", "searches"] => compare(&words[2..]),
+        ["bench"] => {
+            bench::bench();
+            Ok(true)
+        }
+        _ => Err(format!("what is asked?\n{HELP}")),
+    }
+}
+
+fn main() -> ExitCode {
+    let words: Vec<String> = std::env::args().skip(1).collect();
+    match run(&words) {
+        Ok(true) => ExitCode::SUCCESS,
+        Ok(false) => ExitCode::from(1),
+        Err(message) => {
+            eprintln!("driver: {message}");
+            ExitCode::from(2)
+        }
+    }
+}
