@@ -1,0 +1,84 @@
+-- The ends of one net: which of numbers 8 and 9 is due for which of them, and else where its wire begins and ends. Definitions alone; their laws are
+-- in EndLaws.
+use mathlib.Core.Bool.{Bool, true, false}
+use mathlib.Core.List.{List, [], _∷_, _++_, map}
+use Prim.Native.Nat.{ℕ, zero, suc, _+_, _-_}
+use lib.Dec.{eqb}
+use lib.ListN.{length, take, replicate}
+use Rattle.basics.specs.Tests.{either}
+use Rattle.room.specs.declared.Room.{Room}
+use Rattle.room.specs.Units.{wire}
+use Rattle.port_realization.specs.declared.Terminal.{Terminal}
+use Rattle.port_realization.specs.declared.Realized.{Realized}
+use Rattle.port_realization.specs.Ports.{terminalOf, realizedOf}
+use Rattle.job_sheet.specs.declared.Endpoint.{Endpoint}
+use Rattle.job_sheet.specs.declared.Sinks.{Sinks}
+use Rattle.job_sheet.specs.Sheet.{maxSinks}
+use Rattle.ends.specs.declared.Tap.{Tap}
+use Rattle.ends.specs.declared.Taps.{Taps}
+use Rattle.ends.specs.declared.Ends.{Ends}
+use Rattle.ends.specs.declared.Fault.{Fault}
+use Rattle.ends.specs.declared.Fault.the-variants.{Good, NoFacing, Outside}
+
+-- the sinks that travel as one value
+abbrev pub sinksIn : Sinks → List Endpoint
+sinksIn k = take (k .count) (k .ends)
+
+-- a source has no approach: its terminal stands for both
+abbrev pub alone : Terminal → Realized
+alone (Terminal.At cell) = Realized.At cell cell
+alone Terminal.NoFacing = Realized.NoFacing
+alone Terminal.Outside = Realized.Outside
+
+unfoldable pub sourceAt : Room → Endpoint → Realized
+sourceAt R e = alone (terminalOf R (e .at) (e .port) (e .facing))
+
+unfoldable pub sinkAt : Room → Endpoint → Realized
+sinkAt R e = realizedOf R (e .at) (e .port) (e .facing)
+
+-- the number that is due for an end, 0 for none: 8 for "BlockPower without horizontal facing", 9 for "terminal or approach outside"
+abbrev pub dueFor : Realized → ℕ
+dueFor (Realized.At terminal approach) = 0
+dueFor Realized.NoFacing = 8
+dueFor Realized.Outside = 9
+
+-- "0 source, k-th sink k": one more than the place of the first end for which that number is due, counted on from `place`; 0 where there is none
+unfoldable pub firstDue : ℕ → ℕ → List Realized → ℕ
+firstDue number place [] = 0
+firstDue number place (r ∷ rs) = either (eqb (dueFor r) number) (suc place) (firstDue number (suc place) rs)
+
+abbrev pub endsAt : Room → Endpoint → List Endpoint → List Realized
+endsAt R source sinks = sourceAt R source ∷ map (sinkAt R) sinks
+
+-- where an end meets the wire, and what its port is
+abbrev pub noTap : Tap
+noTap = record { terminal = 0; approach = 0; wire = false }
+
+abbrev pub tapFrom : Bool → Realized → Tap
+tapFrom wire (Realized.At t a) = record { terminal = t; approach = a; wire = wire }
+tapFrom wire Realized.NoFacing = noTap
+tapFrom wire Realized.Outside = noTap
+
+unfoldable pub tapOf : Room → Endpoint → Tap
+tapOf R e = tapFrom (eqb (e .port) wire) (sinkAt R e)
+
+abbrev pub tapsOf : Room → List Endpoint → Taps
+tapsOf R sinks = record { count = length sinks; taps = map (tapOf R) sinks ++ replicate (maxSinks - length sinks) noTap }
+
+-- the terminal of a source, 0 where a number is due for it
+abbrev pub terminalIn : Realized → ℕ
+terminalIn (Realized.At cell approach) = cell
+terminalIn Realized.NoFacing = 0
+terminalIn Realized.Outside = 0
+
+-- "all of 8, all of 9"
+abbrev pub faultBy : ℕ → ℕ → Fault
+faultBy (suc place) later = NoFacing place
+faultBy zero (suc place) = Outside place
+faultBy zero zero = Good
+
+unfoldable pub faultOf : Room → Endpoint → List Endpoint → Fault
+faultOf R source sinks = faultBy (firstDue 8 0 (endsAt R source sinks)) (firstDue 9 0 (endsAt R source sinks))
+
+unfoldable pub endsOf : Room → Endpoint → List Endpoint → Ends
+endsOf R source sinks = record { fault = faultOf R source sinks; source = terminalIn (sourceAt R source); taps = tapsOf R sinks }

@@ -1,0 +1,181 @@
+// The ends of one net: numbers 8 and 9, else the source's terminal, and each sink's terminal and approach.
+use job_sheet::Endpoint;
+use job_sheet::Sinks;
+use port_realization::Realized;
+use port_realization::Terminal;
+use room::Room;
+ghost use mathlib.Core.Path.{_≡_};
+ghost use Rattle.room.specs.Room.{Good, Within};
+ghost use Rattle.ends.specs.Ends.{sinksIn, sourceAt, sinkAt, dueFor, firstDue, endsAt, noTap, tapOf, tapsOf, terminalIn, faultOf, endsOf};
+ghost use Rattle.ends.specs.EndLaws.{SinksWithin};
+
+// A sink as the wire meets it: where its branch ends, where its searches start, and whether its port is Wire.
+pub struct Tap {
+    pub terminal: usize,
+    pub approach: usize,
+    pub wire: bool,
+}
+
+// The sinks' taps with their count, as one value.
+pub struct Taps {
+    pub count: usize,
+    pub taps: [Tap; 16],
+}
+
+// Number 8 or 9 with its detail, 0 for the source and k for the k-th sink; or neither.
+pub enum Fault {
+    Good,
+    NoFacing(usize),
+    Outside(usize),
+}
+
+// The source's terminal and the sinks' taps; where a number is due for one of them, it holds zeros.
+pub struct Ends {
+    pub fault: Fault,
+    pub source: usize,
+    pub taps: Taps,
+}
+
+// A source has no approach.
+fn source_at(room: Room, source: Endpoint) -> Realized
+    requires { ⌜ Good room ⌝ }
+    requires { ⌜ Within room (source .at) ⌝ }
+    ensures { λ r. ⌜ r ≡ sourceAt room source ⌝ }
+{
+    match port_realization::terminal_for_endpoint(room, source.at, source.port, source.facing) {
+        Terminal::At(cell) => Realized::At {
+            terminal: cell,
+            approach: cell,
+        },
+        Terminal::NoFacing => Realized::NoFacing,
+        Terminal::Outside => Realized::Outside,
+    }
+}
+
+fn sink_at(room: Room, sink: Endpoint) -> Realized
+    requires { ⌜ Good room ⌝ }
+    requires { ⌜ Within room (sink .at) ⌝ }
+    ensures { λ r. ⌜ r ≡ sinkAt room sink ⌝ }
+{
+    port_realization::realize_sink_endpoint(room, sink.at, sink.port, sink.facing)
+}
+
+// The number that is due for an end, 0 for none.
+fn due_for(end: Realized) -> usize
+    ensures { λ r. ⌜ r ≡ dueFor end ⌝ }
+{
+    match end {
+        Realized::At {
+            terminal: _,
+            approach: _,
+        } => 0,
+        Realized::NoFacing => 8,
+        Realized::Outside => 9,
+    }
+}
+
+// One more than the place of the first end for which that number is due, 0 for none.
+fn first_due(room: Room, source: Endpoint, sinks: Sinks, number: usize) -> usize
+    requires { ⌜ Good room ⌝ }
+    requires { ⌜ Within room (source .at) ⌝ }
+    requires { ⌜ SinksWithin room sinks ⌝ }
+    ensures { λ r. ⌜ r ≡ firstDue number 0 (endsAt room source (sinksIn sinks)) ⌝ }
+{
+    if due_for(source_at(room, source)) == number {
+        return 1;
+    }
+    let mut k: usize = 0;
+    while k < sinks.count {
+        if due_for(sink_at(room, sinks.ends[k])) == number {
+            return k + 2;
+        }
+        k += 1;
+    }
+    0
+}
+
+fn no_tap() -> Tap
+    ensures { λ r. ⌜ r ≡ noTap ⌝ }
+{
+    Tap {
+        terminal: 0,
+        approach: 0,
+        wire: false,
+    }
+}
+
+fn tap_of(room: Room, sink: Endpoint) -> Tap
+    requires { ⌜ Good room ⌝ }
+    requires { ⌜ Within room (sink .at) ⌝ }
+    ensures { λ r. ⌜ r ≡ tapOf room sink ⌝ }
+{
+    match sink_at(room, sink) {
+        Realized::At { terminal, approach } => Tap {
+            terminal,
+            approach,
+            wire: sink.port == room::WIRE,
+        },
+        Realized::NoFacing => no_tap(),
+        Realized::Outside => no_tap(),
+    }
+}
+
+fn taps_of(room: Room, sinks: Sinks) -> Taps
+    requires { ⌜ Good room ⌝ }
+    requires { ⌜ SinksWithin room sinks ⌝ }
+    ensures { λ r. ⌜ r ≡ tapsOf room (sinksIn sinks) ⌝ }
+{
+    let count = sinks.count;
+    let mut taps = [no_tap(); 16];
+    let mut k: usize = 0;
+    while k < count {
+        taps[k] = tap_of(room, sinks.ends[k]);
+        k += 1;
+    }
+    Taps { count, taps }
+}
+
+// The terminal of a source, 0 where a number is due for it.
+fn terminal_in(end: Realized) -> usize
+    ensures { λ r. ⌜ r ≡ terminalIn end ⌝ }
+{
+    match end {
+        Realized::At {
+            terminal,
+            approach: _,
+        } => terminal,
+        Realized::NoFacing => 0,
+        Realized::Outside => 0,
+    }
+}
+
+// "All of 8, all of 9": 8 is judged of every end before 9 is of any.
+fn fault_of(room: Room, source: Endpoint, sinks: Sinks) -> Fault
+    requires { ⌜ Good room ⌝ }
+    requires { ⌜ Within room (source .at) ⌝ }
+    requires { ⌜ SinksWithin room sinks ⌝ }
+    ensures { λ r. ⌜ r ≡ faultOf room source (sinksIn sinks) ⌝ }
+{
+    let unfaced = first_due(room, source, sinks, 8);
+    if 0 < unfaced {
+        return Fault::NoFacing(unfaced - 1);
+    }
+    let outside = first_due(room, source, sinks, 9);
+    if 0 < outside {
+        return Fault::Outside(outside - 1);
+    }
+    Fault::Good
+}
+
+pub fn realize_ends(room: Room, source: Endpoint, sinks: Sinks) -> Ends
+    requires { ⌜ Good room ⌝ }
+    requires { ⌜ Within room (source .at) ⌝ }
+    requires { ⌜ SinksWithin room sinks ⌝ }
+    ensures { λ r. ⌜ r ≡ endsOf room source (sinksIn sinks) ⌝ }
+{
+    Ends {
+        fault: fault_of(room, source, sinks),
+        source: terminal_in(source_at(room, source)),
+        taps: taps_of(room, sinks),
+    }
+}
