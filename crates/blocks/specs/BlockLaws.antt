@@ -1,0 +1,166 @@
+-- Laws of blocks laid out: a table's entries, what stands in a cell, that where nothing repeats each block's cell tells of that block, and that what
+-- laying out comes to is determined.
+use mathlib.Core.Path.{_≡_, refl, sym, ap, _∙_}
+use mathlib.Core.Logic.{_⊎_, inl, inr}
+use mathlib.Core.List.{List, [], _∷_}
+use Prim.Native.Nat.{ℕ, zero, suc, _+_, _≤_, _<_}
+use native.Mathlib.Nat.{le-of-suc-le-suc, not-suc-le-zero}
+use native.Mathlib.Omega.{arith}
+use lib.Dec.{eqb, ltb}
+use lib.ListN.{length, getD}
+use lib.Seq.{ext-getD}
+use borrow.Author.Tests.{eqb-true, eqb-false, ltb-true, ltb-false}
+use Rattle.basics.specs.Tests.{ask, never}
+use Rattle.room.specs.declared.Room.{Room}
+use Rattle.room.specs.Room.{volume}
+use Rattle.room.specs.RoomLaws.{cell-in}
+use Rattle.room.specs.Units.{air, maxKind}
+use Rattle.job_sheet.specs.declared.Block.{Block}
+use Rattle.job_sheet.specs.declared.Part.{Part}
+use Rattle.job_sheet.specs.Accepted.{SoundBlock, BlockList}
+use Rattle.job_sheet.specs.Places.{noBlock, blockIn, blocksIn}
+use Rattle.job_sheet.specs.RecordLaws.{many-long}
+use Rattle.job_sheet.specs.Sheet.{blockSize}
+use Rattle.blocks.specs.declared.Placement.{Placement}
+use Rattle.blocks.specs.declared.Placement.the-variants.{Placed, RepeatAt}
+use Rattle.blocks.specs.Blocks.{blockCell, ofBlock, kindOf, nodeOf, tabulated, kindsOf, cellAt, nodeAt, kindAt, Repeat, NotAfter, Placing, placed, repeated, BlocksLaid}
+
+-- ---- a table has one entry for each number
+
+pub tabulated-long : (n : ℕ) (f : ℕ → ℕ) → length (tabulated n f) ≡ n
+unfolding tabulated
+tabulated-long zero f = refl
+tabulated-long (suc n) f = ap suc (tabulated-long n (λ v. f (suc v)))
+
+pub tabulated-at : (n : ℕ) (f : ℕ → ℕ) (v : ℕ) → v < n → getD (tabulated n f) v 0 ≡ f v
+unfolding tabulated
+tabulated-at zero f v h = absurd (not-suc-le-zero h)
+tabulated-at (suc n) f zero h = refl
+tabulated-at (suc n) f (suc v) h = tabulated-at n (λ v. f (suc v)) v (le-of-suc-le-suc h)
+
+-- a list of these entries is no other
+pub tabulated-is : (n : ℕ) (f : ℕ → ℕ) (l : List ℕ) → length l ≡ n → ((v : ℕ) → v < n → getD l v 0 ≡ f v) → l ≡ tabulated n f
+tabulated-is n f l e same =
+    ext-getD 0 l (tabulated n f) (e ∙ sym (tabulated-long n f)) (λ v h. let k : v < n = rw e at h in same v k ∙ sym (tabulated-at n f v k))
+
+-- ---- what stands in a cell
+
+-- what f says of the block in a cell is what it says of a record of that cell, or there is no such record
+pub data OfCell {X : Type 0} (f : Block → X) (none : X) (R : Room) (bs : List Block) (v : ℕ) (x : X) : Type 0 where
+  of-record : (i : ℕ) → i < length bs → cellAt R bs i ≡ v → x ≡ f (getD bs i noBlock) → OfCell f none R bs v x
+  of-none : ((i : ℕ) → i < length bs → cellAt R bs i ≡ v → ⊥) → x ≡ none → OfCell f none R bs v x
+
+module _ {X : Type 0} (f : Block → X) (none : X) (R : Room) where
+  pub of-cell : (bs : List Block) (v : ℕ) → OfCell f none R bs v (ofBlock f none R bs v)
+  unfolding ofBlock
+  of-cell [] v = of-none (λ i h e. absurd (not-suc-le-zero h)) refl
+  of-cell (b ∷ bs) v =
+      ask (eqb (blockCell R b) v)
+      (λ t. of-record 0 (omega arith) (eqb-true (blockCell R b) v t) (rw t))
+      (λ t. later (eqb-false (blockCell R b) v t) (rw t refl) (of-cell bs v))
+    where
+      later : (blockCell R b ≡ v → ⊥) → ofBlock f none R (b ∷ bs) v ≡ ofBlock f none R bs v → OfCell f none R bs v (ofBlock f none R bs v)
+          → OfCell f none R (b ∷ bs) v (ofBlock f none R (b ∷ bs) v)
+      later other e (of-record i h c x) = of-record (suc i) (omega arith) c (e ∙ x)
+      later other e (of-none n x) = of-none nowhere (e ∙ x)
+        where
+          nowhere : (i : ℕ) → i < length (b ∷ bs) → cellAt R (b ∷ bs) i ≡ v → ⊥
+          nowhere zero h c = other c
+          nowhere (suc i) h c = n i (le-of-suc-le-suc h) c
+
+-- ---- where nothing repeats
+
+-- of two records of one cell one is a repeat
+module _ (R : Room) (bs : List Block) (n : ℕ) where
+  earlier-repeats : (i j : ℕ) → i < j → j < n → cellAt R bs i ≡ cellAt R bs j → ((k : ℕ) → Repeat R bs n k → ⊥) → ⊥
+  earlier-repeats i j h k c free =
+      ask (ltb (nodeAt bs j) (nodeAt bs i))
+      (λ t. free i record { repeat-in = omega arith; holder = j; holder-in = k; same-cell = sym c; held = inl (ltb-true (nodeAt bs j) (nodeAt bs i) t) })
+      (λ t. free j record { repeat-in = k; holder = i; holder-in = omega arith; same-cell = c; held = not-higher (ltb-false (nodeAt bs j) (nodeAt bs i) t) })
+    where
+      not-higher : nodeAt bs i ≤ nodeAt bs j → (nodeAt bs i < nodeAt bs j) ⊎ ((nodeAt bs i ≡ nodeAt bs j) × (i < j))
+      not-higher le =
+          ask (ltb (nodeAt bs i) (nodeAt bs j))
+          (λ t. inl (ltb-true (nodeAt bs i) (nodeAt bs j) t))
+          (λ t. inr (omega (arith, ltb-false (nodeAt bs i) (nodeAt bs j) t), h))
+
+  module _ (free : (k : ℕ) → Repeat R bs n k → ⊥) where
+    pub cell-once : (i j : ℕ) → i < n → j < n → cellAt R bs i ≡ cellAt R bs j → i ≡ j
+    cell-once i j h k c =
+        ask (ltb i j)
+        (λ t. absurd (earlier-repeats i j (ltb-true i j t) k c free))
+        (λ t. ask (ltb j i) (λ u. absurd (earlier-repeats j i (ltb-true j i u) h (sym c) free)) (λ u. omega (arith, ltb-false i j t, ltb-false j i u)))
+
+module _ {X : Type 0} (f : Block → X) (none : X) (R : Room) (bs : List Block) (free : (k : ℕ) → Repeat R bs (length bs) k → ⊥) where
+  pub of-its-cell : (i : ℕ) → i < length bs → ofBlock f none R bs (cellAt R bs i) ≡ f (getD bs i noBlock)
+  of-its-cell i h = go (of-cell f none R bs (cellAt R bs i))
+    where
+      go : OfCell f none R bs (cellAt R bs i) (ofBlock f none R bs (cellAt R bs i)) → ofBlock f none R bs (cellAt R bs i) ≡ f (getD bs i noBlock)
+      go (of-record j k c x) = x ∙ ap (λ n. f (getD bs n noBlock)) (cell-once R bs (length bs) free j i k h c)
+      go (of-none n x) = absurd (n i h refl)
+
+module _ (R : Room) (bs : List Block) (free : (k : ℕ) → Repeat R bs (length bs) k → ⊥) (i : ℕ) (h : i < length bs) where
+  pub kind-of-its-cell : kindOf R bs (cellAt R bs i) ≡ kindAt bs i
+  kind-of-its-cell = of-its-cell (λ b. b .kind) air R bs free i h
+
+  pub node-of-its-cell : nodeOf R bs (cellAt R bs i) ≡ nodeAt bs i + 1
+  node-of-its-cell = of-its-cell (λ b. b .node + 1) 0 R bs free i h
+
+-- ---- blocks of a sound list
+
+pub kinds-long : (R : Room) (bs : List Block) → length (kindsOf R bs) ≡ volume R
+kinds-long R bs = tabulated-long (volume R) (kindOf R bs)
+
+module _ (R : Room) (bs : List Block) (sound : (i : ℕ) → i < length bs → SoundBlock R (getD bs i noBlock)) where
+  pub cells-in : (i : ℕ) → i < length bs → cellAt R bs i < volume R
+  cells-in i h = cell-in R (getD bs i noBlock .at) (sound i h .within)
+
+  pub kind-known : (v : ℕ) → kindOf R bs v ≤ maxKind
+  kind-known v = go (of-cell (λ b. b .kind) air R bs v)
+    where
+      go : OfCell (λ b. b .kind) air R bs v (kindOf R bs v) → kindOf R bs v ≤ maxKind
+      go (of-record i h c x) = rw x (sound i h .kind-known)
+      go (of-none n x) = rw x (omega arith)
+
+  pub kinds-known : (v : ℕ) → v < volume R → getD (kindsOf R bs) v 0 ≤ maxKind
+  kinds-known v h = rw (tabulated-at (volume R) (kindOf R bs) v h) (kind-known v)
+
+pub list-long : (sheet : List ℕ) (p : Part) → length (blocksIn sheet p) ≡ p .count
+unfolding blocksIn
+list-long sheet p = many-long blockIn blockSize (p .count) _
+
+module _ {sheet : List ℕ} {R : Room} {p : Part} {bs : List Block} (L : BlockList sheet R p bs) where
+  -- the list as the contract of `place_blocks` asks for it, and what that contract says of the list
+  pub own-list : BlockList sheet R p (blocksIn sheet p)
+  own-list = record { inside = L .inside; are = refl; sound = L .sound }
+
+  pub blocks-laid-for : {kinds nodes : List ℕ} {r : Placement} → BlocksLaid R (blocksIn sheet p) kinds nodes r → BlocksLaid R bs kinds nodes r
+  blocks-laid-for O = rw (L .are) at O
+
+  pub list-sound : (i : ℕ) → i < length bs → SoundBlock R (getD bs i noBlock)
+  list-sound i h = rw (L .are) at (L .sound i (rw (← list-long sheet p, L .are) h))
+
+-- ---- what laying out comes to is determined
+
+same-place : (R : Room) (bs : List Block) (i j : ℕ) → NotAfter R bs i j → NotAfter R bs j i → cellAt R bs i ≡ cellAt R bs j
+same-place R bs i j (inl h) (inl k) = absurd (omega arith)
+same-place R bs i j (inl h) (inr k) = absurd (omega (arith, k .0))
+same-place R bs i j (inr h) (inl k) = absurd (omega (arith, h .0))
+same-place R bs i j (inr h) (inr k) = omega (arith, h .1, k .1)
+
+module _ {R : Room} {bs : List Block} where
+  pub placing-one : {n : ℕ} {r s : Placement} → Placing R bs n r → Placing R bs n s → r ≡ s
+  placing-one (placed free e) (placed free′ e′) = cc
+  placing-one (placed free e) (repeated i at least e′) = absurd (free i at)
+  placing-one (repeated i at least e) (placed free e′) = absurd (free i at)
+  placing-one (repeated i at least e) (repeated j at′ least′ e′) = e ∙ ap RepeatAt (same-place R bs i j (least j at′) (least′ i at)) ∙ sym e′
+
+  pub placed-free : {n : ℕ} → Placing R bs n Placed → (i : ℕ) → Repeat R bs n i → ⊥
+  placed-free (placed free e) = free
+  placed-free (repeated i at least e) = never (cc)
+
+  pub blocks-laid-one : {kinds nodes kinds′ nodes′ : List ℕ} {r r′ : Placement} → BlocksLaid R bs kinds nodes r → BlocksLaid R bs kinds′ nodes′ r′
+      → (kinds ≡ kinds′) × (nodes ≡ nodes′) × (r ≡ r′)
+  blocks-laid-one L M =
+      let e = placing-one (L .placing) (M .placing) in
+      (L .kinds-are ∙ rw e (sym (M .kinds-are)), L .nodes-are ∙ rw e (sym (M .nodes-are)), e)

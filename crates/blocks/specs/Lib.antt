@@ -1,0 +1,4 @@
+pub mod Blocks
+pub mod Laying
+pub mod BlockLaws
+pub mod LayingLaws

@@ -1,0 +1,55 @@
+-- `cell_source_keepout` meets its contract: each turn marks the keepout that one block asks for.
+use Prim.Native.Nat.{_≤_, _-_}
+use native.Mathlib.Omega.{arith}
+use Rattle.routing_resources.specs.MarkLaws.{Turn, first-turn}
+use Rattle.job_sheet.specs.Places.{noBlock, blocksIn}
+use Rattle.outset.specs.Outset.{sourceKeepout}
+use Rattle.outset.specs.OutsetLaws.{blocks-long, restOf, turn-on, turn-done}
+use borrow.Author.Needs.{needs}
+use Rattle.outset.proofs.cell_source_keepout.Statement.{statement}
+use Rattle.outset.proofs.cell_source_keepout.Tie as tie
+
+abbrev Inv-loop : tie.InvT-loop
+Inv-loop sheet part room kinds nodes marks₀ i₀ marks i = (i ≤ part .count) × Turn 1 (restOf (sourceKeepout room kinds nodes) (blocksIn sheet part)) marks₀ marks i
+
+abbrev μ-loop : tie.MeasureT-loop
+μ-loop sheet part room kinds nodes marks₀ i₀ marks i = part .count - i
+
+loop-holds : tie.Need-loop-holds Inv-loop μ-loop
+loop-holds c = (omega arith, first-turn _ _ _)
+
+block-at-requires : tie.Need-block-at-requires Inv-loop μ-loop
+block-at-requires c κs = (c .if1 .taken, c .before .before .before .before .before .before .before .pre .1 .inside)
+
+block-keepout-requires : tie.Need-block-keepout-requires Inv-loop μ-loop
+block-keepout-requires c κs = (record { good = c .before .before .before .before .before .before .before .before .before .pre .0 .good; kinds-long = c .before .before .before .before .before .before .before .before .before .pre .0 .kinds-long; nodes-long = c .before .before .before .before .before .before .before .before .before .pre .0 .nodes-long; long = rw (c .before .before .before .before .loop .inv .1 .long) (c .before .before .before .before .before .before .before .before .before .pre .0 .long) }, c .before .block-at .ensures .accepted _ _ (c .before .before .before .before .before .before .before .before .before .pre .1) .1)
+
+add-i : tie.Need-add-i Inv-loop μ-loop
+add-i c = search needs
+
+loop-less : tie.Need-loop-less Inv-loop μ-loop
+loop-less c = search needs
+
+loop-again : tie.Need-loop-again Inv-loop μ-loop
+loop-again c = (omega (arith, c .before .before .before .before .before .if1 .taken), turn-on (sourceKeepout _ _ _) _ (c .before .before .before .before .before .before .before .loop .inv .1) noBlock _ (c .before .before .before .before .block-at .ensures .is) (rw (blocks-long _ _) (c .before .before .before .before .before .if1 .taken)) (c .before .before .block-keepout .ensures))
+
+same-length : tie.Need-same-length Inv-loop μ-loop
+same-length c = c .before .before .loop .inv .1 .long
+
+returns : tie.Need-returns Inv-loop μ-loop
+returns c = turn-done (sourceKeepout _ _ _) _ (c .before .before .loop .inv .1) (rw (blocks-long _ _) (c .if1 .left))
+
+pub cell-source-keepout-spec : {M : Type 1} → statement M
+cell-source-keepout-spec =
+    tie.close
+    (tie.spec
+    Inv-loop
+    μ-loop
+    loop-holds
+    block-at-requires
+    block-keepout-requires
+    add-i
+    loop-less
+    loop-again
+    same-length
+    returns)

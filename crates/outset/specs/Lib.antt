@@ -1,0 +1,2 @@
+pub mod Outset
+pub mod OutsetLaws

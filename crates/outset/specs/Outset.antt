@@ -1,0 +1,73 @@
+-- "Blocked at the outset", as "The tree of one net" of the requirement has it: which cells no branch may enter when the first search starts.
+-- Definitions alone; their laws are in OutsetLaws.
+use mathlib.Core.Bool.{Bool, true, false, not, _&&_, _||_}
+use mathlib.Core.List.{List, [], _∷_}
+use Prim.Native.Nat.{ℕ, _+_}
+use lib.Dec.{eqb}
+use lib.ListN.{getD, take}
+use Rattle.basics.specs.Tests.{either}
+use Rattle.basics.specs.Lists.{any}
+use Rattle.room.specs.declared.Room.{Room}
+use Rattle.room.specs.declared.Pos.{Pos}
+use Rattle.room.specs.declared.Neighbour.{Neighbour}
+use Rattle.room.specs.Room.{volume, cellOf, beneath}
+use Rattle.room.specs.Units.{air, solid, redstoneTorch, repeater, lever, redstoneBlock, ahead}
+use Rattle.routing_resources.specs.Marks.{markedBy, noMarks, isCell}
+use Rattle.routing_resources.specs.Resources.{inKeepout}
+use Rattle.job_sheet.specs.declared.Block.{Block}
+use Rattle.job_sheet.specs.Sheet.{Contents}
+use Rattle.ends.specs.declared.Tap.{Tap}
+use Rattle.ends.specs.declared.Taps.{Taps}
+
+-- v is the cell of one of these positions
+abbrev pub standsAt : Room → ℕ → Pos → Bool
+standsAt R v p = eqb (cellOf R p) v
+
+-- "other nets' conductors, their keepouts"
+abbrev pub nearConductor : Room → ℕ → Pos → Bool
+nearConductor R v p = standsAt R v p || inKeepout R (cellOf R p) v
+
+-- "RedstoneTorch, RedstoneBlock and Lever"
+unfoldable pub powers : ℕ → Bool
+powers kind = either (eqb kind redstoneTorch) true (either (eqb kind redstoneBlock) true (eqb kind lever))
+
+-- The room's blocks as two lists of one entry a cell: its kind, and one more than the node of its block, 0 where there is none.
+-- "where that is a Solid block of the same node"
+unfoldable pub solidOf : List ℕ → List ℕ → ℕ → ℕ → Bool
+solidOf kinds nodes node v = eqb (getD kinds v air) solid && eqb (getD nodes v 0) (node + 1)
+
+-- "the keepout of a Repeater's output cell (its cell plus its facing; none unless horizontal)"
+abbrev pub outputKeepout : Room → List ℕ → List ℕ → ℕ → Neighbour → ℕ → Bool
+outputKeepout R kinds nodes node (Neighbour.Inside output) v = solidOf kinds nodes node output && inKeepout R output v
+outputKeepout R kinds nodes node Neighbour.Outside v = false
+
+-- v is in the keepout that a block asks for
+unfoldable pub sourceKeepout : Room → List ℕ → List ℕ → ℕ → Block → Bool
+sourceKeepout R kinds nodes v b =
+    either (powers (b .kind)) (inKeepout R (cellOf R (b .at)) v)
+    (either (eqb (b .kind) repeater) (outputKeepout R kinds nodes (b .node) (ahead R (cellOf R (b .at)) (b .facing)) v) false)
+
+-- "other nets' conductors, their keepouts, clearances, terminals; reserved cells; the keepout of each .."
+unfoldable pub blockedBy : List ℕ → List ℕ → Contents → ℕ → Bool
+blockedBy kinds nodes J v =
+    let R = J .room in
+    any (nearConductor R v) (J .conductors)
+    || (any (standsAt R v) (J .clearances)
+    || (any (standsAt R v) (J .terminals)
+    || (any (standsAt R v) (J .reserved) || any (sourceKeepout R kinds nodes v) (J .blocks))))
+
+-- a cell, and the one right beneath it
+unfoldable pub atOrBeneath : Room → ℕ → ℕ → Bool
+atOrBeneath R v cell = eqb cell v || isCell (beneath R cell) v
+
+abbrev pub tapCell : Room → ℕ → Tap → Bool
+tapCell R v t = atOrBeneath R v (t .terminal) || atOrBeneath R v (t .approach)
+
+-- "the source terminal, all sink terminals and approaches, and the cells right beneath them"
+unfoldable pub ownCell : Room → ℕ → Taps → ℕ → Bool
+ownCell R source k v = atOrBeneath R v source || any (tapCell R v) (take (k .count) (k .taps))
+
+-- "Then .. are taken out."
+unfoldable pub blockedAtOutset : List ℕ → List ℕ → Contents → ℕ → Taps → List ℕ
+blockedAtOutset kinds nodes J source k =
+    markedBy (λ v. blockedBy kinds nodes J v && not (ownCell (J .room) source k v)) (noMarks (volume (J .room)))
