@@ -45,7 +45,8 @@ pub fn routeable_kind(endpoint: bool, kind: u8) -> bool
     false
 }
 
-fn class_for(endpoint: bool, kind: u8, below: u8) -> u8
+// What it takes to enter a cell of that kind, by what stands beneath it.
+pub fn class_for(endpoint: bool, kind: u8, below: u8) -> u8
     ensures { λ r. ⌜ r ≡ classFor endpoint kind below ⌝ }
 {
     if routeable_kind(endpoint, kind) {

@@ -7,6 +7,11 @@ mod search;
 mod trace;
 
 pub use astar::astar_route;
+pub use classes::class_for;
+pub use classes::routeable_kind;
+pub use search::run;
+pub use trace::trace_into;
+pub use trace::trace_length;
 
 // How many entries wait, and the last serial given.
 pub struct Line {

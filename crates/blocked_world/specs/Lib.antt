@@ -1,0 +1,3 @@
+pub mod BlockedWorld
+pub mod SeenLaws
+pub mod RefreshLaws

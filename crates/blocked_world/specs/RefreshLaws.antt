@@ -1,0 +1,131 @@
+-- Laws of refreshing: class bytes that say one setting, refreshed at the one cell at which another differs, say the other.
+use mathlib.Core.Path.{_≡_, refl, sym, ap, _∙_}
+use mathlib.Core.Logic.{_≢_}
+use mathlib.Core.Bool.{Bool, true, false}
+use mathlib.Core.List.{List}
+use Prim.Native.Nat.{ℕ, _<_}
+use native.Mathlib.Decide.{ℕ-discrete}
+use native.Mathlib.Omega.{arith}
+use lib.Dec.{eqb}
+use lib.ListN.{length, getD}
+use lib.Seq.{getD-set-other}
+use borrow.Author.Tests.{ne-eqb}
+use Rattle.basics.specs.Tests.{either, never}
+use Rattle.room.specs.declared.Room.{Room}
+use Rattle.room.specs.declared.Neighbour.{Neighbour}
+use Rattle.room.specs.declared.Neighbour.the-variants.{Inside, Outside}
+use Rattle.room.specs.Room.{Good, volume, beneath, above}
+use Rattle.room.specs.MoveLaws.{beneath-in}
+use Rattle.routing_resources.specs.Marks.{isMarked, withByte}
+use Rattle.routing_resources.specs.MarkLaws.{with-set}
+use Rattle.geometry.specs.RoomPairs.{beneath-above}
+use Rattle.routing.specs.Routing.{kindAt}
+use Rattle.blocked_world.specs.BlockedWorld.{anEnd, countsAsSolid, seenKind, seenKinds, classSeen, Says, renewed, renewedAt, refreshed, SameBut}
+use Rattle.blocked_world.specs.SeenLaws.{seen-at, renewed-length, renewed-there, renewed-other, renewed-right}
+
+-- ---- settings that differ at one cell
+
+-- marks and ends that are the same but for one cell show the same but for it
+pub same-but : (cell : ℕ) (kinds blocked : List ℕ) (start goal : ℕ) (blocked′ : List ℕ) (start′ goal′ : ℕ)
+    → ((v : ℕ) → v ≢ cell → isMarked blocked v ≡ isMarked blocked′ v)
+    → ((v : ℕ) → v ≢ cell → anEnd start goal v ≡ anEnd start′ goal′ v)
+    → SameBut cell kinds blocked start goal blocked′ start′ goal′
+unfolding seenKind countsAsSolid
+same-but cell kinds blocked start goal blocked′ start′ goal′ marks same = record { seen = λ v n. rw (marks v n, same v n); ends = same }
+
+pub same-back : {cell : ℕ} {kinds blocked : List ℕ} {start goal : ℕ} {blocked′ : List ℕ} {start′ goal′ : ℕ}
+    → SameBut cell kinds blocked start goal blocked′ start′ goal′ → SameBut cell kinds blocked′ start′ goal′ blocked start goal
+same-back same = record { seen = λ v n. sym (same .seen v n); ends = λ v n. sym (same .ends v n) }
+
+-- one mark has changed
+pub mark-changed : (cell : ℕ) (kinds blocked blocked′ : List ℕ) (start goal : ℕ)
+    → ((v : ℕ) → v ≢ cell → getD blocked v 0 ≡ getD blocked′ v 0)
+    → SameBut cell kinds blocked start goal blocked′ start goal
+mark-changed cell kinds blocked blocked′ start goal marks =
+    same-but cell kinds blocked start goal blocked′ start goal (λ v n. rw (marks v n)) (λ v n. refl)
+
+-- a byte is put at the cell, as a mark is made or taken away
+pub mark-put : (byte cell : ℕ) (kinds blocked : List ℕ) (start goal : ℕ) → SameBut cell kinds blocked start goal (withByte byte (eqb cell) blocked) start goal
+mark-put byte cell kinds blocked start goal =
+    mark-changed cell kinds blocked (withByte byte (eqb cell) blocked) start goal
+    (λ v n. sym (rw (← with-set byte blocked cell) (getD-set-other blocked cell v byte 0 n)))
+
+-- one end leaves its cell for the other end's. An end that moves from one cell to another leaves the first, and then, the other way round, comes
+-- to the second, with a refresh at each
+module _ (kinds blocked : List ℕ) (start goal : ℕ) where
+  twice : (b : Bool) → either b true b ≡ b
+  twice true = refl
+  twice false = refl
+
+  no-start : (v : ℕ) → v ≢ start → anEnd start goal v ≡ anEnd goal goal v
+  no-start v n = rw (ne-eqb v start n) (sym (twice (eqb v goal)))
+
+  no-goal : (v : ℕ) → v ≢ goal → anEnd start goal v ≡ anEnd start start v
+  no-goal v n = rw (ne-eqb v goal n, twice (eqb v start)) (either-false (eqb v start))
+    where
+      either-false : (b : Bool) → either b true false ≡ b
+      either-false true = refl
+      either-false false = refl
+
+  pub start-left : SameBut start kinds blocked start goal blocked goal goal
+  start-left = same-but start kinds blocked start goal blocked goal goal (λ v n. refl) no-start
+
+  pub goal-left : SameBut goal kinds blocked start goal blocked start start
+  goal-left = same-but goal kinds blocked start goal blocked start start (λ v n. refl) no-goal
+
+-- ---- the law
+
+module _ (R : Room) (G : Good R) (cell : ℕ) (kinds blocked : List ℕ) (start goal : ℕ) (blocked′ : List ℕ) (start′ goal′ : ℕ)
+    (same : SameBut cell kinds blocked start goal blocked′ start′ goal′) (long : length kinds ≡ volume R) where
+  seen-same : (v : ℕ) → v ≢ cell → v < volume R → getD (seenKinds kinds blocked start goal) v 0 ≡ getD (seenKinds kinds blocked′ start′ goal′) v 0
+  seen-same v n h =
+      let l : v < length kinds = rw long h in
+      seen-at kinds blocked start goal v l ∙ same .seen v n ∙ sym (seen-at kinds blocked′ start′ goal′ v l)
+
+  -- a cell other than that one, which it does not bear either, has the class that it had
+  class-same : (v : ℕ) → v ≢ cell → (beneath R v ≡ Inside cell → ⊥) → v < volume R
+      → classSeen R kinds blocked start goal v ≡ classSeen R kinds blocked′ start′ goal′ v
+  unfolding classSeen
+  class-same v n o h = rw (same .ends v n, seen-same v n h, below (beneath R v) refl)
+    where
+      below : (place : Neighbour) → beneath R v ≡ place → kindAt (seenKinds kinds blocked start goal) place ≡ kindAt (seenKinds kinds blocked′ start′ goal′) place
+      below (Inside u) e = seen-same u (λ q. o (e ∙ ap Inside q)) (beneath-in R v u h e)
+      below Outside e = refl
+
+  module _ (classes : List ℕ) (says : Says R kinds blocked start goal classes) (cell-in : cell < volume R) where
+    abbrev first : List ℕ
+    first = renewed R kinds blocked′ start′ goal′ cell classes
+
+    first-length : length first ≡ volume R
+    first-length = renewed-length R kinds blocked′ start′ goal′ cell classes ∙ says .long
+
+    first-each : (v : ℕ) → v < volume R → (beneath R v ≡ Inside cell → ⊥) → getD first v 0 ≡ classSeen R kinds blocked′ start′ goal′ v
+    first-each v h o = go (ℕ-discrete v cell)
+      where
+        go : Dec (v ≡ cell) → getD first v 0 ≡ classSeen R kinds blocked′ start′ goal′ v
+        go (yes q) = rw q (renewed-there R kinds blocked′ start′ goal′ cell classes (omega (arith, says .long)))
+        go (no n) = renewed-other R kinds blocked′ start′ goal′ cell classes v n ∙ says .each v h ∙ class-same v n o h
+
+    pub refreshed-says : Says R kinds blocked′ start′ goal′ (refreshed R kinds blocked′ start′ goal′ cell classes)
+    unfolding refreshed
+    refreshed-says = go (above R cell) refl
+      where
+        go : (place : Neighbour) → above R cell ≡ place → Says R kinds blocked′ start′ goal′ (renewedAt R kinds blocked′ start′ goal′ place first)
+        go Outside e = record {
+          long = first-length;
+          each = λ v h. first-each v h (λ b. clash v (beneath-above R G v cell h b));
+        }
+          where
+            clash : (v : ℕ) → above R cell ≡ Inside v → ⊥
+            clash v q = never (cc)
+        go (Inside u) e = record {
+          long = renewed-length R kinds blocked′ start′ goal′ u first ∙ first-length;
+          each = λ v h. one v h (ℕ-discrete v u);
+        }
+          where
+            other : (v : ℕ) → v < volume R → v ≢ u → beneath R v ≡ Inside cell → ⊥
+            other v h n b = let q = beneath-above R G v cell h b in let z : u ≡ v = cc in n (sym z)
+
+            one : (v : ℕ) → v < volume R → Dec (v ≡ u) → getD (renewed R kinds blocked′ start′ goal′ u first) v 0 ≡ classSeen R kinds blocked′ start′ goal′ v
+            one v h (yes q) = rw q (renewed-there R kinds blocked′ start′ goal′ u first (omega (arith, first-length)))
+            one v h (no n) = renewed-right R kinds blocked′ start′ goal′ u first v (omega (arith, first-length)) (first-each v h (other v h n))

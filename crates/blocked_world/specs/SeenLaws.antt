@@ -1,0 +1,111 @@
+-- Laws of what is seen: the kind at a cell and beneath it, the loop that fills in all classes, and the graph that they make.
+use mathlib.Core.Path.{_≡_, sym, ap, _∙_}
+use mathlib.Core.Logic.{_≢_}
+use mathlib.Core.Bool.{Bool, true, false, and-false}
+use mathlib.Core.List.{List}
+use Prim.Native.Nat.{ℕ, _+_, _≤_, _<_}
+use native.Mathlib.Decide.{ℕ-discrete}
+use native.Mathlib.Omega.{arith}
+use lib.Dec.{eqb}
+use lib.ListN.{length, getD, length-set}
+use lib.Seq.{getD-set-same, getD-set-other, ext-getD}
+use borrow.Author.Tests.{eq-eqb, ne-eqb}
+use Rattle.room.specs.declared.Room.{Room}
+use Rattle.room.specs.declared.RouterConfig.{RouterConfig}
+use Rattle.room.specs.Room.{volume, beneath}
+use Rattle.room.specs.Units.{air, solid}
+use Rattle.routing_resources.specs.MarkLaws.{with-at}
+use Rattle.routing.specs.Routing.{kindAt, classFor, graphOf, graph, entering}
+use Rattle.routing.specs.SameGraph.{same-graph}
+use Rattle.blocked_world.specs.BlockedWorld.{anEnd, countsAsSolid, seenKind, seenKinds, seenTask, classSeen, Says, renewed}
+
+module _ (kinds blocked : List ℕ) (start goal : ℕ) where
+  pub seen-at : (v : ℕ) → v < length kinds → getD (seenKinds kinds blocked start goal) v 0 ≡ seenKind kinds blocked start goal v
+  unfolding seenKinds seenKind
+  seen-at v h = with-at solid (countsAsSolid kinds blocked start goal) kinds v h
+
+  -- by cases, as the code asks
+  module _ (v : ℕ) where
+    pub seen-kept : getD kinds v 0 ≢ air → getD kinds v 0 ≡ seenKind kinds blocked start goal v
+    unfolding seenKind countsAsSolid
+    seen-kept n = rw (ne-eqb (getD kinds v 0) 0 n)
+
+    pub seen-free : getD blocked v 0 ≢ 1 → getD kinds v 0 ≡ seenKind kinds blocked start goal v
+    unfolding seenKind countsAsSolid
+    seen-free n = rw (ne-eqb (getD blocked v 0) 1 n, and-false (eqb (getD kinds v 0) 0))
+
+    pub seen-end : getD kinds v 0 ≡ air → getD blocked v 0 ≡ 1 → anEnd start goal v ≡ true → getD kinds v 0 ≡ seenKind kinds blocked start goal v
+    unfolding seenKind countsAsSolid
+    seen-end k b e = rw (eq-eqb (getD kinds v 0) 0 k, eq-eqb (getD blocked v 0) 1 b, e)
+
+    pub seen-solid : getD kinds v 0 ≡ air → getD blocked v 0 ≡ 1 → anEnd start goal v ≡ false → solid ≡ seenKind kinds blocked start goal v
+    unfolding seenKind countsAsSolid
+    seen-solid k b e = rw (eq-eqb (getD kinds v 0) 0 k, eq-eqb (getD blocked v 0) 1 b, e)
+
+module _ (R : Room) (kinds blocked : List ℕ) (start goal : ℕ) where
+  -- the class from the kinds seen at the cell and beneath it
+  pub class-by : length kinds ≡ volume R → (v : ℕ) → v < volume R → (end : Bool) (kind below class : ℕ)
+      → end ≡ anEnd start goal v → kind ≡ seenKind kinds blocked start goal v → below ≡ kindAt (seenKinds kinds blocked start goal) (beneath R v) → class ≡ classFor end kind below
+      → class ≡ classSeen R kinds blocked start goal v
+  unfolding classSeen
+  class-by long v h end kind below class e k b c =
+      let at : kind ≡ getD (seenKinds kinds blocked start goal) v 0 = k ∙ sym (seen-at kinds blocked start goal v (rw long h)) in
+      c ∙ rw (e, at, b)
+
+  -- ---- one class written anew
+
+  module _ (u : ℕ) (classes : List ℕ) where
+    pub renewed-length : length (renewed R kinds blocked start goal u classes) ≡ length classes
+    renewed-length = length-set classes u (classSeen R kinds blocked start goal u)
+
+    pub renewed-there : u < length classes → getD (renewed R kinds blocked start goal u classes) u 0 ≡ classSeen R kinds blocked start goal u
+    renewed-there h = getD-set-same classes u (classSeen R kinds blocked start goal u) 0 h
+
+    pub renewed-other : (v : ℕ) → v ≢ u → getD (renewed R kinds blocked start goal u classes) v 0 ≡ getD classes v 0
+    renewed-other v n = getD-set-other classes u v (classSeen R kinds blocked start goal u) 0 n
+
+    -- a class that was right stays right
+    pub renewed-right : (v : ℕ) → v < length classes → getD classes v 0 ≡ classSeen R kinds blocked start goal v
+        → getD (renewed R kinds blocked start goal u classes) v 0 ≡ classSeen R kinds blocked start goal v
+    renewed-right v h e = go (ℕ-discrete v u)
+      where
+        go : Dec (v ≡ u) → getD (renewed R kinds blocked start goal u classes) v 0 ≡ classSeen R kinds blocked start goal v
+        go (yes q) = rw q (renewed-there (omega arith))
+        go (no n) = renewed-other v n ∙ e
+
+  -- ---- all of them
+
+  -- the first v cells have their class
+  pub record Filled (v : ℕ) (classes : List ℕ) : Type 0 where
+    pub within : v ≤ volume R
+    pub long : length classes ≡ volume R
+    pub each : (k : ℕ) → k < v → getD classes k 0 ≡ classSeen R kinds blocked start goal k
+
+  pub filled-none : (classes : List ℕ) → length classes ≡ volume R → Filled 0 classes
+  filled-none classes l = record { within = omega arith; long = l; each = λ k h. absurd (omega arith) }
+
+  module _ {v : ℕ} {classes : List ℕ} (I : Filled v classes) where
+    pub filled-next : v < volume R → (classes′ : List ℕ) → classes′ ≡ renewed R kinds blocked start goal v classes → Filled (v + 1) classes′
+    filled-next h classes′ e = record {
+      within = omega arith;
+      long = ap length e ∙ renewed-length v classes ∙ I .long;
+      each = λ k l. rw e (go k l (ℕ-discrete k v));
+    }
+      where
+        go : (k : ℕ) → k < v + 1 → Dec (k ≡ v) → getD (renewed R kinds blocked start goal v classes) k 0 ≡ classSeen R kinds blocked start goal k
+        go k l (yes q) = rw q (renewed-there v classes (omega (arith, I .long)))
+        go k l (no n) = renewed-right v classes k (omega (arith, I .long)) (I .each k (omega arith))
+
+    pub filled-all : volume R ≤ v → Says R kinds blocked start goal classes
+    filled-all h = record { long = I .long; each = λ k l. I .each k (omega arith) }
+
+  -- no other class bytes say the same
+  pub says-one : (a b : List ℕ) → Says R kinds blocked start goal a → Says R kinds blocked start goal b → a ≡ b
+  says-one a b sa sb = ext-getD 0 a b (sa .long ∙ sym (sb .long)) (λ v h. let l : v < volume R = rw (sa .long) at h in sa .each v l ∙ sym (sb .each v l))
+
+  -- class bytes that say what is seen make the graph of the search over it
+  pub says-graph : {classes : List ℕ} → Says R kinds blocked start goal classes → (C : RouterConfig) (places : ℕ)
+      → graphOf R C (λ v. getD classes v 0) start goal places ≡ graph (seenTask R C kinds blocked start goal places)
+  unfolding classSeen
+  says-graph {classes} says C places =
+      same-graph R C (λ v. getD classes v 0) (entering (seenTask R C kinds blocked start goal places)) (says .each) start goal places

@@ -1,0 +1,129 @@
+// The class bytes of a room in which cells are blocked. For a search, each blocked Air cell other than its start and goal
+// counts as Solid, as a support too. The bytes are filled in once, and after a change at one cell two of them are written
+// anew.
+use room::Neighbour;
+use room::Room;
+ghost use mathlib.Core.Path.{_≡_};
+ghost use Prim.Native.Nat.{_<_};
+ghost use lib.ListN.{length};
+ghost use Rattle.room.specs.Room.{volume, beneath};
+ghost use Rattle.routing.specs.Routing.{kindAt};
+ghost use Rattle.blocked_world.specs.BlockedWorld.{anEnd, seenKind, seenKinds, classSeen, Says, Fitting, renewed, refreshed};
+
+fn is_end(start: usize, goal: usize, cell: usize) -> bool
+    ensures { λ r. ⌜ r ≡ anEnd start goal cell ⌝ }
+{
+    if cell == start {
+        return true;
+    }
+    cell == goal
+}
+
+// The kind that a search sees at a cell. A blocked cell that isn't Air keeps its kind.
+fn seen_kind(kinds: &[u8], blocked: &[u8], start: usize, goal: usize, cell: usize) -> u8
+    requires { ⌜ (cell < length (now kinds)) × (cell < length (now blocked)) ⌝ }
+    ensures { λ r. ⌜ r ≡ seenKind (now (kinds .entry)) (now (blocked .entry)) start goal cell ⌝ }
+{
+    let kind = kinds[cell];
+    if kind != room::AIR {
+        return kind;
+    }
+    if blocked[cell] != routing_resources::MARKED {
+        return kind;
+    }
+    if is_end(start, goal, cell) {
+        return kind;
+    }
+    room::SOLID
+}
+
+// The kind that a search sees right beneath a cell; outside is Solid.
+fn seen_beneath(
+    room: Room,
+    kinds: &[u8],
+    blocked: &[u8],
+    start: usize,
+    goal: usize,
+    cell: usize,
+) -> u8
+    requires { ⌜ Fitting room (now kinds) (now blocked) ⌝ }
+    requires { ⌜ cell < volume room ⌝ }
+    ensures { λ r. ⌜ r ≡ kindAt (seenKinds (now (kinds .entry)) (now (blocked .entry)) start goal) (beneath room cell) ⌝ }
+{
+    match room.beneath(cell) {
+        Neighbour::Inside(below) => seen_kind(kinds, blocked, start, goal, below),
+        Neighbour::Outside => room::SOLID,
+    }
+}
+
+// What it takes a search to enter a cell.
+fn class_seen(
+    room: Room,
+    kinds: &[u8],
+    blocked: &[u8],
+    start: usize,
+    goal: usize,
+    cell: usize,
+) -> u8
+    requires { ⌜ Fitting room (now kinds) (now blocked) ⌝ }
+    requires { ⌜ cell < volume room ⌝ }
+    ensures { λ r. ⌜ r ≡ classSeen room (now (kinds .entry)) (now (blocked .entry)) start goal cell ⌝ }
+{
+    let below = seen_beneath(room, kinds, blocked, start, goal, cell);
+    let kind = seen_kind(kinds, blocked, start, goal, cell);
+    routing::class_for(is_end(start, goal, cell), kind, below)
+}
+
+// Writes one cell's class anew.
+fn renew(
+    room: Room,
+    kinds: &[u8],
+    blocked: &[u8],
+    start: usize,
+    goal: usize,
+    classes: &mut [u8],
+    cell: usize,
+)
+    requires { ⌜ Fitting room (now kinds) (now blocked) ⌝ }
+    requires { ⌜ length (now classes) ≡ volume room ⌝ }
+    requires { ⌜ cell < volume room ⌝ }
+    ensures { λ _. ⌜ now (classes .exit) ≡ renewed room (now (kinds .entry)) (now (blocked .entry)) start goal cell (now (classes .entry)) ⌝ }
+{
+    classes[cell] = class_seen(room, kinds, blocked, start, goal, cell);
+}
+
+// Fills in each cell's class, whatever the bytes held.
+pub fn fill(room: Room, kinds: &[u8], blocked: &[u8], start: usize, goal: usize, classes: &mut [u8])
+    requires { ⌜ Fitting room (now kinds) (now blocked) ⌝ }
+    requires { ⌜ length (now classes) ≡ volume room ⌝ }
+    ensures { λ _. ⌜ Says room (now (kinds .entry)) (now (blocked .entry)) start goal (now (classes .exit)) ⌝ }
+{
+    let n = kinds.len();
+    let mut v: usize = 0;
+    while v < n {
+        renew(room, kinds, blocked, start, goal, classes, v);
+        v += 1;
+    }
+}
+
+// After a change at a cell: its class is written anew, and that of the cell above, which it bears. No other class depends
+// on what is seen at it, or on whether it is an end.
+pub fn refresh(
+    room: Room,
+    kinds: &[u8],
+    blocked: &[u8],
+    start: usize,
+    goal: usize,
+    classes: &mut [u8],
+    cell: usize,
+)
+    requires { ⌜ Fitting room (now kinds) (now blocked) ⌝ }
+    requires { ⌜ length (now classes) ≡ volume room ⌝ }
+    requires { ⌜ cell < volume room ⌝ }
+    ensures { λ _. ⌜ now (classes .exit) ≡ refreshed room (now (kinds .entry)) (now (blocked .entry)) start goal cell (now (classes .entry)) ⌝ }
+{
+    renew(room, kinds, blocked, start, goal, classes, cell);
+    if let Neighbour::Inside(over) = room.above(cell) {
+        renew(room, kinds, blocked, start, goal, classes, over);
+    }
+}

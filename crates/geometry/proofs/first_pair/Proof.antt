@@ -1,0 +1,66 @@
+-- `first_pair` meets its contract: each turn takes the lesser of what was found and the pair of one cell of the path.
+use Prim.Native.Nat.{_-_}
+use lib.ListN.{length}
+use borrow.Author.Needs.{needs}
+use Rattle.geometry.specs.Along.{Walk, walk-first, walk-next, walk-last, pairWith, laid, lesser}
+use Rattle.geometry.specs.LayLaws.{cells-in}
+use Rattle.geometry.specs.PairLaws.{first-found, first-missing}
+use Rattle.geometry.proofs.first_pair.Statement.{statement}
+use Rattle.geometry.proofs.first_pair.Tie as tie
+
+abbrev Inv-loop : tie.InvT-loop
+Inv-loop room bytes path none least₀ i₀ least i = Walk (λ cell. lesser (pairWith room (laid bytes) cell)) path none least i
+
+abbrev μ-loop : tie.MeasureT-loop
+μ-loop room bytes path none least₀ i₀ least i = length path - i
+
+loop-holds : tie.Need-loop-holds Inv-loop μ-loop
+loop-holds c = walk-first _ _ _
+
+mul-wide : tie.Need-mul-wide Inv-loop μ-loop
+mul-wide c = search needs
+
+shared-slice-read-wide : tie.Need-shared-slice-read-wide Inv-loop μ-loop
+shared-slice-read-wide c = search needs
+
+wide-requires : tie.Need-wide-requires Inv-loop μ-loop
+wide-requires c κs = search needs
+
+pair-with-requires : tie.Need-pair-with-requires Inv-loop μ-loop
+pair-with-requires c κs = let s = c .before .before .before .before .before .before in (s .pre .0, (s .pre .1 .0, rw (c .wide .ensures) (s .pre .1 .1 .0 .inside _ (c .before .before .loop-test .taken))))
+
+lesser-of-requires : tie.Need-lesser-of-requires Inv-loop μ-loop
+lesser-of-requires c κs = search needs
+
+add-i : tie.Need-add-i Inv-loop μ-loop
+add-i c = search needs
+
+loop-less : tie.Need-loop-less Inv-loop μ-loop
+loop-less c = search needs
+
+loop-again : tie.Need-loop-again Inv-loop μ-loop
+loop-again c = walk-next _ _ (c .before .before .before .before .before .loop .inv) (c .before .before .before .before .loop-test .taken) _ (rw (c .before .pair-with .ensures, c .before .before .wide .ensures) at (c .lesser-of .ensures))
+
+returns : tie.Need-returns Inv-loop μ-loop
+returns c = let s = c .before .before .before .before .before in first-found _ (s .pre .0) _ _ (cells-in _ _ (s .pre .1 .1 .0)) (s .pre .1 .1 .1) _ _ (s .pre .1 .0) (walk-last _ _ (c .before .before .loop .inv) (c .before .loop-test .left)) (c .if1 .taken)
+
+returns-2 : tie.Need-returns-2 Inv-loop μ-loop
+returns-2 c = let s = c .before .before .before .before .before in first-missing _ (s .pre .0) _ _ (cells-in _ _ (s .pre .1 .1 .0)) (s .pre .1 .1 .1) _ _ (s .pre .1 .0) (walk-last _ _ (c .before .before .loop .inv) (c .before .loop-test .left)) (c .if1 .left)
+
+pub first-pair-spec : {M : Type 1} → statement M
+first-pair-spec =
+    tie.close
+    (tie.spec
+    Inv-loop
+    μ-loop
+    loop-holds
+    mul-wide
+    shared-slice-read-wide
+    wide-requires
+    pair-with-requires
+    lesser-of-requires
+    add-i
+    loop-less
+    loop-again
+    returns
+    returns-2)

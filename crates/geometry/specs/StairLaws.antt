@@ -1,0 +1,110 @@
+-- Laws of stairs: how a loop goes along them, and that no path cell stands at a clearance where no two conductors make a pair.
+use mathlib.Core.Path.{_≡_, refl}
+use mathlib.Core.Bool.{Bool, true, false, _&&_}
+use mathlib.Core.List.{List, [], _∷_}
+use Prim.Native.Nat.{ℕ, _+_, _≤_, _<_}
+use native.Mathlib.Nat.{le-of-suc-le-suc, not-suc-le-zero}
+use native.Mathlib.Numerals.{add-one}
+use native.Mathlib.Omega.{arith}
+use lib.Dec.{eqb, ltb}
+use lib.ListN.{length, getD, drop, length-drop}
+use lib.Seq.{drop-cons}
+use Rattle.basics.specs.Tests.{ask, never}
+use Rattle.basics.specs.Lists.{in-at}
+use Rattle.room.specs.declared.Room.{Room}
+use Rattle.room.specs.declared.Neighbour.{Neighbour}
+use Rattle.room.specs.declared.Neighbour.the-variants.{Inside, Outside}
+use Rattle.room.specs.Room.{Good, volume, above, beneath}
+use Rattle.routing_resources.specs.Resources.{level, lower, clearanceOf, AllCells}
+use Rattle.routing_resources.specs.ResourceLaws.{clearance-in}
+use Rattle.geometry.specs.Geometry.{standsIn, holdsAt, upperOfPair, NoPair, orElse, atClearance, stairConflict}
+use Rattle.geometry.specs.Along.{OnPath}
+use Rattle.geometry.specs.RoomPairs.{above-beneath}
+use Rattle.geometry.specs.LayLaws.{stands-in}
+
+-- ---- stair by stair
+
+module _ (R : Room) (kinds : List ℕ) (onPath conducts : ℕ → Bool) where
+  -- what the stairs from the i-th cell on give
+  abbrev pub stairsFrom : List ℕ → ℕ → Neighbour
+  stairsFrom path i = stairConflict R kinds onPath conducts (drop i path)
+
+  -- what the stair from the i-th cell gives
+  abbrev pub stairAt : List ℕ → ℕ → Neighbour
+  stairAt path i = atClearance R kinds onPath conducts (getD path (i + 1) 0) (clearanceOf R (getD path i 0) (getD path (i + 1) 0))
+
+  stairs-from : (path : List ℕ) (i : ℕ) → i + 1 < length path → stairsFrom path i ≡ orElse (stairAt path i) (stairsFrom path (i + 1))
+  unfolding stairConflict
+  stairs-from path i h =
+      let rest = drop-cons path (i + 1) 0 h in
+      let all : drop i path ≡ getD path i 0 ∷ drop (i + 1) path = rw add-one (drop-cons path i 0 (omega arith)) in
+      rw (all, rest)
+
+  pub stairs-next : (path : List ℕ) (i : ℕ) → i + 1 < length path → stairAt path i ≡ Outside → stairsFrom path (i + 1) ≡ stairsFrom path i
+  stairs-next path i h e = rw (stairs-from path i h, e)
+
+  pub stairs-found : (path : List ℕ) (i : ℕ) → i + 1 < length path → (v : ℕ) → stairAt path i ≡ Inside v → stairAt path i ≡ stairsFrom path i
+  stairs-found path i h v e = rw (stairs-from path i h, e)
+
+  one-cell : (path : List ℕ) → length path ≤ 1 → Outside ≡ stairConflict R kinds onPath conducts path
+  unfolding stairConflict
+  one-cell [] h = refl
+  one-cell (a ∷ []) h = refl
+  one-cell (a ∷ (b ∷ rest)) h = absurd (not-suc-le-zero (le-of-suc-le-suc h))
+
+  pub stairs-end : (path : List ℕ) (i : ℕ) → length path ≤ i + 1 → Outside ≡ stairsFrom path i
+  stairs-end path i h = one-cell (drop i path) (rw (length-drop i path) (omega arith))
+
+-- ---- the cell at a clearance
+
+-- a test that no cell passes
+abbrev pub nowhere : ℕ → Bool
+nowhere v = false
+
+-- the lower end is a conductor, so that a conductor at the clearance would make a pair with it
+pub clear-of-conductors : (R : Room) → Good R → (conducts : ℕ → Bool) → NoPair R conducts → (a b : ℕ) → a < volume R → b < volume R → conducts a ≡ true → conducts b ≡ true
+    → (v : ℕ) → clearanceOf R a b ≡ Inside v → conducts v ≡ false
+unfolding clearanceOf upperOfPair
+clear-of-conductors R G conducts alone a b a-in b-in ca cb v e = ask (eqb (level R a) (level R b)) (λ t. none (rw t at e)) (λ f. over (rw f at e))
+  where
+    none : Outside ≡ Inside v → conducts v ≡ false
+    none q = never (cc)
+
+    low-in : lower R a b < volume R
+    low-in = ask (ltb (level R a) (level R b)) (λ t. rw t a-in) (λ f. rw f b-in)
+
+    low : conducts (lower R a b) ≡ true
+    low = ask (ltb (level R a) (level R b)) (λ t. rw t ca) (λ f. rw f cb)
+
+    over : above R (lower R a b) ≡ Inside v → conducts v ≡ false
+    over q =
+        let n : conducts v && holdsAt conducts (beneath R v) ≡ false = alone .none v (clearance-in R G a b a-in b-in v e) in
+        let m : conducts v && true ≡ false = rw (above-beneath R G (lower R a b) v low-in q, low) at n in
+        ask (conducts v) (λ t. never (clash (rw t at m))) (λ f. f)
+      where
+        clash : true ≡ false → _≡_ {A = ℕ} 0 1
+        clash z = cc
+
+pub same-at-clearance : (R : Room) (kinds : List ℕ) (onPath conducts : ℕ → Bool) (second : ℕ) (place : Neighbour) → ((v : ℕ) → place ≡ Inside v → onPath v ≡ false)
+    → atClearance R kinds nowhere conducts second place ≡ atClearance R kinds onPath conducts second place
+unfolding atClearance
+same-at-clearance R kinds onPath conducts second (Inside v) f = rw (f v refl)
+same-at-clearance R kinds onPath conducts second Outside f = refl
+
+-- what the code reads of a stair is what the path's stair gives
+pub stair-read : (R : Room) → Good R → (kinds path : List ℕ) (conducts : ℕ → Bool) → AllCells R path → OnPath R conducts path → NoPair R conducts
+    → (i : ℕ) → i + 1 < length path → (a b : ℕ) → a ≡ getD path i 0 → b ≡ getD path (i + 1) 0
+    → atClearance R kinds nowhere conducts b (clearanceOf R a b) ≡ stairAt R kinds (standsIn path) conducts path i
+stair-read R G kinds path conducts all on alone i h a b ea eb =
+    rw (ea, eb) (same-at-clearance R kinds (standsIn path) conducts (getD path (i + 1) 0) (clearanceOf R (getD path i 0) (getD path (i + 1) 0)) off)
+  where
+    clear : (v : ℕ) → clearanceOf R (getD path i 0) (getD path (i + 1) 0) ≡ Inside v → conducts v ≡ false
+    clear =
+        clear-of-conductors R G conducts alone (getD path i 0) (getD path (i + 1) 0) (all .inside i (omega arith)) (all .inside (i + 1) h)
+        (on .conducting (getD path i 0) (in-at path i 0 (omega arith))) (on .conducting (getD path (i + 1) 0) (in-at path (i + 1) 0 h))
+
+    off : (v : ℕ) → clearanceOf R (getD path i 0) (getD path (i + 1) 0) ≡ Inside v → standsIn path v ≡ false
+    off v e =
+        ask (standsIn path v)
+        (λ t. let c = on .conducting v (stands-in path v t) in let f = clear v e in never (cc))
+        (λ f. f)
