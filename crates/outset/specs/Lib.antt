@@ -1,2 +1,4 @@
 pub mod Outset
 pub mod OutsetLaws
+pub mod SetOut
+pub mod SetOutLaws

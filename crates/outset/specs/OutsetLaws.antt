@@ -20,9 +20,9 @@ use Rattle.routing_resources.specs.Resources.{inKeepout}
 use Rattle.job_sheet.specs.declared.Block.{Block}
 use Rattle.job_sheet.specs.declared.Part.{Part}
 use Rattle.job_sheet.specs.declared.Job.{Job}
-use Rattle.job_sheet.specs.Sheet.{Contents, positionSize, blockSize}
+use Rattle.job_sheet.specs.Sheet.{Contents, positionSize}
 use Rattle.job_sheet.specs.Accepted.{PositionList, BlockList, Usable}
-use Rattle.job_sheet.specs.Places.{positionIn, positionsIn, blockIn, blocksIn}
+use Rattle.job_sheet.specs.Places.{positionIn, positionsIn, blocksIn}
 use Rattle.job_sheet.specs.RecordLaws.{many-long}
 use Rattle.ends.specs.declared.Tap.{Tap}
 use Rattle.ends.specs.declared.Taps.{Taps}
@@ -50,15 +50,11 @@ pub record OutputKnown (R : Room) (kinds nodes : List ℕ) (output : Neighbour) 
   pub sized : Sized R kinds nodes marks
   pub output-in : (v : ℕ) → output ≡ Neighbour.Inside v → v < volume R
 
--- ---- the lists of a sheet are as long as their counts
+-- ---- a list of positions is as long as its count
 
 pub positions-long : (s : List ℕ) (p : Part) → length (positionsIn s p) ≡ p .count
 unfolding positionsIn
 positions-long s p = many-long (λ l. positionIn l 0) positionSize (p .count) (drop (p .from) s)
-
-pub blocks-long : (s : List ℕ) (p : Part) → length (blocksIn s p) ≡ p .count
-unfolding blocksIn
-blocks-long s p = many-long blockIn blockSize (p .count) (drop (p .from) s)
 
 -- ---- a loop that marks, one record a turn, each cell for which a test of the record passes
 

@@ -1,4 +1,8 @@
 // The cells that are blocked at the outset of a tree, as marks: one byte a cell in a lent slice.
+mod setting; // setting.rt: the whole outset, from an accepted sheet
+
+use blocks::Placement;
+use ends::Ends;
 use ends::Tap;
 use ends::Taps;
 use job_sheet::Block;
@@ -6,6 +10,10 @@ use job_sheet::Job;
 use job_sheet::Part;
 use room::Neighbour;
 use room::Room;
+pub use setting::detail_by;
+pub use setting::number_by;
+pub use setting::ready_by;
+pub use setting::set_out;
 ghost use mathlib.Core.Path.{_≡_};
 ghost use mathlib.Core.Bool.{_||_};
 ghost use Prim.Native.Nat.{_<_};
@@ -20,6 +28,12 @@ ghost use Rattle.job_sheet.specs.Accepted.{SoundBlock, BlockList};
 ghost use Rattle.job_sheet.specs.Places.{positionsIn, blocksIn};
 ghost use Rattle.outset.specs.Outset.{standsAt, nearConductor, powers, solidOf, outputKeepout, sourceKeepout, atOrBeneath, tapCell, ownCell};
 ghost use Rattle.outset.specs.OutsetLaws.{Listed, Sized, OutputKnown, OutsetReady, OutsetMarked};
+
+// A tree set out: where the blocks stand, and the ends.
+pub struct Outset {
+    pub placement: Placement,
+    pub ends: Ends,
+}
 
 // Marks the cells of a list of positions.
 fn mark_positions(sheet: &[u8], part: Part, room: Room, marks: &mut [u8])

@@ -1,0 +1,153 @@
+-- Laws of a tree set out: what `set_out` may hand to the functions it calls, that what they promise makes up `SetOut`, and that `SetOut` leaves no choice.
+use mathlib.Core.Path.{_≡_, refl, sym, ap, _∙_}
+use mathlib.Core.Bool.{true, false}
+use mathlib.Core.List.{List}
+use Prim.Native.Nat.{ℕ, _-_, _≤_}
+use native.Mathlib.Omega.{arith}
+use lib.ListN.{length, replicate, length-append, length-replicate}
+use lib.Seq.{take-append-seam}
+use Rattle.basics.specs.Tests.{never}
+use Rattle.room.specs.declared.Room.{Room}
+use Rattle.room.specs.Room.{Good, Within, volume}
+use Rattle.routing_resources.specs.Marks.{noMarks}
+use Rattle.job_sheet.specs.declared.Endpoint.{Endpoint}
+use Rattle.job_sheet.specs.declared.Job.{Job}
+use Rattle.job_sheet.specs.Sheet.{Contents, maxSinks, noEndpoint, sinksOf, jobOf}
+use Rattle.job_sheet.specs.Accepted.{Accepted, BlockList, Usable}
+use Rattle.job_sheet.specs.Places.{blocksIn}
+use Rattle.job_sheet.specs.Theorems.{one-meaning, usable}
+use Rattle.blocks.specs.declared.Placement.{Placement}
+use Rattle.blocks.specs.Blocks.{kindsOf, nodesOf, BlocksLaid}
+use Rattle.blocks.specs.BlockLaws.{tabulated-long, own-list, blocks-laid-for, blocks-laid-one}
+use Rattle.ends.specs.declared.Ends.{Ends}
+use Rattle.ends.specs.declared.Fault.{Fault}
+use Rattle.ends.specs.Ends.{sinksIn, endsOf}
+use Rattle.ends.specs.EndLaws.{SinksWithin, NetIn, net-in}
+use Rattle.outset.specs.declared.Outset.{Outset}
+use Rattle.outset.specs.Outset.{blockedAtOutset}
+use Rattle.outset.specs.OutsetLaws.{OutsetReady, OutsetMarked}
+use Rattle.outset.specs.SetOut.{readyBy, OutsetOf, SetOut}
+
+-- no number is due: the blocks are placed, and the ends are good
+ready-placed : (p : Placement) (f : Fault) → readyBy p f ≡ true → p ≡ Placement.Placed
+ready-placed Placement.Placed f e = refl
+ready-placed (Placement.RepeatAt cell) f e = never (cc)
+
+ready-good : (p : Placement) (f : Fault) → readyBy p f ≡ true → f ≡ Fault.Good
+ready-good Placement.Placed Fault.Good e = refl
+ready-good Placement.Placed (Fault.NoFacing place) e = never (cc)
+ready-good Placement.Placed (Fault.Outside place) e = never (cc)
+ready-good (Placement.RepeatAt cell) f e = never (cc)
+
+-- the sixteen places of sinks that no one else filled hold these sinks
+sinks-whole : (es : List Endpoint) → length es ≤ maxSinks → length (sinksOf es .ends) ≡ maxSinks
+sinks-whole es few = length-append es _ ∙ rw (length-replicate {A = Endpoint} (maxSinks - length es) noEndpoint) (omega arith)
+
+same-ends : {R R′ : Room} {e e′ : Endpoint} {es es′ : List Endpoint} → R ≡ R′ → e ≡ e′ → es ≡ es′ → endsOf R e es ≡ endsOf R′ e′ es′
+same-ends p q r = λ i. endsOf (p i) (q i) (r i)
+
+-- ---- what may be handed on
+
+-- a buffer of this length, cleared
+pub cleared-to : {l n : ℕ} (s : List ℕ) → l ≡ n → s ≡ replicate l 0 → s ≡ replicate n 0
+cleared-to s e c = c ∙ ap (λ k. replicate k 0) e
+
+module _ {sheet : List ℕ} {job : Job} (A : Accepted sheet job) where
+  abbrev told : Contents
+  told = A .contents
+
+  use-of : Usable sheet job told
+  use-of = usable sheet job A
+
+  sinks-are : job .sinks ≡ sinksOf (told .sinks)
+  unfolding jobOf
+  sinks-are = ap (λ j. j .sinks) (A .is)
+
+  sinks-in : sinksIn (job .sinks) ≡ told .sinks
+  sinks-in = ap sinksIn sinks-are ∙ take-append-seam (told .sinks) _
+
+  pub good-room : Good (job .room)
+  good-room = use-of .room-good
+
+  pub block-list : BlockList sheet (job .room) (job .blocks) (blocksIn sheet (job .blocks))
+  block-list = own-list (use-of .blocks)
+
+  pub source-within : Within (job .room) (job .source .at)
+  source-within = use-of .source .within
+
+  pub sinks-within : SinksWithin (job .room) (job .sinks)
+  sinks-within = record {
+    few = use-of .sinks .few;
+    whole = ap (λ k. length (k .ends)) sinks-are ∙ sinks-whole (told .sinks) (A .means .few-sinks);
+    within = λ i h. use-of .sinks .sound i h .within;
+  }
+
+  -- what is set out for the accepted contents is set out for all that the sheet means
+  told-alone : {r : Outset} {kinds nodes blocked : List ℕ} → OutsetOf told r kinds nodes blocked → SetOut sheet r kinds nodes blocked
+  told-alone O = record { is = λ J m. rw (one-meaning sheet J told m (A .means)) O }
+
+  module _ {kinds nodes : List ℕ} {p : Placement} {e : Ends}
+      (laid : BlocksLaid (job .room) (blocksIn sheet (job .blocks)) kinds nodes p)
+      (ends-are : e ≡ endsOf (job .room) (job .source) (sinksIn (job .sinks))) where
+    laid-told : BlocksLaid (told .room) (told .blocks) kinds nodes p
+    laid-told = rw (use-of .room-is) at (blocks-laid-for (use-of .blocks) laid)
+
+    ends-told : e ≡ endsOf (told .room) (told .source) (told .sinks)
+    ends-told = ends-are ∙ same-ends (use-of .room-is) (use-of .source-is) sinks-in
+
+    module _ (r : readyBy p (e .fault) ≡ true) where
+      placed : BlocksLaid (job .room) (blocksIn sheet (job .blocks)) kinds nodes Placement.Placed
+      placed = rw (ready-placed p (e .fault) r) at laid
+
+      good-ends : NetIn (job .room) (e .source) (e .taps)
+      unfolding endsOf
+      good-ends =
+          let good : endsOf (job .room) (job .source) (sinksIn (job .sinks)) .fault ≡ Fault.Good = ap (λ x. x .fault) (sym ends-are) ∙ ready-good p (e .fault) r in
+          rw ends-are (net-in (job .source) source-within sinks-within good)
+
+      pub outset-ready : {marks : List ℕ} → marks ≡ noMarks (volume (job .room)) → OutsetReady sheet job (e .source) (e .taps) kinds nodes marks
+      outset-ready m = record {
+        contents = told;
+        usable = use-of;
+        sized = record {
+          good = good-room;
+          kinds-long = ap length (placed .kinds-are) ∙ tabulated-long _ _;
+          nodes-long = ap length (placed .nodes-are) ∙ tabulated-long _ _;
+          long = ap length m ∙ length-replicate (volume (job .room)) 0;
+        };
+        net = good-ends;
+        clear = m;
+      }
+
+      pub set-out-ready : {blocked : List ℕ} → OutsetMarked sheet job (e .source) (e .taps) kinds nodes blocked
+          → SetOut sheet (record { placement = p; ends = e }) kinds nodes blocked
+      set-out-ready {blocked = blocked} M =
+          let told-placed : BlocksLaid (told .room) (told .blocks) kinds nodes Placement.Placed = rw (ready-placed p (e .fault) r) at laid-told in
+          let here : blocked ≡ blockedAtOutset (kindsOf (told .room) (told .blocks)) (nodesOf (told .room) (told .blocks)) told (e .source) (e .taps) =
+          M .is told use-of ∙ rw (told-placed .kinds-are, told-placed .nodes-are) refl in
+          told-alone record { laid = laid-told; ends-are = ends-told; blocked-are = rw r here }
+
+    pub set-out-refused : readyBy p (e .fault) ≡ false → {blocked : List ℕ} → blocked ≡ noMarks (volume (job .room))
+        → SetOut sheet (record { placement = p; ends = e }) kinds nodes blocked
+    set-out-refused r {blocked = blocked} m =
+        let here : blocked ≡ noMarks (volume (told .room)) = rw (use-of .room-is) at m in
+        told-alone record { laid = laid-told; ends-are = ends-told; blocked-are = rw r here }
+
+-- ---- it leaves no choice
+
+module _ {J : Contents} {r s : Outset} {kinds nodes blocked kinds′ nodes′ blocked′ : List ℕ} (O : OutsetOf J r kinds nodes blocked) (P : OutsetOf J s kinds′ nodes′ blocked′) where
+  same-answer : r ≡ s
+  same-answer =
+      let p = blocks-laid-one (O .laid) (P .laid) .2 in
+      let e = O .ends-are ∙ sym (P .ends-are) in
+      λ i. record { placement = p i; ends = e i }
+
+  outset-one : (r ≡ s) × (kinds ≡ kinds′) × (nodes ≡ nodes′) × (blocked ≡ blocked′)
+  outset-one =
+      let L = blocks-laid-one (O .laid) (P .laid) in
+      (same-answer, L .0, L .1, O .blocked-are ∙ rw same-answer (sym (P .blocked-are)))
+
+-- two results of `set_out` for one accepted sheet coincide: the answer, and the final bytes of all three buffers
+pub set-out-one : {sheet : List ℕ} {job : Job} → Accepted sheet job → {r s : Outset} {kinds nodes blocked kinds′ nodes′ blocked′ : List ℕ}
+    → SetOut sheet r kinds nodes blocked → SetOut sheet s kinds′ nodes′ blocked′ → (r ≡ s) × (kinds ≡ kinds′) × (nodes ≡ nodes′) × (blocked ≡ blocked′)
+set-out-one A S T = outset-one (S .is (A .contents) (A .means)) (T .is (A .contents) (A .means))
