@@ -4,7 +4,7 @@ ghost use mathlib.Core.Path.{_≡_};
 ghost use mathlib.Core.List.{[], _∷_, _++_};
 ghost use Prim.Native.Nat.{_-_, _≤_};
 ghost use lib.ListN.{length, replicate};
-ghost use Rattle.routing.specs.Answers.{refusalNumber, numberOf, outputAfter, input, lengthsOf};
+ghost use Rattle.routing.specs.Answers.{numberOf, outputAfter, input, lengthsOf};
 ghost use Rattle.dustroute.specs.Export.{roomOf, configOf, shortRefusal, valuesOf, Exported};
 use room::Cost;
 use room::Nodes;
@@ -12,19 +12,6 @@ use room::Room;
 use room::RouterConfig;
 use routing::Answer;
 use routing::Refusal;
-
-// A refusal's number.
-fn refusal_number(why: Refusal) -> u32
-    ensures { λ r. ⌜ r ≡ refusalNumber why ⌝ }
-{
-    match why {
-        Refusal::Sides => 2,
-        Refusal::Config => 3,
-        Refusal::Position => 4,
-        Refusal::Code => 5,
-        Refusal::Buffer => 6,
-    }
-}
 
 // Fewer than four values are lent: 6, unless 2 or 3 comes before it.
 fn short_refusal(room: Room, config: RouterConfig) -> Refusal
@@ -68,7 +55,7 @@ fn tell(answer: Answer, values: &mut [u64]) -> u32
             );
             0
         }
-        Answer::Refused(why) => refusal_number(why),
+        Answer::Refused(why) => reply::refusal_number(why),
         Answer::NotRouteable(cell) => {
             write_values(values, cell as u64, 0, 0, 0);
             10
@@ -124,7 +111,7 @@ pub extern "C" fn dustroute_search(
         support: Cost(support),
     };
     if values.len() < 4 {
-        return refusal_number(short_refusal(room, config));
+        return reply::refusal_number(short_refusal(room, config));
     }
     let answer = routing::astar_route(
         room,

@@ -4,7 +4,8 @@ ghost use Rattle.routing.specs.Answers.{refusalNumber, numberOf, detailOf};
 use routing::Answer;
 use routing::Refusal;
 
-fn refusal_number(why: Refusal) -> u32
+// The number of a refusal.
+pub fn refusal_number(why: Refusal) -> u32
     ensures { λ r. ⌜ r ≡ refusalNumber why ⌝ }
 {
     match why {
