@@ -1,0 +1,67 @@
+-- `mark_cells` meets its contract: each turn marks one cell of the branch.
+use borrow.Author.Needs.{needs}
+use Prim.Native.Nat.{_≤_, _-_}
+use native.Mathlib.Omega.{arith}
+use lib.ListN.{length}
+use Rattle.branches.specs.LoopLaws.{cellsFrom, cells-next, cells-end}
+use Rattle.routing_resources.specs.MarkLaws.{Turn, first-turn, next-turn, last-turn}
+use Rattle.branches.proofs.mark_cells.Statement.{statement}
+use Rattle.branches.proofs.mark_cells.Tie as tie
+
+abbrev Inv-loop : tie.InvT-loop
+Inv-loop marks₀ cells i₀ marks i = (i ≤ length cells) × Turn 1 (cellsFrom cells) marks₀ marks i
+
+abbrev μ-loop : tie.MeasureT-loop
+μ-loop marks₀ cells i₀ marks i = length cells - i
+
+loop-holds : tie.Need-loop-holds Inv-loop μ-loop
+loop-holds c = (omega arith, first-turn _ _ _)
+
+mul-wide : tie.Need-mul-wide Inv-loop μ-loop
+mul-wide c = search needs
+
+shared-slice-read-wide : tie.Need-shared-slice-read-wide Inv-loop μ-loop
+shared-slice-read-wide c = search needs
+
+wide-requires : tie.Need-wide-requires Inv-loop μ-loop
+wide-requires c κs = search needs
+
+mark-requires : tie.Need-mark-requires Inv-loop μ-loop
+mark-requires c κs =
+    let turn = c .before .before .before .before .loop in
+    rw (c .wide .ensures, turn .inv .1 .long) (c .before .before .before .before .before .before .before .pre .below (turn .i) (c .before .before .before .loop-test .taken))
+
+add-i : tie.Need-add-i Inv-loop μ-loop
+add-i c = search needs
+
+loop-less : tie.Need-loop-less Inv-loop μ-loop
+loop-less c = search needs
+
+loop-again : tie.Need-loop-again Inv-loop μ-loop
+loop-again c =
+    let turn = c .before .before .before .before .before .before .before .loop in
+    let more = cells-next _ (turn .i) (c .before .before .before .before .before .before .loop-test .taken) in
+    (omega arith, next-turn (turn .inv .1) _ (c .before .before .mark .ensures) (rw (c .before .before .before .wide .ensures) more))
+
+same-length : tie.Need-same-length Inv-loop μ-loop
+same-length c = c .before .loop .inv .1 .long
+
+returns : tie.Need-returns Inv-loop μ-loop
+returns c = last-turn (c .before .loop .inv .1) (cells-end _ _ (c .loop-test .left))
+
+pub mark-cells-spec : {M : Type 1} → statement M
+mark-cells-spec =
+    tie.close
+    (tie.spec
+    Inv-loop
+    μ-loop
+    loop-holds
+    mul-wide
+    shared-slice-read-wide
+    wide-requires
+    mark-requires
+    add-i
+    loop-less
+    loop-again
+    same-length
+    returns)

@@ -1,0 +1,66 @@
+-- A sink's branch, as "The tree of one net" of the requirement has it. Definitions alone; their laws are in the files named Laws. A tree's branches
+-- are a list in sheet order, with [] for a sink that has no branch yet; `joined` of the sheet's crate puts them one after another.
+use mathlib.Core.Path.{_≡_}
+use mathlib.Core.List.{List, [], _∷_, _++_, reverse}
+use Prim.Native.Nat.{ℕ, _+_, _-_, _≤_, _<_}
+use lib.Dec.{eqb}
+use lib.ListN.{length, getD, take, drop}
+use Rattle.basics.specs.Tests.{either}
+use Rattle.job_sheet.specs.Sheet.{maxSinks, joined}
+use Rattle.ends.specs.declared.Tap.{Tap}
+use Rattle.branches.specs.declared.BranchLengths.{BranchLengths}
+
+-- "the terminal added if it differs from the approach"
+abbrev pub terminalAdded : Tap → List ℕ
+terminalAdded t = either (eqb (t .terminal) (t .approach)) [] (t .terminal ∷ [])
+
+-- "The first strictly cheapest route is kept, reversed, and the terminal added if it differs from the approach"
+unfoldable pub branchOf : Tap → List ℕ → List ℕ
+branchOf t path = reverse path ++ terminalAdded t
+
+-- how long a branch is whose path has so many cells
+abbrev pub branchLength : Tap → ℕ → ℕ
+branchLength t count = count + length (terminalAdded t)
+
+-- "All but the last cell become joinable"
+unfoldable pub allButLast : List ℕ → List ℕ
+allButLast [] = []
+allButLast (last ∷ []) = []
+allButLast (cell ∷ (next ∷ rest)) = cell ∷ allButLast (next ∷ rest)
+
+-- a branch put in at `at` of a buffer whose first `used` cells are in use: those from `at` on move behind it
+abbrev pub inserted : ℕ → ℕ → List ℕ → List ℕ → List ℕ
+inserted at used branch buffer = take at buffer ++ (branch ++ (take (used - at) (drop at buffer) ++ drop (used + length branch) buffer))
+
+-- "in sheet order": the first `used` cells of the buffer are the branches, one after another
+pub record SheetOrder (branches : List (List ℕ)) (used : ℕ) (buffer : List ℕ) : Type 0 where
+  pub within : used ≤ length buffer
+  pub in-order : take used buffer ≡ joined branches
+
+-- these are the branches' lengths; of numbers behind them nothing is said
+pub record LengthsOf (branches : List (List ℕ)) (each : List ℕ) : Type 0 where
+  pub all : length branches ≤ length each
+  pub each-is : (i : ℕ) → i < length branches → getD each i 0 ≡ length (getD branches i [])
+
+-- how many cells are marked
+unfoldable pub markedCount : List ℕ → ℕ
+markedCount [] = 0
+markedCount (m ∷ ms) = either (eqb m 1) 1 0 + markedCount ms
+
+-- these numbers added up
+unfoldable pub total : List ℕ → ℕ
+total [] = 0
+total (n ∷ ns) = n + total ns
+
+-- each of these is a number below n
+pub record CellsBelow (n : ℕ) (cells : List ℕ) : Type 0 where
+  pub below : (i : ℕ) → i < length cells → getD cells i 0 < n
+
+-- a room has at most 16,384 cells, and a branch at most one more
+abbrev pub longestBranch : ℕ
+longestBranch = 16385
+
+-- each of the lengths can be that of a branch
+pub record Short (lengths : BranchLengths) : Type 0 where
+  pub whole : length (lengths .each) ≡ maxSinks
+  pub short : (i : ℕ) → i < maxSinks → getD (lengths .each) i 0 ≤ longestBranch

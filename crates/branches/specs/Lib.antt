@@ -1,0 +1,4 @@
+pub mod Branches
+pub mod BranchLaws
+pub mod WriteLaws
+pub mod LoopLaws
