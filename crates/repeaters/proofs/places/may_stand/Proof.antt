@@ -1,0 +1,107 @@
+-- `may_stand` meets its contract: its tests are those of the definition, in its order.
+use native.Mathlib.Omega.{arith}
+use mathlib.Core.Path.{sym, _∙_}
+use Prim.Native.Nat.{_+_, _-_}
+use Rattle.repeaters.specs.Links.{linkedCells}
+use Rattle.repeaters.specs.PlaceLaws.{fits-not-first, fits-not-last, fits-not-taken, fits-not-joined, fits-if, read-in}
+use borrow.Author.Needs.{needs}
+use Rattle.repeaters.proofs.places.may_stand.Statement.{statement}
+use Rattle.repeaters.proofs.places.may_stand.Tie as tie
+
+returns : tie.Need-returns
+returns c = fits-not-first _ _ _ _ _ (c .if1 .taken)
+
+add-if2 : tie.Need-add-if2
+add-if2 c = search needs
+
+returns-2 : tie.Need-returns-2
+returns-2 c = fits-not-last _ _ _ _ _ (c .before .if1 .left) (c .if2 .taken)
+
+mul-wide : tie.Need-mul-wide
+mul-wide c = search needs
+
+shared-slice-read-wide : tie.Need-shared-slice-read-wide
+shared-slice-read-wide c = search needs
+
+wide-requires : tie.Need-wide-requires
+wide-requires c κs = search needs
+
+shared-slice-read-if3 : tie.Need-shared-slice-read-if3
+shared-slice-read-if3 c = rw (c .before .before .before .before .before .before .before .before .pre .0 .forbidden-long) (read-in (c .before .before .before .before .before .before .before .before .pre .0 .cells) (c .before .before .before .before .before .before .before .before .args .i) (c .before .before .before .before .before .before .before .before .pre .1) _ (c .before .wide .ensures))
+
+returns-3 : tie.Need-returns-3
+returns-3 c = fits-not-taken _ _ _ _ _ (c .before .before .before .before .before .if1 .left) (c .before .before .before .before .if2 .left) (rw (c .before .before .wide .ensures) at (c .if3 .taken))
+
+mul-count-links : tie.Need-mul-count-links
+mul-count-links c = record { fits = omega (arith, read-in (c .before .before .before .before .before .before .before .before .before .pre .0 .cells) (c .before .before .before .before .before .before .before .before .before .args .i) (c .before .before .before .before .before .before .before .before .before .pre .1) _ (c .before .before .wide .ensures), c .before .before .before .before .before .before .before .before .before .pre .0 .good .few) }
+
+shared-slice-read-count-links : tie.Need-shared-slice-read-count-links
+shared-slice-read-count-links c = rw (c .before .before .before .before .before .before .before .before .before .before .pre .0 .links-long) (read-in (c .before .before .before .before .before .before .before .before .before .before .pre .0 .cells) (c .before .before .before .before .before .before .before .before .before .before .args .i) (c .before .before .before .before .before .before .before .before .before .before .pre .1) _ (c .before .before .before .wide .ensures))
+
+count-links-requires : tie.Need-count-links-requires
+count-links-requires c κs = (c .before .before .before .before .before .before .before .before .before .before .pre .0 .good, read-in (c .before .before .before .before .before .before .before .before .before .before .pre .0 .cells) (c .before .before .before .before .before .before .before .before .before .before .args .i) (c .before .before .before .before .before .before .before .before .before .before .pre .1) _ (c .before .before .before .wide .ensures))
+
+returns-4 : tie.Need-returns-4
+unfolding linkedCells
+returns-4 c = fits-not-joined _ _ _ _ _ (c .before .before .before .before .before .before .before .before .if1 .left) (c .before .before .before .before .before .before .before .if2 .left) (rw (c .before .before .before .before .before .wide .ensures) at (c .before .before .before .if3 .left)) (λ e. c .if4 .taken (c .before .count-links .ensures ∙ rw (c .before .before .before .before .before .wide .ensures) e))
+
+sub-wide : tie.Need-sub-wide
+sub-wide c = search needs
+
+mul-wide-2 : tie.Need-mul-wide-2
+mul-wide-2 c = search needs
+
+shared-slice-read-wide-2 : tie.Need-shared-slice-read-wide-2
+shared-slice-read-wide-2 c = search needs
+
+wide-requires-2 : tie.Need-wide-requires-2
+wide-requires-2 c κs = search needs
+
+add-wide : tie.Need-add-wide
+add-wide c = search needs
+
+mul-wide-3 : tie.Need-mul-wide-3
+mul-wide-3 c = search needs
+
+shared-slice-read-wide-3 : tie.Need-shared-slice-read-wide-3
+shared-slice-read-wide-3 c = search needs
+
+wide-requires-3 : tie.Need-wide-requires-3
+wide-requires-3 c κs = search needs
+
+goes-straight-requires : tie.Need-goes-straight-requires
+goes-straight-requires c κs = (c .before .before .before .before .before .before .before .before .before .before .before .before .before .before .before .before .pre .0 .good, (read-in (c .before .before .before .before .before .before .before .before .before .before .before .before .before .before .before .before .pre .0 .cells) (c .before .before .before .before .before .before .before .before .before .before .before .before .before .before .before .before .args .i - 1) (omega (arith, c .before .before .before .before .before .before .before .before .before .before .before .before .before .before .before .before .pre .1)) _ (c .before .before .wide2 .ensures), (read-in (c .before .before .before .before .before .before .before .before .before .before .before .before .before .before .before .before .pre .0 .cells) (c .before .before .before .before .before .before .before .before .before .before .before .before .before .before .before .before .args .i) (c .before .before .before .before .before .before .before .before .before .before .before .before .before .before .before .before .pre .1) _ (c .before .before .before .before .before .before .before .before .before .wide .ensures), read-in (c .before .before .before .before .before .before .before .before .before .before .before .before .before .before .before .before .pre .0 .cells) (c .before .before .before .before .before .before .before .before .before .before .before .before .before .before .before .before .args .i + 1) (c .before .before .before .before .before .before .before .before .before .before .before .if2 .left) _ (c .wide3 .ensures))))
+
+returns-5 : tie.Need-returns-5
+unfolding linkedCells
+returns-5 c =
+    let e = c .before .before .before .before .before .if4 .left in
+    let s = c .goes-straight .ensures in
+    (rw (c .before .before .before .before .before .before .before .before .before .before .wide .ensures, c .before .before .before .wide2 .ensures, c .before .wide3 .ensures) at s) ∙ fits-if _ _ _ _ _ (c .before .before .before .before .before .before .before .before .before .before .before .before .before .if1 .left) (c .before .before .before .before .before .before .before .before .before .before .before .before .if2 .left) (rw (c .before .before .before .before .before .before .before .before .before .before .wide .ensures) at (c .before .before .before .before .before .before .before .before .if3 .left)) (rw (c .before .before .before .before .before .before .before .before .before .before .wide .ensures) at (sym (c .before .before .before .before .before .before .count-links .ensures) ∙ e))
+
+pub may-stand-spec : {M : Type 1} → statement M
+may-stand-spec =
+    tie.close
+    (tie.spec
+    returns
+    add-if2
+    returns-2
+    mul-wide
+    shared-slice-read-wide
+    wide-requires
+    shared-slice-read-if3
+    returns-3
+    mul-count-links
+    shared-slice-read-count-links
+    count-links-requires
+    returns-4
+    sub-wide
+    mul-wide-2
+    shared-slice-read-wide-2
+    wide-requires-2
+    add-wide
+    mul-wide-3
+    shared-slice-read-wide-3
+    wide-requires-3
+    goes-straight-requires
+    returns-5)

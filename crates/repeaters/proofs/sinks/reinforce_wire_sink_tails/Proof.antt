@@ -1,0 +1,64 @@
+-- `reinforce_wire_sink_tails` meets its contract. The loop's invariant: the sinks left come to the same as all from the start.
+use native.Mathlib.Omega.{arith}
+use mathlib.Core.Path.{_≡_, refl, _∙_}
+use Prim.Native.Nat.{_-_}
+use lib.ListN.{length}
+use Rattle.repeaters.specs.Repeaters.{tailOf}
+use Rattle.repeaters.specs.Links.{linkedCells}
+use Rattle.repeaters.specs.SinkLaws.{Sown, sown-none, sown-next, sown-all}
+use borrow.Author.Needs.{needs}
+use Rattle.repeaters.proofs.sinks.reinforce_wire_sink_tails.Statement.{statement}
+use Rattle.repeaters.proofs.sinks.reinforce_wire_sink_tails.Tie as tie
+
+abbrev Inv-loop : tie.InvT-loop
+Inv-loop room links parents forbidden repeaters₀ line₀ taps count k₀ repeaters line k = (length line ≡ length line₀) × Sown (tailOf room (linkedCells room links) parents forbidden) taps repeaters₀ repeaters k
+
+abbrev μ-loop : tie.MeasureT-loop
+μ-loop room links parents forbidden repeaters₀ line₀ taps count k₀ repeaters line k = count - k
+
+loop-holds : tie.Need-loop-holds Inv-loop μ-loop
+loop-holds c = (refl, sown-none)
+
+mul-tap : tie.Need-mul-tap Inv-loop μ-loop
+mul-tap c = search needs
+
+element-copy-out-tap : tie.Need-element-copy-out-tap Inv-loop μ-loop
+element-copy-out-tap c = search needs
+
+reinforce-sink-requires : tie.Need-reinforce-sink-requires Inv-loop μ-loop
+reinforce-sink-requires c κs = (c .before .before .before .before .before .before .before .before .before .before .pre .0, (c .before .before .before .before .before .before .before .before .before .before .pre .1 .0 .terminals (c .before .before .before .before .loop .k) (c .before .before .before .loop-test .taken), (c .before .before .before .before .loop .inv .1 .long ∙ c .before .before .before .before .before .before .before .before .before .before .pre .1 .1 .0, c .before .before .before .before .loop .inv .0 ∙ c .before .before .before .before .before .before .before .before .before .before .pre .1 .1 .1)))
+
+add-k : tie.Need-add-k Inv-loop μ-loop
+add-k c = search needs
+
+loop-less : tie.Need-loop-less Inv-loop μ-loop
+loop-less c = search needs
+
+loop-again : tie.Need-loop-again Inv-loop μ-loop
+loop-again c = (c .before .before .before .before .reinforce-sink .kept .1 .1 .1 .1 .1 .1 .0 ∙ c .before .before .before .before .before .before .before .before .before .loop .inv .0, sown-next (c .before .before .before .before .before .before .before .before .before .loop .inv .1) (omega (arith, c .before .before .before .before .before .before .before .before .before .before .before .before .before .before .before .pre .1 .0 .few, c .before .before .before .before .before .before .before .before .before .before .before .before .before .before .before .pre .1 .0 .full)) (c .before .before .before .before .before .before .before .before .loop-test .taken) _ refl (c .before .before .before .before .reinforce-sink .kept .1 .1 .1 .1 .1 .0) (c .before .before .before .before .reinforce-sink .ensures))
+
+same-length : tie.Need-same-length Inv-loop μ-loop
+same-length c = c .before .loop .inv .1 .long
+
+same-length-2 : tie.Need-same-length-2 Inv-loop μ-loop
+same-length-2 c = c .before .loop .inv .0
+
+returns : tie.Need-returns Inv-loop μ-loop
+returns c = sown-all (c .before .loop .inv .1) (omega (arith, c .before .before .before .before .before .before .before .pre .1 .0 .few, c .before .before .before .before .before .before .before .pre .1 .0 .full)) (c .loop-test .left)
+
+pub reinforce-wire-sink-tails-spec : {M : Type 1} → statement M
+reinforce-wire-sink-tails-spec =
+    tie.close
+    (tie.spec
+    Inv-loop
+    μ-loop
+    loop-holds
+    mul-tap
+    element-copy-out-tap
+    reinforce-sink-requires
+    add-k
+    loop-less
+    loop-again
+    same-length
+    same-length-2
+    returns)

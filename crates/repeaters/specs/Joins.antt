@@ -1,0 +1,90 @@
+-- The masks of a tree: which relation they hold, and what joining two cells does to it.
+use mathlib.Core.Path.{_≡_}
+use mathlib.Core.Bool.{Bool, true, false, _&&_, _||_}
+use mathlib.Core.List.{List, [], _∷_}
+use Prim.Native.Nat.{ℕ, zero, suc, _+_, _-_, _*_, _/_, _≤_, _<_}
+use lib.Dec.{eqb}
+use lib.ListN.{length, getD}
+use Rattle.basics.specs.Tests.{either}
+use Rattle.basics.specs.Lists.{In}
+use Rattle.room.specs.declared.Room.{Room}
+use Rattle.room.specs.declared.Pos.{Pos}
+use Rattle.room.specs.declared.Move.{Move}
+use Rattle.room.specs.declared.Neighbour.{Neighbour}
+use Rattle.room.specs.Room.{volume, posOf, by, moves, neighbour}
+use Rattle.branches.specs.declared.BranchLengths.{BranchLengths}
+use Rattle.branches.specs.Branches.{total}
+use Rattle.repeaters.specs.Repeaters.{lengthsOf, branchesOf}
+use Rattle.repeaters.specs.Links.{orderedMove}
+
+-- ---- what is asked of the branches
+
+-- one of the twelve moves leads from cell a to cell b
+pub record Step (R : Room) (a b : ℕ) : Type 0 where
+  pub from-in : a < volume R
+  pub move : Move
+  pub listed : In move moves
+  pub leads : neighbour R a move ≡ Neighbour.Inside b
+
+-- each cell of the branch is one step from the next
+pub record Stepping (R : Room) (branch : List ℕ) : Type 0 where
+  pub step : (i : ℕ) → i + 1 < length branch → Step R (getD branch i 0) (getD branch (i + 1) 0)
+
+abbrev pub AllStepping : Room → List (List ℕ) → Type 0
+AllStepping R [] = Unit {0}
+AllStepping R (branch ∷ branches) = Stepping R branch × AllStepping R branches
+
+-- the branches stand one behind the other in the buffer
+pub record Laid (R : Room) (L : BranchLengths) (cells : List ℕ) : Type 0 where
+  pub full : length (L .each) ≡ 16
+  pub few : L .count ≤ 16
+  pub within : total (lengthsOf L) ≤ length cells
+  pub stepping : AllStepping R (branchesOf L cells)
+
+-- ---- the masks
+
+abbrev pub bit : Bool → ℕ
+bit true = 1
+bit false = 0
+
+-- the mask of n bits
+unfoldable pub maskOf : ℕ → (ℕ → Bool) → ℕ
+maskOf zero f = 0
+maskOf (suc n) f = maskOf n (λ k. f (suc k)) * 2 + bit (f zero)
+
+abbrev pub onPlace : (ℕ → Bool) → Neighbour → Bool
+onPlace p (Neighbour.Inside v) = p v
+onPlace p Neighbour.Outside = false
+
+-- the k-th move leads from u to a cell that is related to it
+abbrev pub isLink : Room → (ℕ → ℕ → Bool) → ℕ → ℕ → Bool
+isLink R p u k = onPlace (p u) (neighbour R u (orderedMove k))
+
+-- the masks hold this relation
+pub record Masks (R : Room) (p : ℕ → ℕ → Bool) (links : List ℕ) : Type 0 where
+  pub long : length links ≡ volume R
+  pub bits : (u : ℕ) → u < volume R → getD links u 0 ≡ maskOf 12 (isLink R p u)
+
+-- or some relation
+pub record Masked (R : Room) (links : List ℕ) : Type 0 where
+  pub relation : ℕ → ℕ → Bool
+  pub masks : Masks R relation links
+
+-- b is a's neighbour too
+abbrev pub withLink : ℕ → ℕ → (ℕ → ℕ → Bool) → ℕ → ℕ → Bool
+withLink a b p u v = (eqb a u && eqb b v) || p u v
+
+pub record Joined (R : Room) (more : ℕ → ℕ → Bool) (links links′ : List ℕ) : Type 0 where
+  pub goes : (p : ℕ → ℕ → Bool) → Masks R p links → Masks R (λ u v. more u v || p u v) links′
+
+-- ---- the number of a move in number order
+
+unfoldable pub moveIndex : Move → ℕ
+moveIndex m = either (eqb (m .x) 0) (m .y) (either (eqb (m .x) 1) (3 + m .y * 2 + m .z / 2) (9 + m .y))
+
+-- the move between two positions
+abbrev pub moveBetween : Pos → Pos → Move
+moveBetween p q = by (q .x + 1 - p .x) (q .y + 1 - p .y) (q .z + 1 - p .z)
+
+abbrev pub stepIndex : Room → ℕ → ℕ → ℕ
+stepIndex R a b = moveIndex (moveBetween (posOf R a) (posOf R b))

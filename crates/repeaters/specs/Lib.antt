@@ -1,0 +1,17 @@
+pub mod Repeaters
+pub mod Samples
+pub mod Links
+pub mod LinkLaws
+pub mod Joins
+pub mod JoinLaws
+pub mod TreeLaws
+pub mod NeighbourLaws
+pub mod PlaceLaws
+pub mod Roots
+pub mod RootLaws
+pub mod Runs
+pub mod RunLaws
+pub mod Tails
+pub mod TailLaws
+pub mod Sinks
+pub mod SinkLaws

@@ -1,0 +1,231 @@
+-- The repeaters of a net's tree, as "The tree of one net" of the requirement has them: tree neighbours, the path from the source, the cells where a
+-- repeater may stand, the runs, the tails. Definitions alone; their laws are in the files named Laws.
+use mathlib.Core.Bool.{Bool, true, false, not, _&&_, _||_}
+use mathlib.Core.List.{List, [], _∷_, _++_}
+use Prim.Native.Nat.{ℕ, zero, suc, _+_, _-_, _*_}
+use lib.Dec.{ltb, eqb}
+use lib.ListN.{length, getD, take, drop, set, replicate}
+use Rattle.basics.specs.Tests.{either}
+use Rattle.room.specs.declared.Room.{Room}
+use Rattle.room.specs.declared.Pos.{Pos}
+use Rattle.room.specs.Room.{volume, posOf}
+use Rattle.room.specs.Units.{north, east, south, west}
+use Rattle.best_first.specs.Search.{trace}
+use Rattle.routing_resources.specs.Marks.{noMarks, isMarked}
+use Rattle.ends.specs.declared.Tap.{Tap}
+use Rattle.ends.specs.declared.Taps.{Taps}
+use Rattle.branches.specs.declared.BranchLengths.{BranchLengths}
+
+-- ---- the tree
+
+-- branches that stand one behind the other in one list of cells
+unfoldable pub cutInto : List ℕ → List ℕ → List (List ℕ)
+cutInto [] cells = []
+cutInto (n ∷ ns) cells = take n cells ∷ cutInto ns (drop n cells)
+
+abbrev pub lengthsOf : BranchLengths → List ℕ
+lengthsOf L = take (L .count) (L .each)
+
+abbrev pub branchesOf : BranchLengths → List ℕ → List (List ℕ)
+branchesOf L cells = cutInto (lengthsOf L) cells
+
+-- u and v are the two cells of a step, either way round
+unfoldable pub isStep : ℕ → ℕ → ℕ → ℕ → Bool
+isStep a b u v = (eqb a u && eqb b v) || (eqb b u && eqb a v)
+
+-- u and v stand next to each other on the branch
+unfoldable pub besideOn : List ℕ → ℕ → ℕ → Bool
+besideOn [] u v = false
+besideOn (a ∷ []) u v = false
+besideOn (a ∷ (b ∷ rest)) u v = isStep a b u v || besideOn (b ∷ rest) u v
+
+-- and on some branch: they are tree neighbours
+unfoldable pub neighbouring : List (List ℕ) → ℕ → ℕ → Bool
+neighbouring [] u v = false
+neighbouring (branch ∷ branches) u v = besideOn branch u v || neighbouring branches u v
+
+abbrev pub consIf : Bool → ℕ → List ℕ → List ℕ
+consIf true v vs = v ∷ vs
+consIf false v vs = vs
+
+-- the cells that pass the test, of n from v on, in number order
+unfoldable pub cellsFrom : (ℕ → Bool) → ℕ → ℕ → List ℕ
+cellsFrom p zero v = []
+cellsFrom p (suc n) v = consIf (p v) v (cellsFrom p n (suc v))
+
+-- the tree neighbours of a cell, of the cells below n, in number order
+unfoldable pub treeNeighbours : List (List ℕ) → ℕ → ℕ → List ℕ
+treeNeighbours branches n u = cellsFrom (neighbouring branches u) n 0
+
+-- ---- "the path from the source (breadth first, neighbours in number order)"
+
+-- the parent u of each cell reached, as u + 1, with 0 for a cell that is not reached; and the cells that wait for their turn
+pub record Wave : Type 0 where
+  pub parents : List ℕ
+  pub waiting : List ℕ
+
+abbrev pub wave : List ℕ → List ℕ → Wave
+wave ps ws = record { parents = ps; waiting = ws }
+
+-- a cell v met from u is reached, unless it was before
+unfoldable pub meet : ℕ → ℕ → Wave → Wave
+meet u v w = either (eqb (getD (w .parents) v 0) 0) (wave (set (w .parents) v (u + 1)) (w .waiting ++ (v ∷ []))) w
+
+unfoldable pub meetAll : ℕ → List ℕ → Wave → Wave
+meetAll u [] w = w
+meetAll u (v ∷ vs) w = meetAll u vs (meet u v w)
+
+-- the cells have their turns, at most n of them, in the order in which they were reached
+unfoldable pub spread : ℕ → (ℕ → List ℕ) → Wave → List ℕ
+spread zero next w = w .parents
+spread (suc n) next w = elim (w .waiting) [ [] ↦ w .parents | u ∷ rest ↦ spread n next (meetAll u (next u) (wave (w .parents) rest)) ]
+
+-- the source is reached at the outset, and has no parent
+unfoldable pub parentsFrom : (ℕ → List ℕ) → ℕ → ℕ → List ℕ
+parentsFrom next n source = set (spread n next (wave (set (replicate n 0) source (source + 1)) (source ∷ []))) source 0
+
+-- the path to a cell by its parents; a cell that is not reached stands alone on it
+abbrev pub rootPath : List ℕ → ℕ → List ℕ
+rootPath parents cell = trace (length parents) parents cell []
+
+-- ---- the cells where a repeater may stand
+
+abbrev pub stepsBy : ℕ → ℕ → ℕ → ℕ → Bool
+stepsBy a b c d = eqb (a + 1) b && eqb c d
+
+-- the facing of a step, none unless it is a flat one
+unfoldable pub facingBy : Pos → Pos → ℕ
+facingBy p q =
+    either (eqb (p .y) (q .y))
+    (either (stepsBy (p .x) (q .x) (p .z) (q .z)) east
+    (either (stepsBy (q .x) (p .x) (p .z) (q .z)) west
+    (either (stepsBy (p .z) (q .z) (p .x) (q .x)) south
+    (either (stepsBy (q .z) (p .z) (p .x) (q .x)) north 0))))
+    0
+
+abbrev pub facingOf : Room → ℕ → ℕ → ℕ
+facingOf R a b = facingBy (posOf R a) (posOf R b)
+
+-- "equal flat facing in and out"
+unfoldable pub straight : Room → ℕ → ℕ → ℕ → Bool
+straight R a b c = not (eqb (facingOf R a b) 0) && eqb (facingOf R a b) (facingOf R b c)
+
+abbrev pub cellAt : List ℕ → ℕ → ℕ
+cellAt path i = getD path i 0
+
+-- "not a terminal or approach of this net, has a next cell, two tree neighbours and equal flat facing in and out"; so it has a cell before it, too
+unfoldable pub fits : Room → (ℕ → List ℕ) → List ℕ → List ℕ → ℕ → Bool
+fits R next forbidden path i =
+    ltb 0 i && (ltb (i + 1) (length path) && (not (isMarked forbidden (cellAt path i))
+    && (eqb (length (next (cellAt path i))) 2 && straight R (cellAt path (i - 1)) (cellAt path i) (cellAt path (i + 1)))))
+
+-- the latest place below n that passes the test, 0 for none
+unfoldable pub latest : (ℕ → Bool) → ℕ → ℕ
+latest p zero = 0
+latest p (suc n) = either (p n) n (latest p n)
+
+-- the earliest of n places from this one on that passes the test, 0 for none
+unfoldable pub earliest : (ℕ → Bool) → ℕ → ℕ → ℕ
+earliest p zero from = 0
+earliest p (suc n) from = either (p from) from (earliest p n (from + 1))
+
+-- a repeater stands at this place of the path
+abbrev pub repeaterAt : List ℕ → List ℕ → ℕ → Bool
+repeaterAt path marks i = isMarked marks (cellAt path i)
+
+-- a repeater is put at a place of the path; at place 0, which stands for none, nothing changes
+unfoldable pub withRepeater : List ℕ → List ℕ → ℕ → List ℕ
+withRepeater path marks i = either (eqb i 0) marks (set marks (cellAt path i) 1)
+
+-- ---- the runs
+
+-- the repeaters so far, the last reset and the place that the walk has come to
+pub record Walk : Type 0 where
+  pub marks : List ℕ
+  pub reset : ℕ
+  pub place : ℕ
+
+abbrev pub walk : List ℕ → ℕ → ℕ → Walk
+walk m r i = record { marks = m; reset = r; place = i }
+
+-- "the latest cell after that reset, up to and including this one, that" fits, of the places below n
+unfoldable pub candidate : (ℕ → Bool) → ℕ → ℕ → ℕ
+candidate fit reset n = latest (λ i. ltb reset i && fit i) n
+
+-- "It becomes the reset and the walk resumes after it; where none fits, the walk goes on to the next cell"
+unfoldable pub resume : List ℕ → Walk → ℕ → Walk
+resume path w c = either (eqb c 0) (walk (w .marks) (w .reset) (w .place + 1)) (walk (withRepeater path (w .marks) c) c (c + 1))
+
+module _ (limit : ℕ) (fit : ℕ → Bool) (path : List ℕ) where
+  -- "A repeater met is a reset"; "at a cell more than 12 steps past the last reset" one is due
+  unfoldable pub step : Walk → Walk
+  step w =
+      either (repeaterAt path (w .marks) (w .place)) (walk (w .marks) (w .place) (w .place + 1))
+      (either (ltb (w .reset + limit) (w .place)) (resume path w (candidate fit (w .reset) (w .place + 1))) (walk (w .marks) (w .reset) (w .place + 1)))
+
+  unfoldable pub steps : ℕ → Walk → List ℕ
+  steps zero w = w .marks
+  steps (suc n) w = elim (ltb (w .place) (length path)) [ true ↦ steps n (step w) | false ↦ w .marks ]
+
+  -- each step goes on or moves the reset on: so many are enough. "At first the source" is the reset
+  unfoldable pub run : List ℕ → List ℕ
+  run marks = steps ((length path + 1) * (length path + 1)) (walk marks 0 1)
+
+-- ---- the tails
+
+abbrev pub end : List ℕ → ℕ
+end path = length path - 1
+
+-- the last repeater on the path, or the source
+abbrev pub lastReset : List ℕ → List ℕ → ℕ
+lastReset path marks = latest (repeaterAt path marks) (length path)
+
+-- "with no repeater next to it on the path"
+abbrev pub alone : List ℕ → List ℕ → ℕ → Bool
+alone path marks i = not (repeaterAt path marks (i - 1)) && not (repeaterAt path marks (i + 1))
+
+module _ (limit : ℕ) (fit : ℕ → Bool) (path : List ℕ) where
+  -- "the earliest such cell among the last 8 before the end"
+  abbrev pub tailPlace : List ℕ → ℕ
+  tailPlace marks = earliest (λ i. fit i && alone path marks i) (end path - (end path - limit)) (end path - limit)
+
+  -- "with over 8 steps after its last repeater (or the source)"
+  unfoldable pub reinforced : List ℕ → List ℕ
+  reinforced marks = either (ltb (lastReset path marks + limit) (end path)) (withRepeater path marks (tailPlace marks)) marks
+
+-- ---- "sink by sink"
+
+abbrev pub tapsOf : Taps → List Tap
+tapsOf T = take (T .count) (T .taps)
+
+abbrev pub runLimit : ℕ
+runLimit = 12
+
+abbrev pub tailLimit : ℕ
+tailLimit = 8
+
+-- what one sink does to the marks is done for all, one after the other
+unfoldable pub inTurn : (Tap → List ℕ → List ℕ) → List Tap → List ℕ → List ℕ
+inTurn put [] marks = marks
+inTurn put (tap ∷ taps) marks = inTurn put taps (put tap marks)
+
+module _ (R : Room) (next : ℕ → List ℕ) (parents forbidden : List ℕ) where
+  abbrev pub pathTo : Tap → List ℕ
+  pathTo tap = rootPath parents (tap .terminal)
+
+  abbrev pub runOf : Tap → List ℕ → List ℕ
+  runOf tap marks = run runLimit (fits R next forbidden (pathTo tap)) (pathTo tap) marks
+
+  -- "per Wire sink"
+  abbrev pub tailOf : Tap → List ℕ → List ℕ
+  tailOf tap marks = either (tap .wire) (reinforced tailLimit (fits R next forbidden (pathTo tap)) (pathTo tap) marks) marks
+
+  -- the runs of all sinks, and then the tails
+  unfoldable pub planned : List Tap → List ℕ → List ℕ
+  planned taps marks = inTurn tailOf taps (inTurn runOf taps marks)
+
+-- one byte a cell: 1 where a repeater stands
+unfoldable pub repeaterMarks : Room → ℕ → List Tap → List (List ℕ) → List ℕ → List ℕ
+repeaterMarks R source taps branches forbidden =
+    planned R (treeNeighbours branches (volume R)) (parentsFrom (treeNeighbours branches (volume R)) (volume R) source) forbidden taps
+    (noMarks (volume R))

@@ -1,0 +1,320 @@
+-- Laws of the breadth-first search in a line, and of the path by parents.
+use mathlib.Core.Path.{_≡_, refl, sym, ap, _∙_}
+use mathlib.Core.Logic.{_≢_}
+use mathlib.Core.List.{List, [], _∷_, _++_}
+use Prim.Native.Nat.{ℕ, zero, suc, _+_, _-_, _/_, _≤_, _<_}
+use native.Mathlib.Nat.{le-of-suc-le-suc, not-suc-le-zero, sub-zero}
+use native.Mathlib.Numerals.{add-one}
+use native.Mathlib.Omega.{arith}
+use lib.Dec.{eqb}
+use lib.ListN.{length, getD, take, drop, set, replicate, length-set, length-replicate, getD-replicate, drop-of-length-le}
+use lib.Seq.{drop-cons, take-suc-set, drop-append-le, getD-set-same, getD-set-other, getD-take, length-take-le, take-at}
+use borrow.Author.Tests.{eq-eqb, ne-eqb, eqb-true, eqb-false}
+use Rattle.basics.specs.Tests.{ask}
+use Rattle.room.specs.declared.Room.{Room}
+use Rattle.room.specs.declared.Pos.{Pos}
+use Rattle.room.specs.declared.Neighbour.{Neighbour}
+use Rattle.room.specs.Room.{volume}
+use Rattle.best_first.specs.Search.{trace}
+use Rattle.best_first.specs.Equations.{trace-start, trace-back}
+use Rattle.routing.specs.Traces.{Linked, traceLength, trace-length}
+use Rattle.routing_resources.specs.Resources.{AllCells}
+use Rattle.repeaters.specs.Repeaters.{Wave, wave, meet, meetAll, spread, parentsFrom, rootPath}
+use Rattle.repeaters.specs.Links.{orderedMoves, orderedMove, linkedPlace, consPlace, cellsBy, linkedCells}
+use Rattle.repeaters.specs.LinkLaws.{cellsLeft, cells-more, cells-none}
+use Rattle.repeaters.specs.Roots.{waitingIn, reached, Held, Met, Rooted, Traced}
+
+-- ---- counting the cells reached
+
+reached-most : (ps : List ℕ) → reached ps ≤ length ps
+unfolding reached
+reached-most [] = omega arith
+reached-most (zero ∷ ps) = omega (arith, reached-most ps)
+reached-most (suc u ∷ ps) = omega (arith, reached-most ps)
+
+-- a cell that is not reached is one more to come
+reached-less : (ps : List ℕ) (v : ℕ) → v < length ps → getD ps v 0 ≡ 0 → reached ps < length ps
+unfolding reached
+reached-less [] v h e = absurd (not-suc-le-zero h)
+reached-less (zero ∷ ps) zero h e = omega (arith, reached-most ps)
+reached-less (suc u ∷ ps) zero h e = absurd (omega arith)
+reached-less (zero ∷ ps) (suc v) h e = omega (arith, reached-less ps v (le-of-suc-le-suc h) e)
+reached-less (suc u ∷ ps) (suc v) h e = omega (arith, reached-less ps v (le-of-suc-le-suc h) e)
+
+reached-one-more : (ps : List ℕ) (v u : ℕ) → v < length ps → getD ps v 0 ≡ 0 → reached (set ps v (suc u)) ≡ suc (reached ps)
+unfolding reached
+reached-one-more [] v u h e = absurd (not-suc-le-zero h)
+reached-one-more (zero ∷ ps) zero u h e = refl
+reached-one-more (suc w ∷ ps) zero u h e = absurd (omega arith)
+reached-one-more (zero ∷ ps) (suc v) u h e = reached-one-more ps v u (le-of-suc-le-suc h) e
+reached-one-more (suc w ∷ ps) (suc v) u h e = ap suc (reached-one-more ps v u (le-of-suc-le-suc h) e)
+
+reached-none : (n : ℕ) → reached (replicate n 0) ≡ 0
+unfolding reached
+reached-none zero = refl
+reached-none (suc n) = reached-none n
+
+-- ---- the equations of the definition, branch by branch
+
+module _ (u v : ℕ) (parents waiting : List ℕ) where
+  meet-before : getD parents v 0 ≢ 0 → wave parents waiting ≡ meetAll u (v ∷ []) (wave parents waiting)
+  unfolding meetAll meet
+  meet-before n = rw (ne-eqb (getD parents v 0) 0 n)
+
+  meet-now : getD parents v 0 ≡ 0 → wave (set parents v (u + 1)) (waiting ++ (v ∷ [])) ≡ meetAll u (v ∷ []) (wave parents waiting)
+  unfolding meetAll meet
+  meet-now e = rw (eq-eqb (getD parents v 0) 0 e)
+
+spread-turn : (n : ℕ) (next : ℕ → List ℕ) (parents : List ℕ) (u : ℕ) (waiting : List ℕ)
+    → spread (suc n) next (wave parents (u ∷ waiting)) ≡ spread n next (meetAll u (next u) (wave parents waiting))
+unfolding spread
+spread-turn n next parents u waiting = refl
+
+spread-done : (n : ℕ) (next : ℕ → List ℕ) (parents : List ℕ) → spread n next (wave parents []) ≡ parents
+unfolding spread
+spread-done zero next parents = refl
+spread-done (suc n) next parents = refl
+
+-- ---- one cell is met
+
+waiting-more : (line : List ℕ) (head tail v : ℕ) → tail < length line → head ≤ tail → waitingIn head (tail + 1) (set line tail v) ≡ waitingIn head tail line ++ (v ∷ [])
+waiting-more line head tail v h k =
+    rw (add-one, take-suc-set line tail v h) (drop-append-le head (take tail line) (v ∷ []) (rw (length-take-le tail line (omega arith)) k))
+
+module _ {parents line : List ℕ} {tail : ℕ} (H : Held parents line tail) where
+  pub held-most : tail ≤ length parents
+  held-most = omega (arith, H .counted, reached-most parents)
+
+  pub met-before : (from v : ℕ) → getD parents v 0 ≢ 0 → Met from (v ∷ []) parents line tail parents line tail
+  met-before from v n = record { held = H; long = refl; on = omega arith; goes = λ head h. meet-before from v parents (waitingIn head tail line) n }
+
+  module _ (from v : ℕ) (from-in : from < length parents) (v-in : v < length parents) (new : getD parents v 0 ≡ 0) where
+    pub line-room : tail < length line
+    line-room = omega (arith, H .counted, H .line-long, reached-less parents v v-in new)
+
+    pub met-now : Met from (v ∷ []) parents line tail (set parents v (from + 1)) (set line tail v) (tail + 1)
+    met-now = record {
+      held = record {
+        line-long = length-set line tail v ∙ H .line-long ∙ sym (length-set parents v (from + 1));
+        counted = ap (λ (x : ℕ). reached (set parents v x)) (add-one from) ∙ reached-one-more parents v from v-in new ∙ ap suc (H .counted) ∙ sym (add-one tail);
+        cells = λ i h. rw length-set (in-line i h);
+        linked = λ w. rw length-set (parent w);
+      };
+      long = length-set parents v (from + 1);
+      on = omega arith;
+      goes = λ head h. rw (waiting-more line head tail v line-room h) (meet-now from v parents (waitingIn head tail line) new);
+    }
+      where
+        in-line : (i : ℕ) → i < tail + 1 → getD (set line tail v) i 0 < length parents
+        in-line i h =
+            ask (eqb i tail)
+            (λ t. rw (eqb-true i tail t, getD-set-same line tail v 0 line-room) v-in)
+            (λ f. rw (getD-set-other line tail i v 0 (eqb-false i tail f)) (H .cells i (omega (arith, eqb-false i tail f))))
+
+        parent : (w : ℕ) → getD (set parents v (from + 1)) w 0 ≤ length parents
+        parent w =
+            ask (eqb w v)
+            (λ t. rw (eqb-true w v t, getD-set-same parents v (from + 1) 0 v-in) (omega arith))
+            (λ f. rw (getD-set-other parents v w (from + 1) 0 (eqb-false w v f)) (H .linked w))
+
+  pub met-none : (from : ℕ) → Met from [] parents line tail parents line tail
+  unfolding meetAll
+  met-none from = record { held = H; long = refl; on = omega arith; goes = λ head h. refl }
+
+-- ---- the loop over the bits of a mask
+
+meet-more : (from : ℕ) (place : Neighbour) (vs : List ℕ) (w : Wave) → meetAll from (consPlace place vs) w ≡ meetAll from vs (meetAll from (consPlace place []) w)
+unfolding meetAll
+meet-more from (Neighbour.Inside v) vs w = refl
+meet-more from Neighbour.Outside vs w = refl
+
+pub record Visiting (R : Room) (p : Pos) (from mask : ℕ) (parents₀ line₀ : List ℕ) (tail₀ : ℕ) (parents line : List ℕ) (tail rest k : ℕ) : Type 0 where
+  pub within : k ≤ 12
+  pub held : Held parents line tail
+  pub long : length parents ≡ length parents₀
+  pub on : tail₀ ≤ tail
+  pub goes : (head : ℕ) → head ≤ tail₀
+      → meetAll from (cellsLeft R p rest k) (wave parents (waitingIn head tail line))
+      ≡ meetAll from (cellsBy R p mask orderedMoves) (wave parents₀ (waitingIn head tail₀ line₀))
+
+module _ {R : Room} {p : Pos} {from mask : ℕ} {parents₀ line₀ : List ℕ} {tail₀ : ℕ} where
+  pub visiting-none : Held parents₀ line₀ tail₀ → Visiting R p from mask parents₀ line₀ tail₀ parents₀ line₀ tail₀ mask 0
+  visiting-none H = record { within = omega arith; held = H; long = refl; on = omega arith; goes = λ head h. refl }
+
+  module _ {parents line : List ℕ} {tail rest k : ℕ} (I : Visiting R p from mask parents₀ line₀ tail₀ parents line tail rest k) where
+    pub visiting-next : k < 12 → (place : Neighbour) → place ≡ linkedPlace R p rest (orderedMove k) → {parents′ line′ : List ℕ} {tail′ : ℕ}
+        → Met from (consPlace place []) parents line tail parents′ line′ tail′
+        → Visiting R p from mask parents₀ line₀ tail₀ parents′ line′ tail′ (rest / 2) (k + 1)
+    visiting-next h place e {parents′} {line′} {tail′} M = record {
+      within = omega arith;
+      held = M .held;
+      long = M .long ∙ I .long;
+      on = omega (arith, I .on, M .on);
+      goes = λ head q.
+          ap (meetAll from (cellsLeft R p (rest / 2) (k + 1))) (M .goes head (omega (arith, I .on)))
+          ∙ sym (meet-more from place (cellsLeft R p (rest / 2) (k + 1)) (wave parents (waitingIn head tail line)))
+          ∙ ap (λ (vs : List ℕ). meetAll from vs (wave parents (waitingIn head tail line)))
+          (ap (λ (q : Neighbour). consPlace q (cellsLeft R p (rest / 2) (k + 1))) e ∙ sym (cells-more R p rest k h))
+          ∙ I .goes head q;
+    }
+
+    pub visiting-all : 12 ≤ k → Met from (cellsBy R p mask orderedMoves) parents₀ line₀ tail₀ parents line tail
+    unfolding meetAll
+    visiting-all h = record {
+      held = I .held;
+      long = I .long;
+      on = I .on;
+      goes = λ head q.
+          sym (ap (λ (vs : List ℕ). meetAll from vs (wave parents (waitingIn head tail line))) (cells-none R p rest k (I .within) h)) ∙ I .goes head q;
+    }
+
+-- ---- the loop over the cells that wait
+
+-- the parents at the outset
+abbrev pub outset : ℕ → ℕ → List ℕ
+outset n source = set (replicate n 0) source (source + 1)
+
+pub record Spreading (R : Room) (source : ℕ) (links parents line : List ℕ) (head tail : ℕ) : Type 0 where
+  pub held : Held parents line tail
+  pub long : length parents ≡ volume R
+  pub within : head ≤ tail
+  pub same : spread (volume R - head) (linkedCells R links) (wave parents (waitingIn head tail line))
+      ≡ spread (volume R) (linkedCells R links) (wave (outset (volume R) source) (source ∷ []))
+
+module _ {R : Room} {source : ℕ} {links : List ℕ} where
+  pub spreading-outset : (line : List ℕ) → source < volume R → length line ≡ volume R
+      → Spreading R source links (outset (volume R) source) (set line 0 source) 0 1
+  spreading-outset line h e = record {
+    held = record {
+      line-long = length-set line 0 source ∙ e ∙ sym long;
+      counted = rw add-one (reached-one-more (replicate (volume R) 0) source source (rw (length-replicate {A = ℕ} (volume R) 0) h) (getD-replicate {A = ℕ} (volume R) source 0 0 h) ∙ ap suc (reached-none (volume R)));
+      cells = λ i k. rw long (first i k);
+      linked = λ v. rw long (parent v);
+    };
+    long = long;
+    within = omega arith;
+    same = rw sub-zero (ap (λ (ws : List ℕ). spread (volume R) (linkedCells R links) (wave (outset (volume R) source) ws)) (one line e));
+  }
+    where
+      long : length (outset (volume R) source) ≡ volume R
+      long = length-set (replicate (volume R) 0) source (source + 1) ∙ length-replicate {A = ℕ} (volume R) 0
+
+      some : 0 < length line
+      some = omega arith
+
+      first : (i : ℕ) → i < 1 → getD (set line 0 source) i 0 < volume R
+      first i k = let z : i ≡ 0 = omega arith in rw (z, getD-set-same line 0 source 0 some) h
+
+      parent : (v : ℕ) → getD (outset (volume R) source) v 0 ≤ volume R
+      parent v =
+          ask (eqb v source)
+          (λ t. rw (eqb-true v source t, getD-set-same (replicate (volume R) 0) source (source + 1) 0 (rw (length-replicate {A = ℕ} (volume R) 0) h)) (omega arith))
+          (λ f. rw (getD-set-other (replicate (volume R) 0) source v (source + 1) 0 (eqb-false v source f)) (none v (volume R)))
+        where
+          none : (v n : ℕ) → getD (replicate n 0) v 0 ≤ n
+          none v zero = omega arith
+          none zero (suc n) = omega arith
+          none (suc v) (suc n) = omega (arith, none v n)
+
+      one : (l : List ℕ) → length l ≡ volume R → waitingIn 0 1 (set l 0 source) ≡ source ∷ []
+      one [] q = absurd (omega arith)
+      one (x ∷ xs) q = refl
+
+  module _ {parents line : List ℕ} {head tail : ℕ} (I : Spreading R source links parents line head tail) where
+    pub spreading-most : tail ≤ volume R
+    spreading-most = omega (arith, held-most (I .held), I .long)
+
+    pub spreading-in : head < tail → (cell : ℕ) → cell ≡ getD line head 0 → cell < volume R
+    spreading-in h cell e = rw (e, ← I .long) (I .held .cells head h)
+
+    pub spreading-next : head < tail → (cell : ℕ) → cell ≡ getD line head 0 → {parents′ line′ : List ℕ} {tail′ : ℕ}
+        → Met cell (linkedCells R links cell) parents line tail parents′ line′ tail′
+        → Spreading R source links parents′ line′ (head + 1) tail′
+    spreading-next h cell e {parents′} {line′} {tail′} M = record {
+      held = M .held;
+      long = M .long ∙ I .long;
+      within = omega (arith, M .on);
+      same =
+          ap (spread (volume R - (head + 1)) (linkedCells R links)) (M .goes (head + 1) (omega arith))
+          ∙ sym (spread-turn (volume R - (head + 1)) (linkedCells R links) parents cell (waitingIn (head + 1) tail line))
+          ∙ rw (← left, ← first) (I .same);
+    }
+      where
+        left : volume R - head ≡ suc (volume R - (head + 1))
+        left = omega (arith, spreading-most)
+
+        in-line : tail ≤ length line
+        in-line = omega (arith, held-most (I .held), I .held .line-long)
+
+        first : waitingIn head tail line ≡ cell ∷ waitingIn (head + 1) tail line
+        first =
+            let b : head < length (take tail line) = rw (length-take-le tail line in-line) h in
+            drop-cons (take tail line) head 0 b ∙ rw (getD-take tail line head 0 h, add-one, e)
+
+    pub spreading-all : tail ≤ head → (parents′ : List ℕ) → parents′ ≡ set parents source 0 → Rooted R source links parents′
+    unfolding parentsFrom
+    spreading-all h parents′ e = record {
+      is = e ∙ ap (λ (ps : List ℕ). set ps source 0) done;
+      linked = λ v. rw (e, length-set parents source 0) (parent v);
+      long = ap length e ∙ length-set parents source 0 ∙ I .long;
+    }
+      where
+        none : waitingIn head tail line ≡ []
+        none = drop-of-length-le (take tail line) {i = head} (rw (length-take-le tail line (omega (arith, held-most (I .held), I .held .line-long))) h)
+
+        done : parents ≡ spread (volume R) (linkedCells R links) (wave (outset (volume R) source) (source ∷ []))
+        done = sym (spread-done (volume R - head) (linkedCells R links) parents) ∙ rw none at (I .same)
+
+        parent : (v : ℕ) → getD (set parents source 0) v 0 ≤ length parents
+        parent v =
+            ask (eqb v source)
+            (λ t. rw (eqb-true v source t) (at-source parents source))
+            (λ f. rw (getD-set-other parents source v 0 0 (eqb-false v source f)) (I .held .linked v))
+          where
+            at-source : (ps : List ℕ) (s : ℕ) → getD (set ps s 0) s 0 ≤ length ps
+            at-source [] s = omega arith
+            at-source (x ∷ xs) zero = omega arith
+            at-source (x ∷ xs) (suc s) = omega (arith, at-source xs s)
+
+-- ---- the path by parents
+
+pub trace-few : (n : ℕ) (parents : List ℕ) (v : ℕ) → traceLength n parents v ≤ n
+unfolding traceLength
+trace-few zero parents v = omega arith
+trace-few (suc n) parents v = go (getD parents v 0) (λ u. trace-few n parents u)
+  where
+    go : (k : ℕ) → ((u : ℕ) → traceLength n parents u ≤ n) → elim k [ zero ↦ 1 | suc u ↦ suc (traceLength n parents u) ] ≤ suc n
+    go zero ih = omega arith
+    go (suc u) ih = omega (arith, ih u)
+
+pub traced : (parents line : List ℕ) {line′ : List ℕ} (cell : ℕ) {count : ℕ} → count ≡ traceLength (length parents) parents cell → count ≤ length line
+    → length line′ ≡ length line → line′ ≡ rootPath parents cell ++ drop count line → Traced parents cell line′ count
+traced parents line cell {count} e h k f = record {
+  is = ap (take count) f ∙ take-at (rootPath parents cell) (drop count line) count (trace-length (length parents) parents cell [] ∙ rw (← e) (omega arith));
+  room = omega arith;
+}
+
+-- each cell of the path is one of the room, and so it has a first cell
+trace-cells : (n : ℕ) (parents : List ℕ) → Linked parents → (v : ℕ) (rest : List ℕ) → v < length parents
+    → ((i : ℕ) → i < length rest → getD rest i 0 < length parents)
+    → (i : ℕ) → i < length (trace n parents v rest) → getD (trace n parents v rest) i 0 < length parents
+unfolding trace
+trace-cells zero parents L v rest h r = r
+trace-cells (suc n) parents L v rest h r = go (getD parents v 0) refl (λ u. trace-cells n parents L u (v ∷ rest))
+  where
+    cons : (i : ℕ) → i < length (v ∷ rest) → getD (v ∷ rest) i 0 < length parents
+    cons zero k = h
+    cons (suc i) k = r i (le-of-suc-le-suc k)
+
+    go : (k : ℕ) → getD parents v 0 ≡ k
+        → ((u : ℕ) → u < length parents → ((i : ℕ) → i < length (v ∷ rest) → getD (v ∷ rest) i 0 < length parents)
+        → (i : ℕ) → i < length (trace n parents u (v ∷ rest)) → getD (trace n parents u (v ∷ rest)) i 0 < length parents)
+        → (i : ℕ) → i < length (trace (suc n) parents v rest) → getD (trace (suc n) parents v rest) i 0 < length parents
+    go zero e ih = rw (trace-start n parents v rest e) cons
+    go (suc u) e ih = rw (trace-back n parents v u rest e) (ih u (omega (arith, L v)) cons)
+
+pub path-cells : (R : Room) (parents : List ℕ) → length parents ≡ volume R → Linked parents → (cell : ℕ) → cell < volume R
+    → AllCells R (rootPath parents cell)
+path-cells R parents e L cell h = record {
+  inside = λ i k. rw (← e) (trace-cells (length parents) parents L cell [] (rw e h) (λ j q. absurd (not-suc-le-zero q)) i k);
+}

@@ -1,0 +1,96 @@
+-- The loops that make the masks of a tree: over the steps of a branch, and over the branches.
+use mathlib.Core.Path.{_≡_, refl, _∙_}
+use mathlib.Core.Bool.{Bool, false, _||_}
+use mathlib.Core.List.{List, [], _∷_}
+use Prim.Native.Nat.{ℕ, _+_, _-_, _≤_, _<_}
+use native.Mathlib.Nat.{le-of-suc-le-suc, not-suc-le-zero}
+use native.Mathlib.Numerals.{add-one}
+use native.Mathlib.Omega.{arith}
+use lib.ListN.{length, getD, take, drop, length-drop, drop-of-length-le}
+use lib.Seq.{drop-cons, drop-drop, length-take-le, getD-take}
+use Rattle.room.specs.declared.Room.{Room}
+use Rattle.branches.specs.declared.BranchLengths.{BranchLengths}
+use Rattle.branches.specs.Branches.{total}
+use Rattle.repeaters.specs.Repeaters.{cutInto, lengthsOf, branchesOf, isStep, besideOn, neighbouring}
+use Rattle.repeaters.specs.Joins.{Stepping, AllStepping, Laid, Joined}
+use Rattle.repeaters.specs.JoinLaws.{Adding, adding-none, adding-next, adding-all}
+
+-- ---- the steps of one branch
+
+abbrev pub stepsFrom : List ℕ → ℕ → ℕ → ℕ → Bool
+stepsFrom branch i = besideOn (drop i branch)
+
+pub one-step : (branch : List ℕ) (i : ℕ) → i + 1 < length branch → (a b : ℕ) → a ≡ getD branch i 0 → b ≡ getD branch (i + 1) 0
+    → (u v : ℕ) → stepsFrom branch i u v ≡ isStep a b u v || stepsFrom branch (i + 1) u v
+unfolding besideOn
+one-step branch i h a b e f u v =
+    let rest = drop-cons branch (i + 1) 0 h in
+    let all : drop i branch ≡ getD branch i 0 ∷ drop (i + 1) branch = rw add-one (drop-cons branch i 0 (omega arith)) in
+    rw (all, rest, e, f)
+
+one-cell : (branch : List ℕ) → length branch ≤ 1 → (u v : ℕ) → besideOn branch u v ≡ false
+unfolding besideOn
+one-cell [] h u v = refl
+one-cell (a ∷ []) h u v = refl
+one-cell (a ∷ (b ∷ rest)) h u v = absurd (not-suc-le-zero (le-of-suc-le-suc h))
+
+pub no-steps : (branch : List ℕ) (i : ℕ) → length branch ≤ i + 1 → (u v : ℕ) → stepsFrom branch i u v ≡ false
+no-steps branch i h u v = one-cell (drop i branch) (rw (length-drop i branch) (omega arith)) u v
+
+-- ---- the branches
+
+pub record Laying (R : Room) (L : BranchLengths) (cells start links : List ℕ) (from k : ℕ) : Type 0 where
+  pub within : k ≤ L .count
+  pub room : from + total (drop k (lengthsOf L)) ≤ length cells
+  pub stepping : AllStepping R (cutInto (drop k (lengthsOf L)) (drop from cells))
+  pub adding : Adding R (neighbouring (cutInto (drop k (lengthsOf L)) (drop from cells))) (neighbouring (branchesOf L cells)) start links
+
+module _ {R : Room} {L : BranchLengths} {cells start : List ℕ} (D : Laid R L cells) where
+  pub laying-none : Laying R L cells start start 0 0
+  laying-none = record { within = omega arith; room = omega (arith, D .within); stepping = D .stepping; adding = adding-none }
+
+  module _ {links : List ℕ} {from k : ℕ} (I : Laying R L cells start links from k) where
+    module _ (h : k < L .count) (to : ℕ) (e : to ≡ from + getD (L .each) k 0) where
+      size-is : to - from ≡ getD (L .each) k 0
+      size-is = omega arith
+
+      ends : from + (to - from) ≡ to
+      ends = omega arith
+
+      first : drop k (lengthsOf L) ≡ (to - from) ∷ drop (k + 1) (lengthsOf L)
+      first =
+          let b : k < length (lengthsOf L) = rw (length-take-le (L .count) (L .each) (omega (arith, D .few, D .full))) h in
+          drop-cons (lengthsOf L) k 0 b ∙ rw (getD-take (L .count) (L .each) k 0 h, add-one, size-is)
+
+      cut : cutInto (drop k (lengthsOf L)) (drop from cells) ≡ take (to - from) (drop from cells) ∷ cutInto (drop (k + 1) (lengthsOf L)) (drop to cells)
+      unfolding cutInto
+      cut = rw (first, drop-drop (to - from) from cells, ends)
+
+      more : total (drop k (lengthsOf L)) ≡ to - from + total (drop (k + 1) (lengthsOf L))
+      unfolding total
+      more = rw first
+
+      left-stepping : AllStepping R (take (to - from) (drop from cells) ∷ cutInto (drop (k + 1) (lengthsOf L)) (drop to cells))
+      left-stepping = rw cut at (I .stepping)
+
+      pub branch-in : to ≤ length cells
+      branch-in = omega (arith, I .room, more)
+
+      pub branch-stepping : Stepping R (take (to - from) (drop from cells))
+      branch-stepping = left-stepping .0
+
+      pub laying-next : {links′ : List ℕ} → Joined R (besideOn (take (to - from) (drop from cells))) links links′ → Laying R L cells start links′ to (k + 1)
+      unfolding neighbouring
+      laying-next J = record {
+        within = omega arith;
+        room = omega (arith, I .room, more);
+        stepping = left-stepping .1;
+        adding = adding-next (I .adding) (besideOn (take (to - from) (drop from cells))) _ J (λ u v. rw cut);
+      }
+
+    pub laying-all : L .count ≤ k → Joined R (neighbouring (branchesOf L cells)) start links
+    unfolding neighbouring cutInto
+    laying-all h = adding-all (I .adding) (λ u v. rw none)
+      where
+        none : drop k (lengthsOf L) ≡ []
+        none = drop-of-length-le (lengthsOf L) {i = k} (rw (length-take-le (L .count) (L .each) (omega (arith, D .few, D .full))) h)

@@ -1,0 +1,113 @@
+// Repeaters "sink by sink on the path from the source", in sheet order: the runs of all sinks, and then the tails.
+use crate::roots::root_path;
+use crate::runs::plan_path;
+use crate::tails::reinforce_path;
+use ends::Tap;
+use ends::Taps;
+use room::Room;
+ghost use mathlib.Core.Path.{_≡_};
+ghost use Prim.Native.Nat.{_<_};
+ghost use lib.ListN.{length};
+ghost use Rattle.room.specs.Room.{volume};
+ghost use Rattle.repeaters.specs.Repeaters.{tapsOf, inTurn, runOf, tailOf};
+ghost use Rattle.repeaters.specs.Links.{linkedCells};
+ghost use Rattle.repeaters.specs.Sinks.{TapsIn, Grown};
+
+// "At a cell more than 12 steps past the last reset".
+const MAX_RUN: usize = 12;
+
+// "Over 8 steps after its last repeater (or the source)".
+const MAX_TAIL: usize = 8;
+
+// The run to one sink.
+fn plan_sink(
+    room: Room,
+    links: &[u32],
+    parents: &[u32],
+    forbidden: &[u8],
+    tap: Tap,
+    repeaters: &mut [u8],
+    line: &mut [u32],
+)
+    requires { ⌜ Grown room (now links) (now parents) (now forbidden) ⌝ }
+    requires { ⌜ tap .terminal < volume room ⌝ }
+    requires { ⌜ length (now repeaters) ≡ volume room ⌝ }
+    requires { ⌜ length (now line) ≡ volume room ⌝ }
+    ensures { λ _. ⌜ now (repeaters .exit) ≡ runOf room (linkedCells room (now (links .entry))) (now (parents .entry)) (now (forbidden .entry)) tap (now (repeaters .entry)) ⌝ }
+{
+    let count = root_path(parents, tap.terminal, line);
+    plan_path(room, links, forbidden, &line[..count], repeaters, MAX_RUN);
+}
+
+// The runs to all sinks.
+pub fn plan_repeaters(
+    room: Room,
+    links: &[u32],
+    parents: &[u32],
+    forbidden: &[u8],
+    taps: Taps,
+    repeaters: &mut [u8],
+    line: &mut [u32],
+)
+    requires { ⌜ Grown room (now links) (now parents) (now forbidden) ⌝ }
+    requires { ⌜ TapsIn room taps ⌝ }
+    requires { ⌜ length (now repeaters) ≡ volume room ⌝ }
+    requires { ⌜ length (now line) ≡ volume room ⌝ }
+    ensures { λ _. ⌜ now (repeaters .exit) ≡ inTurn (runOf room (linkedCells room (now (links .entry))) (now (parents .entry)) (now (forbidden .entry))) (tapsOf taps) (now (repeaters .entry)) ⌝ }
+{
+    let count = taps.count;
+    let mut k: usize = 0;
+    while k < count {
+        let tap = taps.taps[k];
+        plan_sink(room, links, parents, forbidden, tap, repeaters, line);
+        k += 1;
+    }
+}
+
+// The tail of one sink, if it is a Wire sink.
+fn reinforce_sink(
+    room: Room,
+    links: &[u32],
+    parents: &[u32],
+    forbidden: &[u8],
+    tap: Tap,
+    repeaters: &mut [u8],
+    line: &mut [u32],
+)
+    requires { ⌜ Grown room (now links) (now parents) (now forbidden) ⌝ }
+    requires { ⌜ tap .terminal < volume room ⌝ }
+    requires { ⌜ length (now repeaters) ≡ volume room ⌝ }
+    requires { ⌜ length (now line) ≡ volume room ⌝ }
+    ensures { λ _. ⌜ now (repeaters .exit) ≡ tailOf room (linkedCells room (now (links .entry))) (now (parents .entry)) (now (forbidden .entry)) tap (now (repeaters .entry)) ⌝ }
+{
+    if !tap.wire {
+        return;
+    }
+    let count = root_path(parents, tap.terminal, line);
+    reinforce_path(room, links, forbidden, &line[..count], repeaters, MAX_TAIL);
+}
+
+// The tails of all Wire sinks.
+pub fn reinforce_wire_sink_tails(
+    room: Room,
+    links: &[u32],
+    parents: &[u32],
+    forbidden: &[u8],
+    taps: Taps,
+    repeaters: &mut [u8],
+    line: &mut [u32],
+)
+    requires { ⌜ Grown room (now links) (now parents) (now forbidden) ⌝ }
+    requires { ⌜ TapsIn room taps ⌝ }
+    requires { ⌜ length (now repeaters) ≡ volume room ⌝ }
+    requires { ⌜ length (now line) ≡ volume room ⌝ }
+    ensures { λ _. ⌜ now (repeaters .exit) ≡ inTurn (tailOf room (linkedCells room (now (links .entry))) (now (parents .entry)) (now (forbidden .entry))) (tapsOf taps) (now (repeaters .entry)) ⌝ }
+{
+    let count = taps.count;
+    let mut k: usize = 0;
+    while k < count {
+        let tap = taps.taps[k];
+        reinforce_sink(room, links, parents, forbidden, tap, repeaters, line);
+        k += 1;
+    }
+}
