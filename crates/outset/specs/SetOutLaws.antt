@@ -39,7 +39,7 @@ ready-good Placement.Placed (Fault.NoFacing place) e = never (cc)
 ready-good Placement.Placed (Fault.Outside place) e = never (cc)
 ready-good (Placement.RepeatAt cell) f e = never (cc)
 
--- the sixteen places of sinks that no one else filled hold these sinks
+-- the value that carries the sinks has sixteen places
 sinks-whole : (es : List Endpoint) → length es ≤ maxSinks → length (sinksOf es .ends) ≡ maxSinks
 sinks-whole es few = length-append es _ ∙ rw (length-replicate {A = Endpoint} (maxSinks - length es) noEndpoint) (omega arith)
 
@@ -142,7 +142,7 @@ module _ {J : Contents} {r s : Outset} {kinds nodes blocked kinds′ nodes′ bl
       let e = O .ends-are ∙ sym (P .ends-are) in
       λ i. record { placement = p i; ends = e i }
 
-  outset-one : (r ≡ s) × (kinds ≡ kinds′) × (nodes ≡ nodes′) × (blocked ≡ blocked′)
+  pub outset-one : (r ≡ s) × (kinds ≡ kinds′) × (nodes ≡ nodes′) × (blocked ≡ blocked′)
   outset-one =
       let L = blocks-laid-one (O .laid) (P .laid) in
       (same-answer, L .0, L .1, O .blocked-are ∙ rw same-answer (sym (P .blocked-are)))

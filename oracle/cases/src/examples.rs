@@ -2,12 +2,13 @@
 //! are judged. Whoever answers cases can run them.
 
 use crate::Refusal;
-use crate::room::{Config, facing, kind};
+use crate::generate::count_places;
+use crate::room::{Config, MOST_CELLS, MOST_COST, MOST_NODES, facing, kind};
 use crate::samples::{
     Sample, block_power, default_job, default_search, route, samples, search_refused, wire,
 };
 use crate::search::{Search, SearchAnswer};
-use crate::sheet::{Block, Job, Port, Sheet, TreeAnswer};
+use crate::sheet::{Block, Job, MOST_SINKS, Port, Sheet, TreeAnswer};
 
 pub fn searches() -> Vec<(&'static str, Search, SearchAnswer)> {
     let mut list = search_readings();
@@ -24,6 +25,10 @@ pub fn sheets() -> Vec<(&'static str, Sheet, TreeAnswer)> {
     list.extend(record_refusals());
     list.extend(tree_refusals());
     list.extend(tree_order());
+    list.extend(room_limits());
+    list.extend(sink_limits());
+    list.extend(config_limits());
+    list.extend(counts_past_the_end());
     list
 }
 
@@ -350,10 +355,22 @@ fn lent(job: &Job, change: impl FnOnce(&mut Sheet)) -> Sheet {
     but(sheet(job), change)
 }
 
+/// A job that is refused for such buffers.
+fn refused_for(
+    name: &'static str,
+    job: &Job,
+    change: impl FnOnce(&mut Sheet),
+    number: u8,
+    detail: u32,
+) -> (&'static str, Sheet, TreeAnswer) {
+    (name, lent(job, change), refused(number, detail))
+}
+
 fn tree_refusals() -> Vec<(&'static str, Sheet, TreeAnswer)> {
     let none = default_job([3, 1, 1], &[]);
     let line = default_job([3, 1, 1], &[plain_sink(2)]);
     let twice = default_job([3, 1, 1], &[wire([1, 0, 0], facing::EAST)]);
+    let square = default_job([3, 1, 3], &[wire([1, 0, 1], facing::NONE)]);
     let overlaps = |blocks: &[Block]| sheet(&blocked_by([4, 1, 1], &[], blocks));
     let at = |node, x| block(node, [x, 0, 0], kind::SOLID);
     let powered = |facing| {
@@ -370,15 +387,13 @@ fn tree_refusals() -> Vec<(&'static str, Sheet, TreeAnswer)> {
     };
     let walled = blocked_by([4, 1, 1], &[plain_sink(1), plain_sink(3)], &[at(0, 2)]);
     vec![
-        (
-            "a buffer under V",
-            lent(&none, |sheet| sheet.lent = 2),
-            refused(6, 0),
-        ),
-        (
+        refused_for("a buffer under V", &none, |sheet| sheet.lent = 2, 6, 0),
+        refused_for(
             "no queue place, even with no sinks",
-            lent(&none, |sheet| sheet.queue = 0),
-            refused(6, 0),
+            &none,
+            |sheet| sheet.queue = 0,
+            6,
+            0,
         ),
         (
             "two nodes in one cell",
@@ -427,28 +442,28 @@ fn tree_refusals() -> Vec<(&'static str, Sheet, TreeAnswer)> {
             lent(&line, |sheet| sheet.branch = 3),
             tree(&[&[0, 1, 2]], 3, &[]),
         ),
-        (
+        refused_for(
             "a branch buffer one short",
-            lent(&line, |sheet| sheet.branch = 2),
-            refused(15, 1),
+            &line,
+            |sheet| sheet.branch = 2,
+            15,
+            1,
         ),
-        (
+        refused_for(
             "the terminal counts",
-            lent(&twice, |sheet| sheet.branch = 3),
-            refused(15, 1),
+            &twice,
+            |sheet| sheet.branch = 3,
+            15,
+            1,
         ),
-        (
+        refused_for(
             "15 before a later sink's 14",
-            lent(&walled, |sheet| sheet.branch = 1),
-            refused(15, 1),
+            &walled,
+            |sheet| sheet.branch = 1,
+            15,
+            1,
         ),
-        (
-            "13 in a tree",
-            lent(&default_job([3, 1, 3], &[wire([1, 0, 1], 0)]), |sheet| {
-                sheet.queue = 4
-            }),
-            refused(13, 2),
-        ),
+        refused_for("13 in a tree", &square, |sheet| sheet.queue = 4, 13, 2),
     ]
 }
 
@@ -480,6 +495,113 @@ fn tree_order() -> Vec<(&'static str, Sheet, TreeAnswer)> {
         list.push(("a tree judges 1, 2, 3, 4, 6, 7, 8, 9, 14", case, answer));
         queue = if number == 6 { 60 } else { queue };
         mend(&mut job);
+    }
+    list
+}
+
+/// A job in the largest room, with buffers that just hold it.
+fn large(job: &Job) -> Sheet {
+    lent(job, |sheet| sheet.lent = MOST_CELLS as u32)
+}
+
+/// Rooms at their limits: what is in range, and what is refused one further on.
+fn room_limits() -> Vec<(&'static str, Sheet, TreeAnswer)> {
+    let full = default_job([64, 4, 64], &[]);
+    let over = but(full.clone(), |job| job.sides = [23, 23, 31]);
+    let corner = block(0, [63, 3, 63], kind::SOLID);
+    let twice = but(full.clone(), |job| job.blocks = vec![corner; 2]);
+    let alone = || tree(&[], 1, &[]);
+    let mut list = vec![
+        ("16,384 cells", large(&full), alone()),
+        ("16,399 cells", large(&over), refused(2, 0)),
+        (
+            "the last of 16,384 cells twice",
+            large(&twice),
+            refused(7, 16_383),
+        ),
+        refused_for(
+            "buffers one short",
+            &full,
+            |sheet| sheet.lent = 16_383,
+            6,
+            0,
+        ),
+    ];
+    for axis in 0..3 {
+        let side = |side| sheet(&but(default_job([1; 3], &[]), |job| job.sides[axis] = side));
+        list.push(("a side of 64", side(64), alone()));
+        list.push(("a side of 65", side(65), refused(2, 0)));
+        list.push(("a side of 0", side(0), refused(2, 0)));
+    }
+    list
+}
+
+/// Sixteen sinks, and the last of them at fault. Seventeen are among the sheets that number 1 refuses.
+fn sink_limits() -> [(&'static str, Sheet, TreeAnswer); 3] {
+    let full = default_job([2, 1, 1], &[plain_sink(1); MOST_SINKS]);
+    let last = |port| sheet(&but(full.clone(), |job| job.sinks[MOST_SINKS - 1] = port));
+    [
+        (
+            "16 sinks",
+            sheet(&full),
+            tree(&[[0, 1].as_slice(); MOST_SINKS], 2, &[]),
+        ),
+        (
+            "the last sink without facing",
+            last(block_power([1, 0, 0], facing::NONE)),
+            refused(8, 16),
+        ),
+        (
+            "the last sink's approach outside",
+            last(wire([1, 0, 0], facing::EAST)),
+            refused(9, 16),
+        ),
+    ]
+}
+
+/// The node limit and each cost at its limit, and one over.
+fn config_limits() -> Vec<(&'static str, Sheet, TreeAnswer)> {
+    let job = default_job([2, 1, 1], &[plain_sink(1)]);
+    let numbers: [(u32, fn(&mut Config, u32)); 4] = [
+        (MOST_NODES, |config, number| config.node_limit = number),
+        (MOST_COST, |config, number| config.horizontal = number),
+        (MOST_COST, |config, number| config.stair = number),
+        (MOST_COST, |config, number| config.support = number),
+    ];
+    let mut list = Vec::new();
+    for (most, set) in numbers {
+        let with = |number| sheet(&but(job.clone(), |job| set(&mut job.config, number)));
+        list.push((
+            "a number at its limit",
+            with(most),
+            tree(&[&[0, 1]], 2, &[]),
+        ));
+        list.push(("a number over its limit", with(most + 1), refused(3, 0)));
+    }
+    list
+}
+
+/// Each count so high that its last record runs past the end: of empty lists, and of lists that hold a record.
+fn counts_past_the_end() -> Vec<(&'static str, Sheet, TreeAnswer)> {
+    let empty = default_job([3, 1, 1], &[]);
+    let solid = block(0, [1, 0, 0], kind::SOLID);
+    let held = but(blocked_by([3, 1, 1], &[plain_sink(2)], &[solid]), |job| {
+        job.conductors.push([0, 0, 0]);
+        job.clearances.push([0, 0, 0]);
+        job.terminals.push([0, 0, 0]);
+        job.reserved.push([0, 0, 0]);
+    });
+    let record_sizes = [7, 3, 3, 3, 3, 5];
+    let mut list = Vec::new();
+    for job in [empty, held] {
+        for (place, size) in count_places(&job).into_iter().zip(record_sizes) {
+            let bytes = but(job.bytes(), |bytes| {
+                let whole = (bytes.len() - place - 1) / size;
+                bytes[place] = whole as u8 + 1;
+            });
+            let name = "a count that runs one record past the end";
+            list.push((name, Sheet::of_route(bytes), refused(1, 0)));
+        }
     }
     list
 }

@@ -6,7 +6,7 @@ use cases::answers::{SEARCHES, SHEETS, searches, sheets};
 use cases::files::read;
 use cases::room::MOST_CELLS;
 use cases::search::{Search, SearchAnswer};
-use cases::sheet::{Sheet, TreeAnswer};
+use cases::sheet::{MOST_BYTES, Sheet, TreeAnswer};
 
 fn count<T: Ord>(numbers: impl Iterator<Item = T>) -> BTreeMap<T, usize> {
     let mut counts = BTreeMap::new();
@@ -51,6 +51,9 @@ fn stored_sheets() {
     }));
     for number in [0, 1, 2, 3, 4, 5, 6, 7, 8, 9, 13, 14, 15] {
         assert!(numbers[&number] >= 5, "{numbers:?}");
+    }
+    for length in [MOST_BYTES, MOST_BYTES + 1] {
+        assert!(stored.iter().any(|(case, _)| case.bytes.len() == length));
     }
     let well_formed = |case: &Sheet| case.judge(MOST_CELLS).is_ok();
     let several = |answer: &Option<TreeAnswer>| matches!(answer, Some(TreeAnswer::Tree { branches, .. }) if branches.len() >= 2);

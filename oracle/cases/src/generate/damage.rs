@@ -243,7 +243,7 @@ fn set_length(bytes: &mut [u8], by: u32) {
 }
 
 /// Where the low byte of each count stands.
-fn count_places(job: &Job) -> [usize; 6] {
+pub fn count_places(job: &Job) -> [usize; 6] {
     let blocks = HEAD + 3 + 16 + 1;
     let conductors = blocks + 2 + 7 * job.blocks.len();
     let clearances = conductors + 2 + 3 * job.conductors.len();

@@ -6,6 +6,7 @@ mod sheets;
 mod site;
 mod terrain;
 
+pub use damage::count_places;
 pub use searches::random_search;
 pub use sheets::random_sheet;
 
