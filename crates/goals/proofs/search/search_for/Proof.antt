@@ -1,0 +1,61 @@
+-- `search_for` meets its contract: an end that may not hold wire ends the goal, else the search is that of the class bytes.
+use mathlib.Core.Path.{sym, _∙_}
+use borrow.Author.Tests.{not-true, not-false}
+use Rattle.goals.specs.SearchLaws.{ran-showable, told-failed, told-searched}
+use mathlib.Core.Path.{sym, _∙_}
+use borrow.Author.Needs.{needs}
+use Rattle.goals.proofs.search.search_for.Statement.{statement}
+use Rattle.goals.proofs.search.search_for.Tie as tie
+
+both-routeable-requires : tie.Need-both-routeable-requires
+both-routeable-requires c κs = search needs
+
+returns : tie.Need-returns
+returns c =
+    let pre = c .before .before .before .before .before .before .before .before .pre in
+    told-failed _ (pre .1 .0) (pre .0 .start-in) (pre .0 .goal-in) (sym (c .before .both-routeable .ensures) ∙ not-true _ (c .if1 .taken)) _
+
+search-classes-requires : tie.Need-search-classes-requires
+search-classes-requires c κs = search needs
+
+tried-of-requires : tie.Need-tried-of-requires
+tried-of-requires c κs =
+    let search-classes = c .before .before .before .before .before .before .before .before .before .search-classes in
+    let pre = c .before .before .before .before .before .before .before .before .before .before .before .before .before .before .before .before .before .before .before .before .before .pre in
+    let known = search-classes .kept .1 .1 .1 .0 ∙ pre .0 .known-long in
+    let previous = search-classes .kept .1 .1 .1 .1 .0 ∙ pre .0 .previous-long in
+    ((rw (pre .1 .0) (pre .0 .goal-in), rw (pre .1 .0) (pre .0 .good .few), known ∙ sym (pre .1 .0), previous ∙ sym (pre .1 .0), pre .1 .1 ∙ sym (pre .1 .0)), ran-showable _ _ _ previous (search-classes .ensures))
+
+same-length : tie.Need-same-length
+same-length c = search needs
+
+same-length-2 : tie.Need-same-length-2
+same-length-2 c = search needs
+
+same-length-3 : tie.Need-same-length-3
+same-length-3 c = search needs
+
+same-length-4 : tie.Need-same-length-4
+same-length-4 c = search needs
+
+returns-2 : tie.Need-returns-2
+returns-2 c =
+    let pre = c .before .before .before .before .before .before .before .before .before .before .before .before .before .before .before .before .before .before .before .before .before .before .before .before .pre in
+    let both-routeable = c .before .before .before .before .before .before .before .before .before .before .before .before .before .before .before .before .before .both-routeable in
+    let if1 = c .before .before .before .before .before .before .before .before .before .before .before .before .before .before .before .before .if1 in
+    let search-classes = c .before .before .before .before .before .before .before .before .before .before .before .before .search-classes in
+    told-searched _ (pre .1 .0) (pre .0 .start-in) (pre .0 .goal-in) (sym (both-routeable .ensures) ∙ not-false _ (if1 .left)) (search-classes .ensures) (rw (pre .1 .0) at (c .before .before .tried-of .ensures))
+
+pub search-for-spec : {M : Type 1} → statement M
+search-for-spec =
+    tie.close
+    (tie.spec
+    both-routeable-requires
+    returns
+    search-classes-requires
+    tried-of-requires
+    same-length
+    same-length-2
+    same-length-3
+    same-length-4
+    returns-2)

@@ -1,0 +1,189 @@
+-- Laws of attempts: what one comes to by cases, and that a conflict blocked for those after it, and not blocked any more behind them, leaves
+-- marks and class bytes as they were.
+use mathlib.Core.Path.{_≡_, refl, sym, ap, _∙_}
+use mathlib.Core.Logic.{_≢_}
+use mathlib.Core.Bool.{Bool, true, false, _||_}
+use mathlib.Core.List.{List}
+use Prim.Native.Nat.{ℕ, suc, _-_, _<_}
+use native.Mathlib.Omega.{arith}
+use lib.Dec.{eqb}
+use lib.ListN.{length, getD, take}
+use lib.Seq.{ext-getD}
+use borrow.Author.Tests.{eqb-true, eqb-false}
+use Rattle.basics.specs.Tests.{ask, never}
+use Rattle.room.specs.declared.Room.{Room}
+use Rattle.room.specs.declared.RouterConfig.{RouterConfig}
+use Rattle.room.specs.declared.Cost.{Cost}
+use Rattle.room.specs.declared.Neighbour.{Neighbour}
+use Rattle.room.specs.declared.Neighbour.the-variants.{Inside, Outside}
+use Rattle.room.specs.Room.{Good, volume}
+use Rattle.routing.specs.Steps.{placesOf}
+use Rattle.routing_resources.specs.Marks.{isMarked, withByte, markedBy, unmarkedBy}
+use Rattle.routing_resources.specs.MarkLaws.{with-length, with-at}
+use Rattle.routing_resources.specs.Resources.{AllCells}
+use Rattle.geometry.specs.Geometry.{Marks, conflictOf}
+use Rattle.geometry.specs.GeometryLaws.{marks-with}
+use Rattle.blocked_world.specs.BlockedWorld.{Says, Fitting, seenTask, refreshed}
+use Rattle.blocked_world.specs.SeenLaws.{says-one}
+use Rattle.blocked_world.specs.RefreshLaws.{mark-put, refreshed-says}
+use Rattle.goals.specs.declared.Tried.{Tried}
+use Rattle.goals.specs.declared.Tried.the-variants.{Found, Failed, Full}
+use Rattle.goals.specs.declared.Attempt.the-variants.{Ended, Conflict}
+use Rattle.goals.specs.Goals.{Site, Trial, found, failed, searchedFor, atConflict, afterSearch, attempts}
+use Rattle.goals.specs.Trials.{Tells, siteOf, Searchable, Able, endsGoal, attemptThen, Repeats, Attempted}
+use Rattle.goals.specs.PathLaws.{found-by, found-cells, conflict-in}
+
+pub tells-failed : (cells : List ℕ) → Tells failed Failed cells
+tells-failed cells = record { is = refl; fits = omega arith }
+
+-- an answer that is no route
+abbrev pub NoRoute : Tried → Type 0
+NoRoute (Found n cost) = ⊥
+NoRoute Failed = Unit {0}
+NoRoute (Full x) = Unit {0}
+
+-- ---- what an attempt asks
+
+module _ {S : Site} {blocked classes known previous path : List ℕ} {start goal : ℕ} (A : Able S blocked classes known previous path start goal) where
+  pub able-fitting : Fitting (S .room) (S .kinds) blocked
+  able-fitting = record { good = A .grounds .good; kinds-long = A .grounds .kinds-long; blocked-long = A .grounds .blocked-long }
+
+  pub able-searchable : {queue : List ℕ} → S .places ≡ placesOf queue → Searchable (S .room) (S .config) classes known previous queue start goal
+  able-searchable p = record {
+    good = A .grounds .good;
+    fair = A .grounds .fair;
+    classes-long = A .says .long;
+    known-long = A .memory .known-long;
+    previous-long = A .memory .previous-long;
+    start-in = A .grounds .start-in;
+    goal-in = A .goal-in;
+    places-some = rw p at (A .grounds .places-some);
+  }
+
+-- ---- what one attempt comes to
+
+module _ (S : Site) (blocked : List ℕ) (start goal : ℕ) where
+  abbrev searchNow : Trial
+  searchNow = searchedFor (seenTask (S .room) (S .config) (S .kinds) blocked start goal (S .places))
+
+  -- there is no route
+  pub ended-search : (r : Tried) (cells : List ℕ) → NoRoute r → Tells searchNow r cells → Attempted S blocked start goal cells (Ended r)
+  unfolding afterSearch
+  ended-search (Found n cost) cells none t = absurd none
+  ended-search Failed cells none t = record { comes = λ again. rw (← t .is) (record { is = refl; fits = omega arith }) }
+  ended-search (Full x) cells none t = record { comes = λ again. rw (← t .is) (record { is = refl; fits = omega arith }) }
+
+  module _ {n : ℕ} {cost : Cost} {cells : List ℕ} (t : Tells searchNow (Found n cost) cells) (conflict : Neighbour)
+      (e : conflict ≡ conflictOf (S .room) (S .kinds) (S .joinable) (take n cells)) where
+    at-conflict : (again : List ℕ → Trial) → attemptThen S blocked start goal again ≡ atConflict blocked start goal again (found (take n cells) (cost .0)) conflict
+    unfolding afterSearch
+    at-conflict again = rw (← t .is, e)
+
+    pub ended-kept : conflict ≡ Outside → Attempted S blocked start goal cells (Ended (Found n cost))
+    unfolding atConflict
+    ended-kept o = record { comes = λ again. rw (at-conflict again, o) (record { is = refl; fits = t .fits }) }
+
+    module _ (v : ℕ) (i : conflict ≡ Inside v) where
+      pub ended-blocked : endsGoal blocked start goal v ≡ true → Attempted S blocked start goal cells (Ended Failed)
+      unfolding atConflict
+      ended-blocked b = record { comes = λ again. rw (at-conflict again, i, b) (tells-failed cells) }
+
+      pub repeated : v < volume (S .room) → endsGoal blocked start goal v ≡ false → Attempted S blocked start goal cells (Conflict v)
+      unfolding atConflict
+      repeated h b = record { comes = record { inside = h; free = free (eqb v start) (eqb v goal) (isMarked blocked v) b; is = λ again. rw (at-conflict again, i, b) } }
+        where
+          free : (x y z : Bool) → x || (y || z) ≡ false → z ≡ false
+          free true y z q = never (cc)
+          free false true z q = never (cc)
+          free false false z q = q
+
+  -- the path's cells, and its conflict, are in the room
+  module _ (start-in : start < volume (S .room)) (goal-in : goal < volume (S .room)) {n : ℕ} {cost : Cost} {cells : List ℕ} (t : Tells searchNow (Found n cost) cells) where
+    pub path-in : AllCells (S .room) (take n cells)
+    path-in = found-cells start-in goal-in (found-by _ (take n cells) (cost .0) (sym (t .is)))
+
+    pub conflict-inside : Good (S .room) → (v : ℕ) → conflictOf (S .room) (S .kinds) (S .joinable) (take n cells) ≡ Inside v → v < volume (S .room)
+    conflict-inside good v e = conflict-in (S .room) good (S .kinds) (S .joinable) (take n cells) path-in v e
+
+-- ---- blocked marks
+
+-- a mark where there was none, taken away
+pub put-back : (marks : List ℕ) (v : ℕ) → Marks marks → isMarked marks v ≡ false → unmarkedBy (eqb v) (markedBy (eqb v) marks) ≡ marks
+put-back marks v small free = ext-getD 0 _ marks (with-length 0 (eqb v) (markedBy (eqb v) marks) ∙ with-length 1 (eqb v) marks) same
+  where
+    same : (u : ℕ) → u < length (unmarkedBy (eqb v) (markedBy (eqb v) marks)) → getD (unmarkedBy (eqb v) (markedBy (eqb v) marks)) u 0 ≡ getD marks u 0
+    same u h =
+        let l : u < length marks = rw (with-length 0 (eqb v) (markedBy (eqb v) marks), with-length 1 (eqb v) marks) at h in
+        rw (with-at 0 (eqb v) (markedBy (eqb v) marks) u (rw (with-length 1 (eqb v) marks) l), with-at 1 (eqb v) marks u l)
+        (ask (eqb v u) (λ t. rw t (here (eqb-true v u t) l)) (λ f. rw f))
+      where
+        here : v ≡ u → u < length marks → 0 ≡ getD marks u 0
+        here e l = rw (← e) (omega (arith, small .small v (rw e l), eqb-false (getD marks v 0) 1 free))
+
+pub set-says : {R : Room} {kinds blocked classes : List ℕ} {start goal cell : ℕ} (byte : ℕ) → Fitting R kinds blocked → Says R kinds blocked start goal classes → cell < volume R
+    → {blocked′ classes′ : List ℕ} → blocked′ ≡ withByte byte (eqb cell) blocked → classes′ ≡ refreshed R kinds blocked′ start goal cell classes
+    → Says R kinds blocked′ start goal classes′
+set-says {R} {kinds} {blocked} {classes} {start} {goal} {cell} byte fit says h e f =
+    rw (f, e) (refreshed-says R (fit .good) cell kinds blocked start goal (withByte byte (eqb cell) blocked) start goal (mark-put byte cell kinds blocked start goal) (fit .kinds-long) classes says h)
+
+-- ---- the attempts after it
+
+pub site-same : (R : Room) (C : RouterConfig) (kinds joinable joinable′ queue queue′ : List ℕ) → joinable′ ≡ joinable → length queue′ ≡ length queue
+    → siteOf R C kinds joinable′ queue′ ≡ siteOf R C kinds joinable queue
+site-same R C kinds joinable joinable′ queue queue′ j q = rw (j, q)
+
+pub attempts-none : (S : Site) (start goal : ℕ) (blocked cells : List ℕ) (left : ℕ) → left ≡ 0 → Tells (attempts left S start goal blocked) Failed cells
+unfolding attempts
+attempts-none S start goal blocked cells left e = rw e (tells-failed cells)
+
+module _ (S : Site) (blocked : List ℕ) (start goal left : ℕ) (some : left ≢ 0) where
+  attempts-one : attempts left S start goal blocked ≡ attemptThen S blocked start goal (attempts (left - 1) S start goal)
+  unfolding attempts
+  attempts-one = let s : left ≡ suc (left - 1) = omega arith in ap (λ (n : ℕ). attempts n S start goal blocked) s
+
+  pub attempts-ended : {cells : List ℕ} {r : Tried} → Attempted S blocked start goal cells (Ended r) → Tells (attempts left S start goal blocked) r cells
+  attempts-ended once = rw attempts-one (once .comes (attempts (left - 1) S start goal))
+
+  pub attempts-repeat : {v : ℕ} {cells : List ℕ} {r : Tried} {S′ : Site} {blocked′ : List ℕ} → Repeats S blocked start goal v → S′ ≡ S → blocked′ ≡ markedBy (eqb v) blocked
+      → Tells (attempts (left - 1) S′ start goal blocked′) r cells → Tells (attempts left S start goal blocked) r cells
+  attempts-repeat {v} once s b t = rw (attempts-one, once .is (attempts (left - 1) S start goal), ← s, ← b) t
+
+-- with the conflict blocked, marks and room still fit together, and the next attempt can be made
+pub able-marked : {S : Site} {blocked classes known previous path : List ℕ} {start goal : ℕ} → Able S blocked classes known previous path start goal
+    → (v : ℕ) {blocked′ : List ℕ} → blocked′ ≡ markedBy (eqb v) blocked → Fitting (S .room) (S .kinds) blocked′
+able-marked {S} {blocked} A v b = record {
+  good = A .grounds .good;
+  kinds-long = A .grounds .kinds-long;
+  blocked-long = ap length b ∙ with-length 1 (eqb v) blocked ∙ A .grounds .blocked-long;
+}
+
+pub able-next : {S S′ : Site} {blocked blocked′ classes classes′ known known′ previous previous′ path path′ : List ℕ} {start goal : ℕ} (v : ℕ)
+    → Able S blocked classes known previous path start goal → S′ ≡ S → blocked′ ≡ markedBy (eqb v) blocked → Says (S .room) (S .kinds) blocked′ start goal classes′
+    → length known′ ≡ length known → length previous′ ≡ length previous → length path′ ≡ length path
+    → Able S′ blocked′ classes′ known′ previous′ path′ start goal
+able-next {S} {S′} {blocked} {blocked′} {classes} {classes′} {known} {known′} {previous} {previous′} {path} {path′} {start} {goal} v A s b says k p q = rw s (record {
+  grounds = record {
+    good = A .grounds .good;
+    fair = A .grounds .fair;
+    kinds-long = A .grounds .kinds-long;
+    joinable-long = A .grounds .joinable-long;
+    joinable-marks = A .grounds .joinable-marks;
+    alone = A .grounds .alone;
+    blocked-long = able-marked A v b .blocked-long;
+    blocked-marks = rw b (marks-with 1 (omega arith) (eqb v) blocked (A .grounds .blocked-marks));
+    start-in = A .grounds .start-in;
+    places-some = A .grounds .places-some;
+  };
+  memory = record { known-long = k ∙ A .memory .known-long; previous-long = p ∙ A .memory .previous-long; path-long = q ∙ A .memory .path-long };
+  goal-in = A .goal-in;
+  says = says;
+})
+
+-- behind them, marks and classes are as they were
+module _ {S : Site} {blocked classes known previous path : List ℕ} {start goal v : ℕ} (A : Able S blocked classes known previous path start goal) (once : Repeats S blocked start goal v)
+    {blocked′ : List ℕ} (b : blocked′ ≡ unmarkedBy (eqb v) (markedBy (eqb v) blocked)) where
+  pub blocked-back : blocked′ ≡ blocked
+  blocked-back = b ∙ put-back blocked v (A .grounds .blocked-marks) (once .free)
+
+  pub classes-back : {classes′ : List ℕ} → Says (S .room) (S .kinds) blocked′ start goal classes′ → classes′ ≡ classes
+  classes-back {classes′} says = says-one (S .room) (S .kinds) blocked start goal classes′ classes (rw blocked-back at says) (A .says)

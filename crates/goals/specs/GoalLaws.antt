@@ -1,0 +1,227 @@
+-- Laws of goals: how the class bytes get a goal and lose it again, which of two trials is kept, and that a full queue ends it all.
+use mathlib.Core.Path.{_≡_, refl, ap, _∙_}
+use mathlib.Core.Logic.{_≢_}
+use mathlib.Core.Bool.{true, false}
+use mathlib.Core.List.{List, [], _∷_, _++_}
+use Prim.Native.Nat.{ℕ, zero, suc, _+_, _≤_, _<_}
+use native.Mathlib.Decide.{ℕ-discrete}
+use native.Mathlib.Numerals.{add-one}
+use native.Mathlib.Omega.{arith}
+use lib.ListN.{length, getD, set, take, drop, length-set, length-append}
+use lib.Seq.{take-at, length-take-le}
+use borrow.Author.Tests.{eq-eqb, ne-eqb}
+use Rattle.basics.specs.Tests.{never}
+use Rattle.room.specs.declared.Room.{Room}
+use Rattle.room.specs.declared.RouterConfig.{RouterConfig}
+use Rattle.room.specs.declared.Cost.{Cost}
+use Rattle.room.specs.Room.{volume}
+use Rattle.blocked_world.specs.BlockedWorld.{Says, refreshed}
+use Rattle.blocked_world.specs.SeenLaws.{says-one}
+use Rattle.blocked_world.specs.RefreshLaws.{same-back, goal-left, refreshed-says}
+use Rattle.goals.specs.declared.Tried.{Tried}
+use Rattle.goals.specs.declared.Tried.the-variants.{Found, Failed, Full}
+use Rattle.goals.specs.Goals.{Site, full, maxAttempts, attempts, cheaper, triedGoal, bestBelow, routeToTree}
+use Rattle.goals.specs.Trials.{Tells, siteOf, Able, GoesOn, beaten, KeepsCheaper}
+use Rattle.goals.specs.AttemptLaws.{tells-failed, site-same}
+
+-- ---- a goal's class bytes
+
+module _ {S : Site} {blocked classes known previous path : List ℕ} {start : ℕ} (A : Able S blocked classes known previous path start start) (goal : ℕ) (h : goal < volume (S .room)) where
+  -- the goal becomes an end
+  pub able-towards : {classes′ : List ℕ} → classes′ ≡ refreshed (S .room) (S .kinds) blocked start goal goal classes
+      → Able S blocked classes′ known previous path start goal
+  able-towards e = record {
+    grounds = A .grounds;
+    memory = A .memory;
+    goal-in = h;
+    says = rw e
+        (refreshed-says (S .room) (A .grounds .good) goal (S .kinds) blocked start start blocked start goal (same-back (goal-left (S .kinds) blocked start goal))
+        (A .grounds .kinds-long) classes (A .says) h);
+  }
+
+  -- and is none any more
+  pub classes-left : {classes′ : List ℕ} → Says (S .room) (S .kinds) blocked start goal classes′ → refreshed (S .room) (S .kinds) blocked start start goal classes′ ≡ classes
+  classes-left {classes′} says =
+      says-one (S .room) (S .kinds) blocked start start _ classes
+      (refreshed-says (S .room) (A .grounds .good) goal (S .kinds) blocked start goal blocked start start (goal-left (S .kinds) blocked start goal) (A .grounds .kinds-long) classes′ says h)
+      (A .says)
+
+-- ---- the loop that copies a path
+
+-- the first i cells are copied
+pub record Copied (from to₀ : List ℕ) (count i : ℕ) (to : List ℕ) : Type 0 where
+  pub within : i ≤ count
+  pub is : to ≡ take i from ++ drop i to₀
+  pub kept : length to ≡ length to₀
+
+copy-one : (i : ℕ) (from to₀ : List ℕ) → i < length from → i < length to₀ → set (take i from ++ drop i to₀) i (getD from i 0) ≡ take (suc i) from ++ drop (suc i) to₀
+copy-one i [] to₀ h k = absurd (omega arith)
+copy-one i (x ∷ from) [] h k = absurd (omega arith)
+copy-one zero (x ∷ from) (y ∷ to₀) h k = refl
+copy-one (suc i) (x ∷ from) (y ∷ to₀) h k = ap (λ (l : List ℕ). x ∷ l) (copy-one i from to₀ (omega arith) (omega arith))
+
+module _ (from to₀ : List ℕ) (count : ℕ) (h : count ≤ length from) (k : count ≤ length to₀) where
+  pub copied-none : Copied from to₀ count 0 to₀
+  copied-none = record { within = omega arith; is = refl; kept = refl }
+
+  pub copied-next : {i : ℕ} {to : List ℕ} → Copied from to₀ count i to → i < count → Copied from to₀ count (i + 1) (set to i (getD from i 0))
+  copied-next {i} {to} C l = record {
+    within = omega arith;
+    is = ap (λ (s : List ℕ). set s i (getD from i 0)) (C .is) ∙ rw add-one (copy-one i from to₀ (omega arith) (omega arith));
+    kept = length-set to i (getD from i 0) ∙ C .kept;
+  }
+
+  pub copied-all : {i : ℕ} {to : List ℕ} → Copied from to₀ count i to → count ≤ i → to ≡ take count from ++ drop count to₀
+  copied-all {i} C l = let e : i ≡ count = omega (arith, C .within) in rw e at (C .is)
+
+-- ---- the cheaper one
+
+module _ {path best : List ℕ} where
+  -- the later goal came to nothing
+  pub keeps-kept : (kept : Tried) → GoesOn kept → KeepsCheaper kept Failed path best kept best
+  unfolding cheaper
+  keeps-kept (Found n cost) on = record { keeps = λ earlier later E L. rw (← E .is, ← L .is) (record { is = refl; fits = E .fits }) }
+  keeps-kept Failed on = record { keeps = λ earlier later E L. rw (← E .is, ← L .is) (record { is = refl; fits = E .fits }) }
+  keeps-kept (Full x) on = absurd on
+
+  -- it found the queue full
+  pub keeps-full : (kept : Tried) (x : _) → GoesOn kept → KeepsCheaper kept (Full x) path best (Full x) best
+  unfolding cheaper
+  keeps-full (Found n cost) x on = record { keeps = λ earlier later E L. rw (← E .is, ← L .is) (record { is = refl; fits = omega arith }) }
+  keeps-full Failed x on = record { keeps = λ earlier later E L. rw (← E .is, ← L .is) (record { is = refl; fits = omega arith }) }
+  keeps-full (Full y) x on = absurd on
+
+  module _ (n : ℕ) (cost : Cost) where
+    -- its route is not cheaper
+    pub keeps-old : (kept : Tried) → GoesOn kept → beaten kept (cost .0) ≡ false → KeepsCheaper kept (Found n cost) path best kept best
+    unfolding cheaper
+    keeps-old (Found m other) on b = record { keeps = λ earlier later E L. rw (← E .is, ← L .is, b) (record { is = refl; fits = E .fits }) }
+    keeps-old Failed on b = never (cc)
+    keeps-old (Full y) on b = absurd on
+
+    -- its route is cheaper, and is copied
+    pub keeps-new : (kept : Tried) → GoesOn kept → beaten kept (cost .0) ≡ true → n ≤ length path → {best′ : List ℕ} → best′ ≡ take n path ++ drop n best
+        → KeepsCheaper kept (Found n cost) path best (Found n cost) best′
+    unfolding cheaper
+    keeps-new kept on b h {best′} e = go kept on b
+      where
+        front : take n best′ ≡ take n path
+        front = rw e (take-at (take n path) (drop n best) n (length-take-le n path h))
+
+        room : n ≤ length best′
+        room = rw (e, length-append (take n path) (drop n best), length-take-le n path h) (omega arith)
+
+        go : (kept : Tried) → GoesOn kept → beaten kept (cost .0) ≡ true → KeepsCheaper kept (Found n cost) path best (Found n cost) best′
+        go (Found m other) on b = record { keeps = λ earlier later E L. rw (← E .is, ← L .is, b) (record { is = rw front; fits = room }) }
+        go Failed on b = record { keeps = λ earlier later E L. rw (← E .is, ← L .is) (record { is = rw front; fits = room }) }
+        go (Full y) on b = absurd on
+
+-- ---- one goal after another
+
+pub best-none : (S : Site) (start : ℕ) (blocked best : List ℕ) → Tells (bestBelow 0 S start blocked) Failed best
+unfolding bestBelow
+best-none S start blocked best = tells-failed best
+
+module _ (S : Site) (start goal : ℕ) (blocked : List ℕ) {best : List ℕ} {kept : Tried} (E : Tells (bestBelow goal S start blocked) kept best) where
+  -- the cell is not joinable
+  pub best-kept : GoesOn kept → getD (S .joinable) goal 0 ≢ 1 → Tells (bestBelow (goal + 1) S start blocked) kept best
+  unfolding bestBelow triedGoal
+  best-kept on n = rw (add-one, ne-eqb (getD (S .joinable) goal 0) 1 n) (keeps-kept {path = []} kept on .keeps _ _ E (tells-failed []))
+
+  pub best-next : getD (S .joinable) goal 0 ≡ 1 → {tried r : Tried} {path best′ : List ℕ} → Tells (attempts maxAttempts S start goal blocked) tried path
+      → KeepsCheaper kept tried path best r best′ → Tells (bestBelow (goal + 1) S start blocked) r best′
+  unfolding bestBelow triedGoal
+  best-next m L keep = rw (add-one, eq-eqb (getD (S .joinable) goal 0) 1 m) (keep .keeps _ _ E L)
+
+-- a full queue ends it all
+full-stays : (S : Site) (start : ℕ) (blocked : List ℕ) (x n m : ℕ) → n ≤ m → full x ≡ bestBelow n S start blocked → full x ≡ bestBelow m S start blocked
+unfolding bestBelow cheaper
+full-stays S start blocked x n zero h e = let z : n ≡ 0 = omega arith in rw z at e
+full-stays S start blocked x n (suc m) h e = go (ℕ-discrete n (suc m)) (λ d. full-stays S start blocked x n m (omega arith) e)
+  where
+    go : Dec (n ≡ suc m) → (n ≢ suc m → full x ≡ bestBelow m S start blocked) → full x ≡ cheaper (bestBelow m S start blocked) (triedGoal S start blocked m)
+    go (yes q) k = rw q at e
+    go (no d) k = rw (← k d)
+
+module _ (S : Site) (start n : ℕ) (blocked : List ℕ) {best : List ℕ} where
+  pub tree-full : {x : _} → Tells (bestBelow n S start blocked) (Full x) best → n ≤ volume (S .room) → Tells (routeToTree S start blocked) (Full x) best
+  unfolding routeToTree
+  tree-full {x} E h = record { is = full-stays S start blocked (x .0) n (volume (S .room)) h (E .is); fits = omega arith }
+
+  pub tree-all : {r : Tried} → Tells (bestBelow n S start blocked) r best → n ≤ volume (S .room) → volume (S .room) ≤ n → Tells (routeToTree S start blocked) r best
+  unfolding routeToTree
+  tree-all E h k = let e : n ≡ volume (S .room) = omega arith in rw e at E
+
+-- ---- the loop over all goals
+
+-- those below `goal` are done; marks and class bytes are as at the start, and all memory is as long
+pub record Going (S : Site) (start goal : ℕ) (kept : Tried) (joinable₀ joinable blocked₀ blocked classes₀ classes known₀ known previous₀ previous path₀ path best₀ best queue₀ queue : List ℕ) : Type 0 where
+  pub within : goal ≤ volume (S .room)
+  pub on : GoesOn kept
+  pub tells : Tells (bestBelow goal S start blocked₀) kept best
+  pub joinable-is : joinable ≡ joinable₀
+  pub blocked-is : blocked ≡ blocked₀
+  pub classes-is : classes ≡ classes₀
+  pub known-long : length known ≡ length known₀
+  pub previous-long : length previous ≡ length previous₀
+  pub path-long : length path ≡ length path₀
+  pub best-long : length best ≡ length best₀
+  pub queue-long : length queue ≡ length queue₀
+
+pub going-first : (S : Site) (start : ℕ) (joinable blocked classes known previous path best queue : List ℕ)
+    → Going S start 0 Failed joinable joinable blocked blocked classes classes known known previous previous path path best best queue queue
+going-first S start joinable blocked classes known previous path best queue = record {
+  within = omega arith;
+  on = tt;
+  tells = best-none S start blocked best;
+  joinable-is = refl;
+  blocked-is = refl;
+  classes-is = refl;
+  known-long = refl;
+  previous-long = refl;
+  path-long = refl;
+  best-long = refl;
+  queue-long = refl;
+}
+
+module _ (R : Room) (C : RouterConfig) (kinds : List ℕ) {start goal : ℕ} {kept : Tried}
+    {joinable₀ joinable blocked₀ blocked classes₀ classes known₀ known previous₀ previous path₀ path best₀ best queue₀ queue : List ℕ}
+    (G : Going (siteOf R C kinds joinable₀ queue₀) start goal kept joinable₀ joinable blocked₀ blocked classes₀ classes known₀ known previous₀ previous path₀ path best₀ best queue₀ queue) where
+  same : siteOf R C kinds joinable queue ≡ siteOf R C kinds joinable₀ queue₀
+  same = site-same R C kinds joinable₀ joinable queue₀ queue (G .joinable-is) (G .queue-long)
+
+  pub going-able : Able (siteOf R C kinds joinable₀ queue₀) blocked₀ classes₀ known₀ previous₀ path₀ start start
+      → Able (siteOf R C kinds joinable queue) blocked classes known previous path start start
+  going-able A = rw (same, G .blocked-is, G .classes-is) (record {
+    grounds = A .grounds;
+    memory = record { known-long = G .known-long ∙ A .memory .known-long; previous-long = G .previous-long ∙ A .memory .previous-long; path-long = G .path-long ∙ A .memory .path-long };
+    goal-in = A .goal-in;
+    says = A .says;
+  })
+
+  pub going-tells : Tells (bestBelow goal (siteOf R C kinds joinable queue) start blocked) kept best
+  going-tells = rw (same, G .blocked-is) (G .tells)
+
+  -- what is said of the marks as they are is said of them as they were
+  pub going-told : (n : ℕ) {r : Tried} {best′ : List ℕ} → Tells (bestBelow n (siteOf R C kinds joinable queue) start blocked) r best′
+      → Tells (bestBelow n (siteOf R C kinds joinable₀ queue₀) start blocked₀) r best′
+  going-told n t = rw (same, G .blocked-is) at t
+
+  pub going-next : goal < volume R → {kept′ : Tried} {joinable′ blocked′ classes′ known′ previous′ path′ best′ queue′ : List ℕ} → GoesOn kept′
+      → Tells (bestBelow (goal + 1) (siteOf R C kinds joinable queue) start blocked) kept′ best′
+      → (joinable′ ≡ joinable) × (blocked′ ≡ blocked) × (classes′ ≡ classes)
+      → length known′ ≡ length known → length previous′ ≡ length previous → length path′ ≡ length path → length best′ ≡ length best → length queue′ ≡ length queue
+      → Going (siteOf R C kinds joinable₀ queue₀) start (goal + 1) kept′ joinable₀ joinable′ blocked₀ blocked′ classes₀ classes′ known₀ known′ previous₀ previous′ path₀ path′ best₀ best′ queue₀ queue′
+  going-next h on t kept k p q b u = record {
+    within = omega arith;
+    on = on;
+    tells = going-told (goal + 1) t;
+    joinable-is = kept .0 ∙ G .joinable-is;
+    blocked-is = kept .1 ∙ G .blocked-is;
+    classes-is = kept .2 ∙ G .classes-is;
+    known-long = k ∙ G .known-long;
+    previous-long = p ∙ G .previous-long;
+    path-long = q ∙ G .path-long;
+    best-long = b ∙ G .best-long;
+    queue-long = u ∙ G .queue-long;
+  }

@@ -1,0 +1,83 @@
+-- One sink's goals, as "The tree of one net" of the requirement has them: the search for one goal, its attempts, and the cheapest of all goals.
+-- Definitions alone; their laws are in the files named Laws.
+use mathlib.Core.Bool.{_||_}
+use mathlib.Core.List.{List}
+use Prim.Native.Nat.{ℕ, zero, suc}
+use lib.Dec.{ltb, eqb}
+use Rattle.basics.specs.Tests.{either}
+use Rattle.room.specs.declared.Room.{Room}
+use Rattle.room.specs.declared.RouterConfig.{RouterConfig}
+use Rattle.room.specs.declared.Neighbour.{Neighbour}
+use Rattle.room.specs.declared.Neighbour.the-variants.{Inside, Outside}
+use Rattle.room.specs.Room.{volume}
+use Rattle.best_first.specs.Search.{Answer, route, no-route, limit-passed, queue-full}
+use Rattle.routing.specs.Routing.{Task, routeable, searched}
+use Rattle.routing_resources.specs.Marks.{markedBy, isMarked}
+use Rattle.geometry.specs.Geometry.{conflictOf}
+use Rattle.blocked_world.specs.BlockedWorld.{seenTask}
+
+-- "at most 64 attempts a goal"
+abbrev pub maxAttempts : ℕ
+maxAttempts = 64
+
+-- what stays as it is while one sink is searched for: the room, its kinds, the queue's places, and the joinable cells
+pub record Site : Type 0 where
+  pub room : Room
+  pub config : RouterConfig
+  pub kinds : List ℕ
+  pub joinable : List ℕ
+  pub places : ℕ
+
+-- what a goal comes to: a path and its cost; nothing; or number 13 with its detail
+pub data Trial : Type 0 where
+  found : (path : List ℕ) (cost : ℕ) → Trial
+  failed : Trial
+  full : (expanded : ℕ) → Trial
+
+-- "A failed search, the node limit included, ends that goal." "Search numbers 10 to 12 only end a goal there; 13 ends the tree."
+abbrev pub trialOf : Answer → Trial
+trialOf (route path cost x) = found path cost
+trialOf (no-route x) = failed
+trialOf (limit-passed x) = failed
+trialOf (queue-full x) = full x
+
+unfoldable pub searchedFor : Task → Trial
+searchedFor T = either (routeable T (T .start)) (either (routeable T (T .goal)) (trialOf (searched T)) failed) failed
+
+-- "A conflict that is start, goal or blocked already ends the goal; any other is blocked for this goal and the search repeats."
+unfoldable pub atConflict : List ℕ → ℕ → ℕ → (List ℕ → Trial) → Trial → Neighbour → Trial
+atConflict blocked start goal again kept Outside = kept
+atConflict blocked start goal again kept (Inside v) =
+    either (eqb v start || (eqb v goal || isMarked blocked v)) failed (again (markedBy (eqb v) blocked))
+
+unfoldable pub afterSearch : Site → List ℕ → ℕ → ℕ → (List ℕ → Trial) → Trial → Trial
+afterSearch S blocked start goal again (found path cost) =
+    atConflict blocked start goal again (found path cost) (conflictOf (S .room) (S .kinds) (S .joinable) path)
+afterSearch S blocked start goal again failed = failed
+afterSearch S blocked start goal again (full x) = full x
+
+-- so many attempts for one goal, from these blocked cells on
+unfoldable pub attempts : ℕ → Site → ℕ → ℕ → List ℕ → Trial
+attempts zero S start goal blocked = failed
+attempts (suc n) S start goal blocked =
+    afterSearch S blocked start goal (attempts n S start goal) (searchedFor (seenTask (S .room) (S .config) (S .kinds) blocked start goal (S .places)))
+
+-- "The first strictly cheapest route is kept". A goal whose queue is full ends it all
+unfoldable pub cheaper : Trial → Trial → Trial
+cheaper (full x) later = full x
+cheaper failed later = later
+cheaper (found path cost) (found path′ cost′) = either (ltb cost′ cost) (found path′ cost′) (found path cost)
+cheaper (found path cost) failed = found path cost
+cheaper (found path cost) (full x) = full x
+
+-- "Each searches from its approach to every joinable cell in number order"
+unfoldable pub triedGoal : Site → ℕ → List ℕ → ℕ → Trial
+triedGoal S start blocked goal = either (isMarked (S .joinable) goal) (attempts maxAttempts S start goal blocked) failed
+
+-- the goals below n
+unfoldable pub bestBelow : ℕ → Site → ℕ → List ℕ → Trial
+bestBelow zero S start blocked = failed
+bestBelow (suc n) S start blocked = cheaper (bestBelow n S start blocked) (triedGoal S start blocked n)
+
+unfoldable pub routeToTree : Site → ℕ → List ℕ → Trial
+routeToTree S start blocked = bestBelow (volume (S .room)) S start blocked

@@ -1,0 +1,7 @@
+pub mod Goals
+pub mod Trials
+pub mod SearchLaws
+pub mod PathLaws
+pub mod AttemptLaws
+pub mod GoalLaws
+pub mod RouteLaws

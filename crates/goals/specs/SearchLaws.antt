@@ -1,0 +1,136 @@
+-- Laws of one search: over class bytes that say what is seen, its answer is the defined one; and what is known of a path that it finds.
+use mathlib.Core.Path.{_≡_, refl, sym, ap, _∙_}
+use mathlib.Core.Bool.{Bool, true, false, _&&_, and-false}
+use mathlib.Core.List.{List, [], _++_}
+use Prim.Native.Nat.{ℕ, _+_, _≤_, _<_, pred}
+use native.Mathlib.Omega.{arith}
+use lib.Dec.{eqb}
+use lib.ListN.{length, getD, drop, replicate, length-append}
+use lib.Seq.{take-at}
+use borrow.Author.Tests.{eq-eqb}
+use Rattle.basics.specs.Tests.{either, never, and-left, and-right}
+use Rattle.room.specs.declared.Room.{Room}
+use Rattle.room.specs.declared.RouterConfig.{RouterConfig}
+use Rattle.room.specs.declared.Pos.{Pos}
+use Rattle.room.specs.declared.Cost.{Cost}
+use Rattle.room.specs.Room.{volume, posOf}
+use Rattle.room.specs.Units.{air}
+use Rattle.best_first.specs.Search.{trace}
+use Rattle.routing.specs.declared.Outcome.{Outcome}
+use Rattle.routing.specs.declared.Outcome.the-variants.{Arrived, NoRoute, LimitPassed, QueueFull}
+use Rattle.routing.specs.Routing.{Task, routeableKind, routeable, graphOf, searched}
+use Rattle.routing.specs.Steps.{placesOf}
+use Rattle.routing.specs.Turns.{Fresh, Ran, graphIn}
+use Rattle.routing.specs.Entry.{Showable}
+use Rattle.blocked_world.specs.BlockedWorld.{anEnd, countsAsSolid, seenKind, seenTask}
+use Rattle.blocked_world.specs.SeenLaws.{seen-at, says-graph}
+use Rattle.goals.specs.declared.Tried.{Tried}
+use Rattle.goals.specs.declared.Tried.the-variants.{Found, Failed, Full}
+use Rattle.goals.specs.Goals.{found, failed, trialOf, searchedFor}
+use Rattle.goals.specs.Trials.{told, Tells, spotOf, bothRouteable, Searchable, Shown, SearchTold}
+
+-- ---- cleared memory
+
+pub searchable-fresh : {R : Room} {C : RouterConfig} {classes known₀ previous₀ queue : List ℕ} {start goal : ℕ}
+    → Searchable R C classes known₀ previous₀ queue start goal
+    → (known previous : List ℕ) (from to : Pos) → known ≡ replicate (length known₀) 0 → previous ≡ replicate (length previous₀) 0
+    → from ≡ posOf R start → to ≡ posOf R goal
+    → Fresh R C classes known previous queue (record { cell = start; at = from }) (record { cell = goal; at = to })
+searchable-fresh S known previous from to k p f t = record {
+  good = S .good;
+  fair = S .fair;
+  classes-length = S .classes-long;
+  known-zero = k ∙ ap (λ (n : ℕ). replicate n 0) (S .known-long);
+  previous-zero = p ∙ ap (λ (n : ℕ). replicate n 0) (S .previous-long);
+  start-placed = record { inside = S .start-in; is = f };
+  goal-placed = record { inside = S .goal-in; is = t };
+  places-some = S .places-some;
+}
+
+-- ---- the answer
+
+-- a route of which so many cells are written to the front
+pub tells-route : (cells : List ℕ) (n : ℕ) (cost : Cost) (path : List ℕ) (price : ℕ) (path′ : List ℕ) → n ≡ length cells → n ≤ length path → cost .0 ≡ price
+    → path′ ≡ cells ++ drop n path → Tells (found cells price) (Found n cost) path′
+tells-route cells n cost path price path′ e h p w = record {
+  is = rw (w, p, take-at cells (drop n path) n (sym e));
+  fits = let l : length (cells ++ drop n path) ≡ length cells + length (drop n path) = length-append cells (drop n path) in rw w (omega arith);
+}
+
+-- by cases of the outcome
+module _ {size goal : ℕ} {known previous : List ℕ} where
+  pub shown-route : (x : _) {r : Tried} {cells : List ℕ} → Tells (found (trace size previous goal []) (pred (getD known goal 0))) r cells
+      → Shown (Arrived x) size goal known previous r cells
+  shown-route x t = record { shows = λ G answer s g A. rw (A .is, s, g) t }
+
+  module _ (cells : List ℕ) where
+    pub shown-none : (x : _) → Shown (NoRoute x) size goal known previous Failed cells
+    shown-none x = record { shows = λ G answer s g e. rw e (record { is = refl; fits = omega arith }) }
+
+    pub shown-limit : (x : _) → Shown (LimitPassed x) size goal known previous Failed cells
+    shown-limit x = record { shows = λ G answer s g e. rw e (record { is = refl; fits = omega arith }) }
+
+    pub shown-full : (x : _) → Shown (QueueFull x) size goal known previous (Full x) cells
+    shown-full x = record { shows = λ G answer s g e. rw e (record { is = refl; fits = omega arith }) }
+
+-- ---- the ends
+
+either-true : (b : Bool) → either b true true ≡ true
+either-true true = refl
+either-true false = refl
+
+module _ (R : Room) (C : RouterConfig) (kinds blocked : List ℕ) (start goal places : ℕ) (long : length kinds ≡ volume R) where
+  abbrev T : Task
+  T = seenTask R C kinds blocked start goal places
+
+  -- an end is seen as what it is
+  end-free : (v : ℕ) → v < volume R → anEnd start goal v ≡ true → routeable T v ≡ routeableKind true (getD kinds v air)
+  unfolding routeable seenKind countsAsSolid
+  end-free v h e = rw (e, seen-at kinds blocked start goal v (rw long h), e, and-false (eqb (getD blocked v 0) 1), and-false (eqb (getD kinds v 0) 0))
+
+  module _ (start-in : start < volume R) (goal-in : goal < volume R) where
+    start-free : routeable T start ≡ routeableKind true (getD kinds start air)
+    start-free = end-free start start-in (rw (eq-eqb start start refl))
+
+    goal-free : routeable T goal ≡ routeableKind true (getD kinds goal air)
+    goal-free = end-free goal goal-in (rw (eq-eqb goal goal refl) (either-true (eqb goal start)))
+
+    pub not-routeable : bothRouteable kinds start goal ≡ false → searchedFor T ≡ failed
+    unfolding searchedFor
+    not-routeable e = rw (start-free, goal-free) (go (routeableKind true (getD kinds start air)) (routeableKind true (getD kinds goal air)) e)
+      where
+        go : (a b : Bool) → a && b ≡ false → either a (either b (trialOf (searched T)) failed) failed ≡ failed
+        go true true q = never (cc)
+        go true false q = refl
+        go false b q = refl
+
+    pub ends-routeable : bothRouteable kinds start goal ≡ true → searchedFor T ≡ trialOf (searched T)
+    unfolding searchedFor
+    ends-routeable e =
+        rw (start-free, goal-free, and-left (routeableKind true (getD kinds start air)) (routeableKind true (getD kinds goal air)) e, and-right (routeableKind true (getD kinds start air)) (routeableKind true (getD kinds goal air)) e)
+
+-- ---- the search over the class bytes
+
+module _ {R : Room} {C : RouterConfig} {classes queue : List ℕ} {start goal : ℕ} where
+  pub ran-showable : (o : Outcome) (known previous : List ℕ) → length previous ≡ volume R
+      → Ran R C classes queue (spotOf R start) (spotOf R goal) o known previous → Showable o goal known previous
+  unfolding graphOf
+  ran-showable (Arrived x) known previous e r = (λ v. rw e (r .told .linked v), r .told .reached)
+  ran-showable (NoRoute x) known previous e r = tt
+  ran-showable (LimitPassed x) known previous e r = tt
+  ran-showable (QueueFull x) known previous e r = tt
+
+  module _ (kinds : List ℕ) (long : length kinds ≡ volume R) (start-in : start < volume R) (goal-in : goal < volume R) where
+    pub told-failed : bothRouteable kinds start goal ≡ false → (cells : List ℕ) → SearchTold R C kinds classes queue start goal Failed cells
+    told-failed e cells = record {
+      tells = λ blocked says. rw (not-routeable R C kinds blocked start goal (placesOf queue) long start-in goal-in e) (record { is = refl; fits = omega arith });
+    }
+
+    pub told-searched : bothRouteable kinds start goal ≡ true → {o : Outcome} {known previous : List ℕ} → Ran R C classes queue (spotOf R start) (spotOf R goal) o known previous
+        → {r : Tried} {cells : List ℕ} → Shown o (volume R) goal known previous r cells → SearchTold R C kinds classes queue start goal r cells
+    unfolding searched graphOf
+    told-searched e ran shown = record {
+      tells = λ blocked says.
+          rw (ends-routeable R C kinds blocked start goal (placesOf queue) long start-in goal-in e, ← says-graph R kinds blocked start goal says C (placesOf queue))
+          (shown .shows (graphIn R C classes start goal queue) _ refl refl (ran .told));
+    }

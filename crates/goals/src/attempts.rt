@@ -1,0 +1,176 @@
+// The attempts for one goal.
+ghost use mathlib.Core.Path.{_≡_};
+ghost use Prim.Native.Nat.{_<_};
+ghost use lib.Dec.{eqb};
+ghost use lib.ListN.{length};
+ghost use Rattle.room.specs.Room.{volume};
+ghost use Rattle.routing_resources.specs.Marks.{withByte};
+ghost use Rattle.blocked_world.specs.BlockedWorld.{Fitting, Says};
+ghost use Rattle.goals.specs.Goals.{attempts};
+ghost use Rattle.goals.specs.Trials.{Tells, siteOf, Able, endsGoal, Attempted};
+use crate::Attempt;
+use crate::Tried;
+use crate::search::search_for;
+use room::Neighbour;
+use room::Room;
+use room::RouterConfig;
+
+// "A conflict that is start, goal or blocked already ends the goal".
+fn ends_goal(blocked: &[u8], start: usize, goal: usize, cell: usize) -> bool
+    requires { ⌜ cell < length (now blocked) ⌝ }
+    ensures { λ r. ⌜ r ≡ endsGoal (now (blocked .entry)) start goal cell ⌝ }
+{
+    if cell == start {
+        return true;
+    }
+    if cell == goal {
+        return true;
+    }
+    blocked[cell] == routing_resources::MARKED
+}
+
+// One attempt. "A search that gave no route ends the goal on the spot"; the conflict is looked for in the unblocked room.
+fn attempt_once(
+    room: Room,
+    config: RouterConfig,
+    kinds: &[u8],
+    joinable: &mut [u8],
+    blocked: &[u8],
+    classes: &[u8],
+    known: &mut [u32],
+    previous: &mut [u32],
+    path: &mut [u32],
+    queue: &mut [u64],
+    start: usize,
+    goal: usize,
+) -> Attempt
+    requires { ⌜ Able (siteOf room config (now kinds) (now joinable) (now queue)) (now blocked) (now classes) (now known) (now previous) (now path) start goal ⌝ }
+    ensures { λ r. ⌜ Attempted (siteOf room config (now (kinds .entry)) (now (joinable .entry)) (now (queue .entry))) (now (blocked .entry)) start goal (now (path .exit)) r ⌝ }
+    ensures { λ _. ⌜ now (joinable .exit) ≡ now (joinable .entry) ⌝ }
+{
+    let tried = search_for(
+        room,
+        config,
+        kinds,
+        classes,
+        known,
+        previous,
+        path,
+        queue,
+        start,
+        goal,
+    );
+    let Tried::Found { length, cost: _ } = tried else {
+        return Attempt::Ended(tried);
+    };
+    let conflict = geometry::geometry_conflict(room, kinds, joinable, &path[..length]);
+    let Neighbour::Inside(cell) = conflict else {
+        return Attempt::Ended(tried);
+    };
+    if ends_goal(blocked, start, goal, cell) {
+        return Attempt::Ended(Tried::Failed);
+    }
+    Attempt::Conflict(cell)
+}
+
+// Writes a blocked mark, and the classes that depend on it anew.
+fn set_blocked(
+    room: Room,
+    kinds: &[u8],
+    blocked: &mut [u8],
+    classes: &mut [u8],
+    start: usize,
+    goal: usize,
+    cell: usize,
+    mark: u8,
+)
+    requires { ⌜ Fitting room (now kinds) (now blocked) ⌝ }
+    requires { ⌜ Says room (now kinds) (now blocked) start goal (now classes) ⌝ }
+    requires { ⌜ cell < volume room ⌝ }
+    ensures { λ _. ⌜ now (blocked .exit) ≡ withByte mark (eqb cell) (now (blocked .entry)) ⌝ }
+    ensures { λ _. ⌜ Says room (now (kinds .entry)) (now (blocked .exit)) start goal (now (classes .exit)) ⌝ }
+{
+    routing_resources::put_mark(blocked, Neighbour::Inside(cell), mark);
+    blocked_world::refresh(room, kinds, blocked, start, goal, classes, cell);
+}
+
+// So many attempts for one goal. A conflict is blocked for the attempts after it, and not blocked any more behind them:
+// marks and classes are as they were when this returns.
+pub fn attempt_goal(
+    room: Room,
+    config: RouterConfig,
+    kinds: &[u8],
+    joinable: &mut [u8],
+    blocked: &mut [u8],
+    classes: &mut [u8],
+    known: &mut [u32],
+    previous: &mut [u32],
+    path: &mut [u32],
+    queue: &mut [u64],
+    start: usize,
+    goal: usize,
+    left: usize,
+) -> Tried
+    requires { ⌜ Able (siteOf room config (now kinds) (now joinable) (now queue)) (now blocked) (now classes) (now known) (now previous) (now path) start goal ⌝ }
+    ensures { λ r. ⌜ Tells (attempts left (siteOf room config (now (kinds .entry)) (now (joinable .entry)) (now (queue .entry))) start goal (now (blocked .entry))) r (now (path .exit)) ⌝ }
+    ensures { λ _. ⌜ (now (joinable .exit) ≡ now (joinable .entry)) × (now (blocked .exit) ≡ now (blocked .entry)) × (now (classes .exit) ≡ now (classes .entry)) ⌝ }
+{
+    if left == 0 {
+        return Tried::Failed;
+    }
+    let once = attempt_once(
+        room,
+        config,
+        kinds,
+        joinable,
+        blocked,
+        classes,
+        known,
+        previous,
+        path,
+        queue,
+        start,
+        goal,
+    );
+    match once {
+        Attempt::Ended(tried) => tried,
+        Attempt::Conflict(cell) => {
+            set_blocked(
+                room,
+                kinds,
+                blocked,
+                classes,
+                start,
+                goal,
+                cell,
+                routing_resources::MARKED,
+            );
+            let tried = attempt_goal(
+                room,
+                config,
+                kinds,
+                joinable,
+                blocked,
+                classes,
+                known,
+                previous,
+                path,
+                queue,
+                start,
+                goal,
+                left - 1,
+            );
+            set_blocked(
+                room,
+                kinds,
+                blocked,
+                classes,
+                start,
+                goal,
+                cell,
+                routing_resources::UNMARKED,
+            );
+            tried
+        }
+    }
+}

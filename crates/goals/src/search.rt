@@ -1,0 +1,122 @@
+// The search for one goal, over the class bytes.
+ghost use mathlib.Core.Path.{_≡_};
+ghost use mathlib.Core.List.{[]};
+ghost use Prim.Native.Nat.{_≤_, _<_, pred};
+ghost use lib.ListN.{length, getD};
+ghost use Rattle.room.specs.Room.{volume};
+ghost use Rattle.best_first.specs.Search.{trace};
+ghost use Rattle.routing.specs.Traces.{Linked};
+ghost use Rattle.routing.specs.Turns.{Ran};
+ghost use Rattle.routing.specs.Entry.{Showable};
+ghost use Rattle.goals.specs.Goals.{found};
+ghost use Rattle.goals.specs.Trials.{Tells, spotOf, bothRouteable, Searchable, Shown, SearchTold};
+use crate::Tried;
+use room::Cost;
+use room::Room;
+use room::RouterConfig;
+use routing::Outcome;
+use routing::Spot;
+
+// Whether both ends may hold wire.
+fn both_routeable(kinds: &[u8], start: usize, goal: usize) -> bool
+    requires { ⌜ (start < length (now kinds)) × (goal < length (now kinds)) ⌝ }
+    ensures { λ r. ⌜ r ≡ bothRouteable (now (kinds .entry)) start goal ⌝ }
+{
+    if !routing::routeable_kind(true, kinds[start]) {
+        return false;
+    }
+    routing::routeable_kind(true, kinds[goal])
+}
+
+// Searches over the class bytes, from cleared memory on.
+fn search_classes(
+    room: Room,
+    config: RouterConfig,
+    classes: &[u8],
+    known: &mut [u32],
+    previous: &mut [u32],
+    queue: &mut [u64],
+    start: usize,
+    goal: usize,
+) -> Outcome
+    requires { ⌜ Searchable room config (now classes) (now known) (now previous) (now queue) start goal ⌝ }
+    ensures { λ r. ⌜ Ran room config (now (classes .entry)) (now (queue .entry)) (spotOf room start) (spotOf room goal) r (now (known .exit)) (now (previous .exit)) ⌝ }
+{
+    lent::clear_words(known);
+    lent::clear_words(previous);
+    let from = Spot {
+        cell: start,
+        at: room.pos(start),
+    };
+    let to = Spot {
+        cell: goal,
+        at: room.pos(goal),
+    };
+    routing::run(room, config, classes, known, previous, queue, from, to)
+}
+
+// The path by predecessors goes to the front of the buffer.
+fn write_route(
+    cells: usize,
+    goal: usize,
+    known: &[u32],
+    previous: &[u32],
+    path: &mut [u32],
+) -> Tried
+    requires { ⌜ (goal < cells) × (cells ≤ 16384) × (length (now known) ≡ cells) × (length (now previous) ≡ cells) × (length (now path) ≡ cells) ⌝ }
+    requires { ⌜ Linked (now previous) ⌝ }
+    requires { ⌜ 0 < getD (now known) goal 0 ⌝ }
+    ensures { λ r. ⌜ Tells (found (trace cells (now (previous .entry)) goal []) (pred (getD (now (known .entry)) goal 0))) r (now (path .exit)) ⌝ }
+{
+    let length = routing::trace_length(previous, goal, cells);
+    routing::trace_into(previous, goal, cells, path, length);
+    Tried::Found {
+        length: length,
+        cost: Cost(known[goal] - 1),
+    }
+}
+
+// "A failed search, the node limit included, ends that goal."
+fn tried_of(
+    outcome: Outcome,
+    cells: usize,
+    goal: usize,
+    known: &[u32],
+    previous: &[u32],
+    path: &mut [u32],
+) -> Tried
+    requires { ⌜ (goal < cells) × (cells ≤ 16384) × (length (now known) ≡ cells) × (length (now previous) ≡ cells) × (length (now path) ≡ cells) ⌝ }
+    requires { ⌜ Showable outcome goal (now known) (now previous) ⌝ }
+    ensures { λ r. ⌜ Shown outcome cells goal (now (known .entry)) (now (previous .entry)) r (now (path .exit)) ⌝ }
+{
+    match outcome {
+        Outcome::Arrived(_) => write_route(cells, goal, known, previous, path),
+        Outcome::NoRoute(_) => Tried::Failed,
+        Outcome::LimitPassed(_) => Tried::Failed,
+        Outcome::QueueFull(expanded) => Tried::Full(expanded),
+    }
+}
+
+// The search from the start to one goal. The path goes to the front of `path`.
+pub fn search_for(
+    room: Room,
+    config: RouterConfig,
+    kinds: &[u8],
+    classes: &[u8],
+    known: &mut [u32],
+    previous: &mut [u32],
+    path: &mut [u32],
+    queue: &mut [u64],
+    start: usize,
+    goal: usize,
+) -> Tried
+    requires { ⌜ Searchable room config (now classes) (now known) (now previous) (now queue) start goal ⌝ }
+    requires { ⌜ (length (now kinds) ≡ volume room) × (length (now path) ≡ volume room) ⌝ }
+    ensures { λ r. ⌜ SearchTold room config (now (kinds .entry)) (now (classes .entry)) (now (queue .entry)) start goal r (now (path .exit)) ⌝ }
+{
+    if !both_routeable(kinds, start, goal) {
+        return Tried::Failed;
+    }
+    let outcome = search_classes(room, config, classes, known, previous, queue, start, goal);
+    tried_of(outcome, kinds.len(), goal, known, previous, path)
+}
