@@ -1,0 +1,68 @@
+-- What the loop over the sinks' turns keeps: the tree so far, as the lent slices hold it.
+use mathlib.Core.Path.{_≡_}
+use mathlib.Core.List.{List, []}
+use Prim.Native.Nat.{ℕ, _+_, _-_, _≤_, _<_}
+use lib.Dec.{eqb}
+use lib.ListN.{length, getD, drop}
+use Rattle.room.specs.declared.Room.{Room}
+use Rattle.room.specs.declared.Neighbour.the-variants.{Outside}
+use Rattle.room.specs.Room.{Good, volume}
+use Rattle.room.specs.Units.{Fair}
+use Rattle.routing_resources.specs.Marks.{markedBy, noMarks, isMarked}
+use Rattle.routing_resources.specs.Resources.{AllCells}
+use Rattle.job_sheet.specs.Sheet.{joined, maxSinks}
+use Rattle.ends.specs.EndLaws.{NetIn}
+use Rattle.geometry.specs.Geometry.{standsIn, conflictOf, NoPair, Marks}
+use Rattle.turns.specs.Turns.{far, turnOf}
+use Rattle.goals.specs.Goals.{Site}
+use Rattle.branches.specs.Branches.{SheetOrder, LengthsOf}
+use Rattle.multinet.specs.Tree.{Plot, Tree, growFrom, growthOf}
+
+-- a plot that no number refuses
+pub record Sound (P : Plot) : Type 0 where
+  pub good : Good (P .room)
+  pub fair : Fair (P .config)
+  pub kinds-long : length (P .kinds) ≡ volume (P .room)
+  pub places-some : 0 < P .places
+  pub net : NetIn (P .room) (P .source) (P .taps)
+
+-- what is known of a route that was found
+pub record Way (S : Site) (path : List ℕ) : Type 0 where
+  pub some : 1 ≤ length path
+  pub short : length path ≤ volume (S .room)
+  pub cells-in : AllCells (S .room) path
+  pub free : conflictOf (S .room) (S .kinds) (S .joinable) path ≡ Outside
+
+abbrev pub turnIn : Plot → ℕ → ℕ
+turnIn P k = turnOf (far (P .room) (P .source) (P .taps .taps)) (P .taps .count) k
+
+abbrev pub branchIn : Tree → ℕ → List ℕ
+branchIn T k = getD (T .branches) k []
+
+-- a tree whose sinks before this turn have their branches, and whose others have none
+pub record Sprouted (P : Plot) (turn : ℕ) (T : Tree) : Type 0 where
+  pub occupied-is : T .occupied ≡ markedBy (standsIn (joined (T .branches))) (markedBy (eqb (P .source)) (noMarks (volume (P .room))))
+  pub joinable-long : length (T .joinable) ≡ volume (P .room)
+  pub joinable-marks : Marks (T .joinable)
+  pub alone : NoPair (P .room) (isMarked (T .joinable))
+  pub blocked-long : length (T .blocked) ≡ volume (P .room)
+  pub blocked-marks : Marks (T .blocked)
+  pub count-is : length (T .branches) ≡ P .taps .count
+  pub none-yet : (k : ℕ) → k < P .taps .count → turn ≤ turnIn P k → branchIn T k ≡ []
+  pub has : (k : ℕ) → k < P .taps .count → turnIn P k < turn → 1 ≤ length (branchIn T k)
+  pub short : (k : ℕ) → k < P .taps .count → length (branchIn T k) ≤ volume (P .room) + 1
+  pub cells-in : (k : ℕ) → k < P .taps .count → AllCells (P .room) (branchIn T k)
+
+-- the turns from here on come to what all of them come to from the outset; the buffer has the branches in sheet order, and behind them what it had
+pub record Growing (P : Plot) (outset start-buffer : List ℕ) (turn : ℕ) (joinable blocked buffer each : List ℕ) : Type 0 where
+  pub tree : Tree
+  pub joinable-is : joinable ≡ tree .joinable
+  pub blocked-is : blocked ≡ tree .blocked
+  pub same : growFrom (P .taps .count - turn) P turn tree ≡ growthOf P outset
+  pub sprouted : Sprouted P turn tree
+  pub in-order : SheetOrder (tree .branches) (length (joined (tree .branches))) buffer
+  pub behind : drop (length (joined (tree .branches))) buffer ≡ drop (length (joined (tree .branches))) start-buffer
+  pub buffer-long : length buffer ≡ P .buffer
+  pub lengths-are : LengthsOf (tree .branches) each
+  pub each-long : length each ≡ maxSinks
+  pub each-short : (i : ℕ) → i < maxSinks → getD each i 0 ≤ 16385

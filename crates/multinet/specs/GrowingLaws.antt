@@ -1,0 +1,301 @@
+-- Laws of growing: one turn after another.
+use mathlib.Core.Path.{_≡_, refl, sym, ap, _∙_}
+use mathlib.Core.Logic.{_⊎_, inl, inr, _≢_}
+use mathlib.Core.Bool.{Bool, true, false, _||_}
+use mathlib.Core.List.{List, [], _∷_, _++_, reverse, reverse-cons, append-nil}
+use Prim.Native.Nat.{ℕ, zero, suc, _+_, _-_, _≤_, _<_}
+use native.Mathlib.Decide.{ℕ-discrete}
+use native.Mathlib.Numerals.{add-one}
+use native.Mathlib.Omega.{arith}
+use lib.Dec.{leb, eqb}
+use lib.ListN.{length, getD, take, drop, set, replicate, length-set, length-append}
+use lib.Seq.{getD-set-same, getD-set-other, drop-drop}
+use borrow.Author.Tests.{le-leb, lt-leb, eqb-true, eq-eqb}
+use Rattle.basics.specs.Tests.{either, ask, never}
+use Rattle.basics.specs.Lists.{In, any}
+use Rattle.room.specs.declared.Room.{Room}
+use Rattle.room.specs.declared.Neighbour.{Neighbour}
+use Rattle.room.specs.declared.Neighbour.the-variants.{Inside, Outside}
+use Rattle.room.specs.Room.{volume, inOrOut}
+use Rattle.routing_resources.specs.Marks.{markedBy, isMarked}
+use Rattle.routing_resources.specs.MarkLaws.{with-length, with-or, with-same}
+use Rattle.routing_resources.specs.Resources.{isClearance, AllCells}
+use Rattle.job_sheet.specs.Sheet.{joined, maxSinks}
+use Rattle.geometry.specs.Geometry.{firstBelow, orElse, standsIn, NoPair, Marks}
+use Rattle.geometry.specs.PairLaws.{none-first}
+use Rattle.geometry.specs.LayLaws.{stands-in, in-stands}
+use Rattle.geometry.specs.GeometryLaws.{no-pair-after, marks-with}
+use Rattle.ends.specs.declared.Tap.{Tap}
+use Rattle.turns.specs.Turns.{far, turnOf, sinkAt}
+use Rattle.turns.specs.TurnLaws.{its-turn}
+use Rattle.goals.specs.Goals.{Trial, found, failed, full, routeToTree}
+use Rattle.branches.specs.Branches.{branchOf, allButLast, inserted, SheetOrder, LengthsOf}
+use Rattle.branches.specs.BranchLaws.{branch-some, branch-short, branch-cells, but-last-in, joined-none, joined-set, order-kept, behind-kept, inserted-long, lengths-set}
+use Rattle.multinet.specs.Tree.{Plot, Tree, Growth, grown, stopped, tapAt, siteOf, withBranch, fitsIn, afterSink, growSink, growOn, growFrom, growthOf}
+use Rattle.multinet.specs.Growing.{Sound, Way, turnIn, branchIn, Sprouted, Growing}
+
+-- ---- the sink whose turn it is
+
+first-below : (test : ℕ → Bool) (n v : ℕ) → firstBelow n test ≡ Inside v → (v < n) × (test v ≡ true)
+unfolding firstBelow
+first-below test zero v e = never (cc)
+first-below test (suc n) v e = go (firstBelow n test) refl e (first-below test n v)
+  where
+    here : (b : Bool) → test n ≡ b → inOrOut b n ≡ Inside v → (v < suc n) × (test v ≡ true)
+    here true t q = let s : n ≡ v = cc in (omega arith, rw s at t)
+    here false t q = never (cc)
+
+    go : (w : Neighbour) → firstBelow n test ≡ w → orElse w (inOrOut (test n) n) ≡ Inside v
+        → (firstBelow n test ≡ Inside v → (v < n) × (test v ≡ true)) → (v < suc n) × (test v ≡ true)
+    go (Inside w) f q rest = let r = rest (f ∙ q) in (omega (arith, r .0), r .1)
+    go Outside f q rest = here (test n) refl q
+
+module _ (P : Plot) (turn : ℕ) where
+  abbrev pub sinkNow : Neighbour
+  sinkNow = sinkAt (far (P .room) (P .source) (P .taps .taps)) (P .taps .count) turn
+
+  pub sink-now : (k : ℕ) → sinkNow ≡ Inside k → (k < P .taps .count) × (turnIn P k ≡ turn)
+  unfolding sinkAt
+  sink-now k e = let f = first-below (λ v. eqb (turnIn P v) turn) (P .taps .count) k e in (f .0, eqb-true _ _ (f .1))
+
+  -- a sink whose turn it is not has its turn before or after
+  other-turn : (k j : ℕ) → sinkNow ≡ Inside k → j < P .taps .count → j ≢ k → turnIn P j ≢ turn
+  other-turn k j e h d s =
+      let q : Inside j ≡ Inside k = sym (its-turn (far (P .room) (P .source) (P .taps .taps)) (P .taps .count) j h) ∙ ap (sinkAt (far (P .room) (P .source) (P .taps .taps)) (P .taps .count)) s ∙ e in
+      d (same q)
+    where
+      same : Inside j ≡ Inside k → j ≡ k
+      same q = cc
+
+  no-turn : (j : ℕ) → sinkNow ≡ Outside → j < P .taps .count → turnIn P j ≢ turn
+  no-turn j e h s =
+      let q : Inside j ≡ Outside = sym (its-turn (far (P .room) (P .source) (P .taps .taps)) (P .taps .count) j h) ∙ ap (sinkAt (far (P .room) (P .source) (P .taps .taps)) (P .taps .count)) s ∙ e in
+      never (cc)
+
+-- ---- one turn of the definition
+
+module _ (P : Plot) (outset : List ℕ) {turn : ℕ} (h : turn < P .taps .count) (T : Tree) (same : growFrom (P .taps .count - turn) P turn T ≡ growthOf P outset) where
+  one-turn : growOn (growFrom (P .taps .count - (turn + 1)) P (turn + 1)) (growSink P (sinkNow P turn) T) ≡ growthOf P outset
+  unfolding growFrom
+  one-turn = let e : P .taps .count - turn ≡ suc (P .taps .count - (turn + 1)) = omega arith in rw e at same
+
+  pub turn-stops : (number detail : ℕ) → growSink P (sinkNow P turn) T ≡ stopped number detail → growthOf P outset ≡ stopped number detail
+  turn-stops number detail e = sym one-turn ∙ rw e
+
+  pub turn-grows : (T′ : Tree) → growSink P (sinkNow P turn) T ≡ grown T′ → growFrom (P .taps .count - (turn + 1)) P (turn + 1) T′ ≡ growthOf P outset
+  turn-grows T′ e = rw e at one-turn
+
+-- ---- the cells of the branches
+
+stands-append : (xs ys : List ℕ) (v : ℕ) → standsIn (xs ++ ys) v ≡ standsIn xs v || standsIn ys v
+unfolding standsIn
+stands-append [] ys v = refl
+stands-append (x ∷ xs) ys v = rw (stands-append xs ys v) (ask (eqb x v) (λ t. rw t) (λ f. rw f))
+
+either-way : (a b c : Bool) → a || (b || c) ≡ (a || c) || b
+either-way true b c = refl
+either-way false true true = refl
+either-way false true false = refl
+either-way false false true = refl
+either-way false false false = refl
+
+-- the cells of all branches with one more are theirs and its
+stands-joined : (bs : List (List ℕ)) (k : ℕ) (b : List ℕ) → k < length bs → getD bs k [] ≡ [] → (v : ℕ)
+    → standsIn (joined (set bs k b)) v ≡ standsIn (joined bs) v || standsIn b v
+stands-joined bs k b h e v =
+    rw (joined-set bs k h b, joined-none bs k h e, stands-append (joined (take k bs)) (b ++ joined (drop (suc k) bs)) v, stands-append b (joined (drop (suc k) bs)) v, stands-append (joined (take k bs)) (joined (drop (suc k) bs)) v)
+    (either-way (standsIn (joined (take k bs)) v) (standsIn b v) (standsIn (joined (drop (suc k) bs)) v))
+
+-- the cells that become joinable are the path's
+in-append : (xs ys : List ℕ) (v : ℕ) → In v (xs ++ ys) → In v xs ⊎ In v ys
+in-append [] ys v i = inr i
+in-append (x ∷ xs) ys v (inl e) = inl (inl e)
+in-append (x ∷ xs) ys v (inr i) = go (in-append xs ys v i)
+  where
+    go : In v xs ⊎ In v ys → In v (x ∷ xs) ⊎ In v ys
+    go (inl j) = inl (inr j)
+    go (inr j) = inr j
+
+in-reverse : (path : List ℕ) (v : ℕ) → In v (reverse path) → In v path
+in-reverse [] v i = i
+in-reverse (x ∷ path) v i = go (in-append (reverse path) (x ∷ []) v (rw (reverse-cons x path) at i)) (in-reverse path v)
+  where
+    go : In v (reverse path) ⊎ In v (x ∷ []) → (In v (reverse path) → In v path) → In v (x ∷ path)
+    go (inl j) rest = inr (rest j)
+    go (inr (inl e)) rest = inl e
+    go (inr (inr n)) rest = absurd n
+
+but-last-snoc : (xs : List ℕ) (t : ℕ) → allButLast (xs ++ (t ∷ [])) ≡ xs
+unfolding allButLast
+but-last-snoc [] t = refl
+but-last-snoc (x ∷ []) t = refl
+but-last-snoc (x ∷ (y ∷ xs)) t = ap (λ l. x ∷ l) (but-last-snoc (y ∷ xs) t)
+
+joined-to-path : (tap : Tap) (path : List ℕ) (v : ℕ) → standsIn (allButLast (branchOf tap path)) v ≡ true → standsIn path v ≡ true
+unfolding branchOf
+joined-to-path tap path v e =
+    ask (eqb (tap .terminal) (tap .approach))
+    (λ t. in-stands path v (in-reverse path v (but-last-in (reverse path) v (rw (append-nil (reverse path)) at (stands-in (allButLast (reverse path ++ [])) v (rw t at e))))))
+    (λ f. in-stands path v (in-reverse path v (rw (but-last-snoc (reverse path) (tap .terminal)) at (stands-in (allButLast (reverse path ++ (tap .terminal ∷ []))) v (rw f at e)))))
+
+-- ---- a branch more
+
+module _ {P : Plot} {turn : ℕ} {T : Tree} (S : Sprouted P turn T) where
+  -- no sink has this turn: nothing changes
+  pub sprouted-on : sinkNow P turn ≡ Outside → Sprouted P (turn + 1) T
+  sprouted-on e = record {
+    occupied-is = S .occupied-is;
+    joinable-long = S .joinable-long;
+    joinable-marks = S .joinable-marks;
+    alone = S .alone;
+    blocked-long = S .blocked-long;
+    blocked-marks = S .blocked-marks;
+    count-is = S .count-is;
+    none-yet = λ k h g. S .none-yet k h (omega arith);
+    has = λ k h g. let d = no-turn P turn k e h in S .has k h (omega (arith, d));
+    short = S .short;
+    cells-in = S .cells-in;
+  }
+
+  module _ (k : ℕ) (e : sinkNow P turn ≡ Inside k) (branch : List ℕ) where
+    abbrev next : Tree
+    next = withBranch (P .room) k branch T
+
+    set-here : branchIn next k ≡ branch
+    unfolding withBranch
+    set-here = let s = sink-now P turn k e in getD-set-same (T .branches) k branch [] (omega (arith, s .0, S .count-is))
+
+    set-there : (j : ℕ) → j ≢ k → branchIn next j ≡ branchIn T j
+    unfolding withBranch
+    set-there j d = getD-set-other (T .branches) k j branch [] d
+
+    -- what holds of this branch and of the others holds of each
+    each-one : (Q : ℕ → List ℕ → Type 0) → Q k branch → ((j : ℕ) → j ≢ k → Q j (branchIn T j)) → (j : ℕ) → Q j (branchIn next j)
+    each-one Q this others j = go (ℕ-discrete j k)
+      where
+        go : Dec (j ≡ k) → Q j (branchIn next j)
+        go (yes q) = rw (q, set-here) this
+        go (no d) = rw (set-there j d) (others j d)
+
+    module _ (has-cells : 1 ≤ length branch) (fits : length branch ≤ volume (P .room) + 1) (inside : AllCells (P .room) branch)
+        (alone′ : NoPair (P .room) (isMarked (markedBy (standsIn (allButLast branch)) (T .joinable)))) where
+      pub sprouted-next : Sprouted P (turn + 1) next
+      unfolding withBranch
+      sprouted-next = record {
+        occupied-is = ap (markedBy (standsIn branch)) (S .occupied-is) ∙ with-or 1 _ _ _ ∙ with-same 1 _ _ _ (λ v h. sym (stands-joined (T .branches) k branch (let s = sink-now P turn k e in omega (arith, s .0, S .count-is)) (let s = sink-now P turn k e in S .none-yet k (s .0) (omega (arith, s .1))) v));
+        joinable-long = with-length 1 _ (T .joinable) ∙ S .joinable-long;
+        joinable-marks = marks-with 1 (omega arith) _ (T .joinable) (S .joinable-marks);
+        alone = alone′;
+        blocked-long = with-length 1 _ (T .blocked) ∙ S .blocked-long;
+        blocked-marks = marks-with 1 (omega arith) _ (T .blocked) (S .blocked-marks);
+        count-is = length-set (T .branches) k branch ∙ S .count-is;
+        none-yet = each-one (λ j b. j < P .taps .count → turn + 1 ≤ turnIn P j → b ≡ [])
+            (λ h g. let s = sink-now P turn k e in absurd (omega (arith, s .1)))
+            (λ j d h g. S .none-yet j h (omega arith));
+        has = each-one (λ j b. j < P .taps .count → turnIn P j < turn + 1 → 1 ≤ length b)
+            (λ h g. has-cells)
+            (λ j d h g. let n = other-turn P turn k j e h d in S .has j h (omega (arith, n)));
+        short = each-one (λ j b. j < P .taps .count → length b ≤ volume (P .room) + 1) (λ h. fits) (λ j d h. S .short j h);
+        cells-in = each-one (λ j b. j < P .taps .count → AllCells (P .room) b) (λ h. inside) (λ j d h. S .cells-in j h);
+      }
+
+-- ---- one turn, as the slices hold the tree
+
+module _ {P : Plot} {outset start-buffer : List ℕ} {turn : ℕ} {joinable blocked buffer each : List ℕ} (S : Sound P)
+    (G : Growing P outset start-buffer turn joinable blocked buffer each) (h : turn < P .taps .count) where
+  abbrev now-tree : Tree
+  now-tree = G .tree
+
+  -- no sink has this turn
+  pub no-sink : sinkNow P turn ≡ Outside → Growing P outset start-buffer (turn + 1) joinable blocked buffer each
+  unfolding growSink
+  no-sink e = record {
+    tree = now-tree;
+    joinable-is = G .joinable-is;
+    blocked-is = G .blocked-is;
+    same = turn-grows P outset h now-tree (G .same) now-tree (rw e);
+    sprouted = sprouted-on (G .sprouted) e;
+    in-order = G .in-order;
+    behind = G .behind;
+    buffer-long = G .buffer-long;
+    lengths-are = G .lengths-are;
+    each-long = G .each-long;
+    each-short = G .each-short;
+  }
+
+  module _ (k : ℕ) (e : sinkNow P turn ≡ Inside k) {trial : Trial} (t : trial ≡ routeToTree (siteOf P now-tree) (tapAt P k .approach) (now-tree .blocked)) where
+    comes : growSink P (sinkNow P turn) now-tree ≡ afterSink P k now-tree trial
+    unfolding growSink
+    comes = rw (e, t)
+
+    pub sink-fails : trial ≡ failed → growthOf P outset ≡ stopped 14 (tapAt P k .approach)
+    unfolding afterSink
+    sink-fails f = turn-stops P outset h now-tree (G .same) 14 (tapAt P k .approach) (comes ∙ rw f)
+
+    pub sink-full : (x : ℕ) → trial ≡ full x → growthOf P outset ≡ stopped 13 x
+    unfolding afterSink
+    sink-full x f = turn-stops P outset h now-tree (G .same) 13 x (comes ∙ rw f)
+
+    module _ (path : List ℕ) (cost : ℕ) (f : trial ≡ found path cost) where
+      abbrev branch : List ℕ
+      branch = branchOf (tapAt P k) path
+
+      pub sink-no-room : P .buffer < length (joined (now-tree .branches)) + length branch → growthOf P outset ≡ stopped 15 (k + 1)
+      unfolding afterSink
+      sink-no-room n = turn-stops P outset h now-tree (G .same) 15 (k + 1) (comes ∙ rw (f, lt-leb _ _ n))
+
+      module _ (w : Way (siteOf P now-tree) path) (fits : length (joined (now-tree .branches)) + length branch ≤ P .buffer) where
+        in-tree : k < length (now-tree .branches)
+        in-tree = let s = sink-now P turn k e in omega (arith, s .0, G .sprouted .count-is)
+
+        empty : branchIn now-tree k ≡ []
+        empty = let s = sink-now P turn k e in G .sprouted .none-yet k (s .0) (omega (arith, s .1))
+
+        abbrev place : ℕ
+        place = length (joined (take k (now-tree .branches)))
+
+        joined-more : length (joined (now-tree .branches)) + length branch ≡ length (joined (set (now-tree .branches) k branch))
+        joined-more =
+            rw (joined-set (now-tree .branches) k in-tree branch, joined-none (now-tree .branches) k in-tree empty, length-append (joined (take k (now-tree .branches))) (branch ++ joined (drop (suc k) (now-tree .branches))), length-append branch (joined (drop (suc k) (now-tree .branches))), length-append (joined (take k (now-tree .branches))) (joined (drop (suc k) (now-tree .branches))))
+            (omega arith)
+
+        pub sink-grows : {joinable′ blocked′ buffer′ each′ : List ℕ}
+            → joinable′ ≡ markedBy (standsIn (allButLast branch)) joinable
+            → blocked′ ≡ markedBy (isClearance (P .room) branch) blocked
+            → buffer′ ≡ inserted place (length (joined (now-tree .branches))) branch buffer
+            → each′ ≡ set each k (length branch)
+            → Growing P outset start-buffer (turn + 1) joinable′ blocked′ buffer′ each′
+        unfolding afterSink withBranch
+        sink-grows {buffer′ = buffer′} {each′ = each′} j b u l =
+            let s = sink-now P turn k e in
+            let some = branch-some (tapAt P k) path (w .some) in
+            let short = branch-short (tapAt P k) path in
+            let room-left : length (joined (now-tree .branches)) + length branch ≤ length buffer = omega (arith, fits, G .buffer-long) in
+            record {
+              tree = withBranch (P .room) k branch now-tree;
+              joinable-is = j ∙ ap (markedBy (standsIn (allButLast branch))) (G .joinable-is);
+              blocked-is = b ∙ ap (markedBy (isClearance (P .room) branch)) (G .blocked-is);
+              same = turn-grows P outset h now-tree (G .same) (withBranch (P .room) k branch now-tree) (comes ∙ rw (f, le-leb _ _ fits));
+              sprouted = sprouted-next (G .sprouted) k e branch some (omega (arith, short, w .short)) (branch-cells (tapAt P k) path (w .cells-in) (S .net .terminal-in k (s .0)))
+                  (no-pair-after (P .room) (P .kinds) (now-tree .joinable) path (w .free) (standsIn (allButLast branch)) (joined-to-path (tapAt P k) path));
+              in-order = rw (u, ← joined-more) (order-kept (now-tree .branches) k in-tree empty (G .in-order) branch room-left);
+              behind = rw (u, ← joined-more) (behind-kept (now-tree .branches) k in-tree empty (G .in-order) branch room-left ∙ later (G .behind));
+              buffer-long = rw u (inserted-long (now-tree .branches) k in-tree empty (G .in-order) branch room-left) ∙ G .buffer-long;
+              lengths-are = rw l (lengths-set (G .lengths-are) k in-tree branch);
+              each-long = rw l (length-set each k (length branch)) ∙ G .each-long;
+              each-short = λ i g. rw l (short-still i g (omega (arith, short, w .short, S .good .few)));
+            }
+          where
+            later : drop (length (joined (now-tree .branches))) buffer ≡ drop (length (joined (now-tree .branches))) start-buffer
+                → drop (length (joined (now-tree .branches)) + length branch) buffer ≡ drop (length (joined (now-tree .branches)) + length branch) start-buffer
+            later q =
+                sym (drop-drop (length branch) (length (joined (now-tree .branches))) buffer)
+                ∙ ap (drop (length branch)) q
+                ∙ drop-drop (length branch) (length (joined (now-tree .branches))) start-buffer
+
+            short-still : (i : ℕ) → i < maxSinks → length branch ≤ 16385 → getD (set each k (length branch)) i 0 ≤ 16385
+            short-still i g m = go (ℕ-discrete i k)
+              where
+                go : Dec (i ≡ k) → getD (set each k (length branch)) i 0 ≤ 16385
+                go (yes q) = rw (q, getD-set-same each k (length branch) 0 (omega (arith, G .each-long, q))) m
+                go (no d) = rw (getD-set-other each k i (length branch) 0 d) (G .each-short i g)

@@ -1,0 +1,169 @@
+-- Laws of a sink's turn: what its functions ask, and what they come to.
+use mathlib.Core.Path.{_≡_, refl, sym, ap, _∙_}
+use mathlib.Core.List.{List, [], _∷_, _++_}
+use Prim.Native.Nat.{ℕ, zero, suc, _+_, _*_, _≤_, _<_}
+use native.Mathlib.Omega.{arith}
+use lib.ListN.{length, getD, take, set}
+use lib.Seq.{take-length}
+use Rattle.room.specs.declared.Room.{Room}
+use Rattle.room.specs.declared.RouterConfig.{RouterConfig}
+use Rattle.room.specs.declared.Neighbour.the-variants.{Inside, Outside}
+use Rattle.room.specs.Room.{volume}
+use Rattle.routing.specs.Steps.{placesOf}
+use Rattle.job_sheet.specs.Sheet.{joined, maxSinks}
+use Rattle.ends.specs.declared.Taps.{Taps}
+use Rattle.ends.specs.Ends.{noTap}
+use Rattle.goals.specs.declared.Tried.{Tried}
+use Rattle.goals.specs.declared.Tried.the-variants.{Found, Failed, Full}
+use Rattle.room.specs.declared.Cost.{Cost}
+use Rattle.goals.specs.Goals.{Trial, found, failed, full, routeToTree}
+use Rattle.goals.specs.Trials.{Tells, told, Grounds}
+use Rattle.goals.specs.RouteLaws.{tree-joins, joins-lawful, joins-cells, joins-short}
+use Rattle.branches.specs.declared.BranchLengths.{BranchLengths}
+use Rattle.branches.specs.Branches.{branchOf, total, Short}
+use Rattle.branches.specs.BranchLaws.{joined-place, place-within}
+use Rattle.multinet.specs.declared.Turned.{Turned}
+use Rattle.multinet.specs.declared.Turned.the-variants.{Grown, Skipped, QueueFull, NoGoal, NoRoom}
+use Rattle.multinet.specs.Adding.{BranchAdded, before-sink, used-by, Placeable, BranchPlaced, no-room, placed}
+use Rattle.multinet.specs.Tree.{Plot, Tree, tapAt, siteOf, stopped, growthOf}
+use Rattle.multinet.specs.Growing.{Sound, Way, branchIn, Sprouted, Growing}
+use Rattle.multinet.specs.GrowingLaws.{sinkNow, sink-now, no-sink, sink-fails, sink-full, sink-no-room, sink-grows}
+use Rattle.multinet.specs.Sinks.{Findable, plotOf, Turnable, Came, TurnCame}
+
+-- sixteen branches of at most so many cells
+total-most : (each : List ℕ) (n : ℕ) → ((i : ℕ) → i < n → getD each i 0 ≤ 16385) → total (take n each) ≤ n * 16385
+unfolding total
+total-most each zero f = omega arith
+total-most [] (suc n) f = omega arith
+total-most (x ∷ each) (suc n) f =
+    let a : x ≤ 16385 = f 0 (omega arith) in
+    let b : total (take n each) ≤ n * 16385 = total-most each n (λ i h. f (suc i) (omega arith)) in
+    omega (arith, a, b)
+
+-- a tree held in slices, at the turn of sink k
+module _ {P : Plot} {turn : ℕ} {L : BranchLengths} {outset start-buffer joinable blocked branches : List ℕ} (S : Sound P)
+    (G : Growing P outset start-buffer turn joinable blocked branches (L .each)) (count : L .count ≡ P .taps .count) (k : ℕ) (e : sinkNow P turn ≡ Inside k) where
+  pub sink-in : k < P .taps .count
+  sink-in = sink-now P turn k e .0
+
+  -- what a route's search asks of the marks
+  pub grounds : Grounds (record { room = P .room; config = P .config; kinds = P .kinds; joinable = joinable; places = P .places }) blocked (tapAt P k .approach)
+  grounds = record {
+    good = S .good;
+    fair = S .fair;
+    kinds-long = S .kinds-long;
+    joinable-long = rw (G .joinable-is) (G .sprouted .joinable-long);
+    joinable-marks = rw (G .joinable-is) (G .sprouted .joinable-marks);
+    alone = rw (G .joinable-is) (G .sprouted .alone);
+    blocked-long = rw (G .blocked-is) (G .sprouted .blocked-long);
+    blocked-marks = rw (G .blocked-is) (G .sprouted .blocked-marks);
+    start-in = S .net .approach-in k sink-in;
+    places-some = S .places-some;
+  }
+
+  -- the branches' lengths tell where they stand
+  pub used-is : used-by L ≡ length (joined (G .tree .branches))
+  used-is =
+      let n : P .taps .count ≡ length (G .tree .branches) = sym (G .sprouted .count-is) in
+      rw (count, n) (joined-place (G .tree .branches) (L .each) (G .lengths-are) (length (G .tree .branches)) (omega arith) ∙ ap (λ l. length (joined l)) (take-length (G .tree .branches)))
+
+  pub before-is : before-sink L k ≡ length (joined (take k (G .tree .branches)))
+  before-is = joined-place (G .tree .branches) (L .each) (G .lengths-are) k (omega (arith, sink-in, G .sprouted .count-is))
+
+  empty : branchIn (G .tree) k ≡ []
+  empty = let s = sink-now P turn k e in G .sprouted .none-yet k (s .0) (omega (arith, s .1))
+
+  pub at-within : before-sink L k ≤ used-by L
+  at-within = rw (before-is, used-is) (place-within (G .tree .branches) k (omega (arith, sink-in, G .sprouted .count-is)) empty (G .in-order))
+
+  pub used-short : used-by L ≤ 262160
+  used-short = let t = total-most (L .each) (L .count) (λ i h. G .each-short i (omega (arith, count, S .net .few))) in omega (arith, t, count, S .net .few)
+
+  pub lengths-short : Short L
+  lengths-short = record { whole = G .each-long; short = G .each-short }
+
+  -- what the search came to is what the definition's does
+  module _ {r : Tried} {best : List ℕ}
+      (T : Tells (routeToTree (record { room = P .room; config = P .config; kinds = P .kinds; joinable = joinable; places = P .places }) (tapAt P k .approach) blocked) r best) where
+    pub trial : told r best ≡ routeToTree (siteOf P (G .tree)) (tapAt P k .approach) (G .tree .blocked)
+    trial = T .is ∙ rw (G .joinable-is, G .blocked-is)
+
+    pub way-found : (path : List ℕ) (cost : ℕ) → told r best ≡ found path cost → Way (siteOf P (G .tree)) path
+    way-found path cost f =
+        let J = tree-joins (siteOf P (G .tree)) (tapAt P k .approach) (G .tree .blocked) path cost (sym trial ∙ f) in
+        let i = S .net .approach-in k sink-in in
+        let w = joins-lawful i J in
+        record {
+          some = rw (w .begins) (omega arith);
+          short = joins-short i J;
+          cells-in = joins-cells i J;
+          free = J .reaches .free;
+        }
+
+-- a route's path stands in its buffer
+pub found-fits : {trial : Trial} {r : Tried} {cells : List ℕ} → Tells trial r cells → (n : ℕ) (cost : Cost) → r ≡ Found n cost → n ≤ length cells
+found-fits T n cost q = rw q at (T .fits)
+
+-- ---- what the turn comes to
+
+module _ {P : Plot} {turn : ℕ} {L : BranchLengths} {joinable blocked classes known previous path best branches : List ℕ}
+    (A : Turnable P turn L joinable blocked classes known previous path best branches) (k : ℕ) (e : sinkNow P turn ≡ Inside k) where
+  pub findable : Findable (record { room = P .room; config = P .config; kinds = P .kinds; joinable = joinable; places = P .places }) blocked classes known previous path best (tapAt P k .approach)
+  findable = record { grounds = grounds (A .sound) (A .growing) (A .count-is) k e; memory = A .memory; classes-long = A .classes-long; best-long = A .best-long }
+
+  module _ {r : Tried} {best′ : List ℕ}
+      (T : Tells (routeToTree (record { room = P .room; config = P .config; kinds = P .kinds; joinable = joinable; places = P .places }) (tapAt P k .approach) blocked) r best′)
+    where
+      pub came-full : {joinable′ blocked′ branches′ : List ℕ} (x : _) → r ≡ Full x → TurnCame P turn L joinable blocked branches (QueueFull x) joinable′ blocked′ branches′
+      came-full x q = record { came = λ o s G. sink-full (A .sound) G (A .turn-in) k e (trial (A .sound) G (A .count-is) k e T) (x .0) (rw q) }
+
+      pub came-failed : {joinable′ blocked′ branches′ : List ℕ} → r ≡ Failed → TurnCame P turn L joinable blocked branches (NoGoal (tapAt P k .approach)) joinable′ blocked′ branches′
+      came-failed q = record { came = λ o s G. sink-fails (A .sound) G (A .turn-in) k e (trial (A .sound) G (A .count-is) k e T) (rw q) }
+
+      module _ (n : ℕ) (cost : _) (q : r ≡ Found n cost) where
+        is-found : told r best′ ≡ found (take n best′) (cost .0)
+        is-found = rw q
+
+        pub placeable : {branches″ joinable″ blocked″ : List ℕ} → joinable″ ≡ joinable → blocked″ ≡ blocked
+            → Placeable (P .room) k L (tapAt P k) (take n best′) branches″ joinable″ blocked″
+        placeable j b =
+            let G = A .growing in
+            let w = way-found (A .sound) G (A .count-is) k e T (take n best′) (cost .0) is-found in
+            record {
+              good = A .sound .good;
+              few = omega (arith, A .count-is, A .sound .net .few);
+              sink-in = omega (arith, sink-in (A .sound) G (A .count-is) k e, A .count-is);
+              lengths-short = lengths-short (A .sound) G (A .count-is) k e;
+              at-within = at-within (A .sound) G (A .count-is) k e;
+              used-short = used-short (A .sound) G (A .count-is) k e;
+              some = w .some;
+              short = omega (arith, w .short, A .sound .good .few);
+              path-in = w .cells-in;
+              terminal-in = A .sound .net .terminal-in k (sink-in (A .sound) G (A .count-is) k e);
+              joinable-long = rw (j, G .joinable-is) (G .sprouted .joinable-long);
+              blocked-long = rw (b, G .blocked-is) (G .sprouted .blocked-long);
+            }
+
+        pub came-placed : P .buffer ≡ length branches → {joinable′ blocked′ branches′ joinable″ blocked″ : List ℕ} → joinable″ ≡ joinable → blocked″ ≡ blocked → {t : Turned}
+            → BranchPlaced (P .room) k L (tapAt P k) (take n best′) branches joinable″ blocked″ t branches′ joinable′ blocked′
+            → TurnCame P turn L joinable blocked branches t joinable′ blocked′ branches′
+        came-placed m j b (no-room over is) = record {
+          came = λ o s G. rw is (sink-no-room (A .sound) G (A .turn-in) k e (trial (A .sound) G (A .count-is) k e T) (take n best′) (cost .0) is-found
+              (omega (arith, m, over, used-is (A .sound) G (A .count-is) k e)));
+        }
+        came-placed m j b (placed fits is D) = record {
+          came = λ o s G.
+              let w = way-found (A .sound) G (A .count-is) k e T (take n best′) (cost .0) is-found in
+              let u = used-is (A .sound) G (A .count-is) k e in
+              rw is (
+                omega (arith, sink-in (A .sound) G (A .count-is) k e, A .sound .net .few),
+                sink-grows (A .sound) G (A .turn-in) k e (trial (A .sound) G (A .count-is) k e T) (take n best′) (cost .0) is-found w (omega (arith, m, fits, u))
+                    (rw j at (D .joinable-are)) (rw b at (D .blocked-are)) (rw (before-is (A .sound) G (A .count-is) k e, u) at (D .branches-are)) refl,
+              );
+        }
+
+-- no sink has this turn
+pub came-skipped : {P : Plot} {turn : ℕ} {L : BranchLengths} {joinable blocked classes known previous path best branches : List ℕ}
+    → Turnable P turn L joinable blocked classes known previous path best branches → sinkNow P turn ≡ Outside
+    → TurnCame P turn L joinable blocked branches Skipped joinable blocked branches
+came-skipped A e = record { came = λ o s G. no-sink (A .sound) G (A .turn-in) e }

@@ -1,0 +1,102 @@
+-- "The tree of one net" of the requirement, from the outset to the repeaters: a tree grows by one branch a sink. Definitions alone; their laws are in
+-- the files named Laws.
+use mathlib.Core.Bool.{Bool, _||_}
+use mathlib.Core.List.{List, [], _∷_}
+use Prim.Native.Nat.{ℕ, zero, suc, _+_}
+use lib.Dec.{leb, eqb}
+use lib.ListN.{length, getD, take, set, replicate}
+use Rattle.basics.specs.Tests.{either}
+use Rattle.basics.specs.Lists.{any}
+use Rattle.room.specs.declared.Room.{Room}
+use Rattle.room.specs.declared.RouterConfig.{RouterConfig}
+use Rattle.room.specs.declared.Neighbour.{Neighbour}
+use Rattle.room.specs.declared.Neighbour.the-variants.{Inside, Outside}
+use Rattle.room.specs.Room.{volume}
+use Rattle.routing_resources.specs.Marks.{markedBy, noMarks}
+use Rattle.routing_resources.specs.Resources.{isClearance}
+use Rattle.job_sheet.specs.Sheet.{joined}
+use Rattle.ends.specs.declared.Tap.{Tap}
+use Rattle.ends.specs.declared.Taps.{Taps}
+use Rattle.ends.specs.Ends.{noTap}
+use Rattle.geometry.specs.Geometry.{standsIn}
+use Rattle.turns.specs.Turns.{far, sinkAt}
+use Rattle.goals.specs.Goals.{Site, Trial, found, failed, full, routeToTree}
+use Rattle.branches.specs.Branches.{branchOf, allButLast}
+
+-- what a tree grows over: the room and its kinds, the places of the queue, the cells of the branch buffer, and the net's ends
+pub record Plot : Type 0 where
+  pub room : Room
+  pub config : RouterConfig
+  pub kinds : List ℕ
+  pub places : ℕ
+  pub buffer : ℕ
+  pub source : ℕ
+  pub taps : Taps
+
+-- the tree so far: marks of its joinable, its occupied and its blocked cells, and its branches in sheet order, with [] for a sink that has none yet
+pub record Tree : Type 0 where
+  pub joinable : List ℕ
+  pub occupied : List ℕ
+  pub blocked : List ℕ
+  pub branches : List (List ℕ)
+
+-- what growing comes to: a tree, or a number with its detail
+pub data Growth : Type 0 where
+  grown : Tree → Growth
+  stopped : (number detail : ℕ) → Growth
+
+abbrev pub tapAt : Plot → ℕ → Tap
+tapAt P k = getD (P .taps .taps) k noTap
+
+abbrev pub tapsOf : Plot → List Tap
+tapsOf P = take (P .taps .count) (P .taps .taps)
+
+-- the source terminal is joinable and occupied from the outset
+unfoldable pub planted : Plot → List ℕ → Tree
+planted P blocked = record {
+  joinable = markedBy (eqb (P .source)) (noMarks (volume (P .room)));
+  occupied = markedBy (eqb (P .source)) (noMarks (volume (P .room)));
+  blocked = blocked;
+  branches = replicate (P .taps .count) [];
+}
+
+abbrev pub siteOf : Plot → Tree → Site
+siteOf P T = record { room = P .room; config = P .config; kinds = P .kinds; joinable = T .joinable; places = P .places }
+
+-- "All but the last cell become joinable; all become occupied; the branch's clearances become blocked."
+unfoldable pub withBranch : Room → ℕ → List ℕ → Tree → Tree
+withBranch R k branch T = record {
+  joinable = markedBy (standsIn (allButLast branch)) (T .joinable);
+  occupied = markedBy (standsIn branch) (T .occupied);
+  blocked = markedBy (isClearance R branch) (T .blocked);
+  branches = set (T .branches) k branch;
+}
+
+-- number 15: "branches so far, in the order searched, exceed the branch buffer"
+abbrev pub fitsIn : Plot → Tree → List ℕ → Bool
+fitsIn P T branch = leb (length (joined (T .branches)) + length branch) (P .buffer)
+
+-- "then per sink 13 or 14, then 15"
+unfoldable pub afterSink : Plot → ℕ → Tree → Trial → Growth
+afterSink P k T (found path cost) =
+    either (fitsIn P T (branchOf (tapAt P k) path)) (grown (withBranch (P .room) k (branchOf (tapAt P k) path) T)) (stopped 15 (k + 1))
+afterSink P k T failed = stopped 14 (tapAt P k .approach)
+afterSink P k T (full x) = stopped 13 x
+
+-- one sink's turn
+unfoldable pub growSink : Plot → Neighbour → Tree → Growth
+growSink P (Inside k) T = afterSink P k T (routeToTree (siteOf P T) (tapAt P k .approach) (T .blocked))
+growSink P Outside T = grown T
+
+abbrev pub growOn : (Tree → Growth) → Growth → Growth
+growOn rest (grown T) = rest T
+growOn rest (stopped number detail) = stopped number detail
+
+-- so many turns, from this one on
+unfoldable pub growFrom : ℕ → Plot → ℕ → Tree → Growth
+growFrom zero P turn T = grown T
+growFrom (suc n) P turn T =
+    growOn (growFrom n P (turn + 1)) (growSink P (sinkAt (far (P .room) (P .source) (P .taps .taps)) (P .taps .count) turn) T)
+
+unfoldable pub growthOf : Plot → List ℕ → Growth
+growthOf P blocked = growFrom (P .taps .count) P 0 (planted P blocked)

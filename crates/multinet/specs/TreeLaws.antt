@@ -1,0 +1,148 @@
+-- Laws of the whole growth: how the loop over the turns begins, goes on and ends.
+use mathlib.Core.Path.{_≡_, refl, sym, ap, _∙_}
+use mathlib.Core.Bool.{Bool, true, false}
+use mathlib.Core.List.{List, [], _∷_}
+use Prim.Native.Nat.{ℕ, zero, suc, _+_, _-_, _≤_, _<_}
+use native.Mathlib.Omega.{arith}
+use lib.Dec.{eqb, ltb}
+use lib.ListN.{length, getD, set, replicate, length-replicate, getD-replicate, List·getD-eq-default}
+use borrow.Author.Tests.{eqb-true, ltb-true, ltb-false}
+use Rattle.basics.specs.Tests.{ask, never}
+use Rattle.room.specs.declared.Room.{Room}
+use Rattle.room.specs.Room.{volume}
+use Rattle.routing_resources.specs.Marks.{markedBy, noMarks, isMarked}
+use Rattle.routing_resources.specs.MarkLaws.{with-length, with-none, marked-after}
+use Rattle.job_sheet.specs.Sheet.{joined, maxSinks}
+use Rattle.geometry.specs.Geometry.{standsIn, NoPair, Marks}
+use Rattle.geometry.specs.GeometryLaws.{no-pair-one, marks-none, marks-with}
+use Rattle.goals.specs.Trials.{Memory}
+use Rattle.branches.specs.declared.BranchLengths.{BranchLengths}
+use Rattle.branches.specs.BranchLaws.{order-first, lengths-first, joined-nothing}
+use Rattle.multinet.specs.declared.Turned.{Turned}
+use Rattle.multinet.specs.declared.Turned.the-variants.{Grown, Skipped, QueueFull, NoGoal, NoRoom}
+use Rattle.multinet.specs.Tree.{Plot, Tree, planted, growFrom, growthOf}
+use Rattle.multinet.specs.Growing.{Sound, branchIn, Sprouted, Growing}
+use Rattle.multinet.specs.Sinks.{Turnable, Came, TurnCame, stopsBy, Recordable, eachBy, recordedBy, Plantable, Turning, Ended, GrowthTold}
+
+-- ---- the outset
+
+stands-none : (v : ℕ) → standsIn [] v ≡ false
+unfolding standsIn
+stands-none v = refl
+
+module _ {P : Plot} (S : Sound P) (blocked : List ℕ) where
+  abbrev source-marks : List ℕ
+  source-marks = markedBy (eqb (P .source)) (noMarks (volume (P .room)))
+
+  only-source : (v : ℕ) → isMarked source-marks v ≡ true → v ≡ P .source
+  only-source v e =
+      ask (eqb (P .source) v) (λ t. sym (eqb-true (P .source) v t))
+      (λ f. let m : isMarked source-marks v ≡ false = not-marked v f in none (sym m ∙ e))
+    where
+      none : false ≡ true → v ≡ P .source
+      none q = never (cc)
+
+      not-marked : (u : ℕ) → eqb (P .source) u ≡ false → isMarked source-marks u ≡ false
+      not-marked u f = ask (ltb u (volume (P .room)))
+          (λ t. let h : u < length (noMarks (volume (P .room))) = rw (length-replicate {A = ℕ} (volume (P .room)) 0) (ltb-true _ _ t) in
+          marked-after (eqb (P .source)) (noMarks (volume (P .room))) u h ∙ rw (f, getD-replicate {A = ℕ} (volume (P .room)) u 0 0 (ltb-true _ _ t)))
+          (λ g. let h : length source-marks ≤ u = rw (with-length 1 (eqb (P .source)) (noMarks (volume (P .room))), length-replicate {A = ℕ} (volume (P .room)) 0) (ltb-false _ _ g) in
+          rw (List·getD-eq-default source-marks 0 {n = u} h))
+
+  nothing-yet : joined (replicate {A = List ℕ} (P .taps .count) []) ≡ []
+  nothing-yet = joined-nothing (P .taps .count)
+
+  pub planted-sprouts : length blocked ≡ volume (P .room) → Marks blocked → Sprouted P 0 (planted P blocked)
+  unfolding planted
+  planted-sprouts long marks = record {
+    occupied-is = sym (with-none 1 _ source-marks (λ v h. rw nothing-yet (stands-none v)));
+    joinable-long = with-length 1 (eqb (P .source)) (noMarks (volume (P .room))) ∙ length-replicate {A = ℕ} (volume (P .room)) 0;
+    joinable-marks = marks-with 1 (omega arith) (eqb (P .source)) (noMarks (volume (P .room))) (marks-none (volume (P .room)));
+    alone = no-pair-one (P .room) (S .good) (isMarked source-marks) (P .source) only-source;
+    blocked-long = long;
+    blocked-marks = marks;
+    count-is = length-replicate {A = List ℕ} (P .taps .count) [];
+    none-yet = λ k h g. getD-replicate {A = List ℕ} (P .taps .count) k [] [] h;
+    has = λ k h g. absurd (omega arith);
+    short = λ k h. rw (getD-replicate {A = List ℕ} (P .taps .count) k [] [] h) (omega arith);
+    cells-in = λ k h. rw (getD-replicate {A = List ℕ} (P .taps .count) k [] [] h) (record { inside = λ i g. absurd (omega arith) });
+  }
+
+module _ {P : Plot} {joinable blocked classes known previous path best : List ℕ} (A : Plantable P joinable blocked classes known previous path best) where
+  first-growing : (branches : List ℕ) → P .buffer ≡ length branches → Growing P blocked branches 0 joinable blocked branches (replicate 16 0)
+  unfolding growthOf planted
+  first-growing branches b =
+      let z : length (joined (replicate {A = List ℕ} (P .taps .count) [])) ≡ 0 = ap length (nothing-yet (A .sound) blocked) in
+      record {
+        tree = planted P blocked;
+        joinable-is = A .joinable-is;
+        blocked-is = refl;
+        same = let e : P .taps .count - 0 ≡ P .taps .count = omega arith in ap (λ n. growFrom n P 0 (planted P blocked)) e;
+        sprouted = planted-sprouts (A .sound) blocked (A .blocked-long) (A .blocked-marks);
+        in-order = rw z (order-first (P .taps .count) branches);
+        behind = refl;
+        buffer-long = sym b;
+        lengths-are = lengths-first (P .taps .count) 16 (A .sound .net .few);
+        each-long = refl;
+        each-short = λ i h. rw (getD-replicate {A = ℕ} 16 i 0 0 h) (omega arith);
+      }
+
+  pub first-turn : (branches : List ℕ) → P .buffer ≡ length branches → Turning P blocked branches 0 (record { count = P .taps .count; each = replicate 16 0 }) joinable blocked branches
+  first-turn branches b = record { growing = first-growing branches b; count-is = refl; so-far = omega arith }
+
+-- ---- turn by turn
+
+module _ {P : Plot} {outset start-buffer : List ℕ} {turn : ℕ} {L : BranchLengths} {joinable blocked branches : List ℕ} (T : Turning P outset start-buffer turn L joinable blocked branches) where
+  pub turnable : Sound P → turn < P .taps .count → {classes known previous path best : List ℕ} → Memory (P .room) known previous path
+      → length classes ≡ volume (P .room) → length best ≡ volume (P .room)
+      → Turnable P turn L joinable blocked classes known previous path best branches
+  turnable S h m c b = record {
+    outset = outset;
+    start-buffer = start-buffer;
+    sound = S;
+    growing = T .growing;
+    count-is = T .count-is;
+    turn-in = h;
+    memory = m;
+    classes-long = c;
+    best-long = b;
+  }
+
+  module _ {turned : Turned} {joinable′ blocked′ branches′ : List ℕ} (C : TurnCame P turn L joinable blocked branches turned joinable′ blocked′ branches′) where
+    came-now : Came P outset start-buffer turn (L .each) joinable′ blocked′ branches′ turned
+    came-now = C .came outset start-buffer (T .growing)
+
+    pub turn-recordable : Recordable turned
+    turn-recordable = go turned came-now
+      where
+        go : (t : Turned) → Came P outset start-buffer turn (L .each) joinable′ blocked′ branches′ t → Recordable t
+        go (Grown k n) w = w .0
+        go Skipped w = tt {0}
+        go (QueueFull x) w = tt {0}
+        go (NoGoal cell) w = tt {0}
+        go (NoRoom place) w = tt {0}
+
+    pub turn-ends : stopsBy turned ≡ true → GrowthTold P outset start-buffer (record { ended = turned; lengths = L }) joinable′ blocked′ branches′
+    turn-ends e = record { told = go turned came-now e }
+      where
+        go : (t : Turned) → Came P outset start-buffer turn (L .each) joinable′ blocked′ branches′ t → stopsBy t ≡ true → Ended P outset start-buffer L joinable′ blocked′ branches′ t
+        go (Grown k n) w q = never (cc)
+        go Skipped w q = never (cc)
+        go (QueueFull x) w q = w
+        go (NoGoal cell) w q = w
+        go (NoRoom place) w q = w
+
+    pub turn-on : turn < P .taps .count → stopsBy turned ≡ false → {L′ : BranchLengths} → L′ ≡ recordedBy L turned
+        → Turning P outset start-buffer (turn + 1) L′ joinable′ blocked′ branches′
+    turn-on h e {L′ = L′} r = rw r (record { growing = go turned came-now e; count-is = T .count-is; so-far = omega arith })
+      where
+        go : (t : Turned) → Came P outset start-buffer turn (L .each) joinable′ blocked′ branches′ t → stopsBy t ≡ false
+            → Growing P outset start-buffer (turn + 1) joinable′ blocked′ branches′ (eachBy (L .each) t)
+        go (Grown k n) w q = w .1
+        go Skipped w q = w
+        go (QueueFull x) w q = never (cc)
+        go (NoGoal cell) w q = never (cc)
+        go (NoRoom place) w q = never (cc)
+
+  pub all-grown : P .taps .count ≤ turn → GrowthTold P outset start-buffer (record { ended = Skipped; lengths = L }) joinable blocked branches
+  all-grown h = let e : turn ≡ P .taps .count = omega (arith, T .so-far) in record { told = (T .count-is, rw e at (T .growing)) }
