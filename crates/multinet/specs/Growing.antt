@@ -1,6 +1,6 @@
 -- What the loop over the sinks' turns keeps: the tree so far, as the lent slices hold it.
 use mathlib.Core.Path.{_≡_}
-use mathlib.Core.List.{List, []}
+use mathlib.Core.List.{List, [], _∷_}
 use Prim.Native.Nat.{ℕ, _+_, _-_, _≤_, _<_}
 use lib.Dec.{eqb}
 use lib.ListN.{length, getD, drop}
@@ -16,7 +16,8 @@ use Rattle.geometry.specs.Geometry.{standsIn, conflictOf, NoPair, Marks}
 use Rattle.turns.specs.Turns.{far, turnOf}
 use Rattle.goals.specs.Goals.{Site}
 use Rattle.branches.specs.Branches.{SheetOrder, LengthsOf}
-use Rattle.multinet.specs.Tree.{Plot, Tree, growFrom, growthOf}
+use Rattle.multinet.specs.Tree.{Plot, Tree, tapAt, growFrom, growthOf}
+use Rattle.multinet.specs.StepLaws.{Steps, Near}
 
 -- a plot that no number refuses
 pub record Sound (P : Plot) : Type 0 where
@@ -25,10 +26,13 @@ pub record Sound (P : Plot) : Type 0 where
   pub kinds-long : length (P .kinds) ≡ volume (P .room)
   pub places-some : 0 < P .places
   pub net : NetIn (P .room) (P .source) (P .taps)
+  pub near : (k : ℕ) → k < P .taps .count → Near (P .room) (tapAt P k)
 
 -- what is known of a route that was found
-pub record Way (S : Site) (path : List ℕ) : Type 0 where
-  pub some : 1 ≤ length path
+pub record Way (S : Site) (start : ℕ) (path : List ℕ) : Type 0 where
+  pub rest : List ℕ
+  pub begins : path ≡ start ∷ rest
+  pub steps : Steps (S .room) path
   pub short : length path ≤ volume (S .room)
   pub cells-in : AllCells (S .room) path
   pub free : conflictOf (S .room) (S .kinds) (S .joinable) path ≡ Outside
@@ -52,6 +56,7 @@ pub record Sprouted (P : Plot) (turn : ℕ) (T : Tree) : Type 0 where
   pub has : (k : ℕ) → k < P .taps .count → turnIn P k < turn → 1 ≤ length (branchIn T k)
   pub short : (k : ℕ) → k < P .taps .count → length (branchIn T k) ≤ volume (P .room) + 1
   pub cells-in : (k : ℕ) → k < P .taps .count → AllCells (P .room) (branchIn T k)
+  pub steps : (k : ℕ) → k < P .taps .count → Steps (P .room) (branchIn T k)
 
 -- the turns from here on come to what all of them come to from the outset; the buffer has the branches in sheet order, and behind them what it had
 pub record Growing (P : Plot) (outset start-buffer : List ℕ) (turn : ℕ) (joinable blocked buffer each : List ℕ) : Type 0 where

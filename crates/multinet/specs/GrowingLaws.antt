@@ -28,10 +28,11 @@ use Rattle.geometry.specs.GeometryLaws.{no-pair-after, marks-with}
 use Rattle.ends.specs.declared.Tap.{Tap}
 use Rattle.turns.specs.Turns.{far, turnOf, sinkAt}
 use Rattle.turns.specs.TurnLaws.{its-turn}
-use Rattle.goals.specs.Goals.{Trial, found, failed, full, routeToTree}
+use Rattle.goals.specs.Goals.{Site, Trial, found, failed, full, routeToTree}
 use Rattle.branches.specs.Branches.{branchOf, allButLast, inserted, SheetOrder, LengthsOf}
 use Rattle.branches.specs.BranchLaws.{branch-some, branch-short, branch-cells, but-last-in, joined-none, joined-set, order-kept, behind-kept, inserted-long, lengths-set}
 use Rattle.multinet.specs.Tree.{Plot, Tree, Growth, grown, stopped, tapAt, siteOf, withBranch, fitsIn, afterSink, growSink, growOn, growFrom, growthOf}
+use Rattle.multinet.specs.StepLaws.{Steps, branch-steps}
 use Rattle.multinet.specs.Growing.{Sound, Way, turnIn, branchIn, Sprouted, Growing}
 
 -- ---- the sink whose turn it is
@@ -155,6 +156,7 @@ module _ {P : Plot} {turn : ℕ} {T : Tree} (S : Sprouted P turn T) where
     has = λ k h g. let d = no-turn P turn k e h in S .has k h (omega (arith, d));
     short = S .short;
     cells-in = S .cells-in;
+    steps = S .steps;
   }
 
   module _ (k : ℕ) (e : sinkNow P turn ≡ Inside k) (branch : List ℕ) where
@@ -177,7 +179,7 @@ module _ {P : Plot} {turn : ℕ} {T : Tree} (S : Sprouted P turn T) where
         go (yes q) = rw (q, set-here) this
         go (no d) = rw (set-there j d) (others j d)
 
-    module _ (has-cells : 1 ≤ length branch) (fits : length branch ≤ volume (P .room) + 1) (inside : AllCells (P .room) branch)
+    module _ (has-cells : 1 ≤ length branch) (fits : length branch ≤ volume (P .room) + 1) (inside : AllCells (P .room) branch) (goes : Steps (P .room) branch)
         (alone′ : NoPair (P .room) (isMarked (markedBy (standsIn (allButLast branch)) (T .joinable)))) where
       pub sprouted-next : Sprouted P (turn + 1) next
       unfolding withBranch
@@ -197,7 +199,11 @@ module _ {P : Plot} {turn : ℕ} {T : Tree} (S : Sprouted P turn T) where
             (λ j d h g. let n = other-turn P turn k j e h d in S .has j h (omega (arith, n)));
         short = each-one (λ j b. j < P .taps .count → length b ≤ volume (P .room) + 1) (λ h. fits) (λ j d h. S .short j h);
         cells-in = each-one (λ j b. j < P .taps .count → AllCells (P .room) b) (λ h. inside) (λ j d h. S .cells-in j h);
+        steps = each-one (λ j b. j < P .taps .count → Steps (P .room) b) (λ h. goes) (λ j d h. S .steps j h);
       }
+
+pub way-some : {S : Site} {start : ℕ} {path : List ℕ} → Way S start path → 1 ≤ length path
+way-some w = rw (w .begins) (omega arith)
 
 -- ---- one turn, as the slices hold the tree
 
@@ -244,7 +250,7 @@ module _ {P : Plot} {outset start-buffer : List ℕ} {turn : ℕ} {joinable bloc
       unfolding afterSink
       sink-no-room n = turn-stops P outset h now-tree (G .same) 15 (k + 1) (comes ∙ rw (f, lt-leb _ _ n))
 
-      module _ (w : Way (siteOf P now-tree) path) (fits : length (joined (now-tree .branches)) + length branch ≤ P .buffer) where
+      module _ (w : Way (siteOf P now-tree) (tapAt P k .approach) path) (fits : length (joined (now-tree .branches)) + length branch ≤ P .buffer) where
         in-tree : k < length (now-tree .branches)
         in-tree = let s = sink-now P turn k e in omega (arith, s .0, G .sprouted .count-is)
 
@@ -268,7 +274,8 @@ module _ {P : Plot} {outset start-buffer : List ℕ} {turn : ℕ} {joinable bloc
         unfolding afterSink withBranch
         sink-grows {buffer′ = buffer′} {each′ = each′} j b u l =
             let s = sink-now P turn k e in
-            let some = branch-some (tapAt P k) path (w .some) in
+            let some = branch-some (tapAt P k) path (way-some w) in
+            let goes : Steps (P .room) branch = rw (w .begins) (branch-steps (S .good) (tapAt P k) (w .rest) (S .near k (s .0)) (rw (w .begins) at (w .steps))) in
             let short = branch-short (tapAt P k) path in
             let room-left : length (joined (now-tree .branches)) + length branch ≤ length buffer = omega (arith, fits, G .buffer-long) in
             record {
@@ -276,7 +283,7 @@ module _ {P : Plot} {outset start-buffer : List ℕ} {turn : ℕ} {joinable bloc
               joinable-is = j ∙ ap (markedBy (standsIn (allButLast branch))) (G .joinable-is);
               blocked-is = b ∙ ap (markedBy (isClearance (P .room) branch)) (G .blocked-is);
               same = turn-grows P outset h now-tree (G .same) (withBranch (P .room) k branch now-tree) (comes ∙ rw (f, le-leb _ _ fits));
-              sprouted = sprouted-next (G .sprouted) k e branch some (omega (arith, short, w .short)) (branch-cells (tapAt P k) path (w .cells-in) (S .net .terminal-in k (s .0)))
+              sprouted = sprouted-next (G .sprouted) k e branch some (omega (arith, short, w .short)) (branch-cells (tapAt P k) path (w .cells-in) (S .net .terminal-in k (s .0))) goes
                   (no-pair-after (P .room) (P .kinds) (now-tree .joinable) path (w .free) (standsIn (allButLast branch)) (joined-to-path (tapAt P k) path));
               in-order = rw (u, ← joined-more) (order-kept (now-tree .branches) k in-tree empty (G .in-order) branch room-left);
               behind = rw (u, ← joined-more) (behind-kept (now-tree .branches) k in-tree empty (G .in-order) branch room-left ∙ later (G .behind));

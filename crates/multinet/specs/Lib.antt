@@ -1,8 +1,13 @@
 pub mod Adding
 pub mod AddingLaws
 pub mod Tree
+pub mod StepLaws
+pub mod NearLaws
 pub mod Growing
 pub mod GrowingLaws
 pub mod Sinks
 pub mod SinkLaws
 pub mod TreeLaws
+pub mod Finishing
+pub mod FinishingLaws
+pub mod TreeSamples

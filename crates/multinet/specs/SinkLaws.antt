@@ -9,6 +9,7 @@ use Rattle.room.specs.declared.Room.{Room}
 use Rattle.room.specs.declared.RouterConfig.{RouterConfig}
 use Rattle.room.specs.declared.Neighbour.the-variants.{Inside, Outside}
 use Rattle.room.specs.Room.{volume}
+use Rattle.routing.specs.Routing.{graphOf}
 use Rattle.routing.specs.Steps.{placesOf}
 use Rattle.job_sheet.specs.Sheet.{joined, maxSinks}
 use Rattle.ends.specs.declared.Taps.{Taps}
@@ -18,7 +19,7 @@ use Rattle.goals.specs.declared.Tried.the-variants.{Found, Failed, Full}
 use Rattle.room.specs.declared.Cost.{Cost}
 use Rattle.goals.specs.Goals.{Trial, found, failed, full, routeToTree}
 use Rattle.goals.specs.Trials.{Tells, told, Grounds}
-use Rattle.goals.specs.RouteLaws.{tree-joins, joins-lawful, joins-cells, joins-short}
+use Rattle.goals.specs.RouteLaws.{tree-joins, joins-lawful, joins-cells, joins-short, joins-steps}
 use Rattle.branches.specs.declared.BranchLengths.{BranchLengths}
 use Rattle.branches.specs.Branches.{branchOf, total, Short}
 use Rattle.branches.specs.BranchLaws.{joined-place, place-within}
@@ -26,8 +27,9 @@ use Rattle.multinet.specs.declared.Turned.{Turned}
 use Rattle.multinet.specs.declared.Turned.the-variants.{Grown, Skipped, QueueFull, NoGoal, NoRoom}
 use Rattle.multinet.specs.Adding.{BranchAdded, before-sink, used-by, Placeable, BranchPlaced, no-room, placed}
 use Rattle.multinet.specs.Tree.{Plot, Tree, tapAt, siteOf, stopped, growthOf}
+use Rattle.multinet.specs.StepLaws.{stepping-steps}
 use Rattle.multinet.specs.Growing.{Sound, Way, branchIn, Sprouted, Growing}
-use Rattle.multinet.specs.GrowingLaws.{sinkNow, sink-now, no-sink, sink-fails, sink-full, sink-no-room, sink-grows}
+use Rattle.multinet.specs.GrowingLaws.{way-some, sinkNow, sink-now, no-sink, sink-fails, sink-full, sink-no-room, sink-grows}
 use Rattle.multinet.specs.Sinks.{Findable, plotOf, Turnable, Came, TurnCame}
 
 -- sixteen branches of at most so many cells
@@ -88,13 +90,16 @@ module _ {P : Plot} {turn : ℕ} {L : BranchLengths} {outset start-buffer joinab
     pub trial : told r best ≡ routeToTree (siteOf P (G .tree)) (tapAt P k .approach) (G .tree .blocked)
     trial = T .is ∙ rw (G .joinable-is, G .blocked-is)
 
-    pub way-found : (path : List ℕ) (cost : ℕ) → told r best ≡ found path cost → Way (siteOf P (G .tree)) path
+    pub way-found : (path : List ℕ) (cost : ℕ) → told r best ≡ found path cost → Way (siteOf P (G .tree)) (tapAt P k .approach) path
+    unfolding graphOf
     way-found path cost f =
         let J = tree-joins (siteOf P (G .tree)) (tapAt P k .approach) (G .tree .blocked) path cost (sym trial ∙ f) in
         let i = S .net .approach-in k sink-in in
         let w = joins-lawful i J in
         record {
-          some = rw (w .begins) (omega arith);
+          rest = w .rest;
+          begins = w .begins;
+          steps = stepping-steps (P .room) path (λ j g. let b = joins-steps i J j g in record { from-in = joins-cells i J .inside j (omega arith); move = b .by; listed = b .listed; leads = b .leads });
           short = joins-short i J;
           cells-in = joins-cells i J;
           free = J .reaches .free;
@@ -136,7 +141,7 @@ module _ {P : Plot} {turn : ℕ} {L : BranchLengths} {joinable blocked classes k
               lengths-short = lengths-short (A .sound) G (A .count-is) k e;
               at-within = at-within (A .sound) G (A .count-is) k e;
               used-short = used-short (A .sound) G (A .count-is) k e;
-              some = w .some;
+              some = way-some w;
               short = omega (arith, w .short, A .sound .good .few);
               path-in = w .cells-in;
               terminal-in = A .sound .net .terminal-in k (sink-in (A .sound) G (A .count-is) k e);

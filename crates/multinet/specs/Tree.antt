@@ -22,6 +22,7 @@ use Rattle.geometry.specs.Geometry.{standsIn}
 use Rattle.turns.specs.Turns.{far, sinkAt}
 use Rattle.goals.specs.Goals.{Site, Trial, found, failed, full, routeToTree}
 use Rattle.branches.specs.Branches.{branchOf, allButLast}
+use Rattle.repeaters.specs.Repeaters.{repeaterMarks}
 
 -- what a tree grows over: the room and its kinds, the places of the queue, the cells of the branch buffer, and the net's ends
 pub record Plot : Type 0 where
@@ -100,3 +101,16 @@ growFrom (suc n) P turn T =
 
 unfoldable pub growthOf : Plot → List ℕ → Growth
 growthOf P blocked = growFrom (P .taps .count) P 0 (planted P blocked)
+
+-- no repeater stands on "a terminal or approach of this net"
+abbrev pub endAt : ℕ → Tap → Bool
+endAt v t = eqb (t .terminal) v || eqb (t .approach) v
+
+unfoldable pub isEnd : ℕ → Taps → ℕ → Bool
+isEnd source k v = eqb source v || any (endAt v) (take (k .count) (k .taps))
+
+abbrev pub endMarks : Room → ℕ → Taps → List ℕ
+endMarks R source k = markedBy (isEnd source k) (noMarks (volume R))
+
+unfoldable pub repeatersOf : Plot → Tree → List ℕ
+repeatersOf P T = repeaterMarks (P .room) (P .source) (tapsOf P) (T .branches) (endMarks (P .room) (P .source) (P .taps))

@@ -66,6 +66,7 @@ module _ {P : Plot} (S : Sound P) (blocked : List ℕ) where
     has = λ k h g. absurd (omega arith);
     short = λ k h. rw (getD-replicate {A = List ℕ} (P .taps .count) k [] [] h) (omega arith);
     cells-in = λ k h. rw (getD-replicate {A = List ℕ} (P .taps .count) k [] [] h) (record { inside = λ i g. absurd (omega arith) });
+    steps = λ k h. rw (getD-replicate {A = List ℕ} (P .taps .count) k [] [] h) (tt {0});
   }
 
 module _ {P : Plot} {joinable blocked classes known previous path best : List ℕ} (A : Plantable P joinable blocked classes known previous path best) where

@@ -1,0 +1,56 @@
+-- What the contracts of the finishing functions cite.
+use mathlib.Core.Path.{_≡_}
+use mathlib.Core.List.{List, []}
+use Prim.Native.Nat.{ℕ, _≤_, _<_}
+use lib.Dec.{eqb}
+use lib.ListN.{length, getD, take}
+use Rattle.room.specs.declared.Room.{Room}
+use Rattle.room.specs.Room.{Good, volume}
+use Rattle.routing_resources.specs.Marks.{markedBy, noMarks}
+use Rattle.routing_resources.specs.Resources.{AllCells}
+use Rattle.job_sheet.specs.Sheet.{joined, maxSinks}
+use Rattle.ends.specs.declared.Taps.{Taps}
+use Rattle.ends.specs.Ends.{noTap}
+use Rattle.ends.specs.EndLaws.{NetIn}
+use Rattle.geometry.specs.Geometry.{standsIn}
+use Rattle.branches.specs.declared.BranchLengths.{BranchLengths}
+use Rattle.branches.specs.Branches.{SheetOrder, LengthsOf, Short}
+use Rattle.repeaters.specs.Repeaters.{repeaterMarks}
+use Rattle.multinet.specs.Tree.{endMarks}
+use Rattle.multinet.specs.StepLaws.{Steps}
+
+-- the ends are cells of the marks
+pub record EndsIn (source : ℕ) (k : Taps) (marks : List ℕ) : Type 0 where
+  pub source-in : source < length marks
+  pub few : k .count ≤ maxSinks
+  pub whole : length (k .taps) ≡ maxSinks
+  pub terminal-in : (i : ℕ) → i < k .count → getD (k .taps) i noTap .terminal < length marks
+  pub approach-in : (i : ℕ) → i < k .count → getD (k .taps) i noTap .approach < length marks
+
+-- the buffer has these branches in sheet order
+pub record Holds (R : Room) (L : BranchLengths) (branches : List ℕ) (bs : List (List ℕ)) : Type 0 where
+  pub in-order : SheetOrder bs (length (joined bs)) branches
+  pub lengths-are : LengthsOf bs (L .each)
+  pub count-is : length bs ≡ L .count
+
+-- a grown tree, cleared marks, and work memory of exactly V cells
+pub record Finishable (R : Room) (source : ℕ) (k : Taps) (L : BranchLengths) (branches occupied repeaters forbidden links parents line : List ℕ) : Type 0 where
+  pub good : Good R
+  pub net : NetIn R source k
+  pub bs : List (List ℕ)
+  pub holds : Holds R L branches bs
+  pub few : L .count ≤ maxSinks
+  pub lengths-short : Short L
+  pub cells-in : (i : ℕ) → i < L .count → AllCells R (getD bs i [])
+  pub steps : (i : ℕ) → i < L .count → Steps R (getD bs i [])
+  pub occupied-clear : occupied ≡ noMarks (volume R)
+  pub repeaters-clear : repeaters ≡ noMarks (volume R)
+  pub forbidden-clear : forbidden ≡ noMarks (volume R)
+  pub links-long : length links ≡ volume R
+  pub parents-long : length parents ≡ volume R
+  pub line-long : length line ≡ volume R
+
+-- what the branches occupy, and their repeaters
+pub record Finished (R : Room) (source : ℕ) (k : Taps) (L : BranchLengths) (branches occupied repeaters : List ℕ) : Type 0 where
+  pub occupied-are : (bs : List (List ℕ)) → Holds R L branches bs → occupied ≡ markedBy (standsIn (joined bs)) (markedBy (eqb source) (noMarks (volume R)))
+  pub repeaters-are : (bs : List (List ℕ)) → Holds R L branches bs → repeaters ≡ repeaterMarks R source (take (k .count) (k .taps)) bs (endMarks R source k)

@@ -1,0 +1,147 @@
+-- Laws of finishing: the ends marked, and the branches read back from the buffer.
+use mathlib.Core.Path.{_≡_, refl, sym, ap, _∙_}
+use mathlib.Core.Bool.{Bool, _||_}
+use mathlib.Core.List.{List, [], _∷_, _++_, map, append-assoc}
+use Prim.Native.Nat.{ℕ, zero, suc, _+_, _≤_, _<_}
+use native.Mathlib.Omega.{arith}
+use lib.Dec.{eqb}
+use lib.ListN.{length, getD, take, drop, length-map, length-replicate, take-append-drop}
+use lib.Seq.{take-at, drop-at, getD-take, length-take-le, ext-getD, take-length}
+use Rattle.basics.specs.Lists.{any}
+use Rattle.room.specs.declared.Room.{Room}
+use Rattle.room.specs.Room.{volume}
+use Rattle.routing_resources.specs.Marks.{markedBy, noMarks}
+use Rattle.routing_resources.specs.MarkLaws.{with-length, with-or}
+use Rattle.routing_resources.specs.Resources.{AllCells}
+use Rattle.job_sheet.specs.Sheet.{joined, maxSinks}
+use Rattle.ends.specs.declared.Tap.{Tap}
+use Rattle.ends.specs.declared.Taps.{Taps}
+use Rattle.ends.specs.Ends.{noTap}
+use Rattle.geometry.specs.Geometry.{standsIn}
+use Rattle.branches.specs.declared.BranchLengths.{BranchLengths}
+use Rattle.branches.specs.Branches.{SheetOrder, LengthsOf, total, Short, CellsBelow}
+use Rattle.branches.specs.BranchLaws.{joined-place, below-append, cells-below}
+use Rattle.repeaters.specs.Repeaters.{cutInto, branchesOf, repeaterMarks}
+use Rattle.repeaters.specs.Joins.{Stepping, AllStepping, Laid}
+use Rattle.repeaters.specs.Sinks as repeating
+use Rattle.multinet.specs.Tree.{endAt, isEnd, endMarks}
+use Rattle.multinet.specs.StepLaws.{Steps, steps-stepping}
+use Rattle.multinet.specs.Finishing.{EndsIn, Holds, Finishable, Finished}
+
+-- ---- the ends
+
+pub end-marked : {marks marks′ marks″ : List ℕ} (m : List ℕ) (t : Tap) → marks ≡ m → marks′ ≡ markedBy (eqb (t .terminal)) marks → marks″ ≡ markedBy (eqb (t .approach)) marks′
+    → marks″ ≡ markedBy (λ v. endAt v t) m
+end-marked m t e a b = b ∙ rw (a, e) (with-or 1 (eqb (t .terminal)) (eqb (t .approach)) m)
+
+module _ {source : ℕ} {k : Taps} {marks : List ℕ} (E : EndsIn source k marks) where
+  pub ends-long : length (take (k .count) (k .taps)) ≡ k .count
+  ends-long = length-take-le (k .count) (k .taps) (omega (arith, E .few, E .whole))
+
+  pub end-is : (i : ℕ) → i < k .count → getD (k .taps) i noTap ≡ getD (take (k .count) (k .taps)) i noTap
+  end-is i h = sym (getD-take (k .count) (k .taps) i noTap h)
+
+  pub ends-marked : {marks′ marks″ : List ℕ} → marks′ ≡ markedBy (eqb source) marks → marks″ ≡ markedBy (λ v. any (endAt v) (take (k .count) (k .taps))) marks′
+      → marks″ ≡ markedBy (isEnd source k) marks
+  unfolding isEnd
+  ends-marked a b = b ∙ rw a (with-or 1 (eqb source) (λ v. any (endAt v) (take (k .count) (k .taps))) marks)
+
+-- ---- the branches
+
+cut-joined : (bs : List (List ℕ)) (rest : List ℕ) → cutInto (map length bs) (joined bs ++ rest) ≡ bs
+unfolding cutInto
+cut-joined [] rest = refl
+cut-joined (b ∷ bs) rest =
+    let e : (b ++ joined bs) ++ rest ≡ b ++ (joined bs ++ rest) = append-assoc b (joined bs) rest in
+    rw (e, take-at b (joined bs ++ rest) (length b) refl, drop-at b (joined bs ++ rest) (length b) refl) (ap (λ l. b ∷ l) (cut-joined bs rest))
+
+mapped-length : (bs : List (List ℕ)) (i : ℕ) → i < length bs → getD (map length bs) i 0 ≡ length (getD bs i [])
+mapped-length [] i h = absurd (omega arith)
+mapped-length (b ∷ bs) zero h = refl
+mapped-length (b ∷ bs) (suc i) h = mapped-length bs i (omega arith)
+
+all-stepping : (R : Room) (bs : List (List ℕ)) → ((i : ℕ) → i < length bs → Steps R (getD bs i [])) → AllStepping R bs
+all-stepping R [] f = tt {0}
+all-stepping R (b ∷ bs) f = (steps-stepping R b (f 0 (omega arith)), all-stepping R bs (λ i h. f (suc i) (omega arith)))
+
+all-below : (R : Room) (bs : List (List ℕ)) → ((i : ℕ) → i < length bs → AllCells R (getD bs i [])) → CellsBelow (volume R) (joined bs)
+all-below R [] f = record { below = λ i h. absurd (omega arith) }
+all-below R (b ∷ bs) f = below-append (cells-below (f 0 (omega arith))) (all-below R bs (λ i h. f (suc i) (omega arith)))
+
+module _ {R : Room} {L : BranchLengths} {branches : List ℕ} {bs : List (List ℕ)} (H : Holds R L branches bs) where
+  lengths-list : take (L .count) (L .each) ≡ map length bs
+  lengths-list =
+      let n : length (take (L .count) (L .each)) ≡ L .count = length-take-le (L .count) (L .each) (omega (arith, H .count-is, H .lengths-are .all)) in
+      let m = length-map bs length in
+      ext-getD 0 (take (L .count) (L .each)) (map length bs) (n ∙ sym (H .count-is) ∙ sym m)
+      (λ i h. getD-take (L .count) (L .each) i 0 (omega (arith, n)) ∙ H .lengths-are .each-is i (omega (arith, n, H .count-is)) ∙ sym (mapped-length bs i (omega (arith, n, H .count-is))))
+
+  pub branches-back : branchesOf L branches ≡ bs
+  branches-back =
+      let whole : branches ≡ joined bs ++ drop (length (joined bs)) branches = sym (take-append-drop (length (joined bs)) branches) ∙ ap (λ l. l ++ drop (length (joined bs)) branches) (H .in-order .in-order) in
+      rw (lengths-list) (ap (cutInto (map length bs)) whole ∙ cut-joined bs (drop (length (joined bs)) branches))
+
+  pub used-is : total (take (L .count) (L .each)) ≡ length (joined bs)
+  used-is =
+      let n = H .count-is in
+      rw (← n) (joined-place bs (L .each) (H .lengths-are) (length bs) (omega arith) ∙ ap (λ l. length (joined l)) (take-length bs))
+
+  pub used-part : take (total (take (L .count) (L .each))) branches ≡ joined bs
+  used-part = rw used-is (H .in-order .in-order)
+
+-- ---- the finished tree
+
+module _ {R : Room} {source : ℕ} {k : Taps} {L : BranchLengths} {branches occupied repeaters forbidden links parents line : List ℕ}
+    (F : Finishable R source k L branches occupied repeaters forbidden links parents line) where
+  none-long : (marks : List ℕ) → marks ≡ noMarks (volume R) → length marks ≡ volume R
+  none-long marks e = rw e (length-replicate {A = ℕ} (volume R) 0)
+
+  pub source-marked : source < length occupied
+  source-marked = rw (none-long occupied (F .occupied-clear)) (F .net .source-in)
+
+  pub used-fits : {used : ℕ} → used ≡ total (take (L .count) (L .each)) → used ≤ length branches
+  used-fits u = omega (arith, u, used-is (F .holds), F .holds .in-order .within)
+
+  pub cells-occupied : {used n : ℕ} → used ≡ total (take (L .count) (L .each)) → n ≡ length occupied → CellsBelow n (take used branches)
+  cells-occupied u e =
+      rw (u, used-part (F .holds), e, none-long occupied (F .occupied-clear)) (all-below R (F .bs) (λ i h. F .cells-in i (omega (arith, F .holds .count-is))))
+
+  pub ends-in : EndsIn source k forbidden
+  ends-in =
+      let n = none-long forbidden (F .forbidden-clear) in
+      record {
+        source-in = rw n (F .net .source-in);
+        few = F .net .few;
+        whole = F .net .whole;
+        terminal-in = λ i h. rw n (F .net .terminal-in i h);
+        approach-in = λ i h. rw n (F .net .approach-in i h);
+      }
+
+  pub placeable : {forbidden′ : List ℕ} → forbidden′ ≡ markedBy (isEnd source k) forbidden → repeating.Placeable R source k L branches forbidden′ repeaters links parents line
+  placeable f = record {
+    good = F .good;
+    source-in = F .net .source-in;
+    taps-in = record { full = F .net .whole; few = F .net .few; terminals = F .net .terminal-in };
+    laid = record {
+      full = F .lengths-short .whole;
+      few = F .few;
+      within = used-fits refl;
+      stepping = rw (branches-back (F .holds)) (all-stepping R (F .bs) (λ i h. F .steps i (omega (arith, F .holds .count-is))));
+    };
+    forbidden-long = rw f (with-length 1 (isEnd source k) forbidden ∙ none-long forbidden (F .forbidden-clear));
+    unmarked = F .repeaters-clear;
+    links-long = F .links-long;
+    parents-long = F .parents-long;
+    line-long = F .line-long;
+  }
+
+  pub finished : {used : ℕ} {occupied′ occupied″ forbidden′ repeaters′ : List ℕ} → used ≡ total (take (L .count) (L .each))
+      → occupied′ ≡ markedBy (eqb source) occupied
+      → occupied″ ≡ markedBy (standsIn (take used branches)) occupied′
+      → forbidden′ ≡ markedBy (isEnd source k) forbidden
+      → repeaters′ ≡ repeaterMarks R source (take (k .count) (k .taps)) (branchesOf L branches) forbidden′
+      → Finished R source k L branches occupied″ repeaters′
+  finished u a b f r = record {
+    occupied-are = λ bs H. b ∙ rw (u, used-part H, a, F .occupied-clear) refl;
+    repeaters-are = λ bs H. r ∙ rw (branches-back H, f, F .forbidden-clear) refl;
+  }

@@ -1,0 +1,50 @@
+-- A sink's terminal is its approach, or one step from it.
+use mathlib.Core.Path.{_≡_, refl, sym, _∙_}
+use mathlib.Core.Logic.{_⊎_, inl, inr}
+use mathlib.Core.Bool.{Bool}
+use Prim.Native.Nat.{ℕ, _<_}
+use lib.Dec.{eqb}
+use lib.ListN.{getD}
+use Rattle.basics.specs.Tests.{ask}
+use Rattle.room.specs.declared.Room.{Room}
+use Rattle.room.specs.declared.Neighbour.{Neighbour}
+use Rattle.room.specs.declared.Neighbour.the-variants.{Inside}
+use Rattle.room.specs.Room.{Good, Within, volume}
+use Rattle.room.specs.Units.{wire, facingHorizontal, facingMove, ahead}
+use Rattle.room.specs.MoveLaws.{facing-in}
+use Rattle.port_realization.specs.declared.Realized.{Realized}
+use Rattle.port_realization.specs.Ports.{approachOf}
+use Rattle.port_realization.specs.PortLaws.{Ends, ends}
+use Rattle.job_sheet.specs.declared.Endpoint.{Endpoint}
+use Rattle.job_sheet.specs.declared.Sinks.{Sinks}
+use Rattle.ends.specs.declared.Fault.the-variants as fault
+use Rattle.ends.specs.declared.Tap.{Tap}
+use Rattle.ends.specs.Ends.{sinksIn, sinkAt, noTap, tapFrom, tapOf, tapsOf, faultOf}
+use Rattle.ends.specs.EndLaws.{SinksWithin, tap-at}
+use Rattle.repeaters.specs.Joins.{Step}
+use Rattle.multinet.specs.StepLaws.{step-back, Near}
+
+module _ {R : Room} (G : Good R) where
+  -- "Approach: terminal plus a horizontal facing, else the terminal itself."
+  faced : (facing t a : ℕ) (w : Bool) → t < volume R → approachOf R t facing ≡ Inside a → Near R (record { terminal = t; approach = a; wire = w })
+  unfolding approachOf ahead
+  faced facing t a w h e =
+      ask (facingHorizontal facing)
+      (λ f. inr (step-back G (record { from-in = h; move = facingMove facing; listed = facing-in facing; leads = rw f at e })))
+      (λ n. inl (same (rw n at e)))
+    where
+      same : Inside t ≡ Inside a → t ≡ a
+      same q = cc
+
+  pub tap-near : (e : Endpoint) → Within R (e .at) → Near R (tapOf R e)
+  unfolding tapOf sinkAt
+  tap-near e w = go (sinkAt R e) refl
+    where
+      go : (r : Realized) → sinkAt R e ≡ r → Near R (tapFrom (eqb (e .port) wire) r)
+      go (Realized.At t a) q = let E = ends R (e .at) w (e .port) (e .facing) t a q in faced (e .facing) t a (eqb (e .port) wire) (E .terminal-below) (E .approach-is)
+      go Realized.NoFacing q = inl refl
+      go Realized.Outside q = inl refl
+
+  pub taps-near : (source : Endpoint) {k : Sinks} → Within R (source .at) → SinksWithin R k → faultOf R source (sinksIn k) ≡ fault.Good
+      → (i : ℕ) → i < k .count → Near R (getD (tapsOf R (sinksIn k) .taps) i noTap)
+  taps-near source w S good i h = rw (tap-at source w S good i h) (tap-near _ (S .within i h))

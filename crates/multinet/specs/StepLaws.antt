@@ -1,0 +1,73 @@
+-- A branch goes by steps, as the path that it was made of does the other way round.
+use mathlib.Core.Path.{_≡_, refl, sym, ap, _∙_}
+use mathlib.Core.Logic.{_⊎_, inl, inr}
+use mathlib.Core.List.{List, [], _∷_, _++_, reverse, reverse-cons, append-nil}
+use Prim.Native.Nat.{ℕ, zero, suc, _+_, _<_}
+use native.Mathlib.Nat.{suc-add}
+use native.Mathlib.Omega.{arith}
+use lib.Dec.{eqb}
+use lib.ListN.{length, getD}
+use borrow.Author.Tests.{eqb-true, eqb-false}
+use Rattle.basics.specs.Tests.{ask}
+use Rattle.room.specs.declared.Room.{Room}
+use Rattle.room.specs.declared.Neighbour.the-variants.{Inside}
+use Rattle.room.specs.Room.{Good, volume}
+use Rattle.room.specs.MoveLaws.{opposite, opposite-in, symmetric, leads}
+use Rattle.ends.specs.declared.Tap.{Tap}
+use Rattle.branches.specs.Branches.{branchOf}
+use Rattle.repeaters.specs.Joins.{Step, Stepping}
+
+-- each cell is one step from the next
+abbrev pub Steps : Room → List ℕ → Type 0
+Steps R [] = Unit {0}
+Steps R (a ∷ []) = Unit {0}
+Steps R (a ∷ (b ∷ rest)) = Step R a b × Steps R (b ∷ rest)
+
+pub steps-stepping : (R : Room) (l : List ℕ) → Steps R l → Stepping R l
+steps-stepping R l s = record { step = λ i h. at l s i h }
+  where
+    at : (l : List ℕ) → Steps R l → (i : ℕ) → i + 1 < length l → Step R (getD l i 0) (getD l (i + 1) 0)
+    at [] s i h = absurd (omega arith)
+    at (a ∷ []) s i h = absurd (omega arith)
+    at (a ∷ (b ∷ rest)) s zero h = s .0
+    at (a ∷ (b ∷ rest)) s (suc i) h = rw (suc-add i 1) (at (b ∷ rest) (s .1) i (omega arith))
+
+pub stepping-steps : (R : Room) (l : List ℕ) → ((i : ℕ) → i + 1 < length l → Step R (getD l i 0) (getD l (i + 1) 0)) → Steps R l
+stepping-steps R [] f = tt {0}
+stepping-steps R (a ∷ []) f = tt {0}
+stepping-steps R (a ∷ (b ∷ rest)) f = (f 0 (omega arith), stepping-steps R (b ∷ rest) (λ i h. rw (suc-add i 1) at (f (suc i) (omega arith))))
+
+pub step-back : {R : Room} → Good R → {a b : ℕ} → Step R a b → Step R b a
+step-back {R = R} G {a = a} {b = b} s = record {
+  from-in = leads R a (s .move) b (s .leads) .inside;
+  move = opposite (s .move);
+  listed = opposite-in (s .move) (s .listed);
+  leads = symmetric R G a (s .move) b (s .from-in) (s .listed) (s .leads);
+}
+
+-- one step more at the end
+one-more : (R : Room) (xs : List ℕ) (u v : ℕ) → Steps R (xs ++ (u ∷ [])) → Step R u v → Steps R ((xs ++ (u ∷ [])) ++ (v ∷ []))
+one-more R [] u v s t = (t, tt {0})
+one-more R (a ∷ []) u v s t = (s .0, (t, tt {0}))
+one-more R (a ∷ (b ∷ xs)) u v s t = (s .0, one-more R (b ∷ xs) u v (s .1) t)
+
+pub steps-reverse : {R : Room} → Good R → (l : List ℕ) → Steps R l → Steps R (reverse l)
+steps-reverse G [] s = tt {0}
+steps-reverse G (a ∷ []) s = tt {0}
+steps-reverse {R = R} G (a ∷ (b ∷ rest)) s =
+    let r : Steps R (reverse rest ++ (b ∷ [])) = rw (reverse-cons b rest) at (steps-reverse G (b ∷ rest) (s .1)) in
+    rw (reverse-cons a (b ∷ rest), reverse-cons b rest) (one-more R (reverse rest) b a r (step-back G (s .0)))
+
+-- a sink's terminal is its approach, or one step from it
+abbrev pub Near : Room → Tap → Type 0
+Near R t = (t .terminal ≡ t .approach) ⊎ Step R (t .approach) (t .terminal)
+
+pub branch-steps : {R : Room} → Good R → (t : Tap) (rest : List ℕ) → Near R t → Steps R (t .approach ∷ rest) → Steps R (branchOf t (t .approach ∷ rest))
+unfolding branchOf
+branch-steps {R = R} G t rest near s =
+    let r = steps-reverse G (t .approach ∷ rest) s in
+    ask (eqb (t .terminal) (t .approach)) (λ e. rw (e, append-nil (reverse (t .approach ∷ rest))) r) (λ f. rw f (added near r (eqb-false _ _ f)))
+  where
+    added : Near R t → Steps R (reverse (t .approach ∷ rest)) → (t .terminal ≡ t .approach → ⊥) → Steps R (reverse (t .approach ∷ rest) ++ (t .terminal ∷ []))
+    added (inl e) r d = absurd (d e)
+    added (inr u) r d = rw (reverse-cons (t .approach) rest) (one-more R (reverse rest) (t .approach) (t .terminal) (rw (reverse-cons (t .approach) rest) at r) u)
