@@ -8,7 +8,7 @@ use lib.ListN.{length, getD, drop, length-append, length-drop}
 use lib.Seq.{drop-at, drop-drop, drop-cons, drop-length, getD-drop}
 use Rattle.job_sheet.specs.declared.Endpoint.{Endpoint}
 use Rattle.job_sheet.specs.declared.places.Layout.{Layout}
-use Rattle.job_sheet.specs.Sheet.{Contents, version, maxBytes, maxSinks, two, four, joined, sides, costs, position, block, endpoint, counted, sinkBytes, rest, bytesOf, blockSize, positionSize, endpointSize, listsPlace, listed, behind, layoutOf, sidesPlace, configPlace}
+use Rattle.job_sheet.specs.Sheet.{Contents, version, maxBytes, maxSinks, two, four, joined, sides, costs, position, block, endpoint, counted, sinkBytes, rest, bytesOf, bytesBy, blockSize, positionSize, endpointSize, listsPlace, listed, behind, layoutOf, sidesPlace, configPlace}
 use Rattle.job_sheet.specs.Places.{roomIn, configIn, twoIn, fourIn, endpointIn, many, blocksIn, positionsIn, endpointsIn, listAt, sinksAt, layoutIn, contentsIn, Shaped}
 use Rattle.job_sheet.specs.RecordLaws.{Bytes, Coding, two-back, four-back, positions, blocks, endpoints, many-back, joined-long, many-long, many-forth, bytes-drop, two-forth, fours, configs, rooms, span-drop}
 
@@ -64,7 +64,7 @@ blocksOn J = counted block (J .blocks) ++ conductorsOn J
 
 module _ (J : Contents) where
   at-blocks : Cut (bytesOf J) listsPlace (blocksOn J)
-  unfolding bytesOf rest
+  unfolding bytesBy rest
   at-blocks = record { stands = refl; ends = omega arith }
 
   at-conductors : Cut (bytesOf J) (behind blockSize (layoutOf J .blocks)) (conductorsOn J)
@@ -115,7 +115,7 @@ module _ (J : Contents) where
       )
 
   config-back : configIn (drop configPlace (bytesOf J)) ≡ J .config
-  unfolding bytesOf rest
+  unfolding bytesBy rest
   config-back = configs .back (J .config) (blocksOn J)
 
   pub blocks-back : blocksIn (bytesOf J) (layoutOf J .blocks) ≡ J .blocks
@@ -146,7 +146,7 @@ module _ (J : Contents) where
   sinks-back = rw (at-sinks .stands) (many-back endpoints (J .sinks) [])
 
   pub contents-back : contentsIn (bytesOf J) ≡ J
-  unfolding contentsIn bytesOf rest
+  unfolding contentsIn bytesBy rest
   contents-back =
       rw layout-back (λ i. record {
         room = J .room;
@@ -161,7 +161,7 @@ module _ (J : Contents) where
       })
 
   pub shaped-back : length (bytesOf J) ≤ maxBytes → length (J .sinks) ≤ maxSinks → Shaped (bytesOf J)
-  unfolding bytesOf layoutOf
+  unfolding bytesBy layoutOf
   shaped-back h k = record {
     short = h;
     of-version = refl;
@@ -299,7 +299,7 @@ module _ (s : List ℕ) (b : Bytes s) (S : Shaped s) where
       (then-on (endpoint (endpointIn (drop (layoutIn s .source .from) s))) source-forth sinks-forth)))))))
 
   pub bytes-forth : bytesOf (contentsIn s) ≡ s
-  unfolding bytesOf
+  unfolding bytesBy
   bytes-forth =
       let n : length (rest (contentsIn s)) ≡ fourIn (drop 1 s) 0 = rw (rest-forth, length-drop) (omega arith) in
       (λ i. version ∷ (four (n i) ++ rest-forth i))

@@ -22,16 +22,25 @@ use Rattle.job_sheet.specs.declared.Reading.{Reading}
 use Rattle.job_sheet.specs.declared.Verdict.{Verdict}
 use Rattle.job_sheet.specs.declared.Verdict.the-variants.{Good, Sheet, Sides, Config, Position, Code}
 
--- ---- the limits of this version
+-- ---- the version of a sheet and its limits
+
+pub record Limits : Type 0 where
+  pub version : ℕ
+  pub maxBytes : ℕ
+  pub maxSinks : ℕ
+
+-- "version byte 1", "At most 60,000 bytes in all", "0 to 16" sinks
+abbrev pub limits : Limits
+limits = record { version = 1; maxBytes = 60000; maxSinks = 16 }
 
 abbrev pub version : ℕ
-version = 1
+version = limits .version
 
 abbrev pub maxBytes : ℕ
-maxBytes = 60000
+maxBytes = limits .maxBytes
 
 abbrev pub maxSinks : ℕ
-maxSinks = 16
+maxSinks = limits .maxSinks
 
 -- ---- what a sheet says
 
@@ -104,14 +113,20 @@ rest J =
     )
 
 -- "version byte 1, four-byte length of the rest"
-unfoldable pub bytesOf : Contents → List ℕ
-bytesOf J = version ∷ (four (length (rest J)) ++ rest J)
+unfoldable pub bytesBy : Limits → Contents → List ℕ
+bytesBy L J = L .version ∷ (four (length (rest J)) ++ rest J)
+
+abbrev pub bytesOf : Contents → List ℕ
+bytesOf J = bytesBy limits J
 
 -- the sheet means J. Where it means nothing, number 1 is due: "sheet length, version, count past the end, bytes left over, over 16 sinks"
-pub record Means (sheet : List ℕ) (J : Contents) : Type 0 where
-  pub bytes : bytesOf J ≡ sheet
-  pub short : length sheet ≤ maxBytes
-  pub few-sinks : length (J .sinks) ≤ maxSinks
+pub record MeansBy (L : Limits) (sheet : List ℕ) (J : Contents) : Type 0 where
+  pub bytes : bytesBy L J ≡ sheet
+  pub short : length sheet ≤ L .maxBytes
+  pub few-sinks : length (J .sinks) ≤ L .maxSinks
+
+abbrev pub Means : List ℕ → Contents → Type 0
+Means sheet J = MeansBy limits sheet J
 
 -- ---- how it is judged: numbers 2 and 3, "then record by record 4 before 5". The first fault decides
 

@@ -12,7 +12,7 @@ use Rattle.room.specs.Units.{configGood, usualConfig}
 use Rattle.job_sheet.specs.declared.Job.{Job}
 use Rattle.job_sheet.specs.declared.Reading.{Reading}
 use Rattle.job_sheet.specs.declared.Verdict.the-variants.{Good, Sheet}
-use Rattle.job_sheet.specs.Sheet.{Contents, maxBytes, maxSinks, bytesOf, rest, Means, isGood, firstFault, endpointFault, judged, layoutOf, accepted, refused, answer, Read, meaning, nothing}
+use Rattle.job_sheet.specs.Sheet.{Contents, maxBytes, maxSinks, bytesOf, bytesBy, rest, Means, isGood, firstFault, endpointFault, judged, layoutOf, accepted, refused, answer, Read, meaning, nothing}
 use Rattle.job_sheet.specs.Accepted.{Accepted, Usable}
 use Rattle.job_sheet.specs.Places.{Shaped}
 use Rattle.job_sheet.specs.LayoutLaws.{layout-back, contents-back, shaped-back, parts-in}
@@ -110,7 +110,7 @@ hexContents = record {
 }
 
 pub hex-means : Means hexSheet hexContents
-unfolding bytesOf rest
+unfolding bytesBy rest
 hex-means = record { bytes = refl; short = omega arith; few-sinks = omega arith }
 
 pub hex-good : judged hexContents ≡ Good
