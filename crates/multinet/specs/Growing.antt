@@ -71,3 +71,4 @@ pub record Growing (P : Plot) (outset start-buffer : List ℕ) (turn : ℕ) (joi
   pub lengths-are : LengthsOf (tree .branches) each
   pub each-long : length each ≡ maxSinks
   pub each-short : (i : ℕ) → i < maxSinks → getD each i 0 ≤ 16385
+  pub each-none : (i : ℕ) → P .taps .count ≤ i → getD each i 0 ≡ 0

@@ -227,6 +227,7 @@ module _ {P : Plot} {outset start-buffer : List ℕ} {turn : ℕ} {joinable bloc
     lengths-are = G .lengths-are;
     each-long = G .each-long;
     each-short = G .each-short;
+    each-none = G .each-none;
   }
 
   module _ (k : ℕ) (e : sinkNow P turn ≡ Inside k) {trial : Trial} (t : trial ≡ routeToTree (siteOf P now-tree) (tapAt P k .approach) (now-tree .blocked)) where
@@ -291,6 +292,7 @@ module _ {P : Plot} {outset start-buffer : List ℕ} {turn : ℕ} {joinable bloc
               lengths-are = rw l (lengths-set (G .lengths-are) k in-tree branch);
               each-long = rw l (length-set each k (length branch)) ∙ G .each-long;
               each-short = λ i g. rw l (short-still i g (omega (arith, short, w .short, S .good .few)));
+              each-none = λ i g. rw l (getD-set-other each k i (length branch) 0 (λ q. never-both q g (s .0)) ∙ G .each-none i g);
             }
           where
             later : drop (length (joined (now-tree .branches))) buffer ≡ drop (length (joined (now-tree .branches))) start-buffer
@@ -299,6 +301,9 @@ module _ {P : Plot} {outset start-buffer : List ℕ} {turn : ℕ} {joinable bloc
                 sym (drop-drop (length branch) (length (joined (now-tree .branches))) buffer)
                 ∙ ap (drop (length branch)) q
                 ∙ drop-drop (length branch) (length (joined (now-tree .branches))) start-buffer
+
+            never-both : {i : ℕ} → i ≡ k → P .taps .count ≤ i → k < P .taps .count → ⊥
+            never-both q g b = omega (arith, q, g, b)
 
             short-still : (i : ℕ) → i < maxSinks → length branch ≤ 16385 → getD (set each k (length branch)) i 0 ≤ 16385
             short-still i g m = go (ℕ-discrete i k)

@@ -26,6 +26,11 @@ use Rattle.multinet.specs.Sinks.{Turnable, Came, TurnCame, stopsBy, Reco
 
 -- ---- the outset
 
+getD-zeros : (n i : ℕ) → _≡_ {A = ℕ} (getD (replicate n 0) i 0) 0
+getD-zeros zero i = refl
+getD-zeros (suc n) zero = refl
+getD-zeros (suc n) (suc i) = getD-zeros n i
+
 stands-none : (v : ℕ) → standsIn [] v ≡ false
 unfolding standsIn
 stands-none v = refl
@@ -86,6 +91,7 @@ module _ {P : Plot} {joinable blocked classes known previous path best : List �
         lengths-are = lengths-first (P .taps .count) 16 (A .sound .net .few);
         each-long = refl;
         each-short = λ i h. rw (getD-replicate {A = ℕ} 16 i 0 0 h) (omega arith);
+        each-none = λ i h. getD-zeros 16 i;
       }
 
   pub first-turn : (branches : List ℕ) → P .buffer ≡ length branches → Turning P blocked branches 0 (record { count = P .taps .count; each = replicate 16 0 }) joinable blocked branches

@@ -8,12 +8,21 @@ use Rattle.basics.specs.Tests.{either}
 use Rattle.basics.specs.Lists.{any}
 use Rattle.room.specs.declared.Room.{Room}
 use Rattle.room.specs.declared.Neighbour.{Neighbour}
-use Rattle.room.specs.Room.{volume, posOf, moves, neighbour, above}
+use Rattle.room.specs.Room.{volume, posOf, by, neighbour, above}
+use Rattle.room.specs.declared.Move.{Move}
 use Rattle.routing_resources.specs.Marks.{isCell}
 
--- "Keepout of a cell: its four neighbours, each also one up and one down": where the twelve moves lead
+-- the four moves that end on the level of the middle part `rise`: 0, 1 and 2 stand for one down, the same and one up
+unfoldable pub directions : ℕ → List Move
+directions rise = by 2 rise 1 ∷ by 0 rise 1 ∷ by 1 rise 2 ∷ by 1 rise 0 ∷ []
+
+-- v is one of the cell's four neighbours on that level
+unfoldable pub isNeighbour : Room → ℕ → ℕ → ℕ → Bool
+isNeighbour R cell rise v = any (λ m. isCell (neighbour R cell m) v) (directions rise)
+
+-- "Keepout of a cell: its four neighbours, each also one up and one down."
 unfoldable pub inKeepout : Room → ℕ → ℕ → Bool
-inKeepout R cell v = any (λ m. isCell (neighbour R cell m) v) moves
+inKeepout R cell v = (isNeighbour R cell 1 v || isNeighbour R cell 2 v) || isNeighbour R cell 0 v
 
 abbrev pub level : Room → ℕ → ℕ
 level R cell = posOf R cell .y

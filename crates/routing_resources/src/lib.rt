@@ -8,7 +8,7 @@ ghost use lib.Dec.{eqb};
 ghost use lib.ListN.{length};
 ghost use Rattle.room.specs.Room.{Good, volume};
 ghost use Rattle.routing_resources.specs.Marks.{withByte, markedBy, unmarkedBy, isCell};
-ghost use Rattle.routing_resources.specs.Resources.{inKeepout, clearanceOf, isClearance, AllCells};
+ghost use Rattle.routing_resources.specs.Resources.{isNeighbour, inKeepout, clearanceOf, isClearance, AllCells};
 
 pub const UNMARKED: u8 = 0;
 
@@ -38,21 +38,41 @@ pub fn put_mark(marks: &mut [u8], place: Neighbour, mark: u8)
     }
 }
 
-// Marks the keepout of a cell. Its four neighbours, each also one up and one down, are where the twelve moves lead; the
-// cell itself and those right above and beneath it are none of them.
+// A level down, the same level, a level up: the middle part of a move.
+const DOWN: usize = 0;
+
+const LEVEL: usize = 1;
+
+const UP: usize = 2;
+
+// Marks the four neighbours of a cell on the level that `rise` names. The moves stand in threes, one for each level.
+pub fn horizontal_neighbors(room: Room, marks: &mut [u8], cell: usize, rise: usize)
+    requires { ⌜ Good room ⌝ }
+    requires { ⌜ cell < volume room ⌝ }
+    requires { ⌜ rise < 3 ⌝ }
+    requires { ⌜ length (now marks) ≡ volume room ⌝ }
+    ensures { λ _. ⌜ now (marks .exit) ≡ markedBy (isNeighbour room cell rise) (now (marks .entry)) ⌝ }
+{
+    let p = room.pos(cell);
+    let mut k: usize = 0;
+    while k < 4 {
+        let place = room.neighbour_at(p, Room::move_at(3 * k + rise));
+        put_mark(marks, place, MARKED);
+        k += 1;
+    }
+}
+
+// Marks the keepout of a cell: its four neighbours, each also one up and one down. The cell itself and those right
+// above and beneath it are none of them.
 pub fn electrical_keepout_for_wire(room: Room, marks: &mut [u8], cell: usize)
     requires { ⌜ Good room ⌝ }
     requires { ⌜ cell < volume room ⌝ }
     requires { ⌜ length (now marks) ≡ volume room ⌝ }
     ensures { λ _. ⌜ now (marks .exit) ≡ markedBy (inKeepout room cell) (now (marks .entry)) ⌝ }
 {
-    let p = room.pos(cell);
-    let mut k: usize = 0;
-    while k < 12 {
-        let place = room.neighbour_at(p, Room::move_at(k));
-        put_mark(marks, place, MARKED);
-        k += 1;
-    }
+    horizontal_neighbors(room, marks, cell, LEVEL);
+    horizontal_neighbors(room, marks, cell, UP);
+    horizontal_neighbors(room, marks, cell, DOWN);
 }
 
 // The clearance of a stair: the cell above its lower end. Two cells of one level have none.
