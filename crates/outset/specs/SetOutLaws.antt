@@ -29,11 +29,11 @@ use Rattle.outset.specs.OutsetLaws.{OutsetReady, OutsetMarked}
 use Rattle.outset.specs.SetOut.{readyBy, OutsetOf, SetOut}
 
 -- no number is due: the blocks are placed, and the ends are good
-ready-placed : (p : Placement) (f : Fault) → readyBy p f ≡ true → p ≡ Placement.Placed
+pub ready-placed : (p : Placement) (f : Fault) → readyBy p f ≡ true → p ≡ Placement.Placed
 ready-placed Placement.Placed f e = refl
 ready-placed (Placement.RepeatAt cell) f e = never (cc)
 
-ready-good : (p : Placement) (f : Fault) → readyBy p f ≡ true → f ≡ Fault.Good
+pub ready-good : (p : Placement) (f : Fault) → readyBy p f ≡ true → f ≡ Fault.Good
 ready-good Placement.Placed Fault.Good e = refl
 ready-good Placement.Placed (Fault.NoFacing place) e = never (cc)
 ready-good Placement.Placed (Fault.Outside place) e = never (cc)
@@ -43,7 +43,7 @@ ready-good (Placement.RepeatAt cell) f e = never (cc)
 sinks-whole : (es : List Endpoint) → length es ≤ maxSinks → length (sinksOf es .ends) ≡ maxSinks
 sinks-whole es few = length-append es _ ∙ rw (length-replicate {A = Endpoint} (maxSinks - length es) noEndpoint) (omega arith)
 
-same-ends : {R R′ : Room} {e e′ : Endpoint} {es es′ : List Endpoint} → R ≡ R′ → e ≡ e′ → es ≡ es′ → endsOf R e es ≡ endsOf R′ e′ es′
+pub same-ends : {R R′ : Room} {e e′ : Endpoint} {es es′ : List Endpoint} → R ≡ R′ → e ≡ e′ → es ≡ es′ → endsOf R e es ≡ endsOf R′ e′ es′
 same-ends p q r = λ i. endsOf (p i) (q i) (r i)
 
 -- ---- what may be handed on
@@ -63,7 +63,7 @@ module _ {sheet : List ℕ} {job : Job} (A : Accepted sheet job) where
   unfolding jobOf
   sinks-are = ap (λ j. j .sinks) (A .is)
 
-  sinks-in : sinksIn (job .sinks) ≡ told .sinks
+  pub sinks-in : sinksIn (job .sinks) ≡ told .sinks
   sinks-in = ap sinksIn sinks-are ∙ take-append-seam (told .sinks) _
 
   pub good-room : Good (job .room)

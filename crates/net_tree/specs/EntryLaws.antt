@@ -1,0 +1,117 @@
+-- Laws of the entry: lent memory that suffices, and what is lent on.
+use mathlib.Core.Path.{_≡_, refl, sym, ap, _∙_}
+use mathlib.Core.Logic.{inl, inr}
+use mathlib.Core.Bool.{true}
+use mathlib.Core.List.{List, [], _∷_, _++_}
+use Prim.Native.Nat.{ℕ, zero, suc, _/_, _≤_, _<_}
+use native.Mathlib.Omega.{arith}
+use lib.Dec.{leb}
+use lib.ListN.{length, take, drop, replicate, length-append, length-drop}
+use lib.Seq.{length-take-le}
+use borrow.Author.Tests.{leb-true}
+use Rattle.basics.specs.Tests.{and-left, and-right}
+use Rattle.basics.specs.Lists.{In, every, every-in}
+use Rattle.room.specs.declared.Room.{Room}
+use Rattle.room.specs.Room.{volume}
+use Rattle.routing_resources.specs.Marks.{noMarks}
+use Rattle.job_sheet.specs.declared.Job.{Job}
+use Rattle.job_sheet.specs.Sheet.{Contents, Means}
+use Rattle.outset.specs.declared.Outset.{Outset}
+use Rattle.net_tree.specs.declared.Lengths.{Lengths}
+use Rattle.net_tree.specs.declared.Answer.{Answer}
+use Rattle.net_tree.specs.Answers.{Lent, lent, lengthsOf, buffersGood, Outcome, jobOutcome}
+use Rattle.net_tree.specs.Entry.{Routable, JobRouted, Lendable, Cleared}
+
+-- what number 6 does not refuse
+pub record Roomy (n : ℕ) (L : Lengths) : Type 0 where
+  pub occupied-room : n ≤ L .occupied
+  pub repeaters-room : n ≤ L .repeaters
+  pub kinds-room : n ≤ L .kinds
+  pub blocked-room : n ≤ L .blocked
+  pub classes-room : n ≤ L .classes
+  pub joinable-room : n ≤ L .joinable
+  pub known-room : n ≤ L .known
+  pub previous-room : n ≤ L .previous
+  pub path-room : n ≤ L .path
+  pub best-room : n ≤ L .best
+  pub places-some : 0 < L .queue / 2
+
+-- every buffer in the list fits
+all-fit : (n : ℕ) (l : List ℕ) → every (leb n) l ≡ true → (a : ℕ) → In a l → n ≤ a
+all-fit n l e a i = leb-true n a (every-in (leb n) l e a i)
+
+pub roomy : (R : Room) (L : Lengths) → buffersGood R L ≡ true → Roomy (volume R) L
+unfolding buffersGood
+roomy R L e =
+    let l = L .occupied ∷ L .repeaters ∷ L .kinds ∷ L .blocked ∷ L .classes ∷ L .joinable ∷ L .known ∷ L .previous ∷ L .path ∷ L .best ∷ [] in
+    let all = every (leb (volume R)) l in
+    let fit = all-fit (volume R) l (and-left all (leb 1 (L .queue / 2)) e) in
+    record {
+      occupied-room = fit _ (inl refl);
+      repeaters-room = fit _ (inr (inl refl));
+      kinds-room = fit _ (inr (inr (inl refl)));
+      blocked-room = fit _ (inr (inr (inr (inl refl))));
+      classes-room = fit _ (inr (inr (inr (inr (inl refl)))));
+      joinable-room = fit _ (inr (inr (inr (inr (inr (inl refl))))));
+      known-room = fit _ (inr (inr (inr (inr (inr (inr (inl refl)))))));
+      previous-room = fit _ (inr (inr (inr (inr (inr (inr (inr (inl refl))))))));
+      path-room = fit _ (inr (inr (inr (inr (inr (inr (inr (inr (inl refl)))))))));
+      best-room = fit _ (inr (inr (inr (inr (inr (inr (inr (inr (inr (inl refl))))))))));
+      places-some = leb-true 1 (L .queue / 2) (and-right all (leb 1 (L .queue / 2)) e);
+    }
+
+pub take-zeros : (n m : ℕ) → n ≤ m → take {A = ℕ} n (replicate m 0) ≡ replicate n 0
+take-zeros zero m h = refl
+take-zeros (suc n) zero h = absurd (omega arith)
+take-zeros (suc n) (suc m) h = ap (λ l. 0 ∷ l) (take-zeros n m (omega arith))
+
+module _ {sheet : List ℕ} {job : Job} {B : Lent} (A : Lendable sheet job B) where
+  pub enough : Roomy (volume (job .room)) (lengthsOf B)
+  enough = roomy (job .room) (lengthsOf B) (A .buffers)
+
+  -- a cleared output's front
+  clear-front : {marks : List ℕ} {n : ℕ} → n ≤ length marks → marks ≡ replicate (length marks) 0 → take n marks ≡ noMarks n
+  clear-front {marks = marks} {n = n} h e = ap (take n) e ∙ take-zeros n (length marks) h
+
+  pub routable : Cleared B → {cells : ℕ} → cells ≡ volume (job .room)
+      → Routable sheet job (lent (B .branches) (take cells (B .occupied)) (take cells (B .repeaters)) (take cells (B .kinds)) (take cells (B .blocked)) (take cells (B .classes)) (take cells (B .joinable)) (take cells (B .known)) (take cells (B .previous)) (take cells (B .path)) (take cells (B .best)) (B .queue))
+  routable C e = record {
+    accepted = A .accepted;
+    branches-clear = C .branches-clear;
+    occupied-clear = rw e (clear-front (enough .occupied-room) (C .occupied-clear));
+    repeaters-clear = rw e (clear-front (enough .repeaters-room) (C .repeaters-clear));
+    kinds-long = rw e (length-take-le _ (B .kinds) (enough .kinds-room));
+    blocked-long = rw e (length-take-le _ (B .blocked) (enough .blocked-room));
+    classes-long = rw e (length-take-le _ (B .classes) (enough .classes-room));
+    joinable-long = rw e (length-take-le _ (B .joinable) (enough .joinable-room));
+    known-long = rw e (length-take-le _ (B .known) (enough .known-room));
+    previous-long = rw e (length-take-le _ (B .previous) (enough .previous-room));
+    path-long = rw e (length-take-le _ (B .path) (enough .path-room));
+    best-long = rw e (length-take-le _ (B .best) (enough .best-room));
+    places-some = enough .places-some;
+  }
+
+-- only the branch buffer's and the queue's length count for what comes of a job
+same-outcome : (J : Contents) (L L′ : Lengths) (O : Outset) (kinds blocked : List ℕ) → L .branches ≡ L′ .branches → L .queue ≡ L′ .queue → jobOutcome J L O kinds blocked ≡ jobOutcome J L′ O kinds blocked
+unfolding jobOutcome
+same-outcome J L L′ O kinds blocked b q = rw (b, q) refl
+
+pub lent-on : {sheet : List ℕ} {B B′ : Lent} → B′ .branches ≡ B .branches → B′ .queue ≡ B .queue → {r : Answer} {branches occupied repeaters : List ℕ}
+    → JobRouted sheet B r branches occupied repeaters → JobRouted sheet B′ r branches occupied repeaters
+lent-on {B = B} {B′ = B′} b q R = record {
+  outset = R .outset;
+  kinds = R .kinds;
+  nodes = R .nodes;
+  blocked = R .blocked;
+  outcome = R .outcome;
+  is-set = R .is-set;
+  comes = λ J m. R .comes J m ∙ same-outcome J (lengthsOf B) (lengthsOf B′) (R .outset) (R .kinds) (R .blocked) (ap length (sym b)) (ap length (sym q));
+  answer = R .answer;
+  outputs = rw b (R .outputs);
+}
+
+-- a buffer whose front was lent on keeps its length
+pub front-kept : (cells : ℕ) {n : ℕ} (front buffer : List ℕ) → length front ≡ length (take cells buffer) → n ≤ length buffer → cells ≡ n → length (front ++ drop cells buffer) ≡ length buffer
+front-kept cells front buffer k h e =
+    length-append front (drop cells buffer)
+    ∙ rw (k, length-take-le cells buffer (omega (arith, h, e)), length-drop cells buffer) (omega (arith, h, e))

@@ -1,0 +1,193 @@
+-- Laws of what is lent: cleared outputs, the promise of `route_net_tree` by its cases.
+use mathlib.Core.Path.{_≡_, refl, sym, ap, _∙_}
+use mathlib.Core.Bool.{true, false}
+use mathlib.Core.List.{List, [], _++_}
+use Prim.Native.Nat.{ℕ, _+_, _-_, _≤_, _<_}
+use native.Mathlib.Omega.{arith}
+use lib.ListN.{length, drop, replicate, length-append, length-drop, length-replicate}
+use borrow.Author.Tests.{lt-ltb}
+use Rattle.basics.specs.Tests.{never}
+use Rattle.room.specs.Room.{volume}
+use Rattle.job_sheet.specs.declared.Job.{Job}
+use Rattle.job_sheet.specs.declared.Reading.{Reading}
+use Rattle.job_sheet.specs.declared.Verdict.{Verdict}
+use Rattle.job_sheet.specs.declared.Verdict.the-variants as verdict
+use Rattle.job_sheet.specs.Sheet.{Contents, Read, isGood, numberOf, joined}
+use Rattle.job_sheet.specs.Accepted.{Accepted}
+use Rattle.job_sheet.specs.Theorems.{sound, usable}
+use Rattle.net_tree.specs.declared.Lengths.{Lengths}
+use Rattle.net_tree.specs.declared.Answer.{Answer}
+use Rattle.net_tree.specs.declared.Ended.{Ended}
+use Rattle.net_tree.specs.Answers.{Lent, lent, lengthsOf, buffersGood, Outcome, routed, refused, jobOutcome, Comes, unread, unlent, set-out, answerOf, touches, branchCells, occupiedMarks, repeaterMarks, filled, outputAfter, workAfter, lentAfter, Promise}
+use Rattle.net_tree.specs.Entry.{Written, JobRouted, Lendable, Cleared, FrontRouted, Emptied, settledBy}
+use Rattle.net_tree.specs.EntryLaws.{enough}
+use Rattle.net_tree.specs.GrowthLaws.{drop-zeros}
+
+-- ---- cleared outputs
+
+emptied-long : (before : List ℕ) {after : List ℕ} → Emptied before after → length after ≡ length before
+emptied-long before e = ap length e ∙ length-replicate {A = ℕ} (length before) 0
+
+module _ {sheet : List ℕ} {job : Job} {B : Lent} (A : Lendable sheet job B) {branches occupied repeaters : List ℕ}
+    (eb : Emptied (B .branches) branches) (eo : Emptied (B .occupied) occupied) (er : Emptied (B .repeaters) repeaters) where
+  abbrev pub clean : Lent
+  clean = lent branches occupied repeaters (B .kinds) (B .blocked) (B .classes) (B .joinable) (B .known) (B .previous) (B .path) (B .best) (B .queue)
+
+  same-lengths : lengthsOf clean ≡ lengthsOf B
+  same-lengths = λ i. record {
+    branches = emptied-long (B .branches) eb i;
+    occupied = emptied-long (B .occupied) eo i;
+    repeaters = emptied-long (B .repeaters) er i;
+    kinds = length (B .kinds);
+    blocked = length (B .blocked);
+    classes = length (B .classes);
+    joinable = length (B .joinable);
+    known = length (B .known);
+    previous = length (B .previous);
+    path = length (B .path);
+    best = length (B .best);
+    queue = length (B .queue);
+  }
+
+  pub clean-lendable : Lendable sheet job clean
+  clean-lendable = record { accepted = A .accepted; buffers = ap (buffersGood (job .room)) same-lengths ∙ A .buffers }
+
+  pub clean-cleared : Cleared clean
+  clean-cleared = record {
+    branches-clear = eb ∙ ap (λ n. replicate n 0) (sym (emptied-long (B .branches) eb));
+    occupied-clear = eo ∙ ap (λ n. replicate n 0) (sym (emptied-long (B .occupied) eo));
+    repeaters-clear = er ∙ ap (λ n. replicate n 0) (sym (emptied-long (B .repeaters) er));
+  }
+
+  -- ---- what comes of the job
+
+  module _ {r : Answer} {branches′ occupied′ repeaters′ : List ℕ} (F : FrontRouted sheet job clean r branches′ occupied′ repeaters′)
+      (kb : length branches′ ≡ length branches) (ko : length occupied′ ≡ length occupied) (kr : length repeaters′ ≡ length repeaters) where
+    abbrev pub job-outcome : Outcome
+    job-outcome = F .is-routed .outcome
+
+    comes : Comes sheet (lengthsOf B) job-outcome
+    comes =
+        let told = A .accepted .contents in
+        let J = F .is-routed in
+        set-out told (A .accepted .means) (A .accepted .good) (ap (λ R. buffersGood R (lengthsOf B)) (sym (usable sheet job (A .accepted) .room-is)) ∙ A .buffers)
+        (J .outset) (J .kinds) (J .nodes) (J .blocked) (J .is-set told (A .accepted .means))
+        (J .comes told (A .accepted .means) ∙ ap (λ L. jobOutcome told L (J .outset) (J .kinds) (J .blocked)) same-lengths)
+
+    touched : (o : Outcome) → Written o branches branches′ (F .occupied-front) (F .repeaters-front) → touches o ≡ true
+    touched (routed bs marks repeating) w = refl
+    touched (refused number detail) w = lt-ltb 6 number w
+
+    -- marks in front of a cleared buffer
+    marks-behind : (before : List ℕ) {zeros : List ℕ} (marks : List ℕ) {after : List ℕ} → Emptied before zeros → volume (job .room) ≤ length before
+        → after ≡ marks ++ drop (volume (job .room)) zeros → length after ≡ length zeros → after ≡ filled marks before
+    marks-behind before {zeros = zeros} marks e h a k =
+        let n = volume (job .room) in
+        let whole : length marks + length (drop n zeros) ≡ length zeros = sym (length-append marks (drop n zeros)) ∙ ap length (sym a) ∙ k in
+        let m : length marks ≡ n = omega (arith, whole, length-drop n zeros, emptied-long before e, h) in
+        a ∙ ap (λ l. marks ++ l) (ap (drop n) e ∙ drop-zeros n (length before) ∙ ap (λ x. replicate (length before - x) 0) (sym m))
+
+    -- a refusal leaves zeros
+    refused-after : {number : ℕ} → 6 < number → (buffer mid : List ℕ) {zeros : List ℕ} → length mid ≡ length zeros → Emptied buffer zeros
+        → replicate (length mid) 0 ≡ outputAfter (refused number 0) [] buffer
+    refused-after {number = number} h buffer mid k e =
+        let z : length buffer - 0 ≡ length mid = omega (arith, k, emptied-long buffer e) in
+        rw (lt-ltb 6 number h) (ap (λ n. replicate n 0) (sym z))
+
+    module _ {branches″ occupied″ repeaters″ : List ℕ}
+        (sb : branches″ ≡ settledBy (r .ended) branches′) (so : occupied″ ≡ settledBy (r .ended) occupied′) (sr : repeaters″ ≡ settledBy (r .ended) repeaters′) where
+      pub record Outputs (o : Outcome) : Type 0 where
+        branches-are : branches″ ≡ outputAfter o (branchCells o) (B .branches)
+        occupied-are : occupied″ ≡ outputAfter o (occupiedMarks o) (B .occupied)
+        repeaters-are : repeaters″ ≡ outputAfter o (repeaterMarks o) (B .repeaters)
+
+      outputs : (o : Outcome) → r ≡ answerOf o → Written o branches branches′ (F .occupied-front) (F .repeaters-front) → Outputs o
+      outputs (routed bs marks repeating) a w = record {
+        branches-are = sb ∙ ap (λ x. settledBy (x .ended) branches′) a ∙ w .0 ∙ ap (λ n. joined bs ++ replicate (n - length (joined bs)) 0) (emptied-long (B .branches) eb);
+        occupied-are =
+            so ∙ ap (λ x. settledBy (x .ended) occupied′) a
+            ∙ marks-behind (B .occupied) marks eo (enough A .occupied-room) (F .occupied-is ∙ ap (λ l. l ++ drop (volume (job .room)) occupied) (w .1)) ko;
+        repeaters-are =
+            sr ∙ ap (λ x. settledBy (x .ended) repeaters′) a
+            ∙ marks-behind (B .repeaters) repeating er (enough A .repeaters-room) (F .repeaters-is ∙ ap (λ l. l ++ drop (volume (job .room)) repeaters) (w .2)) kr;
+      }
+      outputs (refused number detail) a w = record {
+        branches-are = sb ∙ ap (λ x. settledBy (x .ended) branches′) a ∙ refused-after w (B .branches) branches′ kb eb;
+        occupied-are = so ∙ ap (λ x. settledBy (x .ended) occupied′) a ∙ refused-after w (B .occupied) occupied′ ko eo;
+        repeaters-are = sr ∙ ap (λ x. settledBy (x .ended) repeaters′) a ∙ refused-after w (B .repeaters) repeaters′ kr er;
+      }
+
+      work-after : (buffer mid : List ℕ) {final : List ℕ} → length mid ≡ length buffer → Emptied mid final → final ≡ workAfter job-outcome buffer
+      work-after buffer mid k e = e ∙ rw (touched job-outcome (F .is-routed .outputs)) (ap (λ n. replicate n 0) k)
+
+      -- work memory that keeps its lengths, and is cleared
+      pub promised : (kinds blocked classes joinable known previous path best queue : List ℕ) {kinds′ blocked′ classes′ joinable′ known′ previous′ path′ best′ queue′ : List ℕ}
+          → length kinds ≡ length (B .kinds)
+          → length blocked ≡ length (B .blocked)
+          → length classes ≡ length (B .classes)
+          → length joinable ≡ length (B .joinable)
+          → length known ≡ length (B .known)
+          → length previous ≡ length (B .previous)
+          → length path ≡ length (B .path)
+          → length best ≡ length (B .best)
+          → length queue ≡ length (B .queue)
+          → Emptied kinds kinds′
+          → Emptied blocked blocked′
+          → Emptied classes classes′
+          → Emptied joinable joinable′
+          → Emptied known known′
+          → Emptied previous previous′
+          → Emptied path path′
+          → Emptied best best′
+          → Emptied queue queue′
+          → Promise sheet B r (lent branches″ occupied″ repeaters″ kinds′ blocked′ classes′ joinable′ known′ previous′ path′ best′ queue′)
+      promised kinds blocked classes joinable known previous path best queue lki lbl lcl ljo lkn lpr lpa lbe lqu eki ebl ecl ejo ekn epr epa ebe equ =
+          let O = outputs job-outcome (F .is-routed .answer) (F .is-routed .outputs) in
+          record {
+            outcome = job-outcome;
+            comes = comes;
+            answer = F .is-routed .answer;
+            lent-is = λ i. lent (O .branches-are i) (O .occupied-are i) (O .repeaters-are i) (work-after (B .kinds) kinds lki eki i) (work-after (B .blocked) blocked lbl ebl i) (work-after (B .classes) classes lcl ecl i) (work-after (B .joinable) joinable ljo ejo i) (work-after (B .known) known lkn ekn i) (work-after (B .previous) previous lpr epr i) (work-after (B .path) path lpa epa i) (work-after (B .best) best lbe ebe i) (work-after (B .queue) queue lqu equ i);
+          }
+
+-- ---- refused before anything is touched
+
+small-stays : (B : Lent) (o : Outcome) → touches o ≡ false → B ≡ lentAfter o B
+small-stays B o e = rw e refl
+
+small : (v : Verdict) → isGood v ≡ false → touches (refused (numberOf v) 0) ≡ false
+small verdict.Good e = refl
+small verdict.Sheet e = refl
+small verdict.Sides e = refl
+small verdict.Config e = refl
+small verdict.Position e = refl
+small verdict.Code e = refl
+
+-- numbers 1 to 5
+pub promise-unread : {sheet : List ℕ} {B : Lent} {reading : Reading} → Read sheet reading → isGood (reading .verdict) ≡ false → {r : Answer} → r ≡ answerOf (refused (numberOf (reading .verdict)) 0) → Promise sheet B r B
+promise-unread {B = B} {reading = reading} p f a = record {
+  outcome = refused (numberOf (reading .verdict)) 0;
+  comes = unread reading p f refl;
+  answer = a;
+  lent-is = small-stays B (refused (numberOf (reading .verdict)) 0) (small (reading .verdict) f);
+}
+
+good-verdict : (v : Verdict) → isGood v ≡ true → v ≡ verdict.Good
+good-verdict verdict.Good e = refl
+good-verdict verdict.Sheet e = never (cc)
+good-verdict verdict.Sides e = never (cc)
+good-verdict verdict.Config e = never (cc)
+good-verdict verdict.Position e = never (cc)
+good-verdict verdict.Code e = never (cc)
+
+pub accepted-by : {sheet : List ℕ} {reading : Reading} → Read sheet reading → isGood (reading .verdict) ≡ true → Accepted sheet (reading .job)
+accepted-by {sheet = sheet} {reading = reading} p t = sound sheet reading p (good-verdict (reading .verdict) t)
+
+-- number 6
+pub promise-unlent : {sheet : List ℕ} {B : Lent} {job : Job} → Accepted sheet job → buffersGood (job .room) (lengthsOf B) ≡ false → {r : Answer} → r ≡ answerOf (refused 6 0) → Promise sheet B r B
+promise-unlent {sheet = sheet} {B = B} {job = job} A f a = record {
+  outcome = refused 6 0;
+  comes = unlent (A .contents) (A .means) (A .good) (ap (λ R. buffersGood R (lengthsOf B)) (sym (usable sheet job A .room-is)) ∙ f) refl;
+  answer = a;
+  lent-is = refl;
+}

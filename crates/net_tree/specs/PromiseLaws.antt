@@ -1,0 +1,50 @@
+-- The promise of `route_net_tree` determines everything.
+use mathlib.Core.Path.{_≡_, refl, sym, ap, _∙_}
+use mathlib.Core.Bool.{Bool, true, false}
+use mathlib.Core.List.{List}
+use Prim.Native.Nat.{ℕ}
+use Rattle.basics.specs.Tests.{never}
+use Rattle.job_sheet.specs.declared.Reading.{Reading}
+use Rattle.job_sheet.specs.declared.Verdict.the-variants as verdict
+use Rattle.job_sheet.specs.Sheet.{Contents, Means, Read, judged, isGood}
+use Rattle.job_sheet.specs.Theorems.{one-meaning, one-answer, answers-meaning}
+use Rattle.outset.specs.declared.Outset.{Outset}
+use Rattle.outset.specs.SetOut.{OutsetOf}
+use Rattle.outset.specs.SetOutLaws.{outset-one}
+use Rattle.net_tree.specs.declared.Lengths.{Lengths}
+use Rattle.net_tree.specs.declared.Answer.{Answer}
+use Rattle.net_tree.specs.Answers.{Lent, lengthsOf, buffersGood, Outcome, jobOutcome, Comes, unread, unlent, set-out, answerOf, lentAfter, Promise}
+
+-- a sheet that is accepted is not refused by its reading
+read-good : {sheet : List ℕ} {r : Reading} {J : Contents} → Read sheet r → Means sheet J → judged J ≡ verdict.Good → isGood (r .verdict) ≡ true
+read-good {sheet = sheet} {r = r} {J = J} p m g = rw (answers-meaning sheet J r m p, g)
+
+clash : {X : Type 0} → false ≡ true → X
+clash e = never (cc)
+
+module _ {sheet : List ℕ} (L : Lengths) where
+  same-job : {J K : Contents} → Means sheet J → Means sheet K → {O Q : Outset} {kinds nodes blocked kinds′ nodes′ blocked′ : List ℕ}
+      → OutsetOf J O kinds nodes blocked → OutsetOf K Q kinds′ nodes′ blocked′ → jobOutcome J L O kinds blocked ≡ jobOutcome K L Q kinds′ blocked′
+  same-job {J = J} {K = K} m n O Q =
+      let e = one-meaning sheet J K m n in
+      let one = outset-one (rw e at O) Q in
+      rw (e, one .0, one .1, one .3) refl
+
+-- one outcome comes of a sheet
+module _ {sheet : List ℕ} {L : Lengths} where
+  pub comes-one : {o q : Outcome} → Comes sheet L o → Comes sheet L q → o ≡ q
+  comes-one (unread r p f e) (unread s q g d) = e ∙ rw (one-answer sheet r s p q) (sym d)
+  comes-one (unread r p f e) (unlent J m g b d) = clash (sym f ∙ read-good p m g)
+  comes-one (unread r p f e) (set-out J m g b O kinds nodes blocked s d) = clash (sym f ∙ read-good p m g)
+  comes-one (unlent J m g b e) (unread r p f d) = clash (sym f ∙ read-good p m g)
+  comes-one (unlent J m g b e) (unlent K n h c d) = e ∙ sym d
+  comes-one (unlent J m g b e) (set-out K n h c O kinds nodes blocked s d) = clash (sym (rw (one-meaning sheet J K m n) at b) ∙ c)
+  comes-one (set-out J m g b O kinds nodes blocked s e) (unread r p f d) = clash (sym f ∙ read-good p m g)
+  comes-one (set-out J m g b O kinds nodes blocked s e) (unlent K n h c d) = clash (sym c ∙ (rw (one-meaning sheet J K m n) at b))
+  comes-one (set-out J m g b O kinds nodes blocked s e) (set-out K n h c Q kinds′ nodes′ blocked′ t d) = e ∙ same-job L m n s t ∙ sym d
+
+-- two results that keep the promise coincide: the answer, and every byte of lent memory
+pub coincide : {sheet : List ℕ} {B : Lent} {r s : Answer} {B′ B″ : Lent} → Promise sheet B r B′ → Promise sheet B s B″ → (r ≡ s) × (B′ ≡ B″)
+coincide {B = B} p q =
+    let e = comes-one (p .comes) (q .comes) in
+    (p .answer ∙ ap answerOf e ∙ sym (q .answer), p .lent-is ∙ ap (λ o. lentAfter o B) e ∙ sym (q .lent-is))

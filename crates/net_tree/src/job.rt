@@ -1,0 +1,191 @@
+// The tree of an accepted job, over work memory of exactly V cells.
+use crate::Answer;
+use crate::Ended;
+use branches::BranchLengths;
+use ends::Taps;
+use job_sheet::Job;
+use multinet::Turned;
+use room::Room;
+use room::RouterConfig;
+ghost use mathlib.Core.Path.{_≡_};
+ghost use Prim.Native.Nat.{_<_};
+ghost use lib.Dec.{eqb};
+ghost use lib.ListN.{length};
+ghost use Rattle.routing_resources.specs.Marks.{markedBy, noMarks};
+ghost use Rattle.net_tree.specs.Answers.{answerOf, refused, lent};
+ghost use Rattle.multinet.specs.Sinks.{plotOf};
+ghost use Rattle.net_tree.specs.Entry.{Harvestable, Harvested, Growable, TreeGrown, Routable, JobRouted};
+
+// A refusal carries no branches.
+pub fn refuse(number: u32, detail: usize) -> Answer
+    ensures { λ r. ⌜ r ≡ answerOf (refused number detail) ⌝ }
+{
+    Answer {
+        ended: Ended::Refused { number, detail },
+        lengths: BranchLengths {
+            count: 0,
+            each: [0; 16],
+        },
+    }
+}
+
+// Only the source is joinable at the outset.
+fn plant(source: usize, joinable: &mut [u8])
+    requires { ⌜ source < length (now joinable) ⌝ }
+    ensures { λ _. ⌜ now (joinable .exit) ≡ markedBy (eqb source) (noMarks (length (now (joinable .entry)))) ⌝ }
+{
+    lent::clear_bytes(joinable);
+    routing_resources::mark(joinable, source);
+}
+
+// A grown tree's occupied cells and repeaters, marked and counted.
+fn harvest(
+    room: Room,
+    source: usize,
+    taps: Taps,
+    lengths: BranchLengths,
+    branches: &[u32],
+    occupied: &mut [u8],
+    repeaters: &mut [u8],
+    classes: &mut [u8],
+    known: &mut [u32],
+    previous: &mut [u32],
+    path: &mut [u32],
+) -> Answer
+    requires { ⌜ Harvestable room source taps lengths (now branches) (now occupied) (now repeaters) (now classes) (now known) (now previous) (now path) ⌝ }
+    ensures { λ r. ⌜ Harvested room source taps lengths (now (branches .entry)) r (now (occupied .exit)) (now (repeaters .exit)) ⌝ }
+{
+    lent::clear_bytes(classes);
+    multinet::finish_tree(
+        room,
+        source,
+        taps,
+        lengths,
+        branches,
+        occupied,
+        repeaters,
+        classes,
+        known,
+        previous,
+        path,
+    );
+    Answer {
+        ended: Ended::Routed {
+            occupied: branches::count_marks(occupied),
+            repeaters: branches::count_marks(repeaters),
+        },
+        lengths: lengths,
+    }
+}
+
+// Grows and harvests the tree of a plot in which these cells are blocked; or number 13, 14 or 15 is due.
+fn grow_job(
+    room: Room,
+    config: RouterConfig,
+    source: usize,
+    taps: Taps,
+    branches: &mut [u32],
+    occupied: &mut [u8],
+    repeaters: &mut [u8],
+    kinds: &[u8],
+    blocked: &mut [u8],
+    classes: &mut [u8],
+    joinable: &mut [u8],
+    known: &mut [u32],
+    previous: &mut [u32],
+    path: &mut [u32],
+    best: &mut [u32],
+    queue: &mut [u64],
+) -> Answer
+    requires { ⌜ Growable (plotOf room config (now kinds) (now queue) (now branches) source taps) (lent (now branches) (now occupied) (now repeaters) (now kinds) (now blocked) (now classes) (now joinable) (now known) (now previous) (now path) (now best) (now queue)) ⌝ }
+    ensures { λ r. ⌜ TreeGrown (plotOf room config (now (kinds .entry)) (now (queue .entry)) (now (branches .entry)) source taps) (lent (now (branches .entry)) (now (occupied .entry)) (now (repeaters .entry)) (now (kinds .entry)) (now (blocked .entry)) (now (classes .entry)) (now (joinable .entry)) (now (known .entry)) (now (previous .entry)) (now (path .entry)) (now (best .entry)) (now (queue .entry))) r (now (branches .exit)) (now (occupied .exit)) (now (repeaters .exit)) ⌝ }
+{
+    plant(source, joinable);
+    let growth = multinet::grow_tree(
+        room,
+        config,
+        source,
+        taps,
+        kinds,
+        joinable,
+        blocked,
+        classes,
+        known,
+        previous,
+        path,
+        best,
+        queue,
+        branches,
+    );
+    let ended = growth.ended;
+    match ended {
+        Turned::QueueFull(expanded) => refuse(13, expanded.0 as usize),
+        Turned::NoGoal(approach) => refuse(14, approach),
+        Turned::NoRoom(place) => refuse(15, place),
+        // growing ends with no single sink's branch
+        Turned::Grown { sink: _, length: _ } => refuse(0, 0),
+        Turned::Skipped => harvest(
+            room,
+            source,
+            taps,
+            growth.lengths,
+            branches,
+            occupied,
+            repeaters,
+            classes,
+            known,
+            previous,
+            path,
+        ),
+    }
+}
+
+// The tree of an accepted job: set out, grown and harvested; or the first number from 7 on that is due.
+pub fn route_job(
+    sheet: &[u8],
+    job: Job,
+    branches: &mut [u32],
+    occupied: &mut [u8],
+    repeaters: &mut [u8],
+    kinds: &mut [u8],
+    blocked: &mut [u8],
+    classes: &mut [u8],
+    joinable: &mut [u8],
+    known: &mut [u32],
+    previous: &mut [u32],
+    path: &mut [u32],
+    best: &mut [u32],
+    queue: &mut [u64],
+) -> Answer
+    requires { ⌜ Routable (now sheet) job (lent (now branches) (now occupied) (now repeaters) (now kinds) (now blocked) (now classes) (now joinable) (now known) (now previous) (now path) (now best) (now queue)) ⌝ }
+    ensures { λ r. ⌜ JobRouted (now (sheet .entry)) (lent (now (branches .entry)) (now (occupied .entry)) (now (repeaters .entry)) (now (kinds .entry)) (now (blocked .entry)) (now (classes .entry)) (now (joinable .entry)) (now (known .entry)) (now (previous .entry)) (now (path .entry)) (now (best .entry)) (now (queue .entry))) r (now (branches .exit)) (now (occupied .exit)) (now (repeaters .exit)) ⌝ }
+{
+    let outset = outset::set_out(sheet, job, kinds, known, blocked);
+    let placement = outset.placement;
+    let ends = outset.ends;
+    let fault = ends.fault;
+    if !outset::ready_by(placement, fault) {
+        return refuse(
+            outset::number_by(placement, fault),
+            outset::detail_by(placement, fault),
+        );
+    }
+    grow_job(
+        job.room,
+        job.config,
+        ends.source,
+        ends.taps,
+        branches,
+        occupied,
+        repeaters,
+        kinds,
+        blocked,
+        classes,
+        joinable,
+        known,
+        previous,
+        path,
+        best,
+        queue,
+    )
+}
