@@ -4,3 +4,5 @@ pub mod Samples
 pub mod Bridge
 pub mod Slackness
 pub mod Numbers
+pub mod TreeStatements
+pub mod Trees

@@ -15,11 +15,11 @@ use Rattle.room.specs.declared.Room.{Room}
 use Rattle.room.specs.Room.{volume}
 use Rattle.routing_resources.specs.Marks.{noMarks}
 use Rattle.job_sheet.specs.declared.Job.{Job}
-use Rattle.job_sheet.specs.Sheet.{Contents, Means}
+use Rattle.job_sheet.specs.Sheet.{Contents}
 use Rattle.outset.specs.declared.Outset.{Outset}
 use Rattle.net_tree.specs.declared.Lengths.{Lengths}
 use Rattle.net_tree.specs.declared.Answer.{Answer}
-use Rattle.net_tree.specs.Answers.{Lent, lent, lengthsOf, buffersGood, Outcome, jobOutcome}
+use Rattle.net_tree.specs.Answers.{Lent, lent, lengthsOf, buffersGood, jobOutcome}
 use Rattle.net_tree.specs.Entry.{Routable, JobRouted, Lendable, Cleared}
 
 -- what number 6 does not refuse

@@ -4,13 +4,12 @@ use mathlib.Core.List.{List, [], _∷_, _++_, map}
 use Prim.Native.Nat.{ℕ, zero, suc, _+_, _-_, _≤_, _<_}
 use native.Mathlib.Omega.{arith}
 use lib.Dec.{eqb, ltb}
-use lib.ListN.{length, getD, take, drop, replicate, length-append, length-map, length-replicate, take-append-drop, getD-replicate}
+use lib.ListN.{length, getD, drop, replicate, length-append, length-map, length-replicate, take-append-drop}
 use lib.Seq.{ext-getD}
 use borrow.Author.Tests.{ltb-true, ltb-false}
 use Rattle.basics.specs.Tests.{ask}
 use Rattle.room.specs.declared.Room.{Room}
 use Rattle.room.specs.declared.Nodes.{Nodes}
-use Rattle.room.specs.Room.{volume}
 use Rattle.routing_resources.specs.Marks.{markedBy, noMarks}
 use Rattle.job_sheet.specs.Sheet.{joined, maxSinks}
 use Rattle.ends.specs.declared.Taps.{Taps}
@@ -19,7 +18,7 @@ use Rattle.branches.specs.Branches.{markedCount}
 use Rattle.multinet.specs.declared.Turned.{Turned}
 use Rattle.multinet.specs.declared.Turned.the-variants.{Grown, Skipped, QueueFull, NoGoal, NoRoom}
 use Rattle.multinet.specs.declared.Growth.{Growth}
-use Rattle.multinet.specs.Tree.{Plot, Tree, grown, stopped, growFrom, growthOf, repeatersOf}
+use Rattle.multinet.specs.Tree.{Plot, grown, stopped, growFrom, growthOf, repeatersOf}
 use Rattle.multinet.specs.Growing.{Growing}
 use Rattle.multinet.specs.Sinks.{Plantable, Ended, GrowthTold}
 use Rattle.multinet.specs.Finishing.{Holds, Finishable}

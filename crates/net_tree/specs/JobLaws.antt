@@ -1,5 +1,5 @@
 -- Laws of a job: what setting out and growing ask, and that they make up what the definition has.
-use mathlib.Core.Path.{_≡_, refl, sym, ap, _∙_}
+use mathlib.Core.Path.{_≡_, sym, ap, _∙_}
 use mathlib.Core.Bool.{true, false}
 use mathlib.Core.List.{List}
 use Prim.Native.Nat.{ℕ, _<_}
@@ -12,7 +12,7 @@ use Rattle.routing.specs.Steps.{placesOf}
 use Rattle.routing_resources.specs.Marks.{noMarks}
 use Rattle.routing_resources.specs.MarkLaws.{with-length}
 use Rattle.job_sheet.specs.declared.Job.{Job}
-use Rattle.job_sheet.specs.Sheet.{Contents, Means}
+use Rattle.job_sheet.specs.Sheet.{Contents}
 use Rattle.job_sheet.specs.Accepted.{Usable}
 use Rattle.job_sheet.specs.Theorems.{one-meaning, usable}
 use Rattle.blocks.specs.declared.Placement.{Placement}

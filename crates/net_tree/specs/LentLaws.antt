@@ -12,14 +12,12 @@ use Rattle.job_sheet.specs.declared.Job.{Job}
 use Rattle.job_sheet.specs.declared.Reading.{Reading}
 use Rattle.job_sheet.specs.declared.Verdict.{Verdict}
 use Rattle.job_sheet.specs.declared.Verdict.the-variants as verdict
-use Rattle.job_sheet.specs.Sheet.{Contents, Read, isGood, numberOf, joined}
+use Rattle.job_sheet.specs.Sheet.{Read, isGood, numberOf, joined}
 use Rattle.job_sheet.specs.Accepted.{Accepted}
 use Rattle.job_sheet.specs.Theorems.{sound, usable}
-use Rattle.net_tree.specs.declared.Lengths.{Lengths}
 use Rattle.net_tree.specs.declared.Answer.{Answer}
-use Rattle.net_tree.specs.declared.Ended.{Ended}
 use Rattle.net_tree.specs.Answers.{Lent, lent, lengthsOf, buffersGood, Outcome, routed, refused, jobOutcome, Comes, unread, unlent, set-out, answerOf, touches, branchCells, occupiedMarks, repeaterMarks, filled, outputAfter, workAfter, lentAfter, Promise}
-use Rattle.net_tree.specs.Entry.{Written, JobRouted, Lendable, Cleared, FrontRouted, Emptied, settledBy}
+use Rattle.net_tree.specs.Entry.{Written, Lendable, Cleared, FrontRouted, Emptied, settledBy}
 use Rattle.net_tree.specs.EntryLaws.{enough}
 use Rattle.net_tree.specs.GrowthLaws.{drop-zeros}
 

@@ -1,6 +1,6 @@
 -- The promise of `route_net_tree` determines everything.
 use mathlib.Core.Path.{_≡_, refl, sym, ap, _∙_}
-use mathlib.Core.Bool.{Bool, true, false}
+use mathlib.Core.Bool.{true, false}
 use mathlib.Core.List.{List}
 use Prim.Native.Nat.{ℕ}
 use Rattle.basics.specs.Tests.{never}
@@ -13,7 +13,7 @@ use Rattle.outset.specs.SetOut.{OutsetOf}
 use Rattle.outset.specs.SetOutLaws.{outset-one}
 use Rattle.net_tree.specs.declared.Lengths.{Lengths}
 use Rattle.net_tree.specs.declared.Answer.{Answer}
-use Rattle.net_tree.specs.Answers.{Lent, lengthsOf, buffersGood, Outcome, jobOutcome, Comes, unread, unlent, set-out, answerOf, lentAfter, Promise}
+use Rattle.net_tree.specs.Answers.{Lent, Outcome, jobOutcome, Comes, unread, unlent, set-out, answerOf, lentAfter, Promise}
 
 -- a sheet that is accepted is not refused by its reading
 read-good : {sheet : List ℕ} {r : Reading} {J : Contents} → Read sheet r → Means sheet J → judged J ≡ verdict.Good → isGood (r .verdict) ≡ true

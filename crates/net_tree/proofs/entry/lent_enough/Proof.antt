@@ -1,10 +1,9 @@
 -- `lent_enough` meets its contract: one buffer after another, then the queue.
-use mathlib.Core.Path.{_≡_, refl, sym, _∙_}
-use mathlib.Core.Bool.{true, false}
+use mathlib.Core.Path.{_≡_, refl, _∙_}
 use Prim.Native.Nat.{_-_, _≤_}
 use native.Mathlib.Omega.{arith}
 use lib.Dec.{leb}
-use lib.ListN.{length, drop}
+use lib.ListN.{drop}
 use borrow.Author.Tests.{le-leb, lt-leb}
 use Rattle.basics.specs.Lists.{every, every-passed, every-failed, every-end}
 use Rattle.room.specs.Room.{volume}

@@ -1,7 +1,6 @@
 -- `route_front` meets its contract: the front of each buffer is lent on.
-use mathlib.Core.Path.{refl, sym, ap, _∙_}
+use mathlib.Core.Path.{refl, sym}
 use native.Mathlib.Omega.{arith}
-use lib.ListN.{length, take, drop}
 use lib.Seq.{length-take-le}
 use Rattle.net_tree.specs.EntryLaws.{enough, routable, lent-on, front-kept}
 use Rattle.outset.specs.SetOutLaws.{good-room}

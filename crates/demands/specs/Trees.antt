@@ -1,0 +1,253 @@
+-- THE THIRD DEMAND IN A TREE: what TreeStatements claims of each search made there, of a sink's route, of number 14 and of every branch.
+use mathlib.Core.Path.{_≡_, refl, sym, _∙_}
+use mathlib.Core.Logic.{_≢_}
+use mathlib.Core.Bool.{true, false, _||_}
+use mathlib.Core.List.{List, []}
+use Prim.Native.Nat.{ℕ, zero, suc, _+_, _-_, _*_, _≤_, _<_}
+use native.Mathlib.Omega.{arith}
+use lib.Dec.{eqb, ltb}
+use lib.ListN.{length, length-set, length-replicate}
+use lib.Seq.{getD-set-same, getD-set-other}
+use borrow.Author.Tests.{eqb-true, eqb-false}
+use Rattle.basics.specs.Tests.{ask, never}
+use Rattle.room.specs.declared.Neighbour.{Neighbour}
+use Rattle.room.specs.declared.Neighbour.the-variants.{Inside, Outside}
+use Rattle.room.specs.Room.{Good, volume}
+use Rattle.best_first.specs.Search.{Answer, route, no-route}
+use Rattle.best_first.specs.Statements.{Decided}
+use Rattle.routing.specs.Routing.{Task, routeable, searched}
+use Rattle.routing_resources.specs.Marks.{isMarked, markedBy}
+use Rattle.geometry.specs.Geometry.{conflictOf}
+use Rattle.goals.specs.Goals.{Site, Trial, found, failed, full, trialOf, searchedFor, atConflict, afterSearch, maxAttempts, attempts, cheaper, triedGoal, bestBelow, routeToTree}
+use Rattle.goals.specs.PathLaws.{found-by}
+use Rattle.goals.specs.RouteLaws.{tree-joins}
+use Rattle.turns.specs.Turns.{far}
+use Rattle.turns.specs.TurnLaws.{its-turn, turn-in}
+use Rattle.branches.specs.Branches.{branchOf}
+use Rattle.multinet.specs.Tree.{Plot, Tree, Growth, grown, stopped, tapAt, siteOf, planted, withBranch, fitsIn, afterSink, growSink, growOn, growFrom, growthOf}
+use Rattle.multinet.specs.Growing.{Sound, turnIn, branchIn}
+use Rattle.multinet.specs.GrowingLaws.{sinkNow, sink-now}
+use Rattle.demands.specs.Statements.{Ready, Priced, Ample, NoLawfulWay}
+use Rattle.demands.specs.Theorems.{route-lawful, route-cheapest, no-route-true, settled}
+use Rattle.demands.specs.TreeStatements.{taskSeen, SearchMeans, RouteMeans, as-blocked, one-more, GoalEnds, no-way, conflict-stays, attempts-over, BranchMeans}
+
+-- ---- one search
+
+module _ (T : Task) (G : Good (T .room)) (start-in : T .start < volume (T .room)) (goal-in : T .goal < volume (T .room)) where
+  ready : routeable T (T .start) ≡ true → routeable T (T .goal) ≡ true → Ready T
+  ready s g = record { good = G; start-in = start-in; goal-in = goal-in; start-free = s; goal-free = g }
+
+  found-ready : (path : List ℕ) (cost : ℕ) → searchedFor T ≡ found path cost → Ready T
+  found-ready path cost e = let F = found-by T path cost e in ready (F .start-free) (F .goal-free)
+
+  -- an end that is not routeable leaves no lawful way
+  no-start : routeable T (T .start) ≡ false → NoLawfulWay T
+  no-start f after w = let z : false ≡ true = sym f ∙ w .start-free in never (cc)
+
+  no-end : routeable T (T .goal) ≡ false → NoLawfulWay T
+  no-end f after w = let z : false ≡ true = sym f ∙ w .goal-free in never (cc)
+
+  module _ (D : Priced (T .config)) (A : Ample T) where
+    decided : (s : routeable T (T .start) ≡ true) (g : routeable T (T .goal) ≡ true) → (a : Answer) → searched T ≡ a → Decided a
+    decided s g a e = rw (← e) (settled (ready s g) D A)
+
+    failed-search : searchedFor T ≡ failed → NoLawfulWay T
+    unfolding searchedFor
+    failed-search e =
+        ask (routeable T (T .start))
+        (λ s. ask (routeable T (T .goal)) (λ g. go s g (searched T) refl (rw (s, g) at e) (settled (ready s g) D A)) no-end)
+        no-start
+      where
+        go : routeable T (T .start) ≡ true → routeable T (T .goal) ≡ true → (a : Answer) → searched T ≡ a → trialOf a ≡ failed → Decided a → NoLawfulWay T
+        go s g (route path cost x) w q d = never (cc)
+        go s g (no-route x) w q d = no-route-true (ready s g) w
+
+    search-not-full : (x : ℕ) → searchedFor T ≢ full x
+    unfolding searchedFor
+    search-not-full x e =
+        ask (routeable T (T .start))
+        (λ s. ask (routeable T (T .goal)) (λ g. go (searched T) (rw (s, g) at e) (settled (ready s g) D A)) (λ f. other (rw (s, f) at e)))
+        (λ f. other (rw f at e))
+      where
+        other : failed ≡ full x → ⊥
+        other q = never (cc)
+
+        go : (a : Answer) → trialOf a ≡ full x → Decided a → ⊥
+        go (route path cost y) q d = never (cc)
+        go (no-route y) q d = never (cc)
+
+  -- what is proved of one search is proved of each search that a goal is tried by
+  pub search-means : SearchMeans T
+  search-means = record {
+    found-lawful = λ path cost e. let F = found-by T path cost e in route-lawful (found-ready path cost e) (F .is);
+    found-cheapest = λ D path cost e. let F = found-by T path cost e in route-cheapest (found-ready path cost e) D (F .is);
+    failed-true = λ D A e. failed-search D A e;
+    never-full = λ D A x e. search-not-full D A x e;
+  }
+
+-- ---- a sink's route
+
+module _ (S : Site) (G : Good (S .room)) (start : ℕ) (start-in : start < volume (S .room)) where
+  pub route-means : (blocked path : List ℕ) (cost : ℕ) → routeToTree S start blocked ≡ found path cost → RouteMeans S start blocked path cost
+  route-means blocked path cost e =
+      let J = tree-joins S start blocked path cost e in
+      let T = taskSeen S (J .reaches .blocked-last) start (J .goal) in
+      let F = J .reaches .by in
+      let R : Ready T = ready T G start-in (J .goal-in) (F .start-free) (F .goal-free) in
+      record {
+        goal = J .goal;
+        goal-in = J .goal-in;
+        joinable = J .joinable;
+        seen-blocked = J .reaches .blocked-last;
+        all-seen = J .reaches .more;
+        lawful = route-lawful R (F .is);
+        cheapest = λ D. route-cheapest R D (F .is);
+        free = J .reaches .free;
+      }
+
+  -- ---- number 14
+
+  -- with a node limit and a queue of 12 for each cell, at costs of 10 and 20 or more
+  module _ (D : Priced (S .config)) (limit-wide : 12 * volume (S .room) ≤ S .config .limit .0) (queue-wide : 12 * volume (S .room) ≤ S .places) where
+    means : (blocked : List ℕ) (goal : ℕ) → goal < volume (S .room) → SearchMeans (taskSeen S blocked start goal)
+    means blocked goal h = search-means (taskSeen S blocked start goal) G start-in h
+
+    ample : (blocked : List ℕ) (goal : ℕ) → Ample (taskSeen S blocked start goal)
+    ample blocked goal = record { limit-wide = limit-wide; queue-wide = queue-wide }
+
+    prepend : {goal n : ℕ} {blocked path : List ℕ} {cost v : ℕ} → searchedFor (taskSeen S blocked start goal) ≡ found path cost
+        → conflictOf (S .room) (S .kinds) (S .joinable) path ≡ Inside v → GoalEnds S start goal n (markedBy (eqb v) blocked) → GoalEnds S start goal (suc n) blocked
+    prepend w f (no-way m later r q) = no-way (suc m) later (one-more w f r) q
+    prepend w f (conflict-stays m later path cost v r s c e) = conflict-stays (suc m) later path cost v (one-more w f r) s c e
+    prepend w f (attempts-over later r) = attempts-over later (one-more w f r)
+
+    module _ (goal : ℕ) (goal-in : goal < volume (S .room)) where
+      goal-ends : (n : ℕ) (blocked : List ℕ) → attempts n S start goal blocked ≡ failed → GoalEnds S start goal n blocked
+      unfolding attempts afterSearch atConflict
+      goal-ends zero blocked e = attempts-over blocked as-blocked
+      goal-ends (suc n) blocked e = after (searchedFor (taskSeen S blocked start goal)) refl e (goal-ends n)
+        where
+          at : (p : List ℕ) (c : ℕ) → searchedFor (taskSeen S blocked start goal) ≡ found p c
+              → (place : Neighbour) → conflictOf (S .room) (S .kinds) (S .joinable) p ≡ place
+              → atConflict blocked start goal (attempts n S start goal) (found p c) place ≡ failed
+              → ((blocked′ : List ℕ) → attempts n S start goal blocked′ ≡ failed → GoalEnds S start goal n blocked′)
+              → GoalEnds S start goal (suc n) blocked
+          at p c w Outside f q later = never (cc)
+          at p c w (Inside v) f q later =
+              ask (eqb v start || (eqb v goal || isMarked blocked v))
+              (λ t. conflict-stays 0 blocked p c v as-blocked w f t)
+              (λ no. prepend w f (later (markedBy (eqb v) blocked) (rw no at q)))
+
+          after : (trial : Trial) → searchedFor (taskSeen S blocked start goal) ≡ trial
+              → afterSearch S blocked start goal (attempts n S start goal) trial ≡ failed
+              → ((blocked′ : List ℕ) → attempts n S start goal blocked′ ≡ failed → GoalEnds S start goal n blocked′)
+              → GoalEnds S start goal (suc n) blocked
+          after (found p c) w q later = at p c w (conflictOf (S .room) (S .kinds) (S .joinable) p) refl q later
+          after failed w q later = no-way 0 blocked as-blocked (means blocked goal goal-in .failed-true D (ample blocked goal) w)
+          after (full x) w q later = absurd (means blocked goal goal-in .never-full D (ample blocked goal) x w)
+
+    both-failed : (a b : Trial) → cheaper a b ≡ failed → (a ≡ failed) × (b ≡ failed)
+    unfolding cheaper
+    both-failed (full x) b e = never (cc)
+    both-failed failed b e = (refl, e)
+    both-failed (found p c) (found q d) e = ask (ltb d c) (λ t. other (rw t at e)) (λ f. other (rw f at e))
+      where
+        other : {p′ : List ℕ} {c′ : ℕ} → found p′ c′ ≡ failed → (found p c ≡ failed) × (found q d ≡ failed)
+        other z = never (cc)
+    both-failed (found p c) failed e = never (cc)
+    both-failed (found p c) (full x) e = never (cc)
+
+    below-failed : (blocked : List ℕ) (n : ℕ) → bestBelow n S start blocked ≡ failed → (goal : ℕ) → goal < n → triedGoal S start blocked goal ≡ failed
+    unfolding bestBelow
+    below-failed blocked zero e goal h = absurd (omega arith)
+    below-failed blocked (suc n) e goal h =
+        let both = both-failed (bestBelow n S start blocked) (triedGoal S start blocked n) e in
+        ask (eqb goal n)
+        (λ t. rw (eqb-true goal n t) (both .1))
+        (λ f. below-failed blocked n (both .0) goal (omega (arith, h, eqb-false goal n f)))
+
+    -- number 14: every joinable cell was tried, and each has its reason
+    pub no-goal-means : (blocked : List ℕ) → routeToTree S start blocked ≡ failed → (goal : ℕ) → goal < volume (S .room) → isMarked (S .joinable) goal ≡ true
+        → GoalEnds S start goal maxAttempts blocked
+    unfolding routeToTree triedGoal
+    no-goal-means blocked e goal h j = goal-ends goal h maxAttempts blocked (rw j at (below-failed blocked (volume (S .room)) e goal h))
+
+-- ---- every branch of a grown tree
+
+module _ (P : Plot) (S : Sound P) where
+  -- the sinks whose turn is over have their branches
+  record Meant (turn : ℕ) (T : Tree) : Type 0 where
+    count-is : length (T .branches) ≡ P .taps .count
+    each : (k : ℕ) → k < P .taps .count → turnIn P k < turn → BranchMeans P k (branchIn T k)
+
+  now-is : {turn k : ℕ} → k < P .taps .count → turnIn P k ≡ turn → sinkNow P turn ≡ Inside k
+  now-is {turn} {k} h e = rw (← e) (its-turn (far (P .room) (P .source) (P .taps .taps)) (P .taps .count) k h)
+
+  module _ {turn : ℕ} {T : Tree} (M : Meant turn T) where
+    with-meant : (j : ℕ) → sinkNow P turn ≡ Inside j → (branch : List ℕ) → BranchMeans P j branch → Meant (turn + 1) (withBranch (P .room) j branch T)
+    unfolding withBranch
+    with-meant j e branch B = record {
+      count-is = length-set (T .branches) j branch ∙ M .count-is;
+      each = λ k h g. ask (eqb k j)
+          (λ t. rw (eqb-true k j t, getD-set-same (T .branches) j branch [] (omega (arith, sink-now P turn j e .0, M .count-is))) B)
+          (λ f. rw (getD-set-other (T .branches) j k branch [] (eqb-false k j f)) (M .each k h (earlier k h g f)));
+    }
+      where
+        same : {k : ℕ} → Inside k ≡ Inside j → k ≡ j
+        same q = cc
+
+        earlier : (k : ℕ) → k < P .taps .count → turnIn P k < turn + 1 → eqb k j ≡ false → turnIn P k < turn
+        earlier k h g f = let d : turnIn P k ≢ turn = λ q. eqb-false k j f (same (sym (now-is h q) ∙ e)) in omega (arith, g, d)
+
+    routed-meant : (j : ℕ) → sinkNow P turn ≡ Inside j → (trial : Trial) → routeToTree (siteOf P T) (tapAt P j .approach) (T .blocked) ≡ trial
+        → (T′ : Tree) → afterSink P j T trial ≡ grown T′ → Meant (turn + 1) T′
+    unfolding afterSink
+    routed-meant j e (found path cost) w T′ q = ask (fitsIn P T (branchOf (tapAt P j) path)) (λ t. same (rw t at q)) (λ f. other (rw f at q))
+      where
+        meant : BranchMeans P j (branchOf (tapAt P j) path)
+        meant = record {
+          before = T;
+          path = path;
+          cost = cost;
+          branch-is = refl;
+          means = route-means (siteOf P T) (S .good) (tapAt P j .approach) (S .net .approach-in j (sink-now P turn j e .0)) (T .blocked) path cost w;
+        }
+
+        same : grown (withBranch (P .room) j (branchOf (tapAt P j) path) T) ≡ grown T′ → Meant (turn + 1) T′
+        same z = let y : withBranch (P .room) j (branchOf (tapAt P j) path) T ≡ T′ = cc in rw (← y) (with-meant j e (branchOf (tapAt P j) path) meant)
+
+        other : stopped 15 (j + 1) ≡ grown T′ → Meant (turn + 1) T′
+        other z = never (cc)
+    routed-meant j e failed w T′ q = never (cc)
+    routed-meant j e (full x) w T′ q = never (cc)
+
+    turn-meant : (T′ : Tree) → growSink P (sinkNow P turn) T ≡ grown T′ → Meant (turn + 1) T′
+    unfolding growSink
+    turn-meant T′ q = go (sinkNow P turn) refl q
+      where
+        go : (s : Neighbour) → sinkNow P turn ≡ s → growSink P s T ≡ grown T′ → Meant (turn + 1) T′
+        go (Inside j) e z = routed-meant j e (routeToTree (siteOf P T) (tapAt P j .approach) (T .blocked)) refl T′ z
+        go Outside e z = let y : T ≡ T′ = cc in rw (← y) (record { count-is = M .count-is; each = λ k h g. M .each k h (earlier k h g) })
+          where
+            none : {k : ℕ} → Inside k ≡ Outside → ⊥
+            none q = never (cc)
+
+            earlier : (k : ℕ) → k < P .taps .count → turnIn P k < turn + 1 → turnIn P k < turn
+            earlier k h g = let d : turnIn P k ≢ turn = λ q. none (sym (now-is h q) ∙ e) in omega (arith, g, d)
+
+  all-meant : (n turn : ℕ) (T T′ : Tree) → Meant turn T → growFrom n P turn T ≡ grown T′ → Meant (turn + n) T′
+  unfolding growFrom
+  all-meant zero turn T T′ M q = let y : T ≡ T′ = cc in let z : turn + 0 ≡ turn = omega arith in rw (z, ← y) M
+  all-meant (suc n) turn T T′ M q = go (growSink P (sinkNow P turn) T) refl q (all-meant n (turn + 1))
+    where
+      go : (g : Growth) → growSink P (sinkNow P turn) T ≡ g → growOn (growFrom n P (turn + 1)) g ≡ grown T′
+          → ((T₁ T₂ : Tree) → Meant (turn + 1) T₁ → growFrom n P (turn + 1) T₁ ≡ grown T₂ → Meant (turn + 1 + n) T₂) → Meant (turn + suc n) T′
+      go (grown T₁) e z later = let s : turn + suc n ≡ turn + 1 + n = omega arith in rw s (later T₁ T′ (turn-meant M T₁ e) z)
+      go (stopped number detail) e z later = never (cc)
+
+  -- every sink's branch is its route to the tree as it was at that sink's turn, and demand 3 speaks of that route
+  pub tree-means : (blocked : List ℕ) (T : Tree) → growthOf P blocked ≡ grown T → (k : ℕ) → k < P .taps .count → BranchMeans P k (branchIn T k)
+  unfolding growthOf planted
+  tree-means blocked T e k h =
+      let first : Meant 0 (planted P blocked) = record { count-is = length-replicate (P .taps .count) []; each = λ k h g. absurd (omega arith) } in
+      all-meant (P .taps .count) 0 (planted P blocked) T first e .each k h (omega (arith, turn-in (far (P .room) (P .source) (P .taps .taps)) (P .taps .count) k h))
