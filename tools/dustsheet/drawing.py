@@ -1,0 +1,225 @@
+"""The floors of a room as SVG: one grid for each y, x to the right, z downward."""
+from __future__ import annotations
+
+from html import escape
+from typing import Dict, List, Optional, Set, Tuple
+
+from .answer import Answer, directions, marked_cells
+from .job import AIR, BLOCK_POWER, FACINGS, KINDS, PORTS, Job, Pos, spell
+from .rules import approach, blocked, end_name, late_faults, step, terminal
+from .symbols import CELL, COLOURS, KIND_NAMES, line_style, use
+
+HALF = CELL // 2
+LEFT, TOP, EDGE = 44, 32, 6  # room for the numbers at the sides of a grid
+HOVER_CELLS = 2_000  # in rooms up to here each empty cell tells its number too
+TURNS = {1: 270, 2: 0, 3: 90, 4: 180}
+
+
+def corner(at: Pos) -> Tuple[int, int]:
+    return LEFT + CELL * at[0], TOP + CELL * at[2]
+
+
+def centre(at: Pos) -> Tuple[int, int]:
+    x, y = corner(at)
+    return x + HALF, y + HALF
+
+
+class Drawing:
+    """A job that no number 1 to 5 refuses, with its answer, sorted by cells: the signs of each and what is said of it."""
+
+    def __init__(self, job: Job, answer: Optional[Answer]) -> None:
+        self.job = job
+        self.answer = answer or Answer()
+        self.scale = min(0.8, max(0.4, 26 / max(job.sides[0], job.sides[2])))  # large rooms are drawn smaller
+        self.sound = next(late_faults(job), None) is None  # else an end may have no terminal in the room
+        self.signs: Dict[Pos, List[str]] = {}
+        self.notes: Dict[Pos, List[str]] = {}
+        self.used: Set[str] = set()  # the signs of the floors drawn so far, for the legend
+        self._put_blocks()
+        self._put_others()
+        self._put_net()
+        self._put_ends()
+        self.marked = marked_cells(self.answer, job)
+        for at in self.marked:
+            self._put(at, "the refusal speaks of this cell")
+
+    def _put(self, at: Pos, note: str, *signs: str) -> None:
+        if self.job.holds(at):
+            self.signs.setdefault(at, []).extend(signs)
+            self.notes.setdefault(at, []).append(note)
+
+    def _put_blocks(self) -> None:
+        self.kinds = {block.at: block.kind for block in self.job.blocks}
+        for block in self.job.blocks:
+            note = KIND_NAMES[KINDS[block.kind]]
+            signs = [KINDS[block.kind]]
+            if block.facing:
+                note += " facing " + FACINGS[block.facing]
+                signs.append("facing-" + FACINGS[block.facing])
+            self._put(block.at, "%s, node %d" % (note, block.node), *signs)
+
+    def _put_others(self) -> None:
+        job = self.job
+        named = {*job.conductors, *job.clearances, *job.terminals, *job.reserved}
+        outset = blocked(job) if self.sound else set()
+        for at in sorted(outset - named):
+            if at not in self.kinds:
+                self._put(at, "blocked at the outset: beside something live", "blocked")
+        for at in job.conductors:
+            self._put(at, "another net's conductor", "conductor")
+        for at in job.clearances:
+            self._put(at, "another net's clearance", "clearance")
+        for at in job.terminals:
+            self._put(at, "another net's terminal", "terminal")
+        for at in job.reserved:
+            self._put(at, "reserved", "reserved")
+
+    def _put_net(self) -> None:
+        wires = sorted({at for branch in self.answer.branches for at in branch})
+        for at in wires:
+            under = step(at, (0, -1, 0))
+            if self.kinds.get(under, AIR) == AIR and under not in wires:
+                self._put(under, "air under a wire, which needs a support", "support")
+        for place, branch in enumerate(self.answer.branches, 1):
+            for at in dict.fromkeys(branch):
+                self._put(at, "branch to sink %d" % place)
+        self.facing = directions(self.answer, self.job) if self.answer.branches else {}
+        for at in self.answer.repeaters:
+            self._put(at, "repeater pointing " + FACINGS[self.facing[at]])
+
+    def _put_ends(self) -> None:
+        self.ends: Dict[Pos, List[int]] = {}
+        for place, end in enumerate([self.job.source, *self.job.sinks]):
+            facing = " facing " + FACINGS[end.facing] if end.facing else ""
+            self._put(end.at, "%s, %s%s" % (end_name(place), PORTS[end.port], facing))
+            self.ends.setdefault(end.at, []).append(place)
+            if self.sound and place and approach(end) != terminal(end):
+                self._put(approach(end), "approach of " + end_name(place))
+            if self.sound and end.port == BLOCK_POWER:
+                self._put(terminal(end), "terminal of " + end_name(place))
+
+    # ---- floors
+
+    def plain_floor(self, level: int) -> Optional[str]:
+        """What all cells of a floor are alike, if they are: Air, or one kind of block with nothing else to tell."""
+        wide, _, deep = self.job.sides
+        says = [self.notes[at] for at in self.notes if at[1] == level]
+        if not says:
+            return "empty"
+        alike = len(says) == wide * deep and all(len(notes) == 1 and notes == says[0] for notes in says)
+        kind = self.kinds.get((0, level, 0), AIR)
+        return KIND_NAMES[KINDS[kind]] + " in every cell" if alike and kind != AIR and wide * deep > 1 else None
+
+    def floor(self, level: int) -> str:
+        wide, _, deep = self.job.sides
+        width, height = LEFT + CELL * wide + EDGE, TOP + CELL * deep + EDGE
+        # --zoom is less on paper than on a screen
+        parts = ['<svg xmlns="http://www.w3.org/2000/svg" viewBox="0 0 %d %d" width="%d" style="width:calc(var(--zoom)*%dpx)" role="img" '
+                 'aria-label="floor %d">' % (width, height, width * self.scale, width * self.scale, level), self._grid(), *self._cells(level)]
+        parts.append('<g class="over">')
+        parts += self._branches(level) + self._powers(level) + self._repeaters(level) + self._stairs(level) + self._ends(level)
+        parts += [use("marked", *corner(at)) for at in self.marked if at[1] == level]
+        return "".join(parts) + "</g></svg>"
+
+    def _grid(self) -> str:
+        wide, _, deep = self.job.sides
+        right, bottom = LEFT + CELL * wide, TOP + CELL * deep
+        lines = ["M%d %dV%d" % (LEFT + CELL * x, TOP, bottom) for x in range(1, wide)]
+        lines += ["M%d %dH%d" % (LEFT, TOP + CELL * z, right) for z in range(1, deep)]
+        every = 1 if max(wide, deep) <= 26 else 4
+        labels = ['<text x="%d" y="%d" text-anchor="middle">%d</text>' % (LEFT + CELL * x + HALF, TOP - 8, x) for x in range(0, wide, every)]
+        labels += ['<text x="%d" y="%d" text-anchor="end">%d</text>' % (LEFT - 8, TOP + CELL * z + HALF + 6, z) for z in range(0, deep, every)]
+        ground = '<rect class="ground" x="%d" y="%d" width="%d" height="%d"/>' % (LEFT, TOP, CELL * wide, CELL * deep)
+        return ground + ('<path class="grid" d="%s"/>' % "".join(lines) if lines else "") \
+            + '<g class="axis" font-size="%g">%s</g>' % (11 / self.scale, "".join(labels))
+
+    def _cells(self, level: int) -> List[str]:
+        """The signs of the cells, each with a title that browsers show when the pointer rests there."""
+        wide, _, deep = self.job.sides
+        every = self.job.cells() <= HOVER_CELLS
+        parts = []
+        for at in ((x, level, z) for x in range(wide) for z in range(deep)):
+            if every or at in self.notes:
+                says = "; ".join(self.notes.get(at, ["Air"]))
+                x, y = corner(at)
+                self.used.update(self.signs.get(at, []))
+                signs = "".join(use(sign, x, y) for sign in self.signs.get(at, []))
+                parts.append('<g><title>cell %d %s: %s</title>%s<rect class="hover" x="%d" y="%d" width="40" height="40"/></g>'
+                             % (self.job.number(at), spell(at), escape(says), signs, x, y))
+        return parts
+
+    # ---- the net
+
+    def _branches(self, level: int) -> List[str]:
+        parts = []
+        for place, branch in enumerate(self.answer.branches):
+            lines = floor_lines(branch, level)
+            if lines:
+                path = "".join("M" + "L".join("%g %g" % point for point in line) for line in lines)
+                parts.append('<path class="halo" d="%s"/><path class="branch" data-sink="%d" d="%s" %s/>'
+                             % (path, place + 1, path, line_style(place)))
+            colour = COLOURS[place % len(COLOURS)]
+            parts += ['<circle cx="%d" cy="%d" r="5" fill="%s"/>' % (*centre(at), colour) for at in dict.fromkeys(branch) if at[1] == level]
+        source = terminal(self.job.source) if self.sound else None
+        starts = {branch[0] for branch in self.answer.branches} - {source}
+        joints = sorted(at for at in starts if at[1] == level)
+        return parts + ['<circle class="joint" cx="%d" cy="%d" r="7"/>' % centre(at) for at in joints]
+
+    def _stairs(self, level: int) -> List[str]:
+        """At the edge between the two cells of a stair: whether the line goes on one floor up or one down."""
+        marks = {}
+        for branch in self.answer.branches:
+            for one, other in zip(branch, branch[1:]):
+                if one[1] != other[1] and level in (one[1], other[1]):
+                    up = level == min(one[1], other[1])
+                    marks[middle(one, other)] = "stair-up" if up else "stair-down"
+        self.used.update(marks.values())
+        return [use(sign, x, y) for (x, y), sign in sorted(marks.items())]
+
+    def _repeaters(self, level: int) -> List[str]:
+        found = [at for at in self.answer.repeaters if at[1] == level]
+        return ['<g class="repeater">%s</g>' % use("repeater-set", *centre(at), TURNS[self.facing[at]]) for at in found]
+
+    def _powers(self, level: int) -> List[str]:
+        """From a block-power source to its wire, from the wire to a block-power sink."""
+        parts = []
+        for place, end in enumerate([self.job.source, *self.job.sinks]):
+            if self.sound and end.port == BLOCK_POWER and end.at[1] == level:
+                wire = terminal(end)
+                start, goal = (wire, end.at) if place else (end.at, wire)
+                turn = TURNS[end.facing] + (180 if place else 0)
+                parts.append('<path class="power" d="M%d %dL%d %d"/>' % (*centre(start), *centre(goal)))
+                parts.append('<use href="#power" transform="translate(%g %g) rotate(%d)"/>' % (*middle(start, goal), turn))
+        return parts
+
+    def _ends(self, level: int) -> List[str]:
+        return [end_sign(at, places) for at, places in sorted(self.ends.items()) if at[1] == level]
+
+
+def end_sign(at: Pos, places: List[int]) -> str:
+    x, y = centre(at)
+    sinks = [place for place in places if place]
+    label = " ".join((["S"] if 0 in places else []) + [str(place) for place in sinks])
+    if 0 in places:
+        return use("source", *corner(at)) + '<text class="end-light" x="%d" y="%d">%s</text>' % (x, y + 6, label)
+    colour = COLOURS[(sinks[0] - 1) % len(COLOURS)]
+    return '<circle class="sink" cx="%d" cy="%d" r="13" stroke="%s"/><text class="end" x="%d" y="%d">%s</text>' % (x, y, colour, x, y + 6, label)
+
+
+def middle(one: Pos, other: Pos) -> Tuple[float, float]:
+    (ax, ay), (bx, by) = centre(one), centre(other)
+    return (ax + bx) / 2, (ay + by) / 2
+
+
+def floor_lines(branch: List[Pos], level: int) -> List[List[Tuple[float, float]]]:
+    """The pieces of a branch on one floor, each as long as it goes; a stair reaches to the edge between its two cells."""
+    lines: List[List[Tuple[float, float]]] = []
+    for one, other in zip(branch, branch[1:]):
+        start = centre(one) if one[1] == level else middle(one, other)
+        goal = centre(other) if other[1] == level else middle(one, other)
+        if level in (one[1], other[1]):
+            if lines and lines[-1][-1] == start:
+                lines[-1].append(goal)
+            else:
+                lines.append([start, goal])
+    return lines

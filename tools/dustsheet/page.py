@@ -1,0 +1,157 @@
+"""The page: heading, answer in words, floors, table of branches, legend. One HTML file without scripts; it is well-formed XML too."""
+from __future__ import annotations
+
+from html import escape
+from itertools import groupby
+from typing import List, Optional, Tuple
+
+from .answer import Answer, occupied, refusal_words
+from .drawing import HOVER_CELLS, Drawing
+from .job import BLOCK_POWER, KINDS, PORTS, Job, spell
+from .symbols import CELL, COLOURS, KIND_NAMES, STYLE, definitions, line_style, use
+
+SIGN_WORDS = [
+    ("conductor", "another net's conductor"), ("clearance", "another net's clearance"), ("terminal", "another net's terminal"),
+    ("reserved", "reserved cell"), ("blocked", "blocked at the outset: too near to something live"),
+    ("support", "air under a wire: it needs a support"),
+]
+
+
+def page(name: str, job: Job, answer: Optional[Answer]) -> str:
+    drawing = Drawing(job, answer)
+    floors = floor_figures(drawing)
+    body = [heading(name, job), answer_words(job, answer), '<h2>Floors</h2>', reading_help(job), *floors, branch_table(job, answer),
+            legend(job, drawing)]
+    return document(name, "".join(body))
+
+
+def damaged_page(name: str, number: int, words: str) -> str:
+    return document(name, "<h1>%s</h1>%s" % (escape(name), refused_box(number, 0, words)))
+
+
+def document(name: str, body: str) -> str:
+    return ('<!DOCTYPE html>\n<html lang="en" xmlns="http://www.w3.org/1999/xhtml"><head><meta charset="utf-8"/>'
+            '<meta name="viewport" content="width=device-width"/><title>%s</title><style>%s</style></head><body>'
+            '<svg xmlns="http://www.w3.org/2000/svg" width="0" height="0" style="position:absolute"><defs>%s</defs></svg>%s</body></html>\n'
+            % (escape(name), STYLE, definitions(), body))
+
+
+def heading(name: str, job: Job) -> str:
+    return ('<h1>%s</h1><p>Room of %d x %d x %d cells. Costs in tenths: flat step %d, stair %d, new support %d. Node limit %d.</p>'
+            % (escape(name), *job.sides, *job.costs, job.limit))
+
+
+def count(number: int, word: str) -> str:
+    plural = word + ("es" if word.endswith("ch") else "s")
+    return "%d %s" % (number, word if number == 1 else plural)
+
+
+def answer_words(job: Job, answer: Optional[Answer]) -> str:
+    if answer is None:
+        return "<p>The room alone, with %s; no answer was given.</p>" % count(len(job.sinks), "sink")
+    if answer.refused:
+        return refused_box(*answer.refused, refusal_words(*answer.refused, job))
+    return "<p>The net: %s, %s occupied, %s.</p>" % (count(len(answer.branches), "branch"), count(len(occupied(answer, job)), "cell"),
+                                                   count(len(answer.repeaters), "repeater"))
+
+
+def refused_box(number: int, detail: int, words: str) -> str:
+    return '<p class="refused"><b>Refused.</b> %s (Number %d, detail %d.)</p>' % (escape(words), number, detail)
+
+
+# ---- floors
+
+def reading_help(job: Job) -> str:
+    hover = ("Rest the pointer on a cell to see its number." if job.cells() <= HOVER_CELLS
+             else "Rest the pointer on a cell that holds something to see its number.")
+    return ('<div class="help">%s<p>The bottom floor, y = 0, comes first; each next one lies on top of it. x counts to the right, '
+            'z downward.<br/>Cell (x, y, z) has number (x &#215; %d + y) &#215; %d + z. <span class="screen">%s</span></p></div>'
+            % (compass(), job.sides[1], job.sides[2], hover))
+
+
+def compass() -> str:
+    letters = "".join('<text class="small" x="%d" y="%d">%s</text>' % item for item in
+                      [(30, 10, "North"), (53, 33, "East"), (30, 57, "South"), (6, 33, "West")])
+    return ('<svg xmlns="http://www.w3.org/2000/svg" class="compass" viewBox="-12 0 84 60" width="98" height="70" role="img" '
+            'aria-label="north is up"><path class="tip" d="M30 13L34 29L30 45L26 29z"/><path class="tip-light" d="M30 28L33 29L30 43L27 29z"/>'
+            '%s</svg>' % letters)
+
+
+def floor_figures(drawing: Drawing) -> List[str]:
+    """A figure for each floor with something to see, a line for each run of floors that are alike throughout."""
+    high = drawing.job.sides[1]
+    parts: List[str] = []
+    for says, levels in groupby(range(high), drawing.plain_floor):
+        if says is None:
+            parts += ['<figure class="floor" id="floor-%d"><figcaption>%s</figcaption>%s</figure>'
+                      % (level, floor_name(level, high), drawing.floor(level)) for level in levels]
+        else:
+            run = list(levels)
+            parts.append('<p class="note plain">%s</p>' % plain_words(run[0], run[-1], says))
+    return parts
+
+
+def floor_name(level: int, high: int) -> str:
+    ends = [word for word, there in (("bottom", level == 0), ("top", level == high - 1)) if there]
+    return "Floor y = %d%s" % (level, " (%s)" % " and ".join(ends) if ends else "")
+
+
+def plain_words(first: int, last: int, says: str) -> str:
+    if first == last:
+        return "Floor y = %d is %s." % (first, says)
+    return "Floors y = %d to %d are %s." % (first, last, says)
+
+
+# ---- branches and legend
+
+def sample_line(branch: int) -> str:
+    return ('<svg xmlns="http://www.w3.org/2000/svg" viewBox="0 0 60 14" width="60" height="14"><path class="branch" d="M2 7H58" %s/></svg>'
+            % line_style(branch))
+
+
+def branch_table(job: Job, answer: Optional[Answer]) -> str:
+    if not answer or not answer.branches:
+        return ""
+    rows = []
+    for place, (sink, branch) in enumerate(zip(job.sinks, answer.branches)):
+        stairs = sum(one[1] != other[1] for one, other in zip(branch, branch[1:]))
+        repeaters = len(set(branch).intersection(answer.repeaters))
+        rows.append("<tr><td>%d</td><td>%s</td><td>%s at %s</td><td>%s</td><td>%d</td><td>%d</td><td>%d</td></tr>"
+                    % (place + 1, sample_line(place), PORTS[sink.port], spell(sink.at), spell(branch[0]), len(branch) - 1, stairs, repeaters))
+    head = "<tr><th>Sink</th><th>Line</th><th>Port</th><th>Branch from</th><th>Steps</th><th>Stairs</th><th>Repeaters</th></tr>"
+    return '<section><h2>Branches</h2><table><thead>%s</thead><tbody>%s</tbody></table></section>' % (head, "".join(rows))
+
+
+def legend(job: Job, drawing: Drawing) -> str:
+    items = [(sign(use("source", 0, 0) + '<text class="end-light" x="20" y="26">S</text>'), "source")]
+    if job.sinks:
+        ring = '<circle class="sink" cx="20" cy="20" r="13" stroke="%s"/><text class="end" x="20" y="26">1</text>' % COLOURS[0]
+        items.append((sign(ring), "sink with its number"))
+    items += [(sign(use(kind, 0, 0)), KIND_NAMES[kind]) for kind in KINDS if kind in drawing.used]
+    if any(used.startswith("facing-") for used in drawing.used):
+        frame = '<rect class="ground" width="40" height="40"/>'
+        items.append((sign(frame + use("facing-east", 0, 0)), "the way a block faces; up and down are written in it"))
+    items += [(sign(use(name, 0, 0)), words) for name, words in SIGN_WORDS if name in drawing.used]
+    items += net_items(drawing)
+    spans = "".join("<span>%s%s</span>" % (picture, escape(words)) for picture, words in items)
+    return '<section><h2>Legend</h2><div class="legend">%s</div></section>' % spans
+
+
+def net_items(drawing: Drawing) -> List[Tuple[str, str]]:
+    items = []
+    if drawing.marked:
+        items.append((sign(use("marked", 0, 0)), "the refusal speaks of this cell"))
+    if drawing.answer.repeaters:
+        items.append((sign(use("repeater-set", 20, 20)), "repeater, pointing the way of the signal"))
+    if "stair-up" in drawing.used:
+        items.append((sign(use("stair-up", 20, 20)), "the wire goes on one floor up, in the cell across this edge"))
+        items.append((sign(use("stair-down", 20, 20)), "the wire goes on one floor down, in the cell across this edge"))
+    if len({branch[0] for branch in drawing.answer.branches}) > 1:
+        items.append((sign('<circle class="joint" cx="20" cy="20" r="7"/>'), "a branch begins on another one"))
+    if drawing.sound and any(end.port == BLOCK_POWER for end in [drawing.job.source, *drawing.job.sinks]):
+        items.append((sign('<path class="power" d="M2 20H38"/>' + use("power", 20, 20)), "power into or out of a block"))
+    return items
+
+
+def sign(content: str) -> str:
+    return '<svg xmlns="http://www.w3.org/2000/svg" viewBox="0 0 %d %d" width="28" height="28">%s</svg>' % (CELL, CELL, content)

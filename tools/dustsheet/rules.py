@@ -1,0 +1,104 @@
+"""What the router makes of a good job before its first search: ends, numbers 7 to 9, and what is blocked at the outset.
+Document 01, "The tree of one net"."""
+from __future__ import annotations
+
+from typing import Dict, Iterator, List, Optional, Set, Tuple
+
+from .job import (AHEAD, BLOCK_POWER, LEVER, REDSTONE_BLOCK, REPEATER, SOLID, TORCH, Block, End, Fault, Job, Pos, spell)
+
+
+def step(at: Pos, by: Pos) -> Pos:
+    return (at[0] + by[0], at[1] + by[1], at[2] + by[2])
+
+
+def terminal(end: End) -> Pos:
+    """Where the wire of this end lies. Of a block-power end that faces up, down or nowhere there is none: number 8 comes first."""
+    return step(end.at, AHEAD[end.facing]) if end.port == BLOCK_POWER else end.at
+
+
+def approach(sink: End) -> Pos:
+    """The cell from which a sink's terminal is reached."""
+    return step(terminal(sink), AHEAD[sink.facing]) if sink.facing in AHEAD else terminal(sink)
+
+
+def end_name(place: int) -> str:
+    """An end by its number in a refusal's detail: 0 the source, k the k-th sink."""
+    return "sink %d" % place if place else "the source"
+
+
+# ---- numbers 7, 8 and 9
+
+def late_faults(job: Job) -> Iterator[Fault]:
+    """Of a job without a fault 1 to 5: each repeated block, and each end that numbers 8 and 9 refuse, in the router's order."""
+    yield from _repeats(job)
+    ends = [job.source, *job.sinks]
+    powerless = [place for place, end in enumerate(ends) if end.port == BLOCK_POWER and end.facing not in AHEAD]
+    for place in powerless:
+        yield _end_fault(8, place, "block-power needs a facing: north, east, south or west")
+    for place, end in enumerate(ends):
+        if place not in powerless:
+            yield from _outside(job, place, end)
+
+
+def _repeats(job: Job) -> Iterator[Fault]:
+    first: Dict[Pos, int] = {}
+    repeats = []
+    for index in sorted(range(len(job.blocks)), key=lambda index: (job.blocks[index].node, index)):
+        block = job.blocks[index]
+        if block.at in first:
+            repeats.append((block.node, job.number(block.at), index))
+        first.setdefault(block.at, index)
+    for _, cell, index in sorted(repeats):
+        words = "a second block in cell %s, number %d; a cell holds one block" % (spell(job.blocks[index].at), cell)
+        yield Fault(7, "blocks", index, words)
+
+
+def _outside(job: Job, place: int, end: End) -> Iterator[Fault]:
+    if not job.holds(terminal(end)):
+        yield _end_fault(9, place, "its terminal %s, the cell it faces, is outside the room" % spell(terminal(end)))
+    elif place and not job.holds(approach(end)):  # a source has no approach
+        yield _end_fault(9, place, "its approach %s, the cell that its terminal faces, is outside the room" % spell(approach(end)))
+
+
+def _end_fault(number: int, place: int, words: str) -> Fault:
+    return Fault(number, "sinks" if place else "source", max(place - 1, 0), words)
+
+
+# ---- what is blocked at the outset
+
+def keepout(at: Pos) -> List[Pos]:
+    """The four neighbours, each also one up and one down."""
+    return [step(step(at, by), (0, up, 0)) for by in AHEAD.values() for up in (-1, 0, 1)]
+
+
+def blocked(job: Job) -> Set[Pos]:
+    """The cells of the room that are blocked at the outset, of a job that no number up to 9 refuses."""
+    cells: Set[Pos] = {*job.conductors, *job.clearances, *job.terminals, *job.reserved}
+    for at in job.conductors:
+        cells.update(keepout(at))
+    solids = {(block.node, block.at) for block in job.blocks if block.kind == SOLID}
+    for block in job.blocks:
+        live = _live_cell(block, solids)
+        if live is not None:
+            cells.update(keepout(live))
+    for end in _own_cells(job):
+        cells.discard(end)
+        cells.discard(step(end, (0, -1, 0)))
+    return {at for at in cells if job.holds(at)}
+
+
+def _live_cell(block: Block, solids: Set[Tuple[int, Pos]]) -> Optional[Pos]:
+    """The cell that this block makes live, round which no wire may lie: its own, or the Solid of its node that a Repeater feeds."""
+    if block.kind in (TORCH, REDSTONE_BLOCK, LEVER):
+        return block.at
+    if block.kind == REPEATER and block.facing in AHEAD:
+        output = step(block.at, AHEAD[block.facing])
+        return output if (block.node, output) in solids else None
+    return None
+
+
+def _own_cells(job: Job) -> List[Pos]:
+    cells = [terminal(job.source)]
+    for sink in job.sinks:
+        cells += [terminal(sink), approach(sink)]
+    return cells
