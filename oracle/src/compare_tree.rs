@@ -12,7 +12,7 @@ use published::physical::PhysicalError;
 use published::port_realization::{realize_sink_endpoint, terminal_for_endpoint};
 use published::world::Pos;
 
-use crate::published_side::{cell_at, endpoint, guarded, routed_net};
+use crate::published_side::{PublishedJob, cell_at, endpoint, guarded};
 use crate::{Disagreement, Refusal};
 
 /// The answer to a sheet as the library's tree gives it, or how the published Rust and the plain router differ on it.
@@ -69,7 +69,7 @@ fn repeats_within_a_node(job: &Job) -> bool {
 
 fn published_answer(job: &Job, room: &Room) -> Result<TreeAnswer, String> {
     let refused = |number, detail| Ok(TreeAnswer::Refused(Refusal::new(number, detail)));
-    match guarded(|| routed_net(room, job))? {
+    match guarded(|| PublishedJob::new(room, job).route())? {
         Ok(net) => tree_of(room, &net),
         Err(MultiNetError::Physical(PhysicalError::CellOverlap(pos))) => {
             refused(7, cell(room, pos)? as u32)

@@ -15,6 +15,7 @@ pub use cases::sheet::{Sheet, TreeAnswer};
 
 pub use compare_search::check_search;
 pub use compare_tree::{check_route, check_sheet};
+pub use published_side::PublishedJob;
 
 /// The published Rust and the plain router differ on a case; the text shows the case and both answers.
 #[derive(Debug)]

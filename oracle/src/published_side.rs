@@ -140,22 +140,44 @@ fn positions(list: &[[u8; 3]]) -> BTreeSet<Pos> {
     list.iter().map(|at| pos_at(*at)).collect()
 }
 
-/// Runs `route_net_tree` on a judged job.
-pub fn routed_net(room: &Room, job: &Job) -> Result<RoutedNet, MultiNetError> {
-    let others = RoutingResources::from_conductors(
-        positions(&job.conductors),
-        positions(&job.clearances),
-        positions(&job.terminals),
-    );
-    route_net_tree(
-        &circuit_of(room, job),
-        NetId(0),
-        endpoint(&job.source),
-        job.sinks.iter().map(endpoint).collect(),
-        &others,
-        &positions(&job.reserved),
-        router_config(&job.config),
-    )
+/// A judged job as `route_net_tree` takes it.
+pub struct PublishedJob {
+    circuit: PlacementCircuit,
+    source: Endpoint,
+    sinks: Vec<Endpoint>,
+    others: RoutingResources,
+    reserved: BTreeSet<Pos>,
+    config: RouterConfig,
+}
+
+impl PublishedJob {
+    pub fn new(room: &Room, job: &Job) -> Self {
+        Self {
+            circuit: circuit_of(room, job),
+            source: endpoint(&job.source),
+            sinks: job.sinks.iter().map(endpoint).collect(),
+            others: RoutingResources::from_conductors(
+                positions(&job.conductors),
+                positions(&job.clearances),
+                positions(&job.terminals),
+            ),
+            reserved: positions(&job.reserved),
+            config: router_config(&job.config),
+        }
+    }
+
+    /// Runs `route_net_tree`.
+    pub fn route(&self) -> Result<RoutedNet, MultiNetError> {
+        route_net_tree(
+            &self.circuit,
+            NetId(0),
+            self.source.clone(),
+            self.sinks.clone(),
+            &self.others,
+            &self.reserved,
+            self.config,
+        )
+    }
 }
 
 /// Runs the published Rust; a panic in it, such as a sum that would wrap, comes back as an error.

@@ -1,2 +1,4 @@
 pub mod Export
 pub mod ExportLaws
+pub mod TreeExport
+pub mod TreeLaws

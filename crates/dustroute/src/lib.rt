@@ -1,5 +1,8 @@
-// The search of one net's router, exported for other languages: numbers pass as themselves, a slice as a pointer and then
-// a length.
+// One net's router, exported for other languages: numbers pass as themselves, a slice as a pointer and then a length. Here is
+// the search; the tree is in tree.rt.
+mod tree;
+
+pub use tree::dustroute_tree;
 ghost use mathlib.Core.Path.{_≡_};
 ghost use mathlib.Core.List.{[], _∷_, _++_};
 ghost use Prim.Native.Nat.{_-_, _≤_};
@@ -27,15 +30,15 @@ fn short_refusal(room: Room, config: RouterConfig) -> Refusal
 }
 
 // Four values, and zeros behind them.
-fn write_values(values: &mut [u64], detail: u64, cells: u64, cost: u32, expanded: u32)
+fn write_four(values: &mut [u64], detail: u64, second: u64, third: u64, fourth: u64)
     requires { ⌜ 4 ≤ length (now values) ⌝ }
-    ensures { λ _. ⌜ now (values .exit) ≡ (detail ∷ cells ∷ cost ∷ expanded ∷ []) ++ replicate (length (now (values .entry)) - 4) 0 ⌝ }
+    ensures { λ _. ⌜ now (values .exit) ≡ (detail ∷ second ∷ third ∷ fourth ∷ []) ++ replicate (length (now (values .entry)) - 4) 0 ⌝ }
 {
     lent::clear_longs(values);
     values[0] = detail;
-    values[1] = cells;
-    values[2] = cost as u64;
-    values[3] = expanded as u64;
+    values[1] = second;
+    values[2] = third;
+    values[3] = fourth;
 }
 
 // Writes an answer's values and returns its number. A refusal by 2 to 6 writes nothing.
@@ -46,30 +49,30 @@ fn tell(answer: Answer, values: &mut [u64]) -> u32
 {
     match answer {
         Answer::Routed(route) => {
-            write_values(
+            write_four(
                 values,
                 0,
                 route.length as u64,
-                route.cost.0,
-                route.expanded.0,
+                route.cost.0 as u64,
+                route.expanded.0 as u64,
             );
             0
         }
         Answer::Refused(why) => reply::refusal_number(why),
         Answer::NotRouteable(cell) => {
-            write_values(values, cell as u64, 0, 0, 0);
+            write_four(values, cell as u64, 0, 0, 0);
             10
         }
         Answer::NoRoute(expanded) => {
-            write_values(values, expanded.0 as u64, 0, 0, 0);
+            write_four(values, expanded.0 as u64, 0, 0, 0);
             11
         }
         Answer::LimitPassed(expanded) => {
-            write_values(values, expanded.0 as u64, 0, 0, 0);
+            write_four(values, expanded.0 as u64, 0, 0, 0);
             12
         }
         Answer::QueueFull(expanded) => {
-            write_values(values, expanded.0 as u64, 0, 0, 0);
+            write_four(values, expanded.0 as u64, 0, 0, 0);
             13
         }
     }

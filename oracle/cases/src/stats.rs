@@ -122,9 +122,32 @@ fn count_tree(tally: &mut Tally, room: &Room, branches: &[Vec<u16>], repeaters: 
     tally.add(sinks);
     tally.add_if("tree: with repeaters", !repeaters.is_empty());
     tally.add_if("tree: with 2 or more repeaters", repeaters.len() > 1);
-    let stairs = branches.iter().any(|branch| has_stairs(room, branch));
-    tally.add_if("tree: with stairs", stairs);
-    tally.add_if("tree: 2 or more sinks, stairs and repeaters", {
-        branches.len() > 1 && stairs && !repeaters.is_empty()
-    });
+    tally.add_if("tree: with stairs", any_stairs(room, branches));
+    tally.add_if(
+        "tree: 2 or more sinks, stairs and repeaters",
+        rich(room, branches, repeaters),
+    );
+}
+
+fn any_stairs(room: &Room, branches: &[Vec<u16>]) -> bool {
+    branches.iter().any(|branch| has_stairs(room, branch))
+}
+
+/// A tree that meets most of the rules: two or more sinks, stairs and repeaters.
+fn rich(room: &Room, branches: &[Vec<u16>], repeaters: &[u16]) -> bool {
+    branches.len() > 1 && !repeaters.is_empty() && any_stairs(room, branches)
+}
+
+/// Whether the sheet's answer is such a tree.
+pub fn has_rich_tree(case: &Sheet, answer: &TreeAnswer) -> bool {
+    let TreeAnswer::Tree {
+        branches,
+        repeaters,
+        ..
+    } = answer
+    else {
+        return false;
+    };
+    case.judge(MOST_CELLS)
+        .is_ok_and(|(_, room)| rich(&room, branches, repeaters))
 }

@@ -12,10 +12,12 @@ pub struct Draw {
     pub profile: Profile,
     /// Whether the published Rust is asked as well as the plain router.
     pub published: bool,
+    /// Whether only sheets are taken that have a tree of two or more sinks with stairs and repeaters.
+    pub rich: bool,
 }
 
 /// Differences are shown up to so many.
-const SHOWN: u64 = 10;
+pub const SHOWN: u64 = 10;
 
 /// Compares `count` random searches and prints a summary; false if anything differs.
 pub fn compare(draw: &Draw) -> bool {

@@ -1,8 +1,11 @@
-//! The proved search, called through its archive: compared with the oracle's answers on random searches, and timed.
+//! The proved search and the proved tree, called through their archive: compared with the oracle's answers on random cases, and
+//! timed.
 
 mod bench;
+mod bench_trees;
 mod clock;
 mod compare;
+mod compare_trees;
 mod flat;
 mod proved;
 
@@ -11,10 +14,12 @@ use std::process::ExitCode;
 use oracle::Profile;
 
 const HELP: &str = "\
-driver compare searches --seed N --count N [--profile P] [--against oracle|plain]
-                compares random searches; P is tiny, small, middle, large or mixed (the default).
-                oracle (the default): the published Rust and the plain router, which must agree; plain: the latter alone
-driver bench    times the proved search, the published Rust and plain Rust over flat arrays
+driver compare searches|sheets --seed N --count N [--profile P] [--against oracle|plain] [--only rich]
+                compares random cases; P is tiny, small, middle, large or mixed (the default).
+                oracle (the default): the published Rust and the plain router, which must agree; plain: the latter alone.
+                rich: of the sheets only those that have a tree of two or more sinks with stairs and repeaters
+driver bench searches   times the proved search, the published Rust and plain Rust over flat arrays
+driver bench trees      times the proved tree and the published Rust
 Status 0: done; 1: answers differ; 2: bad input.
 ";
 
@@ -30,9 +35,9 @@ fn number(words: &[String], name: &str) -> Result<u64, String> {
         .map_err(|_| format!("{name} {word}: no number"))
 }
 
-fn compare(words: &[String]) -> Result<bool, String> {
+fn draw(words: &[String]) -> Result<compare::Draw, String> {
     let profile = option(words, "--profile").unwrap_or("mixed");
-    let draw = compare::Draw {
+    Ok(compare::Draw {
         seed: number(words, "--seed")?,
         count: number(words, "--count")?,
         profile: Profile::named(profile).ok_or(format!("unknown profile {profile}"))?,
@@ -41,16 +46,25 @@ fn compare(words: &[String]) -> Result<bool, String> {
             "plain" => false,
             other => return Err(format!("neither oracle nor plain: {other}")),
         },
-    };
-    Ok(compare::compare(&draw))
+        rich: match option(words, "--only") {
+            None => false,
+            Some("rich") => true,
+            Some(other) => return Err(format!("only what? {other}")),
+        },
+    })
 }
 
 fn run(words: &[String]) -> Result<bool, String> {
     let command: Vec<&str> = words.iter().take(2).map(String::as_str).collect();
     match command[..] {
-        ["compare", "searches"] => compare(&words[2..]),
-        ["bench"] => {
+        ["compare", "searches"] => Ok(compare::compare(&draw(&words[2..])?)),
+        ["compare", "sheets"] => Ok(compare_trees::compare(&draw(&words[2..])?)),
+        ["bench", "searches"] => {
             bench::bench();
+            Ok(true)
+        }
+        ["bench", "trees"] => {
+            bench_trees::bench();
             Ok(true)
         }
         _ => Err(format!("what is asked?\n{HELP}")),

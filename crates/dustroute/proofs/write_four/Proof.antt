@@ -1,10 +1,10 @@
--- `write_values` meets its contract: four values over a cleared buffer.
+-- `write_four` meets its contract: four values over a cleared buffer.
 use native.Mathlib.Omega.{arith}
 use lib.ListN.{length-replicate, length-set}
 use Rattle.dustroute.specs.ExportLaws.{four-written}
 use borrow.Author.Needs.{needs}
-use Rattle.dustroute.proofs.write_values.Statement.{statement}
-use Rattle.dustroute.proofs.write_values.Tie as tie
+use Rattle.dustroute.proofs.write_four.Statement.{statement}
+use Rattle.dustroute.proofs.write_four.Tie as tie
 
 clear-longs-requires : tie.Need-clear-longs-requires
 clear-longs-requires c κs = search needs
@@ -27,8 +27,8 @@ same-length c = search needs
 returns : tie.Need-returns
 returns c = rw (c .before .before .clear-longs .ensures) (four-written _ _ _ _ _ (c .before .before .before .before .before .pre))
 
-pub write-values-spec : {M : Type 1} → statement M
-write-values-spec =
+pub write-four-spec : {M : Type 1} → statement M
+write-four-spec =
     tie.close
     (tie.spec
     clear-longs-requires

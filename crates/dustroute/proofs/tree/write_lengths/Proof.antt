@@ -1,0 +1,72 @@
+-- `write_lengths` meets its contract: each turn copies one length.
+use mathlib.Core.Path.{_≡_, sym, _∙_}
+use mathlib.Core.List.{map}
+use Prim.Native.Nat.{_-_, _≤_}
+use native.Mathlib.Omega.{arith}
+use lib.ListN.{length, length-map}
+use Rattle.branches.specs.declared.BranchLengths.{BranchLengths}
+use Rattle.dustroute.specs.TreeLaws.{Copied, copied-none, copied-next, copied-all}
+use borrow.Author.Needs.{needs}
+use Rattle.dustroute.proofs.tree.write_lengths.Statement.{statement}
+use Rattle.dustroute.proofs.tree.write_lengths.Tie as tie
+
+-- an array of sixteen, as what owning it tells
+each-whole : (L : BranchLengths) → length (map (λ v. v) (L .each)) ≡ 16 → length (L .each) ≡ 16
+each-whole L e = sym (length-map (L .each) (λ v. v)) ∙ e
+
+abbrev Inv-loop : tie.InvT-loop
+Inv-loop out₀ lengths sink₀ out sink = Copied (lengths .each) out₀ sink out
+
+abbrev μ-loop : tie.MeasureT-loop
+μ-loop out₀ lengths sink₀ out sink = 16 - sink
+
+loop-holds : tie.Need-loop-holds Inv-loop μ-loop
+loop-holds c = copied-none
+
+mul-out : tie.Need-mul-out Inv-loop μ-loop
+mul-out c = search needs
+
+element-copy-out-out : tie.Need-element-copy-out-out Inv-loop μ-loop
+element-copy-out-out c = search needs
+
+mul-out-2 : tie.Need-mul-out-2 Inv-loop μ-loop
+mul-out-2 c = search needs
+
+slice-write-out : tie.Need-slice-write-out Inv-loop μ-loop
+slice-write-out c = omega (arith, c .before .before .loop .inv .kept)
+
+add-sink : tie.Need-add-sink Inv-loop μ-loop
+add-sink c = search needs
+
+loop-less : tie.Need-loop-less Inv-loop μ-loop
+loop-less c = search needs
+
+loop-again : tie.Need-loop-again Inv-loop μ-loop
+loop-again c =
+    let whole = each-whole (c .before .before .before .args .t1) (c .before .before .before .good .0 .1 .1 .1 .0 .1 .0 .1) in
+    copied-next (c .before .before .loop .inv) (omega (arith, whole, c .before .loop-test .taken)) (omega (arith, whole, c .before .before .before .pre))
+
+same-length : tie.Need-same-length Inv-loop μ-loop
+same-length c = c .before .loop .inv .kept
+
+returns : tie.Need-returns Inv-loop μ-loop
+returns c =
+    let whole = each-whole (c .before .before .args .t1) (c .before .before .good .0 .1 .1 .1 .0 .1 .0 .1) in
+    copied-all (c .before .loop .inv) (omega (arith, whole, c .loop-test .left))
+
+pub write-lengths-spec : {M : Type 1} → statement M
+write-lengths-spec =
+    tie.close
+    (tie.spec
+    Inv-loop
+    μ-loop
+    loop-holds
+    mul-out
+    element-copy-out-out
+    mul-out-2
+    slice-write-out
+    add-sink
+    loop-less
+    loop-again
+    same-length
+    returns)

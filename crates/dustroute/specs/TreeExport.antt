@@ -1,0 +1,74 @@
+-- What `dustroute_tree` returns, and what every lent buffer then holds: the answer of `route_net_tree` as numbers. A sheet and the lengths of the
+-- lent buffers determine all of it.
+use mathlib.Core.Path.{_≡_}
+use mathlib.Core.Bool.{Bool, true, false}
+use mathlib.Core.List.{List, _∷_}
+use Prim.Native.Nat.{ℕ, _+_, _≤_, _<_}
+use lib.Dec.{ltb}
+use lib.ListN.{length}
+use Rattle.basics.specs.Tests.{either}
+use Rattle.job_sheet.specs.declared.Reading.{Reading}
+use Rattle.job_sheet.specs.Sheet.{Read, isGood, numberOf, maxSinks}
+use Rattle.net_tree.specs.declared.Answer.{Answer}
+use Rattle.net_tree.specs.declared.Ended.{Ended}
+use Rattle.net_tree.specs.declared.Ended.the-variants.{Routed, Refused}
+use Rattle.net_tree.specs.declared.Lengths.{Lengths}
+use Rattle.net_tree.specs.Answers.{Lent, lengthsOf, Outcome, refused, Comes, answerOf, touches, filled, outputAfter, lentAfter}
+
+-- the values: the detail, how many branches, occupied cells and repeaters there are, then sixteen lengths
+abbrev pub valueCount : ℕ
+valueCount = 4 + maxSinks
+
+-- ---- an answer as numbers
+
+abbrev pub numberBy : Ended → ℕ
+numberBy (Routed occupied repeaters) = 0
+numberBy (Refused number detail) = number
+
+abbrev pub detailBy : Ended → ℕ
+detailBy (Routed occupied repeaters) = 0
+detailBy (Refused number detail) = detail
+
+abbrev pub occupiedBy : Ended → ℕ
+occupiedBy (Routed occupied repeaters) = occupied
+occupiedBy (Refused number detail) = 0
+
+abbrev pub repeatersBy : Ended → ℕ
+repeatersBy (Routed occupied repeaters) = repeaters
+repeatersBy (Refused number detail) = 0
+
+abbrev pub numberTold : Answer → ℕ
+numberTold a = numberBy (a .ended)
+
+-- the branches' lengths stand in sheet order, zero behind their count; all are zero after a refusal
+abbrev pub treeValues : Answer → List ℕ
+treeValues a = detailBy (a .ended) ∷ a .lengths .count ∷ occupiedBy (a .ended) ∷ repeatersBy (a .ended) ∷ a .lengths .each
+
+-- "Numbers 1 to 6 touch nothing", the values included; any other number writes the values and zeros behind them
+abbrev pub touchesBy : Ended → Bool
+touchesBy (Routed occupied repeaters) = true
+touchesBy (Refused number detail) = ltb 6 number
+
+abbrev pub valuesAfter : Answer → List ℕ → List ℕ
+valuesAfter a values = either (touchesBy (a .ended)) (filled (treeValues a) values) values
+
+-- ---- too few values
+
+-- fewer values than a tree comes to are number 6, at 6's place: a sheet's reading, 1 to 5, is judged before it
+pub record ShortNumber (sheet : List ℕ) (number : ℕ) : Type 0 where
+  pub reading : Reading
+  pub read : Read sheet reading
+  pub number-is : number ≡ either (isGood (reading .verdict)) 6 (numberOf (reading .verdict))
+
+-- what comes of a sheet, where this many values are lent
+pub data TreeComes (sheet : List ℕ) (L : Lengths) (values : ℕ) (o : Outcome) : Type 0 where
+  short : values < valueCount → (number : ℕ) → ShortNumber sheet number → o ≡ refused number 0 → TreeComes sheet L values o
+  told : valueCount ≤ values → Comes sheet L o → TreeComes sheet L values o
+
+-- the promise of `dustroute_tree`
+pub record TreeExported (sheet : List ℕ) (B : Lent) (values : List ℕ) (r : ℕ) (B′ : Lent) (values′ : List ℕ) : Type 0 where
+  pub outcome : Outcome
+  pub comes : TreeComes sheet (lengthsOf B) (length values) outcome
+  pub number : r ≡ numberTold (answerOf outcome)
+  pub lent-is : B′ ≡ lentAfter outcome B
+  pub values-is : values′ ≡ valuesAfter (answerOf outcome) values

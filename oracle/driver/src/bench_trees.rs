@@ -1,0 +1,208 @@
+//! Times of whole trees of sixteen sinks: the proved tree through its archive, and the published Rust.
+//!
+//! A time is the processor time of this thread, the least of several runs. The proved tree's has everything in it, from the
+//! sheet's bytes to cleared memory; for the published Rust the circuit, in its Solid shell, is built before, and only
+//! `route_net_tree` is timed.
+
+use std::hint::black_box;
+use std::time::Duration;
+
+use cases::room::{MOST_CELLS, facing, kind};
+use cases::samples::{default_job, wire};
+use cases::sheet::{Block, Job, Port};
+use oracle::{PublishedJob, Rng, Sheet, check_sheet};
+
+use crate::clock;
+use crate::proved::{self, TREE_VALUES, TreeLent};
+
+/// A job that is timed, and how often by each of the two.
+struct Load {
+    name: &'static str,
+    job: Job,
+    runs: usize,
+    runs_published: usize,
+}
+
+pub fn bench() {
+    println!(
+        "{:<44}{:>7}{:>10}{:>12}{:>14}{:>9}",
+        "trees", "cells", "occupied", "proved", "published", "faster"
+    );
+    for load in [
+        load("open 20x10x20", open([20, 10, 20], 0)),
+        load(
+            "ground and pillars 20x10x20",
+            ground_and_pillars([20, 10, 20]),
+        ),
+        load(
+            "blocks and other nets 32x16x32",
+            blocks_and_other_nets([32, 16, 32]),
+        ),
+    ] {
+        measure(&load);
+    }
+    println!();
+    println!(
+        "{:<44}{:>7}{:>7}{:>12}",
+        "how it grows", "cells", "sinks", "proved"
+    );
+    for side in [8, 12, 16, 20, 25] {
+        growth(side, 16);
+    }
+    for sinks in [1, 2, 4, 8, 16] {
+        growth(20, sinks);
+    }
+}
+
+fn load(name: &'static str, job: Job) -> Load {
+    Load {
+        name,
+        job,
+        runs: 5,
+        runs_published: 1,
+    }
+}
+
+/// Sixteen Wire sinks, four by four over the room's ground plan, on three levels above `floor`.
+fn sinks([wide, high, deep]: [u8; 3], floor: u8) -> Vec<Port> {
+    let part = |side: u8, k: u8| side * (2 * k + 1) / 8;
+    (0..16)
+        .map(|k: u8| {
+            let level = floor + (k % 3) * (high - 1 - floor) / 3;
+            wire([part(wide, k % 4), level, part(deep, k / 4)], facing::NONE)
+        })
+        .collect()
+}
+
+fn open(sides: [u8; 3], floor: u8) -> Job {
+    let mut job = default_job(sides, &sinks(sides, floor));
+    job.source = wire([0, floor, 0], facing::NONE);
+    job
+}
+
+fn solid(node: u16, at: [u8; 3]) -> Block {
+    Block {
+        node,
+        at,
+        kind: kind::SOLID,
+        facing: facing::NONE,
+    }
+}
+
+/// A floor of Solid, and a pillar to half the height at every fourth place, where no end stands.
+fn ground_and_pillars(sides: [u8; 3]) -> Job {
+    let [wide, high, deep] = sides;
+    let mut job = open(sides, 1);
+    let mut blocks = Vec::new();
+    for x in 0..wide {
+        for z in 0..deep {
+            blocks.push(solid(0, [x, 0, z]));
+            let ends = job.sinks.iter().chain([&job.source]);
+            let free = ends.into_iter().all(|end| end.at[0] != x || end.at[2] != z);
+            if x % 4 == 1 && z % 4 == 1 && free {
+                blocks.extend((1..high / 2).map(|y| solid(1, [x, y, z])));
+            }
+        }
+    }
+    job.blocks = blocks;
+    job
+}
+
+/// A floor, some three hundred single blocks, and four other nets that lie across the room in straight lines.
+fn blocks_and_other_nets(sides: [u8; 3]) -> Job {
+    let [wide, high, deep] = sides;
+    let mut job = open(sides, 1);
+    let own: Vec<[u8; 3]> = job
+        .sinks
+        .iter()
+        .chain([&job.source])
+        .map(|end| end.at)
+        .collect();
+    let near = |at: [u8; 3]| {
+        own.iter()
+            .any(|end| (0..3).all(|i| end[i].abs_diff(at[i]) <= 2))
+    };
+    for x in 0..wide {
+        for z in 0..deep {
+            job.blocks.push(solid(0, [x, 0, z]));
+        }
+    }
+    let mut rng = Rng::new(7);
+    let mut below = |side: u8| rng.below(usize::from(side)) as u8;
+    let mut singles: Vec<[u8; 3]> = (0..300)
+        .map(|_| [below(wide), 1 + below(high - 1), below(deep)])
+        .filter(|at| !near(*at))
+        .collect();
+    singles.sort_unstable();
+    singles.dedup();
+    job.blocks
+        .extend(singles.into_iter().map(|at| solid(1, at)));
+    for z in [6, 14, 18, 26] {
+        let lane = (0..wide - 6).map(|x| [x, 3, z]).filter(|at| !near(*at));
+        job.conductors.extend(lane);
+    }
+    job
+}
+
+/// The least time of `runs`.
+fn best(runs: usize, mut run: impl FnMut()) -> Duration {
+    let timed = |_| {
+        let start = clock::now();
+        run();
+        clock::now() - start
+    };
+    (0..runs).map(timed).min().unwrap_or_default()
+}
+
+fn sheet_of(job: &Job) -> (Sheet, TreeLent) {
+    let cells: usize = job.sides.iter().map(|side| usize::from(*side)).product();
+    let sheet = Sheet {
+        queue: 12 * cells as u32,
+        branch: 16_384,
+        lent: cells as u32,
+        bytes: job.bytes(),
+    };
+    let lent = TreeLent::filled(cells, 16_384, 24 * cells, TREE_VALUES, 0);
+    (sheet, lent)
+}
+
+fn proved_time(runs: usize, sheet: &Sheet, lent: &mut TreeLent) -> Duration {
+    best(runs, || {
+        assert_eq!(proved::tree(black_box(&sheet.bytes), lent), 0, "a tree");
+    })
+}
+
+/// Prints one line; the answers of both must be the same, branch by branch.
+fn measure(load: &Load) {
+    let (sheet, mut lent) = sheet_of(&load.job);
+    let (job, room) = sheet.judge(MOST_CELLS).expect("a lawful sheet");
+    check_sheet(&sheet).unwrap_or_else(|difference| panic!("{difference}"));
+    let proved = proved_time(load.runs, &sheet, &mut lent);
+    let published_job = PublishedJob::new(&room, &job);
+    let published = best(load.runs_published, || {
+        black_box(published_job.route()).expect("a tree");
+    });
+    println!(
+        "{:<44}{:>7}{:>10}{:>9.2} ms{:>11.1} ms{:>8.1}x",
+        load.name,
+        room.cells(),
+        lent.values[2],
+        proved.as_secs_f64() * 1e3,
+        published.as_secs_f64() * 1e3,
+        published.as_secs_f64() / proved.as_secs_f64(),
+    );
+}
+
+/// The proved tree's time in an open room of this side, for so many sinks.
+fn growth(side: u8, count: usize) {
+    let mut job = open([side; 3], 0);
+    job.sinks.truncate(count);
+    let (sheet, mut lent) = sheet_of(&job);
+    let time = proved_time(3, &sheet, &mut lent);
+    let name = format!("open {side}x{side}x{side}");
+    println!(
+        "{name:<44}{:>7}{count:>7}{:>9.2} ms",
+        usize::from(side).pow(3),
+        time.as_secs_f64() * 1e3
+    );
+}
