@@ -1,7 +1,7 @@
 -- What `dustroute_tree` returns, and what every lent buffer then holds: the answer of `route_net_tree` as numbers. A sheet and the lengths of the
 -- lent buffers determine all of it.
 use mathlib.Core.Path.{_≡_}
-use mathlib.Core.Bool.{Bool, true, false}
+use mathlib.Core.Bool.{Bool, true}
 use mathlib.Core.List.{List, _∷_}
 use Prim.Native.Nat.{ℕ, _+_, _≤_, _<_}
 use lib.Dec.{ltb}
@@ -13,7 +13,7 @@ use Rattle.net_tree.specs.declared.Answer.{Answer}
 use Rattle.net_tree.specs.declared.Ended.{Ended}
 use Rattle.net_tree.specs.declared.Ended.the-variants.{Routed, Refused}
 use Rattle.net_tree.specs.declared.Lengths.{Lengths}
-use Rattle.net_tree.specs.Answers.{Lent, lengthsOf, Outcome, refused, Comes, answerOf, touches, filled, outputAfter, lentAfter}
+use Rattle.net_tree.specs.Answers.{Lent, lengthsOf, Outcome, refused, Comes, answerOf, filled, lentAfter}
 
 -- the values: the detail, how many branches, occupied cells and repeaters there are, then sixteen lengths
 abbrev pub valueCount : ℕ

@@ -1,6 +1,6 @@
 -- The promise of the exported tree, by its cases; and that it determines everything.
 use mathlib.Core.Path.{_≡_, refl, sym, ap, _∙_}
-use mathlib.Core.Bool.{true, false}
+use mathlib.Core.Bool.{false}
 use mathlib.Core.List.{List, [], _∷_, _++_, append-nil}
 use Prim.Native.Nat.{ℕ, zero, suc, _+_, _-_, _≤_, _<_}
 use native.Mathlib.Numerals.{add-one}
@@ -14,7 +14,7 @@ use Rattle.job_sheet.specs.Sheet.{isGood, numberOf}
 use Rattle.job_sheet.specs.Theorems.{one-answer}
 use Rattle.net_tree.specs.declared.Answer.{Answer}
 use Rattle.net_tree.specs.declared.Lengths.{Lengths}
-use Rattle.net_tree.specs.Answers.{Lent, Outcome, routed, refused, Comes, answerOf, touches, lentAfter, Promise}
+use Rattle.net_tree.specs.Answers.{Lent, Outcome, refused, answerOf, touches, lentAfter, Promise}
 use Rattle.net_tree.specs.GrowthLaws.{drop-zeros}
 use Rattle.net_tree.specs.PromiseLaws.{comes-one}
 use Rattle.dustroute.specs.TreeExport.{valueCount, numberTold, valuesAfter, ShortNumber, TreeComes, short, told, TreeExported}

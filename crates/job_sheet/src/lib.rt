@@ -1,7 +1,7 @@
 // The job sheet over plain bytes: a job's room, config, source and sinks are read into one value; its lists of records
 // stay in the sheet's bytes and are read there, record by record.
-mod faults; // faults.rt: numbers 2 to 5
-mod places; // places.rt: what stands at a place of a sheet, and number 1
+pub mod faults; // faults.rt: numbers 2 to 5
+pub mod places; // places.rt: what stands at a place of a sheet, and number 1
 
 ghost use mathlib.Core.Path.{_≡_};
 ghost use Prim.Native.Nat.{_≤_, _<_};
@@ -123,7 +123,7 @@ fn no_endpoint() -> Endpoint
     }
 }
 
-fn sinks_from(sheet: &[u8], part: Part) -> Sinks
+pub fn sinks_from(sheet: &[u8], part: Part) -> Sinks
     requires { ⌜ (part .count ≤ maxSinks) × (behind endpointSize part ≤ length (now sheet)) ⌝ }
     ensures { λ r. ⌜ r ≡ sinksOf (endpointsIn (now (sheet .entry)) part) ⌝ }
 {
@@ -162,7 +162,7 @@ fn job_from(sheet: &[u8], layout: Layout) -> Job
 }
 
 // A refusal carries no job.
-fn refusal(verdict: Verdict) -> Reading
+pub fn refusal(verdict: Verdict) -> Reading
     ensures { λ r. ⌜ r ≡ refused verdict ⌝ }
 {
     let none = Part { from: 0, count: 0 };

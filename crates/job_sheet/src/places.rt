@@ -14,11 +14,11 @@ use room::Room;
 use room::RouterConfig;
 
 // Where the sides, the config and the first list begin.
-const SIDES: usize = 5;
+pub const SIDES: usize = 5;
 
 const CONFIG: usize = 8;
 
-const LISTS: usize = 24;
+pub const LISTS: usize = 24;
 
 // Where the parts of a sheet stand.
 pub struct Layout {
@@ -33,7 +33,7 @@ pub struct Layout {
 
 // Byte k of what begins at a place. Past the end every byte is taken for 0: whether the parts end where the sheet does
 // is asked once, of the whole.
-fn byte(sheet: &[u8], place: usize, k: usize) -> u8
+pub fn byte(sheet: &[u8], place: usize, k: usize) -> u8
     requires { ⌜ place + k < 2 ^ 64 ⌝ }
     ensures { λ r. ⌜ r ≡ getD (drop place (now (sheet .entry))) k 0 ⌝ }
 {
@@ -48,7 +48,7 @@ fn two_bytes(sheet: &[u8], place: usize, k: usize) -> u16
     byte(sheet, place, k) as u16 * 256 + byte(sheet, place, k + 1) as u16
 }
 
-fn four_bytes(sheet: &[u8], place: usize, k: usize) -> u32
+pub fn four_bytes(sheet: &[u8], place: usize, k: usize) -> u32
     requires { ⌜ place + k + 3 < 2 ^ 64 ⌝ }
     ensures { λ r. ⌜ r ≡ fourIn (drop place (now (sheet .entry))) k ⌝ }
 {
@@ -112,7 +112,7 @@ pub fn config_from(sheet: &[u8]) -> RouterConfig
 }
 
 // The list whose count stands at a place.
-fn list_at(sheet: &[u8], place: usize) -> Part
+pub fn list_at(sheet: &[u8], place: usize) -> Part
     requires { ⌜ place + 2 < 2 ^ 64 ⌝ }
     ensures { λ r. ⌜ Listed (now (sheet .entry)) place r ⌝ }
 {

@@ -202,7 +202,7 @@ pub fn route_net_tree(
 ) -> Answer
     ensures { λ r. ⌜ Promise (now (sheet .entry)) (lent (now (branches .entry)) (now (occupied .entry)) (now (repeaters .entry)) (now (kinds .entry)) (now (blocked .entry)) (now (classes .entry)) (now (joinable .entry)) (now (known .entry)) (now (previous .entry)) (now (path .entry)) (now (best .entry)) (now (queue .entry))) r (lent (now (branches .exit)) (now (occupied .exit)) (now (repeaters .exit)) (now (kinds .exit)) (now (blocked .exit)) (now (classes .exit)) (now (joinable .exit)) (now (known .exit)) (now (previous .exit)) (now (path .exit)) (now (best .exit)) (now (queue .exit))) ⌝ }
 {
-    let reading = job_sheet::read_sheet(sheet);
+    let reading = sheet_reader::read_sheet(sheet);
     let verdict = reading.verdict;
     if !verdict.is_good() {
         return refuse(verdict.number(), 0);

@@ -1,7 +1,7 @@
 -- `write_lengths` meets its contract: each turn copies one length.
 use mathlib.Core.Path.{_≡_, sym, _∙_}
 use mathlib.Core.List.{map}
-use Prim.Native.Nat.{_-_, _≤_}
+use Prim.Native.Nat.{_-_}
 use native.Mathlib.Omega.{arith}
 use lib.ListN.{length, length-map}
 use Rattle.branches.specs.declared.BranchLengths.{BranchLengths}

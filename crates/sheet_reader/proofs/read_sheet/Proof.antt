@@ -1,0 +1,68 @@
+-- `read_sheet` meets its contract: a sheet that is not shaped means nothing; of any other the reader found what its places hold.
+use mathlib.Core.Path.{sym, _∙_}
+use borrow.Author.Tests.{not-true, not-false}
+use native.Mathlib.Omega.{arith}
+use denote.Ref.{now}
+use Rattle.job_sheet.specs.RecordLaws.{Bytes}
+use Rattle.job_sheet.specs.ReadLaws.{shaped-is, read-nothing, read-refused, read-accepted}
+use Rattle.sheet_reader.specs.ReaderLaws.{found-layout, found-job}
+use borrow.Author.Needs.{needs}
+use Rattle.sheet_reader.proofs.read_sheet.Statement.{statement}
+use Rattle.sheet_reader.proofs.read_sheet.Tie as tie
+
+read-head-requires : tie.Need-read-head-requires
+read-head-requires c κs = search needs
+
+read-body-requires : tie.Need-read-body-requires
+read-body-requires c κs = search needs
+
+shaped-requires : tie.Need-shaped-requires
+shaped-requires c κs = search needs
+
+refusal-requires : tie.Need-refusal-requires
+refusal-requires c κs = search needs
+
+returns : tie.Need-returns
+returns c = read-nothing _ (sym (c .before .before .shaped .ensures) ∙ not-true _ (c .before .if1 .taken)) _ (c .refusal .ensures)
+
+judge-requires : tie.Need-judge-requires
+judge-requires c κs =
+    let S = shaped-is _ (sym (c .before .shaped .ensures) ∙ not-false _ (c .if1 .left)) in
+    (found-layout _ _ (c .before .before .read-body .ensures) S, S)
+
+is-good-requires : tie.Need-is-good-requires
+is-good-requires c κs = search needs
+
+refusal-requires-2 : tie.Need-refusal-requires-2
+refusal-requires-2 c κs = search needs
+
+returns-2 : tie.Need-returns-2
+returns-2 c =
+    let S = shaped-is _ (sym (c .before .before .before .before .before .shaped .ensures) ∙ not-false _ (c .before .before .before .before .if1 .left)) in
+    read-refused _ (λ i. omega (arith, c .before .before .before .before .before .before .before .before .shared-slice-known .given i)) S _ (c .before .before .before .judge .ensures) (sym (c .before .before .is-good .ensures) ∙ not-true _ (c .before .if2 .taken)) _ (c .refusal2 .ensures)
+
+job-of-requires : tie.Need-job-of-requires
+job-of-requires c κs = search needs
+
+returns-3 : tie.Need-returns-3
+returns-3 c =
+    let S = shaped-is _ (sym (c .before .before .before .before .before .shaped .ensures) ∙ not-false _ (c .before .before .before .before .if1 .left)) in
+    let bytes : Bytes (now (c .before .before .before .before .before .before .before .before .before .args .sheet)) = λ i. omega (arith, c .before .before .before .before .before .before .before .before .shared-slice-known .given i) in
+    read-accepted _ bytes S _ (c .before .before .before .judge .ensures) (sym (c .before .before .is-good .ensures) ∙ not-false _ (c .before .if2 .left)) _
+    (c .job-of .ensures ∙ found-job _ _ (c .before .before .before .before .before .before .read-body .ensures) S bytes _ (c .before .before .before .before .before .before .before .read-head .ensures))
+
+pub read-sheet-spec : {M : Type 1} → statement M
+read-sheet-spec =
+    tie.close
+    (tie.spec
+    read-head-requires
+    read-body-requires
+    shaped-requires
+    refusal-requires
+    returns
+    judge-requires
+    is-good-requires
+    refusal-requires-2
+    returns-2
+    job-of-requires
+    returns-3)

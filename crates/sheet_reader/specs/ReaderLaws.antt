@@ -1,0 +1,265 @@
+-- A reader that goes through a sheet finds what stands at its places.
+use mathlib.Core.Path.{_≡_, refl, sym, ap, _∙_}
+use mathlib.Core.Bool.{Bool, true}
+use mathlib.Core.List.{List, []}
+use Prim.Native.Nat.{ℕ, _+_, _*_, _≤_, _<_}
+use native.Mathlib.Nat.{le-of-lt, add-zero}
+use native.Mathlib.Omega.{arith}
+use borrow.Author.Tests.{leb-true, leb-false, eqb-true, le-leb, lt-leb, eq-eqb, ne-eqb}
+use lib.Dec.{leb, eqb}
+use lib.ListN.{length, getD, drop, drop-of-length-le}
+use lib.Seq.{getD-drop}
+use Rattle.basics.specs.Tests.{ask}
+use Rattle.room.specs.declared.Pos.{Pos}
+use Rattle.job_sheet.specs.declared.Endpoint.{Endpoint}
+use Rattle.job_sheet.specs.declared.Part.{Part}
+use Rattle.job_sheet.specs.declared.Sinks.{Sinks}
+use Rattle.job_sheet.specs.Sheet.{maxSinks, blockSize, positionSize, endpointSize, listsPlace, behind, noPart, sinksOf, jobOf}
+use Rattle.job_sheet.specs.Places.{twoIn, fourIn, positionIn, endpointIn, endpointsIn, listAt, sinksAt, layoutIn, contentsIn, Shaped}
+use Rattle.job_sheet.specs.RecordLaws.{Bytes}
+use Rattle.job_sheet.specs.ReadLaws.{job-forth}
+use Rattle.sheet_reader.specs.declared.Head.{Head}
+use Rattle.sheet_reader.specs.declared.Body.{Body}
+use Rattle.sheet_reader.specs.Reader.{Stands, onward, sinksHere, held, sinksFound, headOf, headIn, layoutFrom, bodyOf, Found, jobFound}
+
+-- ---- where a reader stands
+
+module _ (s : List ℕ) (place n : ℕ) where
+  pub onward-on : place + n ≤ length s → onward s place n ≡ place + n
+  unfolding onward
+  onward-on h = rw (le-leb _ _ h)
+
+  pub onward-off : length s < place + n → onward s place n ≡ length s + 1
+  unfolding onward
+  onward-off h = rw (lt-leb _ _ h)
+
+  pub onward-stands : Stands s (onward s place n)
+  onward-stands =
+      ask (leb (place + n) (length s)) (λ t. on (leb-true _ _ t)) (λ f. rw (onward-off (leb-false _ _ f)) (omega arith))
+    where
+      on : place + n ≤ length s → Stands s (onward s place n)
+      on h = rw (onward-on h) (omega (arith, h))
+
+-- ---- the sinks that can be read
+
+module _ (s : List ℕ) (p : Part) where
+  pub held-some : p .count ≤ maxSinks → behind endpointSize p ≤ length s → held s p ≡ p
+  unfolding held
+  held-some few inside = rw (le-leb _ _ few, le-leb _ _ inside)
+
+  pub held-over : maxSinks < p .count → held s p ≡ noPart
+  unfolding held
+  held-over many = rw (lt-leb _ _ many)
+
+  pub held-short : p .count ≤ maxSinks → length s < behind endpointSize p → held s p ≡ noPart
+  unfolding held
+  held-short few short = rw (le-leb _ _ few, lt-leb _ _ short)
+
+  holds : (q : Part) → q ≡ held s p → (q .count ≤ maxSinks) × (behind endpointSize q ≤ length s)
+  holds q e =
+      ask (leb (p .count) maxSinks) (λ t. ask (leb (behind endpointSize p) (length s)) (λ u. whole (leb-true _ _ t) (leb-true _ _ u)) (λ f. none (held-short (leb-true _ _ t) (leb-false _ _ f)))) (λ f. none (held-over (leb-false _ _ f)))
+    where
+      whole : p .count ≤ maxSinks → behind endpointSize p ≤ length s → (q .count ≤ maxSinks) × (behind endpointSize q ≤ length s)
+      whole few inside = rw (e, held-some few inside) (few, inside)
+
+      none : held s p ≡ noPart → (q .count ≤ maxSinks) × (behind endpointSize q ≤ length s)
+      none z = rw (e, z) (omega arith, omega arith)
+
+  pub held-few : held s p .count ≤ maxSinks
+  held-few = holds (held s p) refl .0
+
+  pub held-inside : behind endpointSize (held s p) ≤ length s
+  held-inside = holds (held s p) refl .1
+
+-- ---- a reader beside the places of the definitions, which run on past the end: it stands where they do, or both are off the sheet
+
+data Along (s : List ℕ) (a p : ℕ) : Type 0 where
+  same : a ≡ p → p ≤ length s → Along s a p
+  off : length s < a → length s < p → Along s a p
+
+module _ (s : List ℕ) where
+  -- so what is read is the same
+  along-drop : (a p : ℕ) → Along s a p → drop a s ≡ drop p s
+  along-drop a p (same e h) = ap (λ x. drop x s) e
+  along-drop a p (off h k) = drop-of-length-le s (le-of-lt h) ∙ sym (drop-of-length-le s (le-of-lt k))
+
+  along-near : (a p : ℕ) → Along s a p → p ≤ length s → a ≡ p
+  along-near a p (same e h) k = e
+  along-near a p (off h k) l = absurd (omega arith)
+
+  along-from : (p n : ℕ) → Along s (onward s p n) (p + n)
+  along-from p n =
+      ask (leb (p + n) (length s)) (λ t. same (onward-on s p n (leb-true _ _ t)) (leb-true _ _ t)) (λ f. out (leb-false _ _ f))
+    where
+      out : length s < p + n → Along s (onward s p n) (p + n)
+      out h = off (rw (onward-off s p n h) (omega arith)) h
+
+  -- k bytes on, then n more
+  along-on : (k n : ℕ) (a p : ℕ) → Along s a p → Along s (onward s (a + k) n) (p + k + n)
+  along-on k n a p (same e h) = rw e (along-from (p + k) n)
+  along-on k n a p (off h l) = off (rw (onward-off s (a + k) n (omega arith)) (omega arith)) (omega arith)
+
+  along-past : (n a p : ℕ) → Along s a p → Along s (onward s a n) (p + n)
+  along-past n a p (same e h) = rw e (along-from p n)
+  along-past n a p (off h l) = off (rw (onward-off s a n (omega arith)) (omega arith)) (omega arith)
+
+  along-start : Along s 0 0
+  along-start = same refl (omega arith)
+
+  along-end : (a p : ℕ) → Along s a p → eqb a (length s) ≡ eqb p (length s)
+  along-end a p (same e h) = ap (λ x. eqb x (length s)) e
+  along-end a p (off h k) = ne-eqb a (length s) (λ e. omega (arith, h, e)) ∙ sym (ne-eqb p (length s) (λ e. omega (arith, k, e)))
+
+-- ---- from the front to the lists
+
+abbrev restAt : List ℕ → ℕ
+restAt s = onward s 0 1
+
+abbrev sidesAt : List ℕ → ℕ
+sidesAt s = onward s (restAt s) 4
+
+abbrev limitAt : List ℕ → ℕ
+limitAt s = onward s (sidesAt s) 3
+
+abbrev horizontalAt : List ℕ → ℕ
+horizontalAt s = onward s (limitAt s) 4
+
+abbrev stairAt : List ℕ → ℕ
+stairAt s = onward s (horizontalAt s) 4
+
+abbrev supportAt : List ℕ → ℕ
+supportAt s = onward s (stairAt s) 4
+
+pub head-read : (s : List ℕ) (version rest : ℕ) (sides : Pos) (limit horizontal stair support : ℕ)
+    → version ≡ getD (drop 0 s) 0 0
+    → rest ≡ fourIn (drop (restAt s) s) 0
+    → sides ≡ positionIn (drop (sidesAt s) s) 0
+    → limit ≡ fourIn (drop (limitAt s) s) 0
+    → horizontal ≡ fourIn (drop (horizontalAt s) s) 0
+    → stair ≡ fourIn (drop (stairAt s) s) 0
+    → support ≡ fourIn (drop (supportAt s) s) 0
+    → headOf version rest sides limit horizontal stair support ≡ headIn s
+head-read s version rest sides limit horizontal stair support e₀ e₁ e₂ e₃ e₄ e₅ e₆ =
+    let a₁ = along-past s 1 0 0 (along-start s) in
+    let a₂ = along-past s 4 (restAt s) 1 a₁ in
+    let a₃ = along-past s 3 (sidesAt s) 5 a₂ in
+    let a₄ = along-past s 4 (limitAt s) 8 a₃ in
+    let a₅ = along-past s 4 (horizontalAt s) 12 a₄ in
+    let a₆ = along-past s 4 (stairAt s) 16 a₅ in
+    let d₁ : drop (restAt s) s ≡ drop 1 s = along-drop s _ _ a₁ in
+    let d₂ : drop (sidesAt s) s ≡ drop 5 s = along-drop s _ _ a₂ in
+    let d₃ : drop (limitAt s) s ≡ drop 8 s = along-drop s _ _ a₃ in
+    let d₄ : drop (horizontalAt s) s ≡ drop 12 s = along-drop s _ _ a₄ in
+    let d₅ : drop (stairAt s) s ≡ drop 16 s = along-drop s _ _ a₅ in
+    let d₆ : drop (supportAt s) s ≡ drop 20 s = along-drop s _ _ a₆ in
+    rw (e₀, e₁, e₂, e₃, e₄, e₅, e₆, d₁, d₂, d₃, d₄, d₅, d₆) (simp getD-drop)
+
+-- ---- from the lists to the end
+
+-- the place that a reader reaches behind a part
+abbrev after : List ℕ → ℕ → Part → ℕ
+after s size x = onward s (x .from) (size * x .count)
+
+module _ (s : List ℕ) where
+  list-along : (size : ℕ) (x : Part) (a p : ℕ) → x ≡ listAt s a → Along s a p → Along s (after s size x) (behind size (listAt s p))
+  unfolding listAt
+  list-along size x a p e A = rw (e, along-drop s a p A) (along-on s 2 (size * twoIn (drop p s) 0) a p A)
+
+  behind-on : (size p : ℕ) → p ≤ behind size (listAt s p)
+  unfolding listAt
+  behind-on size p = omega arith
+
+  -- the sinks' count stands behind the source
+  count-at : (p : ℕ) → getD (drop (p + endpointSize) s) 0 0 ≡ getD (drop p s) endpointSize 0
+  count-at p = simp (getD-drop, add-zero)
+
+  count-along : (a p : ℕ) → Along s a (p + endpointSize) → getD (drop a s) 0 0 ≡ getD (drop p s) endpointSize 0
+  count-along a p A = rw (along-drop s a (p + endpointSize) A) (count-at p)
+
+  sinks-along : (a p : ℕ) → Along s a (p + endpointSize) → Along s (after s endpointSize (sinksHere s a)) (behind endpointSize (sinksAt s p))
+  unfolding sinksAt
+  sinks-along a p A = rw (count-along a p A) (along-on s 1 (endpointSize * getD (drop p s) endpointSize 0) a (p + endpointSize) A)
+
+  sinks-count : (a p : ℕ) → Along s a (p + endpointSize) → getD (drop a s) 0 0 ≡ sinksAt s p .count
+  unfolding sinksAt
+  sinks-count = count-along
+
+  sinks-on : (p : ℕ) → p + endpointSize ≤ behind endpointSize (sinksAt s p)
+  unfolding sinksAt
+  sinks-on p = omega arith
+
+  sinks-same : (a p : ℕ) → a ≡ p + endpointSize → sinksHere s a ≡ sinksAt s p
+  unfolding sinksAt
+  sinks-same a p e = rw e (λ i. record { from = p + endpointSize + 1; count = count-at p i })
+
+  pub body-read : (b c l t r k : Part) (e : Endpoint) (n : Sinks) (w : Bool)
+      → b ≡ listAt s (onward s 0 listsPlace)
+      → c ≡ listAt s (after s blockSize b)
+      → l ≡ listAt s (after s positionSize c)
+      → t ≡ listAt s (after s positionSize l)
+      → r ≡ listAt s (after s positionSize t)
+      → e ≡ endpointIn (drop (after s positionSize r) s)
+      → k ≡ sinksHere s (onward s (after s positionSize r) endpointSize)
+      → n ≡ sinksFound s (onward s (after s positionSize r) endpointSize)
+      → w ≡ eqb (after s endpointSize k) (length s)
+      → Found s (bodyOf (layoutFrom b c l t r (after s positionSize r) k) e n w)
+  unfolding layoutIn
+  body-read b c l t r k e n w eb ec el et er ee ek en ew =
+      let q₁ : ℕ = listsPlace in
+      let q₂ : ℕ = behind blockSize (listAt s q₁) in
+      let q₃ : ℕ = behind positionSize (listAt s q₂) in
+      let q₄ : ℕ = behind positionSize (listAt s q₃) in
+      let q₅ : ℕ = behind positionSize (listAt s q₄) in
+      let q₆ : ℕ = behind positionSize (listAt s q₅) in
+      let q₈ : ℕ = behind endpointSize (sinksAt s q₆) in
+      let a₇ : ℕ = onward s (after s positionSize r) endpointSize in
+      let A₁ : Along s (onward s 0 listsPlace) q₁ = along-past s listsPlace 0 0 (along-start s) in
+      let A₂ : Along s (after s blockSize b) q₂ = list-along blockSize b _ q₁ eb A₁ in
+      let A₃ : Along s (after s positionSize c) q₃ = list-along positionSize c _ q₂ ec A₂ in
+      let A₄ : Along s (after s positionSize l) q₄ = list-along positionSize l _ q₃ el A₃ in
+      let A₅ : Along s (after s positionSize t) q₅ = list-along positionSize t _ q₄ et A₄ in
+      let A₆ : Along s (after s positionSize r) q₆ = list-along positionSize r _ q₅ er A₅ in
+      let A₇ : Along s a₇ (q₆ + endpointSize) = along-past s endpointSize _ q₆ A₆ in
+      let A₈ : Along s (after s endpointSize k) q₈ = rw ek (sinks-along a₇ q₆ A₇) in
+      let whole : w ≡ eqb q₈ (length s) = ew ∙ along-end s _ q₈ A₈ in
+      let ends : w ≡ true → q₈ ≡ length s = λ z. eqb-true _ _ (sym whole ∙ z) in
+      let on₂ = behind-on blockSize q₁ in
+      let on₃ = behind-on positionSize q₂ in
+      let on₄ = behind-on positionSize q₃ in
+      let on₅ = behind-on positionSize q₄ in
+      let on₆ = behind-on positionSize q₅ in
+      let on₈ = sinks-on q₆ in
+      let p₁ : w ≡ true → onward s 0 listsPlace ≡ q₁ = λ z. along-near s _ q₁ A₁ (omega (arith, ends z, on₂, on₃, on₄, on₅, on₆, on₈)) in
+      let p₂ : w ≡ true → after s blockSize b ≡ q₂ = λ z. along-near s _ q₂ A₂ (omega (arith, ends z, on₃, on₄, on₅, on₆, on₈)) in
+      let p₃ : w ≡ true → after s positionSize c ≡ q₃ = λ z. along-near s _ q₃ A₃ (omega (arith, ends z, on₄, on₅, on₆, on₈)) in
+      let p₄ : w ≡ true → after s positionSize l ≡ q₄ = λ z. along-near s _ q₄ A₄ (omega (arith, ends z, on₅, on₆, on₈)) in
+      let p₅ : w ≡ true → after s positionSize t ≡ q₅ = λ z. along-near s _ q₅ A₅ (omega (arith, ends z, on₆, on₈)) in
+      let p₆ : w ≡ true → after s positionSize r ≡ q₆ = λ z. along-near s _ q₆ A₆ (omega (arith, ends z, on₈)) in
+      let p₇ : w ≡ true → a₇ ≡ q₆ + endpointSize = λ z. along-near s _ (q₆ + endpointSize) A₇ (omega (arith, ends z, on₈)) in
+      let k-is : w ≡ true → k ≡ sinksAt s q₆ = λ z. ek ∙ sinks-same a₇ q₆ (p₇ z) in
+      record {
+        whole-is = whole;
+        count-is = ap (λ x. x .count) ek ∙ sinks-count a₇ q₆ A₇;
+        layout-is = λ z i. layoutFrom ((eb ∙ ap (listAt s) (p₁ z)) i) ((ec ∙ ap (listAt s) (p₂ z)) i) ((el ∙ ap (listAt s) (p₃ z)) i) ((et ∙ ap (listAt s) (p₄ z)) i) ((er ∙ ap (listAt s) (p₅ z)) i) (p₆ z i) (k-is z i);
+        source-is = λ z. ee ∙ ap (λ x. endpointIn (drop x s)) (p₆ z);
+        sinks-are = λ z few.
+            en ∙ ap (λ x. sinksOf (endpointsIn s (held s x))) (sinks-same a₇ q₆ (p₇ z)) ∙ ap (λ x. sinksOf (endpointsIn s x)) (held-some s (sinksAt s q₆) few (omega (arith, ends z)));
+      }
+
+  pub found-as : (x y : Body) → x ≡ y → Found s y → Found s x
+  found-as x y e F = rw e F
+
+-- ---- what was found is the job of the sheet's contents
+
+module _ (s : List ℕ) (b : Body) (F : Found s b) (S : Shaped s) where
+  found-whole : b .whole ≡ true
+  found-whole = F .whole-is ∙ eq-eqb _ _ (S .whole)
+
+  pub found-layout : b .layout ≡ layoutIn s
+  found-layout = F .layout-is found-whole
+
+  pub found-job : Bytes s → (h : Head) → h ≡ headIn s → jobFound h b ≡ jobOf (contentsIn s)
+  found-job bytes h e =
+      job-forth s bytes S (h .room) (h .config) (b .layout) (b .source) (b .sinks) (ap (λ x. x .room) e) (ap (λ x. x .config) e) found-layout
+      (F .source-is found-whole ∙ ap (λ L. endpointIn (drop (L .source .from) s)) (sym found-layout))
+      (F .sinks-are found-whole (S .few-sinks) ∙ ap (λ L. sinksOf (endpointsIn s (L .sinks))) (sym found-layout))

@@ -1,0 +1,330 @@
+// The job sheet through "a reader that holds the sheet's bytes and its place": a thin struct whose methods call covered
+// functions over the bytes and the place. One reader goes from the front of a sheet to its lists, one from there to its end.
+// The records of the lists stay in the sheet's bytes, where they are judged.
+mod steps; // steps.rt: the reader's work over bytes and a place
+
+ghost use mathlib.Core.Path.{_≡_};
+ghost use Prim.Native.Nat.{_*_, _≤_, _<_};
+ghost use lib.Dec.{eqb};
+ghost use lib.ListN.{length, getD, drop};
+ghost use Rattle.job_sheet.specs.Sheet.{Read};
+ghost use Rattle.job_sheet.specs.Places.{fourIn, positionIn, endpointIn, Listed, shaped};
+ghost use Rattle.sheet_reader.specs.Reader.{Stands, onward, Counted, sinksFound, headOf, headIn, layoutFrom, bodyOf, Found, jobFound};
+use job_sheet::Endpoint;
+use job_sheet::Job;
+use job_sheet::Part;
+use job_sheet::Reading;
+use job_sheet::Sinks;
+use job_sheet::Verdict;
+use job_sheet::faults;
+use job_sheet::places;
+use job_sheet::places::Layout;
+use room::Cost;
+use room::Nodes;
+use room::Pos;
+use room::Room;
+use room::RouterConfig;
+
+// It stands on the sheet, at its end, or just off it. What is too short for a step leads it off, from where no step leads
+// back: so it is not at the end, which refuses the sheet. What it reads past the end is 0, and is not used.
+pub struct Reader<'a> {
+    pub sheet: &'a [u8],
+    pub place: usize,
+}
+
+// What stands before the lists: "version byte 1, four-byte length of the rest, then X, Y, Z; node limit, horizontal, stair,
+// support cost".
+struct Head {
+    version: u8,
+    rest: u32,
+    room: Room,
+    config: RouterConfig,
+}
+
+// The lists, the source and the sinks, and whether the sheet ends right behind them.
+struct Body {
+    layout: Layout,
+    source: Endpoint,
+    sinks: Sinks,
+    whole: bool,
+}
+
+impl<'a> Reader<'a> {
+    pub fn new(sheet: &'a [u8]) -> Reader<'a>
+        ensures { λ r. ⌜ (r .sheet ≡ sheet .entry) × (r .place ≡ 0) ⌝ }
+    {
+        Reader { sheet, place: 0 }
+    }
+
+    pub fn byte(self) -> u8
+        requires { ⌜ Stands (now (self .sheet)) (self .place) ⌝ }
+        ensures { λ r. ⌜ r ≡ getD (drop (self .entry .place) (now (self .entry .sheet))) 0 0 ⌝ }
+    {
+        places::byte(self.sheet, self.place, 0)
+    }
+
+    pub fn four(self) -> u32
+        requires { ⌜ Stands (now (self .sheet)) (self .place) ⌝ }
+        ensures { λ r. ⌜ r ≡ fourIn (drop (self .entry .place) (now (self .entry .sheet))) 0 ⌝ }
+    {
+        places::four_bytes(self.sheet, self.place, 0)
+    }
+
+    // "X, Y, Z" or "x, y, z".
+    pub fn position(self) -> Pos
+        requires { ⌜ Stands (now (self .sheet)) (self .place) ⌝ }
+        ensures { λ r. ⌜ r ≡ positionIn (drop (self .entry .place) (now (self .entry .sheet))) 0 ⌝ }
+    {
+        places::position_from(self.sheet, self.place, 0)
+    }
+
+    // The source.
+    pub fn endpoint(self) -> Endpoint
+        requires { ⌜ Stands (now (self .sheet)) (self .place) ⌝ }
+        ensures { λ r. ⌜ r ≡ endpointIn (drop (self .entry .place) (now (self .entry .sheet))) ⌝ }
+    {
+        places::endpoint_from(self.sheet, self.place)
+    }
+
+    // The list whose two-byte count stands here.
+    pub fn list(self) -> Part
+        requires { ⌜ Stands (now (self .sheet)) (self .place) ⌝ }
+        ensures { λ r. ⌜ Listed (now (self .entry .sheet)) (self .entry .place) r ⌝ }
+    {
+        places::list_at(self.sheet, self.place)
+    }
+
+    // The sinks whose one-byte count stands here: where they stand.
+    pub fn sinks_list(self) -> Part
+        requires { ⌜ Stands (now (self .sheet)) (self .place) ⌝ }
+        ensures { λ r. ⌜ Counted (now (self .entry .sheet)) (self .entry .place) r ⌝ }
+    {
+        steps::sinks_list(self.sheet, self.place)
+    }
+
+    // The sinks whose one-byte count stands here: none where they are over sixteen, or the sheet is too short for them.
+    pub fn sinks(self) -> Sinks
+        requires { ⌜ Stands (now (self .sheet)) (self .place) ⌝ }
+        ensures { λ r. ⌜ r ≡ sinksFound (now (self .entry .sheet)) (self .entry .place) ⌝ }
+    {
+        steps::sinks(self.sheet, self.place)
+    }
+
+    // Moved on by `size` bytes; off the sheet where it has too few.
+    pub fn past(self, size: usize) -> Reader<'a>
+        ensures { λ r. ⌜ (r .sheet ≡ self .entry .sheet) × (r .place ≡ onward (now (self .entry .sheet)) (self .entry .place) size) ⌝ }
+    {
+        Reader {
+            sheet: self.sheet,
+            place: steps::onward(self.sheet, self.place, size),
+        }
+    }
+
+    // Moved behind a part's records, of `size` bytes each; off the sheet where it has too few.
+    pub fn behind(self, size: usize, part: Part) -> Reader<'a>
+        requires { ⌜ (size ≤ 7) × (part .count < 65536) ⌝ }
+        ensures { λ r. ⌜ (r .sheet ≡ self .entry .sheet) × (r .place ≡ onward (now (self .entry .sheet)) (part .from) (size * part .count)) ⌝ }
+    {
+        Reader {
+            sheet: self.sheet,
+            place: steps::behind(self.sheet, size, part),
+        }
+    }
+
+    pub fn at_end(self) -> bool
+        ensures { λ r. ⌜ r ≡ eqb (self .entry .place) (length (now (self .entry .sheet))) ⌝ }
+    {
+        steps::at_end(self.sheet, self.place)
+    }
+}
+
+// What was read, put together.
+fn head_of(
+    version: u8,
+    rest: u32,
+    sides: Pos,
+    limit: u32,
+    horizontal: u32,
+    stair: u32,
+    support: u32,
+) -> Head
+    ensures { λ r. ⌜ r ≡ headOf version rest sides limit horizontal stair support ⌝ }
+{
+    Head {
+        version,
+        rest,
+        room: Room {
+            wide: sides.x,
+            high: sides.y,
+            deep: sides.z,
+        },
+        config: RouterConfig {
+            limit: Nodes(limit),
+            horizontal: Cost(horizontal),
+            stair: Cost(stair),
+            support: Cost(support),
+        },
+    }
+}
+
+// From the front of a sheet to its lists.
+fn read_head(sheet: &[u8]) -> Head
+    ensures { λ r. ⌜ r ≡ headIn (now (sheet .entry)) ⌝ }
+{
+    let reader = Reader::new(sheet);
+    let version = reader.byte();
+    let reader = reader.past(1);
+    let rest = reader.four();
+    let reader = reader.past(4);
+    let sides = reader.position();
+    let reader = reader.past(job_sheet::POSITION_SIZE);
+    let limit = reader.four();
+    let reader = reader.past(4);
+    let horizontal = reader.four();
+    let reader = reader.past(4);
+    let stair = reader.four();
+    let reader = reader.past(4);
+    let support = reader.four();
+    head_of(version, rest, sides, limit, horizontal, stair, support)
+}
+
+// Where the parts were found. The source is one record.
+fn layout_of(
+    blocks: Part,
+    conductors: Part,
+    clearances: Part,
+    terminals: Part,
+    reserved: Part,
+    source: usize,
+    sinks: Part,
+) -> Layout
+    ensures { λ r. ⌜ r ≡ layoutFrom blocks conductors clearances terminals reserved source sinks ⌝ }
+{
+    Layout {
+        blocks,
+        conductors,
+        clearances,
+        terminals,
+        reserved,
+        source: Part {
+            from: source,
+            count: 1,
+        },
+        sinks,
+    }
+}
+
+// What was read, put together.
+fn body_of(layout: Layout, source: Endpoint, sinks: Sinks, whole: bool) -> Body
+    ensures { λ r. ⌜ r ≡ bodyOf layout source sinks whole ⌝ }
+{
+    Body {
+        layout,
+        source,
+        sinks,
+        whole,
+    }
+}
+
+// From a sheet's lists to its end.
+fn read_body(sheet: &[u8]) -> Body
+    ensures { λ r. ⌜ Found (now (sheet .entry)) r ⌝ }
+{
+    let reader = Reader::new(sheet);
+    let reader = reader.past(places::LISTS);
+    let blocks = reader.list();
+    let reader = reader.behind(job_sheet::BLOCK_SIZE, blocks);
+    let conductors = reader.list();
+    let reader = reader.behind(job_sheet::POSITION_SIZE, conductors);
+    let clearances = reader.list();
+    let reader = reader.behind(job_sheet::POSITION_SIZE, clearances);
+    let terminals = reader.list();
+    let reader = reader.behind(job_sheet::POSITION_SIZE, terminals);
+    let reserved = reader.list();
+    let reader = reader.behind(job_sheet::POSITION_SIZE, reserved);
+    let from = reader.place;
+    let source = reader.endpoint();
+    let reader = reader.past(job_sheet::ENDPOINT_SIZE);
+    let listed = reader.sinks_list();
+    let sinks = reader.sinks();
+    let reader = reader.behind(job_sheet::ENDPOINT_SIZE, listed);
+    let whole = reader.at_end();
+    let layout = layout_of(
+        blocks,
+        conductors,
+        clearances,
+        terminals,
+        reserved,
+        from,
+        listed,
+    );
+    body_of(layout, source, sinks, whole)
+}
+
+// Number 1, over the whole sheet: "sheet length, version, count past the end, bytes left over, over 16 sinks". A count past
+// the end has led the reader off the sheet, so that it is not at the end.
+fn shaped(sheet: &[u8], head: Head, body: Body) -> bool
+    requires { ⌜ (head ≡ headIn (now sheet)) × Found (now sheet) body ⌝ }
+    ensures { λ r. ⌜ r ≡ shaped (now (sheet .entry)) ⌝ }
+{
+    if job_sheet::MAX_BYTES < sheet.len() {
+        return false;
+    }
+    if head.version != job_sheet::VERSION {
+        return false;
+    }
+    if head.rest as usize + places::SIDES != sheet.len() {
+        return false;
+    }
+    if job_sheet::MAX_SINKS < body.layout.sinks.count {
+        return false;
+    }
+    body.whole
+}
+
+// The job that was read.
+fn job_of(head: Head, body: Body) -> Job
+    ensures { λ r. ⌜ r ≡ jobFound head body ⌝ }
+{
+    let room = head.room;
+    let config = head.config;
+    let layout = body.layout;
+    let blocks = layout.blocks;
+    let conductors = layout.conductors;
+    let clearances = layout.clearances;
+    let terminals = layout.terminals;
+    let reserved = layout.reserved;
+    let source = body.source;
+    let sinks = body.sinks;
+    Job {
+        room,
+        config,
+        blocks,
+        conductors,
+        clearances,
+        terminals,
+        reserved,
+        source,
+        sinks,
+    }
+}
+
+// Reads a sheet through the reader: what it means, judged, or number 1 where it means nothing. The answer is that of the
+// plain reading.
+pub fn read_sheet(sheet: &[u8]) -> Reading
+    ensures { λ r. ⌜ Read (now (sheet .entry)) r ⌝ }
+{
+    let head = read_head(sheet);
+    let body = read_body(sheet);
+    if !shaped(sheet, head, body) {
+        return job_sheet::refusal(Verdict::Sheet);
+    }
+    let verdict = faults::judge(sheet, body.layout);
+    if !verdict.is_good() {
+        return job_sheet::refusal(verdict);
+    }
+    Reading {
+        verdict,
+        job: job_of(head, body),
+    }
+}
