@@ -1,0 +1,130 @@
+/* DustRoute's router for one net, proved: one search over a room of kinds, and the tree of one job sheet.
+ *
+ * Link with libdustroute.a, which `tools/native-archive dustroute` makes; it needs memset and memcpy of the C library and
+ * nothing else. Both functions allocate nothing, keep nothing between calls and may be called from several threads at once,
+ * each with memory of its own. Every input gets an answer: no length, no content and no number is forbidden, and nothing
+ * outside the buffers is read or written.
+ *
+ * HOW A BUFFER IS PASSED: as a pointer to its first element and then its length, counted in elements and not in bytes. The
+ * caller sees to three things, which no function can see for itself:
+ *   - the buffer has that many elements; with length 0 any pointer will do, NULL too;
+ *   - the pointer is aligned as its type asks (4 bytes for uint32_t, 8 for uint64_t);
+ *   - no two buffers of a call overlap.
+ * What a buffer holds when the function is called is of no account, but for `kinds` of a search and `sheet` of a tree.
+ *
+ * A room has sides of 1 to 64 and V = wide * high * deep cells, at most 16,384. The cell at (x, y, z) has the number
+ * (x * high + y) * deep + z.
+ *
+ * WHAT COMES BACK: a number, 0 for a route or a tree, else one of 1 to 15 below, whose detail is then values[0].
+ *   Numbers 1 to 6 leave every buffer as it was, `values` included: read nothing from it.
+ *   Any other number from 7 on leaves zeros in every other buffer, to its very end.
+ *   0 leaves the answer at the front of the outputs, zeros behind it, and zeros in the work memory. */
+#ifndef DUSTROUTE_H
+#define DUSTROUTE_H
+
+#include <stddef.h>
+#include <stdint.h>
+
+#ifdef __cplusplus
+extern "C" {
+#endif
+
+/* The numbers that come back. */
+enum dustroute_number {
+    DUSTROUTE_DONE = 0,
+    DUSTROUTE_SHEET = 1,          /* the sheet's length, version or counts, bytes left over, over 16 sinks */
+    DUSTROUTE_SIDES = 2,          /* a side or V is out of range */
+    DUSTROUTE_CONFIG = 3,         /* a cost is over 100,000 or the node limit over 200,000 */
+    DUSTROUTE_POSITION = 4,       /* a position is outside the room; a search's end is V or more */
+    DUSTROUTE_CODE = 5,           /* an unknown kind, facing or port kind; Air in a block record */
+    DUSTROUTE_BUFFER = 6,         /* a buffer is too short, or kinds of a search are not exactly V */
+    DUSTROUTE_OVERLAP = 7,        /* two blocks in one cell; the detail is that cell */
+    DUSTROUTE_PORT_FACING = 8,    /* BlockPower without a horizontal facing; 0 for the source, k for the k-th sink */
+    DUSTROUTE_END_OUTSIDE = 9,    /* a terminal or an approach outside the room; the detail is as in 8 */
+    DUSTROUTE_NOT_ROUTEABLE = 10, /* the start, else the goal, is not routeable; the detail is that cell */
+    DUSTROUTE_NO_ROUTE = 11,      /* there is no route; the detail is how many cells were expanded */
+    DUSTROUTE_LIMIT_PASSED = 12,  /* the node limit was passed; expanded */
+    DUSTROUTE_QUEUE_FULL = 13,    /* a push was due and the queue was full; expanded */
+    DUSTROUTE_NO_GOAL = 14,       /* no way from a sink to the tree; its approach cell */
+    DUSTROUTE_BRANCHES_FULL = 15  /* the branches exceed the branch buffer; that sink's place in the sheet, from 1 */
+};
+
+enum {
+    DUSTROUTE_MAX_SIDE = 64,
+    DUSTROUTE_MAX_CELLS = 16384,
+    DUSTROUTE_MAX_SINKS = 16,
+    DUSTROUTE_MAX_SHEET = 60000,
+    DUSTROUTE_SEARCH_VALUES = 4,
+    DUSTROUTE_TREE_VALUES = 20
+};
+
+/* Lengths that suffice for a room of V cells.
+ *
+ * The queue takes two numbers a place. With a flat step of at least 10 and a stair of at least 20 a queue of 5V places is never
+ * full. At lower costs 11 places for each node of the limit and one more are: each cell that is expanded leaves its place
+ * and enters at most twelve others. A shorter queue is no fault; what comes then may be 13.
+ *
+ * A branch has at most V + 1 cells, so this branch buffer never gives 15; so many for each sink of the sheet is enough too. */
+#define DUSTROUTE_QUEUE_LENGTH(V) ((size_t)2 * 5 * (V))
+#define DUSTROUTE_QUEUE_LENGTH_AT_ANY_COST(limit) ((size_t)2 * (11 * (size_t)(limit) + 1))
+#define DUSTROUTE_BRANCHES_LENGTH(V) ((size_t)DUSTROUTE_MAX_SINKS * ((V) + 1))
+
+/* One search from `start` to `goal` in a room whose cells hold these kinds. May return 0, 2 to 6 and 10 to 13, and
+ * judges 2, 3, 6, 5, 4, 10 in that order.
+ *
+ * limit          the most cells that may be expanded, up to 200,000
+ * horizontal, stair, support
+ *                what a flat step, a stair and a new support cost, in tenths, each up to 100,000
+ * kinds          V exactly: each cell's kind, 0 Air to 12 Piston; only read
+ * path           V at least. Output: the route's cells, from start to goal
+ * known, previous, classes
+ *                V at least each. Work memory
+ * queue          2 at least; see DUSTROUTE_QUEUE_LENGTH. Work memory
+ * values         DUSTROUTE_SEARCH_VALUES at least. Output: the detail, how many cells the route has, its cost in tenths, how many
+ *                cells were expanded; the last three are 0 after a refusal */
+uint32_t dustroute_search(
+    size_t wide, size_t high, size_t deep,
+    uint32_t limit, uint32_t horizontal, uint32_t stair, uint32_t support,
+    const uint8_t *kinds, size_t kinds_length,
+    size_t start, size_t goal,
+    uint32_t *path, size_t path_length,
+    uint32_t *known, size_t known_length,
+    uint32_t *previous, size_t previous_length,
+    uint8_t *classes, size_t classes_length,
+    uint64_t *queue, size_t queue_length,
+    uint64_t *values, size_t values_length);
+
+/* The tree of the one net that a job sheet describes. May return 0 to 9 and 13 to 15, and judges 1, 2, 3, then 4 and 5
+ * record by record, then 6, 7, 8, 9, then per sink 13 or 14, then 15.
+ *
+ * sheet          the sheet's bytes, any number of them; only read
+ * branches       any length; see DUSTROUTE_BRANCHES_LENGTH. Output: each sink's branch in sheet order, one behind another, from
+ *                the cell where it leaves the tree to the sink's terminal
+ * occupied       V at least. Output: 1 for each cell that the tree occupies, else 0
+ * repeaters      V at least. Output: 1 for each cell that holds a repeater, else 0
+ * kinds, blocked, classes, joinable, known, previous, path, best
+ *                V at least each. Work memory
+ * queue          2 at least; see DUSTROUTE_QUEUE_LENGTH. Work memory
+ * values         DUSTROUTE_TREE_VALUES at least. Output: the detail; how many branches, occupied cells and repeaters there are; then
+ *                sixteen lengths, those of the branches and zeros behind them. All but the detail are 0 after a refusal */
+uint32_t dustroute_tree(
+    const uint8_t *sheet, size_t sheet_length,
+    uint32_t *branches, size_t branches_length,
+    uint8_t *occupied, size_t occupied_length,
+    uint8_t *repeaters, size_t repeaters_length,
+    uint8_t *kinds, size_t kinds_length,
+    uint8_t *blocked, size_t blocked_length,
+    uint8_t *classes, size_t classes_length,
+    uint8_t *joinable, size_t joinable_length,
+    uint32_t *known, size_t known_length,
+    uint32_t *previous, size_t previous_length,
+    uint32_t *path, size_t path_length,
+    uint32_t *best, size_t best_length,
+    uint64_t *queue, size_t queue_length,
+    uint64_t *values, size_t values_length);
+
+#ifdef __cplusplus
+}
+#endif
+
+#endif

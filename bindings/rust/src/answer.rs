@@ -1,0 +1,172 @@
+//! What comes back: a route or a tree, or the refusal that is due, as document 01's table of numbers has it.
+
+use std::fmt;
+
+/// A cost in tenths.
+#[derive(Clone, Copy, Debug, Eq, Ord, PartialEq, PartialOrd)]
+pub struct Cost(pub u32);
+
+/// A count of expanded cells.
+#[derive(Clone, Copy, Debug, Eq, Ord, PartialEq, PartialOrd)]
+pub struct Nodes(pub u32);
+
+/// The answer of a search: its cells from start to goal, what they cost, and how many cells were expanded.
+#[derive(Clone, Debug, Eq, PartialEq)]
+pub struct Route {
+    pub path: Vec<u32>,
+    pub cost: Cost,
+    pub expanded: Nodes,
+}
+
+/// The answer of a job.
+#[derive(Clone, Debug, Eq, PartialEq)]
+pub struct Tree {
+    /// Each sink's branch in sheet order, from the cell where it leaves the tree to the sink's terminal.
+    pub branches: Vec<Vec<u32>>,
+    /// The cells that the tree occupies, ascending.
+    pub occupied: Vec<u32>,
+    /// The cells that hold a repeater, ascending.
+    pub repeaters: Vec<u32>,
+}
+
+/// Program `route`'s three kinds of line.
+impl fmt::Display for Tree {
+    fn fmt(&self, out: &mut fmt::Formatter) -> fmt::Result {
+        writeln!(out, "net {} {}", self.branches.len(), self.occupied.len())?;
+        for branch in &self.branches {
+            write_line(out, "branch", branch)?;
+        }
+        write_line(out, "repeaters", &self.repeaters)
+    }
+}
+
+fn write_line(out: &mut fmt::Formatter, word: &str, cells: &[u32]) -> fmt::Result {
+    write!(out, "{word}")?;
+    for cell in cells {
+        write!(out, " {cell}")?;
+    }
+    writeln!(out)
+}
+
+/// One of a net's ends: its source, or a sink by its place in the sheet, from 1.
+#[derive(Clone, Copy, Debug, Eq, PartialEq)]
+pub enum End {
+    Source,
+    Sink(u32),
+}
+
+/// Why there is no route or no tree.
+#[derive(Clone, Copy, Debug, Eq, PartialEq)]
+pub enum Refusal {
+    /// 1: the sheet's length, version or counts, bytes left over, over 16 sinks.
+    Sheet,
+    /// 2: a side or the number of cells is out of range.
+    Sides,
+    /// 3: a cost or the node limit is out of range.
+    Config,
+    /// 4: a position, or an end of a search, is outside the room.
+    Position,
+    /// 5: an unknown code, or Air in a block record.
+    Code,
+    /// 6: a buffer is too short, or a search's kinds are not one for each cell.
+    Buffer,
+    /// 7: two blocks in one cell.
+    Overlap { cell: u32 },
+    /// 8: a BlockPower end without a horizontal facing.
+    PortFacing(End),
+    /// 9: a terminal or an approach outside the room.
+    EndOutside(End),
+    /// 10: the start, else the goal, is not routeable.
+    NotRouteable { cell: u32 },
+    /// 11: there is no route.
+    NoRoute(Nodes),
+    /// 12: the node limit was passed.
+    LimitPassed(Nodes),
+    /// 13: a push was due and the queue was full.
+    QueueFull(Nodes),
+    /// 14: no way from a sink to the tree.
+    NoGoal { approach: u32 },
+    /// 15: the branches exceed the branch buffer.
+    BranchesFull { sink: u32 },
+}
+
+impl Refusal {
+    /// The refusal of a number and its detail. The router returns no other number and no detail that doesn't fit 32 bits.
+    pub(crate) fn of(number: u32, detail: u64) -> Self {
+        let detail = u32::try_from(detail).expect("a detail is a cell, a count or a place");
+        match number {
+            1 => Self::Sheet,
+            2 => Self::Sides,
+            3 => Self::Config,
+            4 => Self::Position,
+            5 => Self::Code,
+            6 => Self::Buffer,
+            7 => Self::Overlap { cell: detail },
+            8 => Self::PortFacing(End::of(detail)),
+            9 => Self::EndOutside(End::of(detail)),
+            10 => Self::NotRouteable { cell: detail },
+            11 => Self::NoRoute(Nodes(detail)),
+            12 => Self::LimitPassed(Nodes(detail)),
+            13 => Self::QueueFull(Nodes(detail)),
+            14 => Self::NoGoal { approach: detail },
+            15 => Self::BranchesFull { sink: detail },
+            _ => unreachable!("the router has no number {number}"),
+        }
+    }
+
+    pub fn number(self) -> u32 {
+        match self {
+            Self::Sheet => 1,
+            Self::Sides => 2,
+            Self::Config => 3,
+            Self::Position => 4,
+            Self::Code => 5,
+            Self::Buffer => 6,
+            Self::Overlap { .. } => 7,
+            Self::PortFacing(_) => 8,
+            Self::EndOutside(_) => 9,
+            Self::NotRouteable { .. } => 10,
+            Self::NoRoute(_) => 11,
+            Self::LimitPassed(_) => 12,
+            Self::QueueFull(_) => 13,
+            Self::NoGoal { .. } => 14,
+            Self::BranchesFull { .. } => 15,
+        }
+    }
+
+    pub fn detail(self) -> u32 {
+        match self {
+            Self::Sheet | Self::Sides | Self::Config | Self::Position | Self::Code | Self::Buffer => 0,
+            Self::PortFacing(end) | Self::EndOutside(end) => end.place(),
+            Self::NoRoute(nodes) | Self::LimitPassed(nodes) | Self::QueueFull(nodes) => nodes.0,
+            Self::Overlap { cell } | Self::NotRouteable { cell } => cell,
+            Self::NoGoal { approach } => approach,
+            Self::BranchesFull { sink } => sink,
+        }
+    }
+}
+
+impl End {
+    fn of(place: u32) -> Self {
+        match place {
+            0 => Self::Source,
+            sink => Self::Sink(sink),
+        }
+    }
+
+    fn place(self) -> u32 {
+        match self {
+            Self::Source => 0,
+            Self::Sink(place) => place,
+        }
+    }
+}
+
+/// Program `route`'s line.
+impl fmt::Display for Refusal {
+    fn fmt(&self, out: &mut fmt::Formatter) -> fmt::Result {
+        writeln!(out, "refused {} {}", self.number(), self.detail())
+    }
+}
+
+impl std::error::Error for Refusal {}

@@ -1,0 +1,248 @@
+//! A room, its costs, and the job sheet: bytes that come from elsewhere, or a [`Job`] written down.
+
+use std::fmt;
+
+/// A room's sides. Each is 1 to 64, and the room has at most 16,384 cells; others are refused.
+#[derive(Clone, Copy, Debug, Eq, PartialEq)]
+pub struct Room {
+    pub wide: u8,
+    pub high: u8,
+    pub deep: u8,
+}
+
+impl Room {
+    pub const MAX_SIDE: u8 = 64;
+    pub const MAX_CELLS: usize = 16_384;
+
+    /// How many cells the room has, or none for a room that is refused.
+    pub fn cells(self) -> Option<usize> {
+        let sides = [self.wide, self.high, self.deep];
+        let cells = sides.iter().map(|side| usize::from(*side)).product();
+        let good = sides.iter().all(|side| (1..=Self::MAX_SIDE).contains(side)) && cells <= Self::MAX_CELLS;
+        good.then_some(cells)
+    }
+
+    /// The number of the cell at a position.
+    pub fn cell(self, at: Position) -> usize {
+        let [x, y, z] = [at.x, at.y, at.z].map(usize::from);
+        (x * usize::from(self.high) + y) * usize::from(self.deep) + z
+    }
+}
+
+#[derive(Clone, Copy, Debug, Eq, PartialEq)]
+pub struct Position {
+    pub x: u8,
+    pub y: u8,
+    pub z: u8,
+}
+
+/// The node limit, up to 200,000, and three costs in tenths, up to 100,000 each; others are refused.
+#[derive(Clone, Copy, Debug, Eq, PartialEq)]
+pub struct Config {
+    pub limit: u32,
+    pub horizontal: u32,
+    pub stair: u32,
+    pub support: u32,
+}
+
+impl Default for Config {
+    /// The costs of document 01's samples.
+    fn default() -> Self {
+        Self {
+            limit: 30_000,
+            horizontal: 10,
+            stair: 25,
+            support: 15,
+        }
+    }
+}
+
+/// What a cell holds.
+#[derive(Clone, Copy, Debug, Eq, PartialEq)]
+#[repr(u8)]
+pub enum Kind {
+    Air,
+    Solid,
+    Transparent,
+    RedstoneWire,
+    RedstoneTorch,
+    Repeater,
+    Comparator,
+    Lever,
+    Button,
+    PressurePlate,
+    RedstoneLamp,
+    RedstoneBlock,
+    Piston,
+}
+
+#[derive(Clone, Copy, Debug, Eq, PartialEq)]
+#[repr(u8)]
+pub enum Facing {
+    None,
+    North,
+    East,
+    South,
+    West,
+    Up,
+    Down,
+}
+
+#[derive(Clone, Copy, Debug, Eq, PartialEq)]
+#[repr(u8)]
+pub enum Port {
+    Wire,
+    BlockPower,
+}
+
+#[derive(Clone, Copy, Debug, Eq, PartialEq)]
+pub struct Block {
+    pub node: u16,
+    pub at: Position,
+    pub kind: Kind,
+    pub facing: Facing,
+}
+
+/// The source or a sink.
+#[derive(Clone, Copy, Debug, Eq, PartialEq)]
+pub struct Endpoint {
+    pub at: Position,
+    pub port: Port,
+    pub facing: Facing,
+}
+
+/// What a sheet says: the room with its blocks, what belongs to other nets, and this net's ends.
+#[derive(Clone, Debug, Eq, PartialEq)]
+pub struct Job {
+    pub room: Room,
+    pub config: Config,
+    pub blocks: Vec<Block>,
+    pub conductors: Vec<Position>,
+    pub clearances: Vec<Position>,
+    pub terminals: Vec<Position>,
+    pub reserved: Vec<Position>,
+    pub source: Endpoint,
+    pub sinks: Vec<Endpoint>,
+}
+
+impl Job {
+    /// A job with nothing in its room but the net's ends.
+    pub fn new(room: Room, config: Config, source: Endpoint, sinks: Vec<Endpoint>) -> Self {
+        Self {
+            room,
+            config,
+            blocks: Vec::new(),
+            conductors: Vec::new(),
+            clearances: Vec::new(),
+            terminals: Vec::new(),
+            reserved: Vec::new(),
+            source,
+            sinks,
+        }
+    }
+
+    /// The job as a sheet. A list that is too long for its count, or for a sheet, can't be written.
+    pub fn sheet(&self) -> Result<Sheet, JobTooLong> {
+        if self.sinks.len() > Sheet::MAX_SINKS {
+            return Err(JobTooLong);
+        }
+        let mut rest = vec![self.room.wide, self.room.high, self.room.deep];
+        for number in [self.config.limit, self.config.horizontal, self.config.stair, self.config.support] {
+            rest.extend(number.to_be_bytes());
+        }
+        put_count(&mut rest, self.blocks.len())?;
+        for block in &self.blocks {
+            rest.extend(block.node.to_be_bytes());
+            put_position(&mut rest, block.at);
+            rest.extend([block.kind as u8, block.facing as u8]);
+        }
+        for list in [&self.conductors, &self.clearances, &self.terminals, &self.reserved] {
+            put_count(&mut rest, list.len())?;
+            list.iter().for_each(|at| put_position(&mut rest, *at));
+        }
+        put_endpoint(&mut rest, self.source);
+        rest.push(self.sinks.len() as u8);
+        self.sinks.iter().for_each(|sink| put_endpoint(&mut rest, *sink));
+        Sheet::with_head(rest)
+    }
+}
+
+fn put_count(out: &mut Vec<u8>, count: usize) -> Result<(), JobTooLong> {
+    let count = u16::try_from(count).map_err(|_| JobTooLong)?;
+    out.extend(count.to_be_bytes());
+    Ok(())
+}
+
+fn put_position(out: &mut Vec<u8>, at: Position) {
+    out.extend([at.x, at.y, at.z]);
+}
+
+fn put_endpoint(out: &mut Vec<u8>, end: Endpoint) {
+    put_position(out, end.at);
+    out.extend([end.port as u8, end.facing as u8]);
+}
+
+/// A job whose sheet would have over 60,000 bytes, over 65,535 records in a list, or over sixteen sinks.
+#[derive(Clone, Copy, Debug, Eq, PartialEq)]
+pub struct JobTooLong;
+
+impl fmt::Display for JobTooLong {
+    fn fmt(&self, out: &mut fmt::Formatter) -> fmt::Result {
+        out.write_str("the job is too long for a sheet")
+    }
+}
+
+impl std::error::Error for JobTooLong {}
+
+/// A job sheet's bytes. Nothing is promised of them: the router reads them, and refuses what is none.
+#[derive(Clone, Debug, Eq, PartialEq)]
+pub struct Sheet {
+    bytes: Vec<u8>,
+}
+
+impl Sheet {
+    pub const MAX_BYTES: usize = 60_000;
+    pub const MAX_SINKS: usize = 16;
+    const VERSION: u8 = 1;
+    /// Where the sides begin: behind the version and the length of the rest.
+    const SIDES: usize = 5;
+    const CONFIG: usize = 8;
+
+    pub fn from_bytes(bytes: impl Into<Vec<u8>>) -> Self {
+        Self { bytes: bytes.into() }
+    }
+
+    pub fn bytes(&self) -> &[u8] {
+        &self.bytes
+    }
+
+    fn with_head(rest: Vec<u8>) -> Result<Self, JobTooLong> {
+        if rest.len() + Self::SIDES > Self::MAX_BYTES {
+            return Err(JobTooLong);
+        }
+        let mut bytes = vec![Self::VERSION];
+        bytes.extend((rest.len() as u32).to_be_bytes());
+        bytes.extend(rest);
+        Ok(Self { bytes })
+    }
+
+    /// The room that the sheet names, if its bytes go that far.
+    pub fn room(&self) -> Option<Room> {
+        let [wide, high, deep] = *self.bytes.get(Self::SIDES..)?.first_chunk()?;
+        Some(Room { wide, high, deep })
+    }
+
+    /// The config that the sheet names, if its bytes go that far.
+    pub fn config(&self) -> Option<Config> {
+        let number = |place: usize| {
+            let bytes = self.bytes.get(Self::CONFIG + 4 * place..)?.first_chunk()?;
+            Some(u32::from_be_bytes(*bytes))
+        };
+        Some(Config {
+            limit: number(0)?,
+            horizontal: number(1)?,
+            stair: number(2)?,
+            support: number(3)?,
+        })
+    }
+}

@@ -1,0 +1,229 @@
+//! The memory that the router is lent. [`crate::search`] and [`crate::route_tree`] make their own; here a caller keeps it from one call to
+//! the next, or lends another length. Any length and any content is lawful: what is too short is refused.
+
+use crate::answer::{Cost, Nodes, Refusal, Route, Tree};
+use crate::ffi::{dustroute_search, dustroute_tree};
+use crate::job::{Config, Room, Sheet};
+
+/// How many values a search and a tree come to.
+pub const SEARCH_VALUES: usize = 4;
+pub const TREE_VALUES: usize = 20;
+
+/// A place of the queue takes two numbers.
+const NUMBERS_A_PLACE: usize = 2;
+
+/// The highest node limit that isn't refused.
+const MAX_LIMIT: u32 = 200_000;
+
+/// How many places of the queue are never all taken at once. With a flat step of at least 10 and a stair of at least 20, five for
+/// each cell. At lower costs 11 for each node of the limit, and one: a cell that is expanded leaves its place and enters at most
+/// twelve others.
+pub fn places_that_suffice(cells: usize, config: Config) -> usize {
+    if config.horizontal >= 10 && config.stair >= 20 {
+        5 * cells
+    } else {
+        11 * config.limit.min(MAX_LIMIT) as usize + 1
+    }
+}
+
+/// How many cells the branches of sixteen sinks have at most: each branch, every cell once and one of them a second time.
+pub fn branch_cells_that_suffice(cells: usize) -> usize {
+    Sheet::MAX_SINKS * (cells + 1)
+}
+
+/// What a search is lent: `path` and `values` are its output, the others work memory.
+#[derive(Clone, Debug, Eq, PartialEq)]
+pub struct SearchMemory {
+    pub path: Vec<u32>,
+    pub known: Vec<u32>,
+    pub previous: Vec<u32>,
+    pub classes: Vec<u8>,
+    pub queue: Vec<u64>,
+    pub values: Vec<u64>,
+}
+
+impl SearchMemory {
+    /// Memory for a room of so many cells, with a queue of so many places.
+    pub fn new(cells: usize, places: usize) -> Self {
+        Self {
+            path: vec![0; cells],
+            known: vec![0; cells],
+            previous: vec![0; cells],
+            classes: vec![0; cells],
+            queue: vec![0; NUMBERS_A_PLACE * places],
+            values: vec![0; SEARCH_VALUES],
+        }
+    }
+
+    /// Memory that suffices. A room that is refused needs none.
+    pub fn for_search(room: Room, config: Config) -> Self {
+        let cells = room.cells().unwrap_or(0);
+        Self::new(cells, places_that_suffice(cells, config))
+    }
+
+    /// One search from cell `start` to cell `goal`. A refusal by 1 to 6 leaves the memory as it was, `values` included.
+    pub fn search(&mut self, room: Room, config: Config, kinds: &[u8], start: usize, goal: usize) -> Result<Route, Refusal> {
+        let number = self.call(room, config, kinds, start, goal);
+        match number {
+            0 => Ok(Route {
+                path: self.path[..self.values[1] as usize].to_vec(),
+                cost: Cost(self.values[2] as u32),
+                expanded: Nodes(self.values[3] as u32),
+            }),
+            refused => Err(Refusal::of(refused, detail(refused, &self.values))),
+        }
+    }
+
+    fn call(&mut self, room: Room, config: Config, kinds: &[u8], start: usize, goal: usize) -> u32 {
+        // SAFETY: each pointer and length is that of a slice that lives through the call, and no two of them overlap. The router has
+        // no requirement on what it is handed, and reads and writes within the slices alone.
+        unsafe {
+            dustroute_search(
+                room.wide.into(),
+                room.high.into(),
+                room.deep.into(),
+                config.limit,
+                config.horizontal,
+                config.stair,
+                config.support,
+                kinds.as_ptr(),
+                kinds.len(),
+                start,
+                goal,
+                self.path.as_mut_ptr(),
+                self.path.len(),
+                self.known.as_mut_ptr(),
+                self.known.len(),
+                self.previous.as_mut_ptr(),
+                self.previous.len(),
+                self.classes.as_mut_ptr(),
+                self.classes.len(),
+                self.queue.as_mut_ptr(),
+                self.queue.len(),
+                self.values.as_mut_ptr(),
+                self.values.len(),
+            )
+        }
+    }
+}
+
+/// What a tree is lent: `branches`, `occupied`, `repeaters` and `values` are its output, the others work memory.
+#[derive(Clone, Debug, Eq, PartialEq)]
+pub struct TreeMemory {
+    pub branches: Vec<u32>,
+    pub occupied: Vec<u8>,
+    pub repeaters: Vec<u8>,
+    pub kinds: Vec<u8>,
+    pub blocked: Vec<u8>,
+    pub classes: Vec<u8>,
+    pub joinable: Vec<u8>,
+    pub known: Vec<u32>,
+    pub previous: Vec<u32>,
+    pub path: Vec<u32>,
+    pub best: Vec<u32>,
+    pub queue: Vec<u64>,
+    pub values: Vec<u64>,
+}
+
+impl TreeMemory {
+    /// Memory for a room of so many cells, with a queue of so many places and a branch buffer of so many cells.
+    pub fn new(cells: usize, places: usize, branch_cells: usize) -> Self {
+        Self {
+            branches: vec![0; branch_cells],
+            occupied: vec![0; cells],
+            repeaters: vec![0; cells],
+            kinds: vec![0; cells],
+            blocked: vec![0; cells],
+            classes: vec![0; cells],
+            joinable: vec![0; cells],
+            known: vec![0; cells],
+            previous: vec![0; cells],
+            path: vec![0; cells],
+            best: vec![0; cells],
+            queue: vec![0; NUMBERS_A_PLACE * places],
+            values: vec![0; TREE_VALUES],
+        }
+    }
+
+    /// Memory that suffices. A sheet that is refused before its buffers are judged needs none.
+    pub fn for_sheet(sheet: &Sheet) -> Self {
+        let cells = sheet.room().and_then(Room::cells).unwrap_or(0);
+        let places = places_that_suffice(cells, sheet.config().unwrap_or_default());
+        Self::new(cells, places, branch_cells_that_suffice(cells))
+    }
+
+    /// The tree of a sheet. A refusal by 1 to 6 leaves the memory as it was, `values` included.
+    pub fn route_tree(&mut self, sheet: &Sheet) -> Result<Tree, Refusal> {
+        let number = self.call(sheet);
+        match number {
+            0 => Ok(Tree {
+                branches: self.cut_branches(),
+                occupied: marked(&self.occupied),
+                repeaters: marked(&self.repeaters),
+            }),
+            refused => Err(Refusal::of(refused, detail(refused, &self.values))),
+        }
+    }
+
+    fn call(&mut self, sheet: &Sheet) -> u32 {
+        // SAFETY: each pointer and length is that of a slice that lives through the call, and no two of them overlap. The router has
+        // no requirement on what it is handed, and reads and writes within the slices alone.
+        unsafe {
+            dustroute_tree(
+                sheet.bytes().as_ptr(),
+                sheet.bytes().len(),
+                self.branches.as_mut_ptr(),
+                self.branches.len(),
+                self.occupied.as_mut_ptr(),
+                self.occupied.len(),
+                self.repeaters.as_mut_ptr(),
+                self.repeaters.len(),
+                self.kinds.as_mut_ptr(),
+                self.kinds.len(),
+                self.blocked.as_mut_ptr(),
+                self.blocked.len(),
+                self.classes.as_mut_ptr(),
+                self.classes.len(),
+                self.joinable.as_mut_ptr(),
+                self.joinable.len(),
+                self.known.as_mut_ptr(),
+                self.known.len(),
+                self.previous.as_mut_ptr(),
+                self.previous.len(),
+                self.path.as_mut_ptr(),
+                self.path.len(),
+                self.best.as_mut_ptr(),
+                self.best.len(),
+                self.queue.as_mut_ptr(),
+                self.queue.len(),
+                self.values.as_mut_ptr(),
+                self.values.len(),
+            )
+        }
+    }
+
+    /// The branches stand one behind another, and the values tell how long each is.
+    fn cut_branches(&self) -> Vec<Vec<u32>> {
+        let count = self.values[1] as usize;
+        let mut rest = self.branches.as_slice();
+        let lengths = self.values[4..4 + count].iter();
+        lengths
+            .map(|length| {
+                let (branch, behind) = rest.split_at(*length as usize);
+                rest = behind;
+                branch.to_vec()
+            })
+            .collect()
+    }
+}
+
+/// Numbers 1 to 6 write no values; their detail is 0.
+fn detail(number: u32, values: &[u64]) -> u64 {
+    if number <= 6 { 0 } else { values[0] }
+}
+
+/// The cells that are marked, ascending.
+fn marked(marks: &[u8]) -> Vec<u32> {
+    let cells = (0..).zip(marks);
+    cells.filter(|(_, mark)| **mark != 0).map(|(cell, _)| cell).collect()
+}

@@ -1,0 +1,26 @@
+//! DustRoute's router for one net, proved in Rattle, behind safe functions: [`search`] looks for one route in a room of kinds,
+//! [`route_tree`] makes the tree that a job sheet asks for.
+//!
+//! Every input gets an answer: a bad room, cost, position or sheet comes back as a [`Refusal`]. Both functions lend the router
+//! as much memory as its answer can need, so that [`Refusal::Buffer`], [`Refusal::QueueFull`] and [`Refusal::BranchesFull`] never
+//! come from them. Who wants to keep the memory, or to lend less, calls through [`lent`].
+
+mod answer;
+mod ffi;
+mod job;
+pub mod lent;
+
+pub use answer::{Cost, End, Nodes, Refusal, Route, Tree};
+pub use job::{Block, Config, Endpoint, Facing, Job, JobTooLong, Kind, Port, Position, Room, Sheet};
+
+use lent::{SearchMemory, TreeMemory};
+
+/// One search from cell `start` to cell `goal` in a room whose cells hold `kinds`, a byte for each cell in number order.
+pub fn search(room: Room, config: Config, kinds: &[u8], start: usize, goal: usize) -> Result<Route, Refusal> {
+    SearchMemory::for_search(room, config).search(room, config, kinds, start, goal)
+}
+
+/// The tree of the one net that a sheet describes.
+pub fn route_tree(sheet: &Sheet) -> Result<Tree, Refusal> {
+    TreeMemory::for_sheet(sheet).route_tree(sheet)
+}

@@ -1,0 +1,164 @@
+//! Document 01's samples, a to l, and its hex sheet.
+
+use dustroute::lent::{SearchMemory, places_that_suffice};
+use dustroute::{Block, Config, Cost, Endpoint, Facing, Job, Kind, Nodes, Port, Position, Refusal, Room, Route, Sheet, route_tree, search};
+
+fn room(wide: u8, high: u8, deep: u8) -> Room {
+    Room { wide, high, deep }
+}
+
+/// A room of Air but for these cells.
+fn kinds(room: Room, others: &[(usize, Kind)]) -> Vec<u8> {
+    let mut kinds = vec![Kind::Air as u8; room.cells().unwrap()];
+    others.iter().for_each(|(cell, kind)| kinds[*cell] = *kind as u8);
+    kinds
+}
+
+fn at_usual_costs(room: Room, others: &[(usize, Kind)], start: usize, goal: usize) -> Result<Route, Refusal> {
+    search(room, Config::default(), &kinds(room, others), start, goal)
+}
+
+fn route(path: &[u32], cost: u32, expanded: u32) -> Result<Route, Refusal> {
+    Ok(Route {
+        path: path.to_vec(),
+        cost: Cost(cost),
+        expanded: Nodes(expanded),
+    })
+}
+
+#[test]
+fn a_start_is_goal() {
+    assert_eq!(at_usual_costs(room(1, 1, 1), &[], 0, 0), route(&[0], 0, 0));
+}
+
+#[test]
+fn b_to_e_a_row_of_three() {
+    let row = room(3, 1, 1);
+    let limited = |limit| {
+        search(
+            row,
+            Config {
+                limit,
+                ..Config::default()
+            },
+            &[0; 3],
+            0,
+            2,
+        )
+    };
+    assert_eq!(at_usual_costs(row, &[], 0, 2), route(&[0, 1, 2], 20, 2));
+    assert_eq!(limited(1), Err(Refusal::LimitPassed(Nodes(2))));
+    assert_eq!(limited(2), route(&[0, 1, 2], 20, 2));
+    assert_eq!(at_usual_costs(row, &[(1, Kind::Solid)], 0, 2), Err(Refusal::NoRoute(Nodes(1))));
+    assert_eq!(
+        at_usual_costs(row, &[(1, Kind::RedstoneWire)], 0, 2),
+        Err(Refusal::NoRoute(Nodes(1)))
+    );
+    assert_eq!(at_usual_costs(row, &[(2, Kind::RedstoneWire)], 0, 2), route(&[0, 1, 2], 20, 2));
+    assert_eq!(
+        at_usual_costs(row, &[(2, Kind::Lever)], 0, 2),
+        Err(Refusal::NotRouteable { cell: 2 })
+    );
+}
+
+#[test]
+fn f_to_i_two_storeys() {
+    let low = room(3, 2, 1);
+    let dear = Config {
+        support: 40,
+        ..Config::default()
+    };
+    assert_eq!(at_usual_costs(low, &[(2, Kind::Solid)], 0, 4), route(&[0, 3, 4], 50, 2));
+    assert_eq!(at_usual_costs(low, &[], 1, 5), route(&[1, 3, 5], 50, 4));
+    assert_eq!(search(low, dear, &[0; 6], 1, 5), route(&[1, 2, 5], 90, 5));
+    assert_eq!(at_usual_costs(low, &[(2, Kind::Lever)], 1, 5), Err(Refusal::NoRoute(Nodes(1))));
+}
+
+#[test]
+fn j_queue_of_five_suffices() {
+    let square = room(3, 1, 3);
+    let with_places = |places| SearchMemory::new(9, places).search(square, Config::default(), &[0; 9], 4, 0);
+    assert_eq!(with_places(5), route(&[4, 1, 0], 20, 3));
+    assert_eq!(with_places(4), Err(Refusal::QueueFull(Nodes(2))));
+}
+
+fn wire(x: u8) -> Endpoint {
+    Endpoint {
+        at: Position { x, y: 0, z: 0 },
+        port: Port::Wire,
+        facing: Facing::None,
+    }
+}
+
+#[test]
+fn k_repeaters_of_a_row() {
+    let repeaters = |sink| {
+        let job = Job::new(room(20, 1, 1), Config::default(), wire(0), vec![wire(sink)]);
+        let tree = route_tree(&job.sheet().unwrap()).unwrap();
+        assert_eq!(tree.branches, [(0..=u32::from(sink)).collect::<Vec<_>>()]);
+        tree.repeaters
+    };
+    assert_eq!(repeaters(8), []);
+    assert_eq!(repeaters(9), [1]);
+    assert_eq!(repeaters(12), [4]);
+    assert_eq!(repeaters(13), [12]);
+    assert_eq!(repeaters(16), [13]);
+}
+
+#[test]
+fn l_power_through_a_block() {
+    let wall = Position { x: 5, y: 0, z: 0 };
+    let sink = Endpoint {
+        at: wall,
+        port: Port::BlockPower,
+        facing: Facing::West,
+    };
+    let mut job = Job::new(room(6, 1, 1), Config::default(), wire(0), vec![sink]);
+    job.blocks.push(Block {
+        node: 0,
+        at: wall,
+        kind: Kind::Solid,
+        facing: Facing::None,
+    });
+    assert_eq!(route_tree(&job.sheet().unwrap()).unwrap().branches, [[0, 1, 2, 3, 4]]);
+}
+
+#[test]
+fn hex_sheet_prints_as_program_route() {
+    let job = Job::new(room(10, 1, 1), Config::default(), wire(0), vec![wire(9)]);
+    let sheet = job.sheet().unwrap();
+    let hex = "01000000280A0101000075300000000A000000190000000F00000000000000000000000000000001090000000 0".replace(' ', "");
+    let bytes: Vec<u8> = (0..hex.len() / 2)
+        .map(|place| u8::from_str_radix(&hex[2 * place..2 * place + 2], 16).unwrap())
+        .collect();
+    assert_eq!(sheet, Sheet::from_bytes(bytes));
+    assert_eq!(
+        route_tree(&sheet).unwrap().to_string(),
+        "net 1 10\nbranch 0 1 2 3 4 5 6 7 8 9\nrepeaters 1\n"
+    );
+}
+
+#[test]
+fn a_net_without_sinks_is_its_source() {
+    let job = Job::new(room(2, 1, 1), Config::default(), wire(1), vec![]);
+    assert_eq!(route_tree(&job.sheet().unwrap()).unwrap().to_string(), "net 0 1\nrepeaters\n");
+}
+
+#[test]
+fn a_refusal_prints_as_program_route() {
+    let unreachable = Refusal::NoGoal { approach: 202 };
+    assert_eq!(unreachable.to_string(), "refused 14 202\n");
+}
+
+#[test]
+fn cheap_steps_get_a_queue_that_is_never_full() {
+    let cheap = Config {
+        horizontal: 1,
+        stair: 3,
+        support: 2,
+        ..Config::default()
+    };
+    let big = room(8, 8, 8);
+    assert!(places_that_suffice(512, cheap) > places_that_suffice(512, Config::default()));
+    assert!(search(big, cheap, &[0; 512], 0, 511).is_ok());
+}

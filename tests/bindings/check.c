@@ -1,0 +1,317 @@
+/* Calls both functions of the archive with exact, longer and too short buffers and rubbish inside. The archive is not compiled with a
+ * sanitizer, so each buffer ends at a page that may be neither read nor written, and has guard bytes before it. */
+#define _DEFAULT_SOURCE
+#include <stdbool.h>
+#include <stdio.h>
+#include <stdlib.h>
+#include <string.h>
+#include <sys/mman.h>
+#include <unistd.h>
+
+#include "dustroute.h"
+
+static int failures = 0;
+
+static void expect(bool holds, const char *what, int line) {
+    if (!holds) {
+        printf("check.c:%d: %s\n", line, what);
+        failures++;
+    }
+}
+#define EXPECT(fact) expect((fact), #fact, __LINE__)
+
+/* ---- lent buffers: rubbish inside, guards round them */
+
+enum { GUARD = 64, RUBBISH = 0xA5, GUARD_BYTE = 0x3C };
+
+struct buffer {
+    uint8_t *block; /* whole pages: guard bytes, the elements, and a page that is barred */
+    size_t block_size;
+    uint8_t *elements;
+    size_t length, size;
+};
+
+static struct buffer lend(size_t length, size_t size) {
+    size_t page = (size_t)sysconf(_SC_PAGESIZE), bytes = length * size;
+    size_t open = (bytes + GUARD + page - 1) / page * page;
+    uint8_t *block = mmap(NULL, open + page, PROT_READ | PROT_WRITE, MAP_PRIVATE | MAP_ANONYMOUS, -1, 0);
+    if (block == MAP_FAILED || mprotect(block + open, page, PROT_NONE) != 0)
+        abort();
+    struct buffer lent = {block, open + page, block + open - bytes, length, size};
+    memset(lent.elements - GUARD, GUARD_BYTE, GUARD);
+    memset(lent.elements, RUBBISH, bytes);
+    return lent;
+}
+
+static void give_back(struct buffer lent) {
+    if (munmap(lent.block, lent.block_size) != 0)
+        abort();
+}
+
+/* A buffer of length 0 may have any pointer: that of the barred page, or none at all. */
+static bool empty_is_null = false;
+
+static void *at(struct buffer lent) { return lent.length == 0 && empty_is_null ? NULL : lent.elements; }
+
+static bool all(const uint8_t *bytes, size_t count, uint8_t byte) {
+    for (size_t i = 0; i < count; i++)
+        if (bytes[i] != byte)
+            return false;
+    return true;
+}
+
+static bool guarded(struct buffer lent) { return all(lent.elements - GUARD, GUARD, GUARD_BYTE); }
+static bool untouched(struct buffer lent) { return all(at(lent), lent.length * lent.size, RUBBISH); }
+static bool cleared(struct buffer lent) { return all(at(lent), lent.length * lent.size, 0); }
+
+/* ---- one search */
+
+enum { PATH, KNOWN, PREVIOUS, CLASSES, SEARCH_QUEUE, SEARCH_VALUES, SEARCH_BUFFERS };
+
+struct search {
+    struct buffer lent[SEARCH_BUFFERS];
+    uint32_t number;
+};
+
+/* A row of `wide` cells from end to end, at the usual costs; the lent lengths are those of the table, in its order. */
+static struct search search_row(const uint8_t *kinds, size_t wide, const size_t lengths[SEARCH_BUFFERS]) {
+    static const size_t sizes[SEARCH_BUFFERS] = {4, 4, 4, 1, 8, 8};
+    struct search asked;
+    for (int i = 0; i < SEARCH_BUFFERS; i++)
+        asked.lent[i] = lend(lengths[i], sizes[i]);
+    struct buffer *b = asked.lent;
+    asked.number = dustroute_search(
+        wide, 1, 1, 30000, 10, 25, 15, kinds, wide, 0, wide - 1,
+        at(b[PATH]), lengths[PATH], at(b[KNOWN]), lengths[KNOWN], at(b[PREVIOUS]), lengths[PREVIOUS],
+        at(b[CLASSES]), lengths[CLASSES], at(b[SEARCH_QUEUE]), lengths[SEARCH_QUEUE], at(b[SEARCH_VALUES]), lengths[SEARCH_VALUES]);
+    for (int i = 0; i < SEARCH_BUFFERS; i++)
+        EXPECT(guarded(b[i]));
+    return asked;
+}
+
+static void free_search(struct search asked) {
+    for (int i = 0; i < SEARCH_BUFFERS; i++)
+        give_back(asked.lent[i]);
+}
+
+static void expect_work_cleared(struct search asked) {
+    for (int i = KNOWN; i <= SEARCH_QUEUE; i++)
+        EXPECT(cleared(asked.lent[i]));
+}
+
+/* Document 01's sample b, over these lengths: path 0 1 2, cost 20, expanded 2. */
+static void expect_sample_b(const size_t lengths[SEARCH_BUFFERS]) {
+    static const uint8_t air[3] = {0, 0, 0};
+    struct search asked = search_row(air, 3, lengths);
+    const uint32_t *path = at(asked.lent[PATH]);
+    const uint64_t *values = at(asked.lent[SEARCH_VALUES]);
+    EXPECT(asked.number == DUSTROUTE_DONE);
+    EXPECT(values[0] == 0 && values[1] == 3 && values[2] == 20 && values[3] == 2);
+    for (size_t i = 0; i < lengths[PATH]; i++)
+        EXPECT(path[i] == (i < 3 ? i : 0));
+    for (size_t i = 4; i < lengths[SEARCH_VALUES]; i++)
+        EXPECT(values[i] == 0);
+    expect_work_cleared(asked);
+    free_search(asked);
+}
+
+static void check_search(void) {
+    const size_t exact[SEARCH_BUFFERS] = {3, 3, 3, 3, 30, 4};
+    const size_t longer[SEARCH_BUFFERS] = {8, 5, 9, 4, 37, 11};
+    static const uint8_t air[3] = {0, 0, 0}, walled[3] = {0, 1, 0};
+    expect_sample_b(exact);
+    expect_sample_b(longer);
+
+    /* number 11: zeros, and the detail */
+    struct search refused = search_row(walled, 3, longer);
+    const uint64_t *values = at(refused.lent[SEARCH_VALUES]);
+    EXPECT(refused.number == DUSTROUTE_NO_ROUTE);
+    EXPECT(values[0] == 1);
+    for (size_t i = 1; i < longer[SEARCH_VALUES]; i++)
+        EXPECT(values[i] == 0);
+    EXPECT(cleared(refused.lent[PATH]));
+    expect_work_cleared(refused);
+    free_search(refused);
+
+    /* number 6: each buffer one short, then each of length 0; nothing is touched */
+    const size_t least[SEARCH_BUFFERS] = {3, 3, 3, 3, 2, 4};
+    for (int i = 0; i < SEARCH_BUFFERS; i++)
+        for (int none = 0; none < 2; none++) {
+            size_t lengths[SEARCH_BUFFERS];
+            memcpy(lengths, exact, sizeof lengths);
+            lengths[i] = none ? 0 : least[i] - 1;
+            struct search asked = search_row(air, 3, lengths);
+            EXPECT(asked.number == DUSTROUTE_BUFFER);
+            for (int j = 0; j < SEARCH_BUFFERS; j++)
+                EXPECT(untouched(asked.lent[j]));
+            free_search(asked);
+        }
+}
+
+/* ---- one tree */
+
+enum {
+    BRANCHES, OCCUPIED, REPEATERS, KINDS, BLOCKED, TREE_CLASSES, JOINABLE, TREE_KNOWN, TREE_PREVIOUS, TREE_PATH, BEST,
+    TREE_QUEUE, TREE_VALUES, TREE_BUFFERS
+};
+
+struct tree {
+    struct buffer lent[TREE_BUFFERS];
+    uint32_t number;
+};
+
+static struct tree tree_of(const uint8_t *sheet, size_t sheet_length, const size_t n[TREE_BUFFERS]) {
+    static const size_t sizes[TREE_BUFFERS] = {4, 1, 1, 1, 1, 1, 1, 4, 4, 4, 4, 8, 8};
+    struct tree asked;
+    struct buffer copy = lend(sheet_length, 1);
+    memcpy(copy.elements, sheet, sheet_length);
+    for (int i = 0; i < TREE_BUFFERS; i++)
+        asked.lent[i] = lend(n[i], sizes[i]);
+    struct buffer *b = asked.lent;
+    asked.number = dustroute_tree(
+        at(copy), sheet_length, at(b[BRANCHES]), n[BRANCHES], at(b[OCCUPIED]), n[OCCUPIED], at(b[REPEATERS]), n[REPEATERS],
+        at(b[KINDS]), n[KINDS], at(b[BLOCKED]), n[BLOCKED], at(b[TREE_CLASSES]), n[TREE_CLASSES], at(b[JOINABLE]), n[JOINABLE],
+        at(b[TREE_KNOWN]), n[TREE_KNOWN], at(b[TREE_PREVIOUS]), n[TREE_PREVIOUS], at(b[TREE_PATH]), n[TREE_PATH],
+        at(b[BEST]), n[BEST], at(b[TREE_QUEUE]), n[TREE_QUEUE], at(b[TREE_VALUES]), n[TREE_VALUES]);
+    EXPECT(memcmp(copy.elements, sheet, sheet_length) == 0);
+    for (int i = 0; i < TREE_BUFFERS; i++)
+        EXPECT(guarded(b[i]));
+    give_back(copy);
+    return asked;
+}
+
+static void free_tree(struct tree asked) {
+    for (int i = 0; i < TREE_BUFFERS; i++)
+        give_back(asked.lent[i]);
+}
+
+/* Document 01's hex sheet: a row of ten cells, from end to end. */
+static const uint8_t ROW[45] = {
+    1, 0, 0, 0, 40, 10, 1, 1, 0, 0, 0x75, 0x30, 0, 0, 0, 10, 0, 0, 0, 25, 0, 0, 0, 15,
+    0, 0, 0, 0, 0, 0, 0, 0, 0, 0, 0, 0, 0, 0, 0, 1, 9, 0, 0, 0, 0};
+enum { REST_LENGTH = 4, SINK_COUNT = 39, SINK_PORT = 43, SINK_FACING = 44 };
+
+static const size_t EXACT[TREE_BUFFERS] = {10, 10, 10, 10, 10, 10, 10, 10, 10, 10, 10, 100, 20};
+static const size_t LONGER[TREE_BUFFERS] = {13, 11, 17, 12, 10, 14, 19, 11, 15, 12, 16, 103, 29};
+
+static void expect_tree_cleared(struct tree asked, int first) {
+    for (int i = first; i < TREE_VALUES; i++)
+        EXPECT(cleared(asked.lent[i]));
+}
+
+static void expect_row(const size_t lengths[TREE_BUFFERS]) {
+    struct tree asked = tree_of(ROW, sizeof ROW, lengths);
+    const uint32_t *branches = at(asked.lent[BRANCHES]);
+    const uint8_t *occupied = at(asked.lent[OCCUPIED]), *repeaters = at(asked.lent[REPEATERS]);
+    const uint64_t *values = at(asked.lent[TREE_VALUES]);
+    EXPECT(asked.number == DUSTROUTE_DONE);
+    EXPECT(values[0] == 0 && values[1] == 1 && values[2] == 10 && values[3] == 1 && values[4] == 10);
+    for (size_t i = 5; i < lengths[TREE_VALUES]; i++)
+        EXPECT(values[i] == 0);
+    for (size_t i = 0; i < lengths[BRANCHES]; i++)
+        EXPECT(branches[i] == (i < 10 ? i : 0));
+    for (size_t i = 0; i < lengths[OCCUPIED]; i++)
+        EXPECT(occupied[i] == (i < 10));
+    for (size_t i = 0; i < lengths[REPEATERS]; i++)
+        EXPECT(repeaters[i] == (i == 1));
+    expect_tree_cleared(asked, KINDS);
+    free_tree(asked);
+}
+
+/* A number above 6: the detail alone is left. */
+static void expect_refused(const uint8_t *sheet, const size_t lengths[TREE_BUFFERS], uint32_t number, uint64_t detail) {
+    struct tree asked = tree_of(sheet, sizeof ROW, lengths);
+    const uint64_t *values = at(asked.lent[TREE_VALUES]);
+    EXPECT(asked.number == number);
+    EXPECT(values[0] == detail);
+    for (size_t i = 1; i < lengths[TREE_VALUES]; i++)
+        EXPECT(values[i] == 0);
+    expect_tree_cleared(asked, BRANCHES);
+    free_tree(asked);
+}
+
+/* A number from 1 to 6: nothing is touched. */
+static void expect_untouched(const uint8_t *sheet, size_t length, const size_t lengths[TREE_BUFFERS], uint32_t number) {
+    struct tree asked = tree_of(sheet, length, lengths);
+    EXPECT(asked.number == number);
+    for (int i = 0; i < TREE_BUFFERS; i++)
+        EXPECT(untouched(asked.lent[i]));
+    free_tree(asked);
+}
+
+static void check_short_tree(void) {
+    for (int i = OCCUPIED; i < TREE_BUFFERS; i++)
+        for (int none = 0; none < 2; none++) {
+            size_t lengths[TREE_BUFFERS];
+            memcpy(lengths, LONGER, sizeof lengths);
+            lengths[i] = none ? 0 : i == TREE_QUEUE ? 1 : EXACT[i] - 1;
+            expect_untouched(ROW, sizeof ROW, lengths, DUSTROUTE_BUFFER);
+            expect_untouched(ROW, sizeof ROW - 1, lengths, DUSTROUTE_SHEET); /* the sheet is read before the buffers are judged */
+        }
+    size_t lengths[TREE_BUFFERS];
+    memcpy(lengths, LONGER, sizeof lengths);
+    lengths[BRANCHES] = 9;
+    expect_refused(ROW, lengths, DUSTROUTE_BRANCHES_FULL, 1);
+    lengths[BRANCHES] = 0;
+    expect_refused(ROW, lengths, DUSTROUTE_BRANCHES_FULL, 1);
+}
+
+/* A net without sinks needs no branch buffer: it is its source. */
+static void check_no_sinks(void) {
+    uint8_t sheet[SINK_COUNT + 1];
+    size_t lengths[TREE_BUFFERS];
+    memcpy(sheet, ROW, sizeof sheet);
+    sheet[REST_LENGTH] = sizeof sheet - 5;
+    sheet[SINK_COUNT] = 0;
+    memcpy(lengths, EXACT, sizeof lengths);
+    lengths[BRANCHES] = 0;
+    struct tree asked = tree_of(sheet, sizeof sheet, lengths);
+    const uint64_t *values = at(asked.lent[TREE_VALUES]);
+    EXPECT(asked.number == DUSTROUTE_DONE);
+    EXPECT(values[0] == 0 && values[1] == 0 && values[2] == 1 && values[3] == 0 && values[4] == 0);
+    EXPECT(*(const uint8_t *)at(asked.lent[OCCUPIED]) == 1);
+    expect_tree_cleared(asked, REPEATERS);
+    free_tree(asked);
+}
+
+static void check_tree(void) {
+    uint8_t sheet[sizeof ROW];
+    expect_row(EXACT);
+    expect_row(LONGER);
+    check_short_tree();
+    check_no_sinks();
+    for (size_t length = 0; length < sizeof ROW; length++)
+        expect_untouched(ROW, length, EXACT, DUSTROUTE_SHEET);
+    memcpy(sheet, ROW, sizeof sheet);
+    sheet[SINK_PORT] = 1; /* BlockPower without a horizontal facing */
+    expect_refused(sheet, LONGER, DUSTROUTE_PORT_FACING, 1);
+    sheet[SINK_FACING] = 2; /* East of the last cell: outside */
+    expect_refused(sheet, LONGER, DUSTROUTE_END_OUTSIDE, 1);
+    sheet[SINK_FACING] = 7;
+    expect_untouched(sheet, sizeof sheet, LONGER, DUSTROUTE_CODE);
+}
+
+/* Every byte of the sheet at many values: whatever comes, it stays within the buffers. */
+static void check_damaged(void) {
+    for (size_t place = 0; place < sizeof ROW; place++)
+        for (int byte = 0; byte < 256; byte += byte < 16 ? 1 : 15) {
+            uint8_t sheet[sizeof ROW];
+            memcpy(sheet, ROW, sizeof sheet);
+            sheet[place] = (uint8_t)byte;
+            struct tree asked = tree_of(sheet, sizeof sheet, EXACT);
+            EXPECT(asked.number <= DUSTROUTE_BRANCHES_FULL);
+            free_tree(asked);
+        }
+}
+
+int main(void) {
+    for (int null = 0; null < 2; null++) {
+        empty_is_null = null;
+        check_search();
+        check_tree();
+    }
+    check_damaged();
+    if (failures == 0)
+        printf("check.c: all as promised\n");
+    return failures != 0;
+}
