@@ -8,6 +8,7 @@ mod compare;
 mod compare_trees;
 mod flat;
 mod proved;
+mod wraps;
 
 use std::process::ExitCode;
 
@@ -20,6 +21,7 @@ driver compare searches|sheets --seed N --count N [--profile P] [--against oracl
                 rich: of the sheets only those that have a tree of two or more sinks with stairs and repeaters
 driver bench searches   times the proved search, the published Rust and plain Rust over flat arrays
 driver bench trees      times the proved tree and the published Rust
+driver wraps            shows costs at which the published Rust's sums wrap, and both answers
 Status 0: done; 1: answers differ; 2: bad input.
 ";
 
@@ -61,6 +63,10 @@ fn run(words: &[String]) -> Result<bool, String> {
         ["compare", "sheets"] => Ok(compare_trees::compare(&draw(&words[2..])?)),
         ["bench", "searches"] => {
             bench::bench();
+            Ok(true)
+        }
+        ["wraps"] => {
+            wraps::show();
             Ok(true)
         }
         ["bench", "trees"] => {
