@@ -1,23 +1,31 @@
 -- Laws of the counts.
-use mathlib.Core.Path.{_≡_, ap, _∙_}
+use mathlib.Core.Path.{_≡_, ap}
 use mathlib.Core.Bool.{Bool, true, false}
 use mathlib.Core.List.{List}
 use Prim.Native.Nat.{ℕ, _<_}
 use lib.ListN.{getD, set}
 use borrow.Author.Tests.{lt-ltb}
 use Rattle.replay_sheets.specs.declared.counts.Tally.{Tally}
-use Rattle.replay_sheets.specs.Counts.{oneMore, metAgain, firstOf, counted}
+use Rattle.replay_sheets.specs.Counts.{oneMore, oneMoreAt, firstOf, firstAt, met, compared}
 
-pub met-in : (met : List ℕ) (number : ℕ) {n : ℕ} → number < 16 → n ≡ oneMore (getD met number 0) → set met number n ≡ metAgain met number
-unfolding metAgain
-met-in met number h e = rw (lt-ltb number 16 h) (ap (set met number) e)
+pub one-more-in : (counts : List ℕ) (place : ℕ) {n x : ℕ} → place < n → x ≡ oneMore (getD counts place 0) → set counts place x ≡ oneMoreAt n counts place
+unfolding oneMoreAt
+one-more-in counts place {n} h e = rw (lt-ltb place n h) (ap (set counts place) e)
 
-module _ (t : Tally) (number : ℕ) {b : Bool} {sheets : ℕ} {met : List ℕ} (p : sheets ≡ oneMore (t .sheets)) (q : met ≡ metAgain (t .met) number) where
-  pub counted-agreed : b ≡ true → _≡_ {A = Tally} (record { sheets = sheets; differ = t .differ; first = t .first; met = met }) (counted t number b)
-  counted-agreed e = rw e (λ i. record { sheets = p i; differ = t .differ; first = t .first; met = q i })
+pub first-in : (kinds : List ℕ) (kind sheet : ℕ) {x : ℕ} → kind < 5 → x ≡ firstOf (getD kinds kind 0) sheet → set kinds kind x ≡ firstAt kinds kind sheet
+unfolding firstAt
+first-in kinds kind sheet h e = rw (lt-ltb kind 5 h) (ap (set kinds kind) e)
 
-  pub counted-differing : b ≡ false → {differ first : ℕ} → differ ≡ oneMore (t .differ) → first ≡ firstOf (t .first) sheets
-      → _≡_ {A = Tally} (record { sheets = sheets; differ = differ; first = first; met = met }) (counted t number b)
-  counted-differing e d f =
-      let g = f ∙ ap (firstOf (t .first)) p in
-      rw e (λ i. record { sheets = p i; differ = d i; first = g i; met = q i })
+module _ (t : Tally) where
+  pub met-by : (number : ℕ) {sheets : ℕ} {counts : List ℕ} → sheets ≡ oneMore (t .sheets) → counts ≡ oneMoreAt 16 (t .met) number
+      → _≡_ {A = Tally} (record { sheets = sheets; met = counts; compared = t .compared; differ = t .differ; first = t .first }) (met t number)
+  met-by number p q = λ i. record { sheets = p i; met = q i; compared = t .compared; differ = t .differ; first = t .first }
+
+  module _ (kind : ℕ) {b : Bool} {counts : List ℕ} (p : counts ≡ oneMoreAt 5 (t .compared) kind) where
+    pub compared-agreed : b ≡ true
+        → _≡_ {A = Tally} (record { sheets = t .sheets; met = t .met; compared = counts; differ = t .differ; first = t .first }) (compared t kind b)
+    compared-agreed e = rw e (λ i. record { sheets = t .sheets; met = t .met; compared = p i; differ = t .differ; first = t .first })
+
+    pub compared-differing : b ≡ false → {differ first : List ℕ} → differ ≡ oneMoreAt 5 (t .differ) kind → first ≡ firstAt (t .first) kind (t .sheets)
+        → _≡_ {A = Tally} (record { sheets = t .sheets; met = t .met; compared = counts; differ = differ; first = first }) (compared t kind b)
+    compared-differing e d f = rw e (λ i. record { sheets = t .sheets; met = t .met; compared = p i; differ = d i; first = f i })

@@ -10,23 +10,34 @@ use Rattle.replay_sheets.specs.declared.counts.Tally.{Tally}
 unfoldable pub oneMore : ℕ → ℕ
 oneMore count = either (ltb count 4000000000) (count + 1) count
 
--- one more answer has this number
-unfoldable pub metAgain : List ℕ → ℕ → List ℕ
-metAgain met number = either (ltb number 16) (set met number (oneMore (getD met number 0))) met
+-- one more at a place, where there is one among n
+unfoldable pub oneMoreAt : ℕ → List ℕ → ℕ → List ℕ
+oneMoreAt n counts place = either (ltb place n) (set counts place (oneMore (getD counts place 0))) counts
 
 -- the first sheet that differs, 0 being none
 unfoldable pub firstOf : ℕ → ℕ → ℕ
 firstOf first sheet = either (eqb first 0) sheet first
 
-abbrev pub nothingYet : Tally
-nothingYet = record { sheets = 0; differ = 0; first = 0; met = replicate 16 0 }
+unfoldable pub firstAt : List ℕ → ℕ → ℕ → List ℕ
+firstAt kinds kind sheet = either (ltb kind 5) (set kinds kind (firstOf (getD kinds kind 0) sheet)) kinds
 
-abbrev pub counted : Tally → ℕ → Bool → Tally
-counted t number true = record { sheets = oneMore (t .sheets); differ = t .differ; first = t .first; met = metAgain (t .met) number }
-counted t number false =
+abbrev pub nothingYet : Tally
+nothingYet = record { sheets = 0; met = replicate 16 0; compared = replicate 5 0; differ = replicate 5 0; first = replicate 5 0 }
+
+-- one sheet more, which has this number
+abbrev pub met : Tally → ℕ → Tally
+met t number =
+    record { sheets = oneMore (t .sheets); met = oneMoreAt 16 (t .met) number; compared = t .compared; differ = t .differ; first = t .first }
+
+-- the last sheet, compared in this kind
+abbrev pub compared : Tally → ℕ → Bool → Tally
+compared t kind true =
+    record { sheets = t .sheets; met = t .met; compared = oneMoreAt 5 (t .compared) kind; differ = t .differ; first = t .first }
+compared t kind false =
     record {
-      sheets = oneMore (t .sheets);
-      differ = oneMore (t .differ);
-      first = firstOf (t .first) (oneMore (t .sheets));
-      met = metAgain (t .met) number;
+      sheets = t .sheets;
+      met = t .met;
+      compared = oneMoreAt 5 (t .compared) kind;
+      differ = oneMoreAt 5 (t .differ) kind;
+      first = firstAt (t .first) kind (t .sheets);
     }

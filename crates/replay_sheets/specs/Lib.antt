@@ -1,4 +1,8 @@
 pub mod CountLaws
 pub mod Counts
-pub mod Due
-pub mod DueLaws
+pub mod Memory
+pub mod MemoryLaws
+pub mod RunLaws
+pub mod Runs
+pub mod VerdictLaws
+pub mod Verdicts

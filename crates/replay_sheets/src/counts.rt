@@ -1,15 +1,15 @@
 // How far the file has been replayed.
 ghost use mathlib.Core.Path.{_≡_};
-ghost use Prim.Native.Nat.{_-_};
-ghost use Rattle.replay_sheets.specs.Counts.{oneMore, metAgain, firstOf, nothingYet, counted};
+ghost use Rattle.replay_sheets.specs.Counts.{oneMore, oneMoreAt, firstOf, firstAt, nothingYet, met, compared};
 
-// How many sheets, how many of them differ, which is the first that does (counted from 1, 0 for none), and how many have
-// each number.
+// How many sheets there are, and how many have each number; for each kind of comparison how many were compared, how many of them
+// differ, and which is the first that does (counted from 1, 0 for none).
 pub struct Tally {
     pub sheets: u32,
-    pub differ: u32,
-    pub first: u32,
     pub met: [u32; 16],
+    pub compared: [u32; 5],
+    pub differ: [u32; 5],
+    pub first: [u32; 5],
 }
 
 // A count stays where it is, far above all that a file holds, rather than wrap.
@@ -19,13 +19,22 @@ fn one_more(count: u32) -> u32
     if count < 4000000000 { count + 1 } else { count }
 }
 
-fn met_again(met: [u32; 16], number: u32) -> [u32; 16]
-    ensures { λ r. ⌜ r ≡ metAgain met number ⌝ }
+fn one_more_met(met: [u32; 16], number: usize) -> [u32; 16]
+    ensures { λ r. ⌜ r ≡ oneMoreAt 16 met number ⌝ }
 {
     let mut counts = met;
-    let at = number as usize;
-    if at < 16 {
-        counts[at] = one_more(counts[at]);
+    if number < 16 {
+        counts[number] = one_more(counts[number]);
+    }
+    counts
+}
+
+fn one_more_of(kinds: [u32; 5], kind: usize) -> [u32; 5]
+    ensures { λ r. ⌜ r ≡ oneMoreAt 5 kinds kind ⌝ }
+{
+    let mut counts = kinds;
+    if kind < 5 {
+        counts[kind] = one_more(counts[kind]);
     }
     counts
 }
@@ -36,45 +45,67 @@ fn first_of(first: u32, sheet: u32) -> u32
     if first == 0 { sheet } else { first }
 }
 
+fn first_at(kinds: [u32; 5], kind: usize, sheet: u32) -> [u32; 5]
+    ensures { λ r. ⌜ r ≡ firstAt kinds kind sheet ⌝ }
+{
+    let mut first = kinds;
+    if kind < 5 {
+        first[kind] = first_of(first[kind], sheet);
+    }
+    first
+}
+
 pub fn nothing_yet() -> Tally
     ensures { λ r. ⌜ r ≡ nothingYet ⌝ }
 {
     Tally {
         sheets: 0,
-        differ: 0,
-        first: 0,
         met: [0; 16],
+        compared: [0; 5],
+        differ: [0; 5],
+        first: [0; 5],
     }
 }
 
-// The tally with one sheet more, which has this number.
-pub fn counted(tally: Tally, number: u32, agreed: bool) -> Tally
-    ensures { λ r. ⌜ r ≡ counted tally number agreed ⌝ }
+// One sheet more, which has this number.
+pub fn one_sheet_more(tally: Tally, number: u32) -> Tally
+    ensures { λ r. ⌜ r ≡ met tally number ⌝ }
 {
     let before = tally.met;
-    let met = met_again(before, number);
-    let sheets = one_more(tally.sheets);
+    let compared = tally.compared;
+    let differ = tally.differ;
+    let first = tally.first;
+    Tally {
+        sheets: one_more(tally.sheets),
+        met: one_more_met(before, number as usize),
+        compared,
+        differ,
+        first,
+    }
+}
+
+// The last sheet, compared in this kind.
+pub fn counted(tally: Tally, kind: usize, agreed: bool) -> Tally
+    ensures { λ r. ⌜ r ≡ compared tally kind agreed ⌝ }
+{
+    let met = tally.met;
+    let before = tally.compared;
+    let differ = tally.differ;
+    let first = tally.first;
     if agreed {
         return Tally {
-            sheets,
-            differ: tally.differ,
-            first: tally.first,
+            sheets: tally.sheets,
             met,
+            compared: one_more_of(before, kind),
+            differ,
+            first,
         };
     }
     Tally {
-        sheets,
-        differ: one_more(tally.differ),
-        first: first_of(tally.first, sheets),
+        sheets: tally.sheets,
         met,
+        compared: one_more_of(before, kind),
+        differ: one_more_of(differ, kind),
+        first: first_at(first, kind, tally.sheets),
     }
-}
-
-pub fn agreeing(tally: Tally) -> u32
-    ensures { λ r. ⌜ r ≡ tally .sheets - tally .differ ⌝ }
-{
-    if tally.sheets < tally.differ {
-        return 0;
-    }
-    tally.sheets - tally.differ
 }

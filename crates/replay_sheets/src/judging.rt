@@ -1,161 +1,360 @@
-// What is due for a stored sheet before any search, and whether the stored answer agrees.
-use job_sheet::Job;
-use outset::Outset;
-use room::Room;
+// Whether an answer, and all lent memory behind it, are as stored.
+use crate::memory::bytes_hold;
+use crate::memory::covers;
+use crate::memory::longs_hold;
+use crate::memory::words_hold;
+use crate::stored::Stored;
+use crate::stored::no_lengths;
+use branches::BranchLengths;
+use branches::count_marks;
+use net_tree::Answer;
+use net_tree::Ended;
 ghost use mathlib.Core.Path.{_≡_};
-ghost use Prim.Native.Nat.{_≤_};
-ghost use lib.ListN.{length};
-ghost use Rattle.room.specs.Room.{Good, maxVolume};
-ghost use Rattle.job_sheet.specs.Accepted.{Accepted};
-ghost use Rattle.outset.specs.SetOut.{OutsetAsked};
-ghost use Rattle.replay_sheets.specs.Due.{tooShort, outsetDue, DueOf, searched, agrees};
-ghost use Rattle.replay_sheets.specs.DueLaws.{DueSetOut};
+ghost use Rattle.net_tree.specs.Answers.{lent};
+ghost use Rattle.replay_sheets.specs.Verdicts.{sameLengths, sameCounts, sameRefusal, sameEnd, sameAnswer, shortRefusal, shortEnd, shortAnswer};
+ghost use Rattle.replay_sheets.specs.Verdicts.{touchesNothing, occupiedHolds, outputsHold, fourHold, workHolds, memoryHolds, sameIf, fullIf, verdictOf};
 
-// A number, 0 for none, and its detail.
-pub struct Due {
+// What a buffer gives that is too short: a number, and the greatest detail that it can have. The least is 1.
+pub struct Shortage {
     pub number: u32,
-    pub detail: usize,
+    pub most: usize,
 }
 
-// The rubbish at a place: never 0, and another for each of the first thousand seeds.
-fn rubbish(seed: u32, i: usize) -> u32 {
-    (i % 65521 * 65537) as u32 + seed % 1000 + 1
+// All as stored; or the number that a buffer gives that is too short, and everything is zero; or something else.
+pub enum Verdict {
+    Same,
+    Full,
+    Other,
 }
 
-fn spoil_bytes(s: &mut [u8], seed: u32) {
-    let mut byte: usize = 0;
-    while byte < s.len() {
-        s[byte] = (rubbish(seed, byte) % 255 + 1) as u8;
-        byte += 1;
+fn same_lengths(a: BranchLengths, b: BranchLengths) -> bool
+    ensures { λ r. ⌜ r ≡ sameLengths a b ⌝ }
+{
+    if a.count != b.count {
+        return false;
+    }
+    let each = a.each;
+    let other = b.each;
+    let mut k: usize = 0;
+    while k < 16 {
+        if each[k] != other[k] {
+            return false;
+        }
+        k += 1;
+    }
+    true
+}
+
+fn same_counts(occupied: usize, repeaters: usize, stored: Stored) -> bool
+    ensures { λ r. ⌜ r ≡ sameCounts occupied repeaters stored ⌝ }
+{
+    if stored.number != 0 {
+        return false;
+    }
+    if occupied != stored.occupied {
+        return false;
+    }
+    repeaters == stored.repeaters
+}
+
+fn same_refusal(number: u32, detail: usize, stored: Stored) -> bool
+    ensures { λ r. ⌜ r ≡ sameRefusal number detail stored ⌝ }
+{
+    if number != stored.number {
+        return false;
+    }
+    detail == stored.detail
+}
+
+fn same_end(ended: Ended, stored: Stored) -> bool
+    ensures { λ r. ⌜ r ≡ sameEnd ended stored ⌝ }
+{
+    match ended {
+        Ended::Routed {
+            occupied,
+            repeaters,
+        } => same_counts(occupied, repeaters, stored),
+        Ended::Refused { number, detail } => same_refusal(number, detail, stored),
     }
 }
 
-fn spoil_words(s: &mut [u32], seed: u32) {
-    let mut word: usize = 0;
-    while word < s.len() {
-        s[word] = rubbish(seed, word);
-        word += 1;
+fn same_answer(answer: Answer, stored: Stored) -> bool
+    ensures { λ r. ⌜ r ≡ sameAnswer answer stored ⌝ }
+{
+    let ended = answer.ended;
+    if !same_end(ended, stored) {
+        return false;
+    }
+    let lengths = answer.lengths;
+    let expected = stored.lengths;
+    same_lengths(lengths, expected)
+}
+
+fn short_refusal(number: u32, detail: usize, shortage: Shortage) -> bool
+    ensures { λ r. ⌜ r ≡ shortRefusal number detail shortage ⌝ }
+{
+    if number != shortage.number {
+        return false;
+    }
+    if detail < 1 {
+        return false;
+    }
+    detail <= shortage.most
+}
+
+fn short_end(ended: Ended, shortage: Shortage) -> bool
+    ensures { λ r. ⌜ r ≡ shortEnd ended shortage ⌝ }
+{
+    match ended {
+        Ended::Routed {
+            occupied: _,
+            repeaters: _,
+        } => false,
+        Ended::Refused { number, detail } => short_refusal(number, detail, shortage),
     }
 }
 
-// Whether number 6 is due: a buffer under V, or a queue of length 0.
-fn too_short(room: Room, cells: usize, places: u32) -> bool
-    requires { ⌜ Good room ⌝ }
-    ensures { λ r. ⌜ r ≡ tooShort room cells places ⌝ }
+// Whether a buffer was too short.
+fn short_answer(answer: Answer, shortage: Shortage) -> bool
+    ensures { λ r. ⌜ r ≡ shortAnswer answer shortage ⌝ }
 {
-    if cells < room.volume() {
-        return true;
+    let ended = answer.ended;
+    if !short_end(ended, shortage) {
+        return false;
     }
-    places == 0
+    let lengths = answer.lengths;
+    same_lengths(lengths, no_lengths())
 }
 
-fn outset_due(outset: Outset) -> Due
-    ensures { λ r. ⌜ r ≡ outsetDue outset ⌝ }
+// The cells that the tree occupies: marks on the branches' cells, and as many as are stored. A tree without a branch occupies its
+// source alone.
+fn occupied_holds(kept: bool, count: usize, covered: &[u8], occupied: &[u8]) -> bool
+    ensures { λ r. ⌜ r ≡ occupiedHolds kept count (now (covered .entry)) (now (occupied .entry)) ⌝ }
 {
-    let placement = outset.placement;
-    let ends = outset.ends;
-    let fault = ends.fault;
-    Due {
-        number: outset::number_by(placement, fault),
-        detail: outset::detail_by(placement, fault),
+    if kept {
+        return bytes_hold(true, covered, occupied);
     }
+    if !covers(covered, occupied) {
+        return false;
+    }
+    count_marks(occupied) == count
 }
 
-// 7, 8 or 9, or none: the tree is set out over rubbish.
-fn due_over_rubbish(
-    sheet: &[u8],
-    job: Job,
-    seed: u32,
-    kinds: &mut [u8],
-    nodes: &mut [u32],
-    blocked: &mut [u8],
-) -> Due
-    requires { ⌜ OutsetAsked (now sheet) job (now kinds) (now nodes) (now blocked) ⌝ }
-    ensures { λ r. ⌜ DueSetOut (now (sheet .entry)) r ⌝ }
+fn outputs_hold(
+    kept: bool,
+    count: usize,
+    cells: &[u32],
+    covered: &[u8],
+    marks: &[u8],
+    branches: &[u32],
+    occupied: &[u8],
+    repeaters: &[u8],
+) -> bool
+    ensures { λ r. ⌜ r ≡ outputsHold kept count (now (cells .entry)) (now (covered .entry)) (now (marks .entry)) (now (branches .entry)) (now (occupied .entry)) (now (repeaters .entry)) ⌝ }
 {
-    spoil_bytes(kinds, seed);
-    spoil_words(nodes, seed);
-    spoil_bytes(blocked, seed);
-    outset_due(outset::set_out(sheet, job, kinds, nodes, blocked))
+    if !words_hold(kept, cells, branches) {
+        return false;
+    }
+    if !occupied_holds(kept, count, covered, occupied) {
+        return false;
+    }
+    bytes_hold(kept, marks, repeaters)
 }
 
-// The same in exactly V cells of each buffer.
-fn due_of_job(
-    sheet: &[u8],
-    job: Job,
-    seed: u32,
-    kinds: &mut [u8],
-    nodes: &mut [u32],
-    blocked: &mut [u8],
-) -> Due
-    requires { ⌜ Accepted (now sheet) job ⌝ }
-    requires { ⌜ (maxVolume ≤ length (now kinds)) × (maxVolume ≤ length (now nodes)) × (maxVolume ≤ length (now blocked)) ⌝ }
-    ensures { λ r. ⌜ DueSetOut (now (sheet .entry)) r ⌝ }
+fn byte_work_holds(
+    kept: bool,
+    kinds: &[u8],
+    blocked: &[u8],
+    classes: &[u8],
+    joinable: &[u8],
+) -> bool
+    ensures { λ r. ⌜ r ≡ fourHold kept (now (kinds .entry)) (now (blocked .entry)) (now (classes .entry)) (now (joinable .entry)) ⌝ }
 {
-    let count = job.room.volume();
-    due_over_rubbish(
-        sheet,
-        job,
-        seed,
-        &mut kinds[..count],
-        &mut nodes[..count],
-        &mut blocked[..count],
+    if !bytes_hold(kept, &kinds[..0], kinds) {
+        return false;
+    }
+    if !bytes_hold(kept, &kinds[..0], blocked) {
+        return false;
+    }
+    if !bytes_hold(kept, &kinds[..0], classes) {
+        return false;
+    }
+    bytes_hold(kept, &kinds[..0], joinable)
+}
+
+fn word_work_holds(kept: bool, known: &[u32], previous: &[u32], path: &[u32], best: &[u32]) -> bool
+    ensures { λ r. ⌜ r ≡ fourHold kept (now (known .entry)) (now (previous .entry)) (now (path .entry)) (now (best .entry)) ⌝ }
+{
+    if !words_hold(kept, &known[..0], known) {
+        return false;
+    }
+    if !words_hold(kept, &known[..0], previous) {
+        return false;
+    }
+    if !words_hold(kept, &known[..0], path) {
+        return false;
+    }
+    words_hold(kept, &known[..0], best)
+}
+
+// Work memory: the rubbish that was there, or zeros.
+fn work_holds(
+    kept: bool,
+    kinds: &[u8],
+    blocked: &[u8],
+    classes: &[u8],
+    joinable: &[u8],
+    known: &[u32],
+    previous: &[u32],
+    path: &[u32],
+    best: &[u32],
+    queue: &[u64],
+) -> bool
+    ensures { λ r. ⌜ r ≡ workHolds kept (now (kinds .entry)) (now (blocked .entry)) (now (classes .entry)) (now (joinable .entry)) (now (known .entry)) (now (previous .entry)) (now (path .entry)) (now (best .entry)) (now (queue .entry)) ⌝ }
+{
+    if !byte_work_holds(kept, kinds, blocked, classes, joinable) {
+        return false;
+    }
+    if !word_work_holds(kept, known, previous, path, best) {
+        return false;
+    }
+    longs_hold(kept, queue)
+}
+
+fn memory_holds(
+    kept: bool,
+    count: usize,
+    cells: &[u32],
+    covered: &[u8],
+    marks: &[u8],
+    branches: &[u32],
+    occupied: &[u8],
+    repeaters: &[u8],
+    kinds: &[u8],
+    blocked: &[u8],
+    classes: &[u8],
+    joinable: &[u8],
+    known: &[u32],
+    previous: &[u32],
+    path: &[u32],
+    best: &[u32],
+    queue: &[u64],
+) -> bool
+    ensures { λ r. ⌜ r ≡ memoryHolds kept count (now (cells .entry)) (now (covered .entry)) (now (marks .entry)) (lent (now (branches .entry)) (now (occupied .entry)) (now (repeaters .entry)) (now (kinds .entry)) (now (blocked .entry)) (now (classes .entry)) (now (joinable .entry)) (now (known .entry)) (now (previous .entry)) (now (path .entry)) (now (best .entry)) (now (queue .entry))) ⌝ }
+{
+    if !outputs_hold(
+        kept,
+        count,
+        cells,
+        covered,
+        marks,
+        branches,
+        occupied,
+        repeaters,
+    ) {
+        return false;
+    }
+    work_holds(
+        kept,
+        kinds,
+        blocked,
+        classes,
+        joinable,
+        known,
+        previous,
+        path,
+        best,
+        queue,
     )
 }
 
-// What is due for a sheet that comes with buffers of so many cells and a queue of so many places.
-pub fn due_for(
-    sheet: &[u8],
-    cells: usize,
-    places: u32,
-    seed: u32,
-    kinds: &mut [u8],
-    nodes: &mut [u32],
-    blocked: &mut [u8],
-) -> Due
-    requires { ⌜ (maxVolume ≤ length (now kinds)) × (maxVolume ≤ length (now nodes)) × (maxVolume ≤ length (now blocked)) ⌝ }
-    ensures { λ r. ⌜ DueOf (now (sheet .entry)) cells places r ⌝ }
-{
-    let reading = job_sheet::read_sheet(sheet);
-    let verdict = reading.verdict;
-    if !verdict.is_good() {
-        return Due {
-            number: verdict.number(),
-            detail: 0,
-        };
-    }
-    let job = reading.job;
-    if too_short(job.room, cells, places) {
-        return Due {
-            number: 6,
-            detail: 0,
-        };
-    }
-    due_of_job(sheet, job, seed, kinds, nodes, blocked)
-}
-
-// Whether the stored number is one that only a search can give: a tree, or 13 to 15.
-fn searched(number: u32) -> bool
-    ensures { λ r. ⌜ r ≡ searched number ⌝ }
+// "Numbers 1 to 6 touch nothing".
+fn touches_nothing(number: u32) -> bool
+    ensures { λ r. ⌜ r ≡ touchesNothing number ⌝ }
 {
     if number == 0 {
-        return true;
-    }
-    if number < 13 {
         return false;
     }
-    number <= 15
+    number <= 6
 }
 
-// Whether a stored number and detail agree with what is due.
-pub fn agrees(number: u32, detail: usize, due: Due) -> bool
-    ensures { λ r. ⌜ r ≡ agrees number detail due ⌝ }
+fn same_if(holds: bool) -> Verdict
+    ensures { λ r. ⌜ r ≡ sameIf holds ⌝ }
 {
-    if due.number == 0 {
-        return searched(number);
+    if holds { Verdict::Same } else { Verdict::Other }
+}
+
+fn full_if(holds: bool) -> Verdict
+    ensures { λ r. ⌜ r ≡ fullIf holds ⌝ }
+{
+    if holds { Verdict::Full } else { Verdict::Other }
+}
+
+// The answer and all memory, held to what is stored, or to what a buffer leaves that is too short.
+pub fn judge(
+    answer: Answer,
+    stored: Stored,
+    shortage: Shortage,
+    cells: &[u32],
+    covered: &[u8],
+    marks: &[u8],
+    branches: &[u32],
+    occupied: &[u8],
+    repeaters: &[u8],
+    kinds: &[u8],
+    blocked: &[u8],
+    classes: &[u8],
+    joinable: &[u8],
+    known: &[u32],
+    previous: &[u32],
+    path: &[u32],
+    best: &[u32],
+    queue: &[u64],
+) -> Verdict
+    ensures { λ r. ⌜ r ≡ verdictOf stored shortage (now (cells .entry)) (now (covered .entry)) (now (marks .entry)) answer (lent (now (branches .entry)) (now (occupied .entry)) (now (repeaters .entry)) (now (kinds .entry)) (now (blocked .entry)) (now (classes .entry)) (now (joinable .entry)) (now (known .entry)) (now (previous .entry)) (now (path .entry)) (now (best .entry)) (now (queue .entry))) ⌝ }
+{
+    if same_answer(answer, stored) {
+        let kept = touches_nothing(stored.number);
+        return same_if(memory_holds(
+            kept,
+            stored.occupied,
+            cells,
+            covered,
+            marks,
+            branches,
+            occupied,
+            repeaters,
+            kinds,
+            blocked,
+            classes,
+            joinable,
+            known,
+            previous,
+            path,
+            best,
+            queue,
+        ));
     }
-    if number != due.number {
-        return false;
+    if !short_answer(answer, shortage) {
+        return Verdict::Other;
     }
-    detail == due.detail
+    full_if(memory_holds(
+        false,
+        0,
+        &cells[..0],
+        &covered[..0],
+        &marks[..0],
+        branches,
+        occupied,
+        repeaters,
+        kinds,
+        blocked,
+        classes,
+        joinable,
+        known,
+        previous,
+        path,
+        best,
+        queue,
+    ))
 }

@@ -13,6 +13,9 @@ abbrev μ-loop : tie.MeasureT-loop
 loop-holds : tie.Need-loop-holds Inv-loop μ-loop
 loop-holds c = search needs
 
+cast-print-number : tie.Need-cast-print-number Inv-loop μ-loop
+cast-print-number c = search needs
+
 mul-print-number : tie.Need-mul-print-number Inv-loop μ-loop
 mul-print-number c = search needs
 
@@ -41,6 +44,7 @@ print-numbers-spec =
     Inv-loop
     μ-loop
     loop-holds
+    cast-print-number
     mul-print-number
     array-read-print-number
     print-number-requires

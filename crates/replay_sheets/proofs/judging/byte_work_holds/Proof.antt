@@ -1,0 +1,63 @@
+-- `byte_work_holds` meets its contract, buffer by buffer.
+use Rattle.replay_sheets.specs.Verdicts.{fourHold}
+use Rattle.replay_sheets.specs.VerdictLaws.{test-fails, test-passes}
+use borrow.Author.Needs.{needs}
+use Rattle.replay_sheets.proofs.judging.byte_work_holds.Statement.{statement}
+use Rattle.replay_sheets.proofs.judging.byte_work_holds.Tie as tie
+
+slice-aggregate-bytes-hold : tie.Need-slice-aggregate-bytes-hold
+slice-aggregate-bytes-hold c = search needs
+
+bytes-hold-requires : tie.Need-bytes-hold-requires
+bytes-hold-requires c κs = search needs
+
+returns : tie.Need-returns
+unfolding fourHold
+returns c = rw (test-fails (c .before .bytes-hold .ensures) (c .if1 .taken))
+
+slice-aggregate-bytes-hold-2 : tie.Need-slice-aggregate-bytes-hold-2
+slice-aggregate-bytes-hold-2 c = search needs
+
+bytes-hold-requires-2 : tie.Need-bytes-hold-requires-2
+bytes-hold-requires-2 c κs = search needs
+
+returns-2 : tie.Need-returns-2
+unfolding fourHold
+returns-2 c = rw (test-passes (c .before .before .before .before .bytes-hold .ensures) (c .before .before .before .if1 .left), test-fails (c .before .bytes-hold2 .ensures) (c .if2 .taken))
+
+slice-aggregate-bytes-hold-3 : tie.Need-slice-aggregate-bytes-hold-3
+slice-aggregate-bytes-hold-3 c = search needs
+
+bytes-hold-requires-3 : tie.Need-bytes-hold-requires-3
+bytes-hold-requires-3 c κs = search needs
+
+returns-3 : tie.Need-returns-3
+unfolding fourHold
+returns-3 c = rw (test-passes (c .before .before .before .before .before .before .before .bytes-hold .ensures) (c .before .before .before .before .before .before .if1 .left), test-passes (c .before .before .before .before .bytes-hold2 .ensures) (c .before .before .before .if2 .left), test-fails (c .before .bytes-hold3 .ensures) (c .if3 .taken))
+
+slice-aggregate-bytes-hold-4 : tie.Need-slice-aggregate-bytes-hold-4
+slice-aggregate-bytes-hold-4 c = search needs
+
+bytes-hold-requires-4 : tie.Need-bytes-hold-requires-4
+bytes-hold-requires-4 c κs = search needs
+
+returns-4 : tie.Need-returns-4
+unfolding fourHold
+returns-4 c = rw (test-passes (c .before .before .before .before .before .before .before .before .before .bytes-hold .ensures) (c .before .before .before .before .before .before .before .before .if1 .left), test-passes (c .before .before .before .before .before .before .bytes-hold2 .ensures) (c .before .before .before .before .before .if2 .left), test-passes (c .before .before .before .bytes-hold3 .ensures) (c .before .before .if3 .left)) (c .bytes-hold4 .ensures)
+
+pub byte-work-holds-spec : {M : Type 1} → statement M
+byte-work-holds-spec =
+    tie.close
+    (tie.spec
+    slice-aggregate-bytes-hold
+    bytes-hold-requires
+    returns
+    slice-aggregate-bytes-hold-2
+    bytes-hold-requires-2
+    returns-2
+    slice-aggregate-bytes-hold-3
+    bytes-hold-requires-3
+    returns-3
+    slice-aggregate-bytes-hold-4
+    bytes-hold-requires-4
+    returns-4)

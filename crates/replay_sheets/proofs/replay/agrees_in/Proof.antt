@@ -1,0 +1,46 @@
+-- `agrees_in` meets its contract: the least queue, or one run at the lengths of its kind.
+use Rattle.replay_sheets.specs.Runs.{least-queue, one-run}
+use borrow.Author.Needs.{needs}
+use Rattle.replay_sheets.proofs.replay.agrees_in.Statement.{statement}
+use Rattle.replay_sheets.proofs.replay.agrees_in.Tie as tie
+
+size-of-requires : tie.Need-size-of-requires
+size-of-requires c κs = search needs
+
+narrows-requires : tie.Need-narrows-requires
+narrows-requires c κs = search needs
+
+same-length : tie.Need-same-length
+same-length c = search needs
+
+returns : tie.Need-returns
+returns c = least-queue (c .before .before .before .before .if1 .taken)
+
+lens-of-requires : tie.Need-lens-of-requires
+lens-of-requires c κs = search needs
+
+run-requires : tie.Need-run-requires
+run-requires c κs = search needs
+
+agrees-requires : tie.Need-agrees-requires
+agrees-requires c κs = search needs
+
+same-length-2 : tie.Need-same-length-2
+same-length-2 c = search needs
+
+returns-2 : tie.Need-returns-2
+returns-2 c = one-run _ (c .before .before .before .before .before .before .before .size-of .ensures) _ (c .before .before .before .before .before .lens-of .ensures) _ (c .before .before .before .run .ensures) (c .agrees .ensures)
+
+pub agrees-in-spec : {M : Type 1} → statement M
+agrees-in-spec =
+    tie.close
+    (tie.spec
+    size-of-requires
+    narrows-requires
+    same-length
+    returns
+    lens-of-requires
+    run-requires
+    agrees-requires
+    same-length-2
+    returns-2)

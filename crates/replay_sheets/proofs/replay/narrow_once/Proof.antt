@@ -1,0 +1,43 @@
+-- `narrow_once` meets its contract: the gap stays, or a run half way narrows it.
+use mathlib.Core.Path.{refl}
+use Rattle.replay_sheets.specs.Runs.{stays, halves}
+use borrow.Author.Needs.{needs}
+use Rattle.replay_sheets.proofs.replay.narrow_once.Statement.{statement}
+use Rattle.replay_sheets.proofs.replay.narrow_once.Tie as tie
+
+middle-requires : tie.Need-middle-requires
+middle-requires c κs = search needs
+
+returns : tie.Need-returns
+returns c = stays refl
+
+returns-2 : tie.Need-returns-2
+returns-2 c = stays refl
+
+twice-requires : tie.Need-twice-requires
+twice-requires c κs = search needs
+
+run-requires : tie.Need-run-requires
+run-requires c κs = search needs
+
+narrowed-requires : tie.Need-narrowed-requires
+narrowed-requires c κs = search needs
+
+same-length : tie.Need-same-length
+same-length c = search needs
+
+returns-3 : tie.Need-returns-3
+returns-3 c = halves _ (c .before .before .before .before .before .before .before .before .before .before .middle .ensures) _ (c .before .before .before .before .before .twice .ensures) _ (c .before .before .before .run .ensures) (c .narrowed .ensures)
+
+pub narrow-once-spec : {M : Type 1} → statement M
+narrow-once-spec =
+    tie.close
+    (tie.spec
+    middle-requires
+    returns
+    returns-2
+    twice-requires
+    run-requires
+    narrowed-requires
+    same-length
+    returns-3)

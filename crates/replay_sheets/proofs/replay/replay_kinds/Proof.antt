@@ -1,0 +1,52 @@
+-- `replay_kinds` is safe and ends: the queue's length stays, and fewer kinds are left.
+use mathlib.Core.Path.{_≡_}
+use Prim.Native.Nat.{_-_}
+use lib.ListN.{length}
+use borrow.Author.Needs.{needs}
+use Rattle.replay_sheets.proofs.replay.replay_kinds.Statement.{statement}
+use Rattle.replay_sheets.proofs.replay.replay_kinds.Tie as tie
+
+abbrev Inv-loop : tie.InvT-loop
+Inv-loop sheet asked stored cells covered marks queue₀ now₀ kind₀ queue now kind = length queue ≡ length queue₀
+
+abbrev μ-loop : tie.MeasureT-loop
+μ-loop sheet asked stored cells covered marks queue₀ now₀ kind₀ queue now kind = 5 - kind
+
+one-sheet-more-requires : tie.Need-one-sheet-more-requires Inv-loop μ-loop
+one-sheet-more-requires c κs = search needs
+
+loop-holds : tie.Need-loop-holds Inv-loop μ-loop
+loop-holds c = search needs
+
+replay-kind-requires : tie.Need-replay-kind-requires Inv-loop μ-loop
+replay-kind-requires c κs = search needs
+
+add-kind : tie.Need-add-kind Inv-loop μ-loop
+add-kind c = search needs
+
+loop-less : tie.Need-loop-less Inv-loop μ-loop
+loop-less c = search needs
+
+loop-again : tie.Need-loop-again Inv-loop μ-loop
+loop-again c = search needs
+
+same-length : tie.Need-same-length Inv-loop μ-loop
+same-length c = search needs
+
+returns : tie.Need-returns Inv-loop μ-loop
+returns c = search needs
+
+pub replay-kinds-spec : {M : Type 1} → statement M
+replay-kinds-spec =
+    tie.close
+    (tie.spec
+    Inv-loop
+    μ-loop
+    one-sheet-more-requires
+    loop-holds
+    replay-kind-requires
+    add-kind
+    loop-less
+    loop-again
+    same-length
+    returns)

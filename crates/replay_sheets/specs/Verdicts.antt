@@ -1,0 +1,151 @@
+-- When an answer, and all lent memory behind it, are as stored. Definitions alone; their laws are in VerdictLaws.
+use mathlib.Core.Path.{_≡_}
+use mathlib.Core.Bool.{Bool, true, false, _&&_}
+use mathlib.Core.List.{List, []}
+use Prim.Native.Nat.{ℕ, zero, suc}
+use lib.Dec.{eqb, leb}
+use lib.ListN.{getD, replicate}
+use Rattle.basics.specs.Tests.{either}
+use Rattle.branches.specs.declared.BranchLengths.{BranchLengths}
+use Rattle.branches.specs.Branches.{markedCount}
+use Rattle.net_tree.specs.declared.Lengths.{Lengths}
+use Rattle.net_tree.specs.declared.Answer.{Answer}
+use Rattle.net_tree.specs.declared.Ended.{Ended}
+use Rattle.net_tree.specs.declared.Ended.the-variants.{Routed, Refused}
+use Rattle.net_tree.specs.Answers.{Lent, lengthsOf, Promise}
+use Rattle.replay_sheets.specs.declared.stored.Stored.{Stored}
+use Rattle.replay_sheets.specs.declared.judging.Shortage.{Shortage}
+use Rattle.replay_sheets.specs.declared.judging.Verdict.{Verdict}
+use Rattle.replay_sheets.specs.declared.judging.Verdict.the-variants.{Same, Full, Other}
+use Rattle.replay_sheets.specs.declared.attempt.Lens.{Lens}
+use Rattle.replay_sheets.specs.Memory.{Rubbish, holds, covers}
+
+-- ---- the answer
+
+-- the same numbers at the first n places
+unfoldable pub sameBelow : ℕ → List ℕ → List ℕ → Bool
+sameBelow zero a b = true
+sameBelow (suc n) a b = eqb (getD a n 0) (getD b n 0) && sameBelow n a b
+
+unfoldable pub sameLengths : BranchLengths → BranchLengths → Bool
+sameLengths a b = eqb (a .count) (b .count) && sameBelow 16 (a .each) (b .each)
+
+abbrev pub noLengths : BranchLengths
+noLengths = record { count = 0; each = replicate 16 0 }
+
+-- a tree with as many cells and repeaters as are stored
+unfoldable pub sameCounts : ℕ → ℕ → Stored → Bool
+sameCounts occupied repeaters S = eqb (S .number) 0 && eqb occupied (S .occupied) && eqb repeaters (S .repeaters)
+
+unfoldable pub sameRefusal : ℕ → ℕ → Stored → Bool
+sameRefusal number detail S = eqb number (S .number) && eqb detail (S .detail)
+
+abbrev pub sameEnd : Ended → Stored → Bool
+sameEnd (Routed occupied repeaters) S = sameCounts occupied repeaters S
+sameEnd (Refused number detail) S = sameRefusal number detail S
+
+unfoldable pub sameAnswer : Answer → Stored → Bool
+sameAnswer a S = sameEnd (a .ended) S && sameLengths (a .lengths) (S .lengths)
+
+-- the number that a buffer gives that is too short
+unfoldable pub shortRefusal : ℕ → ℕ → Shortage → Bool
+shortRefusal number detail F = eqb number (F .number) && leb 1 detail && leb detail (F .most)
+
+abbrev pub shortEnd : Ended → Shortage → Bool
+shortEnd (Routed occupied repeaters) F = false
+shortEnd (Refused number detail) F = shortRefusal number detail F
+
+unfoldable pub shortAnswer : Answer → Shortage → Bool
+shortAnswer a F = shortEnd (a .ended) F && sameLengths (a .lengths) noLengths
+
+-- ---- lent memory
+
+-- "Numbers 1 to 6 touch nothing"
+unfoldable pub touchesNothing : ℕ → Bool
+touchesNothing number = either (eqb number 0) false (leb number 6)
+
+-- the rubbish that was there; or marks on all cells of the branches, and as many as are stored
+unfoldable pub occupiedHolds : Bool → ℕ → (covered occupied : List ℕ) → Bool
+occupiedHolds kept count covered occupied = either kept (holds true covered occupied) (covers covered occupied && eqb (markedCount occupied) count)
+
+unfoldable pub outputsHold : Bool → ℕ → (cells covered marks branches occupied repeaters : List ℕ) → Bool
+outputsHold kept count cells covered marks branches occupied repeaters =
+    holds kept cells branches && occupiedHolds kept count covered occupied && holds kept marks repeaters
+
+unfoldable pub fourHold : Bool → (a b c d : List ℕ) → Bool
+fourHold kept a b c d = holds kept [] a && holds kept [] b && holds kept [] c && holds kept [] d
+
+-- work memory: the rubbish that was there, or zeros
+unfoldable pub workHolds : Bool → (kinds blocked classes joinable known previous path best queue : List ℕ) → Bool
+workHolds kept kinds blocked classes joinable known previous path best queue =
+    fourHold kept kinds blocked classes joinable && fourHold kept known previous path best && holds kept [] queue
+
+unfoldable pub memoryHolds : Bool → ℕ → (cells covered marks : List ℕ) → Lent → Bool
+memoryHolds kept count cells covered marks B =
+    outputsHold kept count cells covered marks (B .branches) (B .occupied) (B .repeaters)
+    && workHolds kept (B .kinds) (B .blocked) (B .classes) (B .joinable) (B .known) (B .previous) (B .path) (B .best) (B .queue)
+
+-- ---- both
+
+abbrev pub sameIf : Bool → Verdict
+sameIf true = Same
+sameIf false = Other
+
+abbrev pub fullIf : Bool → Verdict
+fullIf true = Full
+fullIf false = Other
+
+-- all as stored; or what a buffer gives that is too short, and zeros; or something else
+unfoldable pub verdictOf : Stored → Shortage → (cells covered marks : List ℕ) → Answer → Lent → Verdict
+verdictOf S F cells covered marks a B =
+    either (sameAnswer a S)
+    (sameIf (memoryHolds (touchesNothing (S .number)) (S .occupied) cells covered marks B))
+    (either (shortAnswer a F) (fullIf (memoryHolds false 0 [] [] [] B)) Other)
+
+-- ---- a run
+
+-- every lent buffer is full of rubbish
+pub record AllRubbish (B : Lent) : Type 0 where
+  pub branches-spoiled : Rubbish (B .branches)
+  pub occupied-spoiled : Rubbish (B .occupied)
+  pub repeaters-spoiled : Rubbish (B .repeaters)
+  pub kinds-spoiled : Rubbish (B .kinds)
+  pub blocked-spoiled : Rubbish (B .blocked)
+  pub classes-spoiled : Rubbish (B .classes)
+  pub joinable-spoiled : Rubbish (B .joinable)
+  pub known-spoiled : Rubbish (B .known)
+  pub previous-spoiled : Rubbish (B .previous)
+  pub path-spoiled : Rubbish (B .path)
+  pub best-spoiled : Rubbish (B .best)
+  pub queue-spoiled : Rubbish (B .queue)
+
+-- what `route_net_tree` promises over memory of these lengths that is full of rubbish, judged
+pub record Judged (sheet : List ℕ) (L : Lengths) (S : Stored) (F : Shortage) (cells covered marks : List ℕ) (r : Verdict) : Type 0 where
+  pub lent-before : Lent
+  pub lent-after : Lent
+  pub answer : Answer
+  pub lengths : lengthsOf lent-before ≡ L
+  pub spoiled : AllRubbish lent-before
+  pub promise : Promise sheet lent-before answer lent-after
+  pub verdict : r ≡ verdictOf S F cells covered marks answer lent-after
+
+abbrev pub lengthsBy : Lens → Lengths
+lengthsBy N = record {
+  branches = N .branch;
+  occupied = N .cells;
+  repeaters = N .cells;
+  kinds = N .cells;
+  blocked = N .cells;
+  classes = N .cells;
+  joinable = N .cells;
+  known = N .cells;
+  previous = N .cells;
+  path = N .cells;
+  best = N .cells;
+  queue = N .queue;
+}
+
+-- a run at these lengths; lengths that the program's own memory does not have are no run, and something else
+pub data Ran (sheet : List ℕ) (N : Lens) (S : Stored) (F : Shortage) (cells covered marks : List ℕ) (r : Verdict) : Type 0 where
+  too-long : r ≡ Other → Ran sheet N S F cells covered marks r
+  judged : Judged sheet (lengthsBy N) S F cells covered marks r → Ran sheet N S F cells covered marks r
