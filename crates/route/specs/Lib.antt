@@ -1,0 +1,9 @@
+pub mod Marked
+pub mod Lines
+pub mod Putting
+pub mod PutLaws
+pub mod LineLaws
+pub mod BranchLineLaws
+pub mod Printed
+pub mod CountLaws
+pub mod PrintedLaws

@@ -1,0 +1,65 @@
+-- What `route` prints of a sheet.
+use mathlib.Core.Path.{_≡_}
+use mathlib.Core.Bool.{Bool, true, false}
+use mathlib.Core.List.{List, _++_, map}
+use Prim.Native.Nat.{ℕ, _≤_, _<_}
+use lib.ListN.{length, take}
+use Rattle.room.specs.Room.{volume}
+use Rattle.job_sheet.specs.Sheet.{Contents, Means, joined}
+use Rattle.branches.specs.Branches.{markedCount}
+use Rattle.net_tree.specs.declared.Lengths.{Lengths}
+use Rattle.net_tree.specs.Answers.{Outcome, routed, refused, Comes}
+use Rattle.route.specs.Lines.{netLine, branchLine, repeatersLine, refusedLine}
+use Rattle.route.specs.Marked.{marked}
+
+-- "Over 4,096 cells it prints `refused 2 0`"
+abbrev pub maxCells : ℕ
+maxCells = 4096
+
+-- "its queue holds 12,288 places, its branch buffer 16,384 cells"; a place of the queue takes two numbers
+abbrev pub programLengths : Lengths
+programLengths = record {
+  branches = 16384;
+  occupied = maxCells;
+  repeaters = maxCells;
+  kinds = maxCells;
+  blocked = maxCells;
+  classes = maxCells;
+  joinable = maxCells;
+  known = maxCells;
+  previous = maxCells;
+  path = maxCells;
+  best = maxCells;
+  queue = 24576;
+}
+
+-- what comes of a sheet in this program: the limit of its own stands at 2's place, after 1 and before 3
+pub data ComesHere (sheet : List ℕ) (o : Outcome) : Type 0 where
+  over : (J : Contents) → Means sheet J → maxCells < volume (J .room) → o ≡ refused 2 0 → ComesHere sheet o
+  not-over : ((J : Contents) → Means sheet J → volume (J .room) ≤ maxCells) → Comes sheet programLengths o → ComesHere sheet o
+
+-- the lines: `net`, "a line `branch` with its cells for each sink in sheet order", `repeaters`; or `refused`
+abbrev pub printed : Outcome → List ℕ
+printed (routed branches occupied repeaters) =
+    netLine (length branches) (markedCount occupied) ++ (joined (map branchLine branches) ++ repeatersLine (marked repeaters))
+printed (refused number detail) = refusedLine number detail
+
+-- the first `end` bytes of the buffer are the lines of what comes
+pub record Shown (comes : Outcome → Type 0) (out : List ℕ) (end : ℕ) : Type 0 where
+  pub outcome : Outcome
+  pub so : comes outcome
+  pub within : end ≤ length out
+  pub is : take end out ≡ printed outcome
+
+-- what `print_sheet` promises
+abbrev pub Printed : List ℕ → List ℕ → ℕ → Type 0
+Printed sheet out end = Shown (ComesHere sheet) out end
+
+-- whether the sheet's room is over the limit
+pub data SizeJudged (sheet : List ℕ) (large : Bool) : Type 0 where
+  is-over : (J : Contents) → Means sheet J → maxCells < volume (J .room) → large ≡ true → SizeJudged sheet large
+  is-not : ((J : Contents) → Means sheet J → volume (J .room) ≤ maxCells) → large ≡ false → SizeJudged sheet large
+
+-- 20 digits and a space for each number: two, 16,384 cells of branches, 4,096 of repeaters; the words, and the ends of the lines
+abbrev pub longestText : ℕ
+longestText = 430248

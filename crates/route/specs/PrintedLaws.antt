@@ -1,0 +1,236 @@
+-- What is printed of an answer is printed of what comes; the limit of the program's own; how long the text can be.
+use mathlib.Core.Path.{_≡_, refl, sym, ap, _∙_}
+use mathlib.Core.Bool.{Bool, true, false}
+use mathlib.Core.List.{List, [], _∷_, _++_, map, append-assoc}
+use Prim.Native.Nat.{ℕ, zero, suc, _+_, _-_, _*_, _/_, _%_, _≤_}
+use native.Mathlib.Nat.{mul-le-mul}
+use native.Mathlib.Omega.{arith}
+use lib.Dec.{ltb, eqb}
+use lib.ListN.{length, take, drop, getD, replicate, length-append, length-map, length-take, length-replicate}
+use lib.Seq.{take-at, take-append-seam, drop-append-seam}
+use borrow.Author.Tests.{ltb-true, ltb-false}
+use Rattle.basics.specs.Tests.{ask, never}
+use Rattle.room.specs.Room.{volume}
+use Rattle.job_sheet.specs.declared.Reading.{Reading}
+use Rattle.job_sheet.specs.declared.Verdict.{Verdict}
+use Rattle.job_sheet.specs.declared.Verdict.the-variants.{Good, Sheet, Sides, Config, Position, Code}
+use Rattle.job_sheet.specs.Sheet.{Contents, Means, Read, meaning, nothing, bytesBy, rest, numberOf, joined}
+use Rattle.job_sheet.specs.Theorems.{number-one}
+use Rattle.branches.specs.declared.BranchLengths.{BranchLengths}
+use Rattle.branches.specs.Branches.{total}
+use Rattle.net_tree.specs.declared.Lengths.{Lengths}
+use Rattle.net_tree.specs.declared.Answer.{Answer}
+use Rattle.net_tree.specs.declared.Ended.{Ended}
+use Rattle.net_tree.specs.declared.Ended.the-variants.{Routed, Refused}
+use Rattle.net_tree.specs.Answers.{Lent, Outcome, routed, refused, Comes, Promise, answerOf, filled, lentAfter, lengthsOf, lent}
+use Rattle.net_tree.specs.PromiseLaws.{comes-one}
+use Rattle.route.specs.Lines.{decimalWithin, number, numbers, line, netLine, branchLine, repeatersLine, refusedLine, branchLinesBy, lengthsIn, branchLines, treeText, endedText, answerText}
+use Rattle.route.specs.Marked.{ifMarked, markedFrom, marked}
+use Rattle.route.specs.Putting.{Put, Fits, Branched}
+use Rattle.route.specs.CountLaws.{few-branches}
+use Rattle.route.specs.Printed.{maxCells, programLengths, ComesHere, over, not-over, printed, Shown, Printed, SizeJudged, is-over, is-not, longestText}
+
+-- ---- the limit at 2's place
+
+-- a sheet that means something has its room's sides in bytes 5 to 7
+pub sides-stand : {sheet : List ℕ} {J : Contents} → Means sheet J
+    → (8 ≤ length sheet) × (getD sheet 5 0 * getD sheet 6 0 * getD sheet 7 0 ≡ volume (J .room))
+unfolding bytesBy rest
+sides-stand {J = J} m = rw (← m .bytes) (omega arith, refl)
+
+number-is-one : (v : Verdict) → numberOf v ≡ 1 → v ≡ Sheet
+number-is-one Good e = never (cc)
+number-is-one Sheet e = refl
+number-is-one Sides e = never (omega arith)
+number-is-one Config e = never (omega arith)
+number-is-one Position e = never (omega arith)
+number-is-one Code e = never (omega arith)
+
+-- number 1 is judged first: then the sheet means nothing
+pub size-unread : {sheet : List ℕ} {r : Reading} {n : ℕ} → Read sheet r → n ≡ numberOf (r .verdict) → n ≡ 1 → {large : Bool} → large ≡ false → SizeJudged sheet large
+size-unread {sheet} {r} R e one f =
+    is-not (λ J m. absurd (number-one sheet r R .0 (number-is-one (r .verdict) (sym e ∙ one)) J m)) f
+
+-- otherwise it means something
+pub has-meaning : {sheet : List ℕ} {r : Reading} {n : ℕ} → Read sheet r → n ≡ numberOf (r .verdict) → (n ≡ 1 → ⊥) → (J : Contents) × Means sheet J
+has-meaning (meaning J m e) d not-one = (J, m)
+has-meaning (nothing none e) d not-one = absurd (not-one (d ∙ ap (λ x. numberOf (x .verdict)) e))
+
+pub size-judged : {sheet : List ℕ} (M : (J : Contents) × Means sheet J) {cells : ℕ} → cells ≡ getD sheet 5 0 * getD sheet 6 0 * getD sheet 7 0
+    → SizeJudged sheet (ltb maxCells cells)
+size-judged {sheet} M {cells} e =
+    let at : (K : Contents) → Means sheet K → cells ≡ volume (K .room) = λ K m. e ∙ sides-stand m .1 in
+    ask (ltb maxCells cells) (λ t. is-over (M .0) (M .1) (omega (arith, ltb-true maxCells cells t, at (M .0) (M .1))) t)
+    (λ f. is-not (λ K m. omega (arith, ltb-false maxCells cells f, at K m)) f)
+
+-- three sides of a byte each
+pub product-fits : {a b : ℕ} → a ≤ 255 → b ≤ 255 → a * b ≤ 65025
+product-fits h k = mul-le-mul h k
+
+pub cells-fit : {a b c : ℕ} → a ≤ 255 → b ≤ 255 → c ≤ 255 → a * b * c ≤ 16581375
+cells-fit h k l = mul-le-mul (mul-le-mul h k) l
+
+-- ---- the lines of an answer are those of what comes
+
+branch-lines : (bs : List (List ℕ)) (behind : List ℕ) → branchLinesBy (joined bs ++ behind) (map length bs) ≡ joined (map branchLine bs)
+unfolding branchLinesBy
+branch-lines [] behind = refl
+branch-lines (b ∷ bs) behind =
+    rw (append-assoc b (joined bs) behind, take-append-seam b (joined bs ++ behind), drop-append-seam b (joined bs ++ behind), branch-lines bs behind) refl
+
+lengths-are : (bs : List (List ℕ)) (behind : List ℕ) → take (length bs) (map length bs ++ behind) ≡ map length bs
+lengths-are bs behind = take-at (map length bs) behind (length bs) (length-map bs length)
+
+none-marked : (cell n : ℕ) → markedFrom cell (replicate n 0) ≡ []
+unfolding markedFrom
+none-marked cell zero = refl
+none-marked cell (suc n) = none-marked (suc cell) n
+
+marked-filled : (cell : ℕ) (marks : List ℕ) (n : ℕ) → markedFrom cell (marks ++ replicate n 0) ≡ markedFrom cell marks
+unfolding markedFrom
+marked-filled cell [] n = none-marked cell n
+marked-filled cell (m ∷ marks) n = ap (λ l. ifMarked m cell ++ l) (marked-filled (suc cell) marks n)
+
+pub answer-printed : (o : Outcome) (B : Lent) → answerText (answerOf o) (lentAfter o B .branches) (lentAfter o B .repeaters) ≡ printed o
+answer-printed (routed bs occupied repeaters) B =
+    let lines = ap (λ l. branchLinesBy (filled (joined bs) (B .branches)) l) (lengths-are bs (replicate (16 - length bs) 0))
+    ∙ branch-lines bs (replicate (length (B .branches) - length (joined bs)) 0) in
+    let marks = marked-filled 0 repeaters (length (B .repeaters) - length repeaters) in
+    rw (lines, marks) refl
+answer-printed (refused number detail) B = refl
+
+-- ---- how long the text is
+
+decimal-length : (most n : ℕ) → length (decimalWithin most n) ≤ most
+unfolding decimalWithin
+decimal-length zero n = omega arith
+decimal-length (suc most) n =
+    ask (ltb n 10) (λ t. rw t (omega arith)) (λ f. rw f (omega (arith, length-append (decimalWithin most (n / 10)) ((48 + n % 10) ∷ []), decimal-length most (n / 10))))
+
+numbers-length : (ns : List ℕ) → length (numbers ns) ≤ 21 * length ns
+unfolding numbers
+numbers-length [] = omega arith
+numbers-length (n ∷ ns) = omega (arith, length-append (number n) (numbers ns), decimal-length 20 n, numbers-length ns)
+
+line-length : (word ns : List ℕ) → length (line word ns) ≤ length word + 1 + 21 * length ns
+line-length word ns = omega (arith, length-append word (numbers ns ++ (10 ∷ [])), length-append (numbers ns) (10 ∷ []), numbers-length ns)
+
+branch-lines-length : (cells ns : List ℕ) → length (branchLinesBy cells ns) ≤ 7 * length ns + 21 * total ns
+unfolding branchLinesBy total
+branch-lines-length cells [] = omega arith
+branch-lines-length cells (n ∷ ns) =
+    omega (arith, length-append (branchLine (take n cells)) (branchLinesBy (drop n cells) ns), line-length (98 ∷ 114 ∷ 97 ∷ 110 ∷ 99 ∷ 104 ∷ []) (take n cells), length-take n cells, branch-lines-length (drop n cells) ns)
+
+if-marked-length : (mark cell : ℕ) → length (ifMarked mark cell) ≤ 1
+if-marked-length mark cell = ask (eqb mark 1) (λ t. rw t (omega arith)) (λ f. rw f (omega arith))
+
+marked-length : (cell : ℕ) (marks : List ℕ) → length (markedFrom cell marks) ≤ length marks
+unfolding markedFrom
+marked-length cell [] = omega arith
+marked-length cell (m ∷ marks) = omega (arith, length-append (ifMarked m cell) (markedFrom (suc cell) marks), if-marked-length m cell, marked-length (suc cell) marks)
+
+refused-length : (number detail : ℕ) → length (refusedLine number detail) ≤ 50
+refused-length number detail = line-length (114 ∷ 101 ∷ 102 ∷ 117 ∷ 115 ∷ 101 ∷ 100 ∷ []) (number ∷ detail ∷ [])
+
+tree-length : {cells : List ℕ} {lengths : BranchLengths} → Branched cells lengths → (occupied : ℕ) (marks : List ℕ)
+    → length (treeText lengths occupied cells marks) ≤ 168 + 21 * length cells + 21 * length marks
+tree-length {cells} {lengths} B occupied marks =
+    let net = line-length (110 ∷ 101 ∷ 116 ∷ []) (lengths .count ∷ occupied ∷ []) in
+    let branches = branch-lines-length cells (lengthsIn lengths) in
+    let repeaters = line-length (114 ∷ 101 ∷ 112 ∷ 101 ∷ 97 ∷ 116 ∷ 101 ∷ 114 ∷ 115 ∷ []) (marked marks) in
+    omega (
+      arith,
+      length-append (netLine (lengths .count) occupied) (branchLines cells lengths ++ repeatersLine (marked marks)),
+      length-append (branchLines cells lengths) (repeatersLine (marked marks)),
+      net,
+      branches,
+      repeaters,
+      length-take (lengths .count) (lengths .each),
+      B .count,
+      B .within,
+      marked-length 0 marks,
+    )
+
+pub answer-length : (A : Answer) {cells : List ℕ} → Branched cells (A .lengths) → (marks : List ℕ) → length (answerText A cells marks) ≤ 168 + 21 * length cells + 21 * length marks
+answer-length A {cells} B marks = ended-length (A .ended)
+  where
+    ended-length : (e : Ended) → length (endedText e (A .lengths) cells marks) ≤ 168 + 21 * length cells + 21 * length marks
+    ended-length (Routed occupied count) = tree-length B occupied marks
+    ended-length (Refused number detail) = omega (arith, refused-length number detail)
+
+-- ---- from the promise of `route_net_tree` to the lines
+
+total-lengths : (bs : List (List ℕ)) → total (map length bs) ≡ length (joined bs)
+unfolding total
+total-lengths [] = refl
+total-lengths (b ∷ bs) = ap (λ n. length b + n) (total-lengths bs) ∙ sym (length-append b (joined bs))
+
+outcome-branched : (o : Outcome) {sheet : List ℕ} {L : Lengths} → Comes sheet L o → (B : Lent) → Branched (lentAfter o B .branches) (answerOf o .lengths)
+unfolding total
+outcome-branched (routed bs occupied repeaters) c B =
+    let few = few-branches c in
+    record {
+      count = few;
+      whole = length-append (map length bs) (replicate (16 - length bs) 0) ∙ rw (length-map bs length, length-replicate {A = ℕ} (16 - length bs) 0) (omega arith);
+      within = omega (
+        arith,
+        ap total (lengths-are bs (replicate (16 - length bs) 0)),
+        total-lengths bs,
+        length-append (joined bs) (replicate (length (B .branches) - length (joined bs)) 0),
+      );
+    }
+outcome-branched (refused code detail) c B = record { count = omega arith; whole = refl; within = omega arith }
+
+module _ {sheet : List ℕ} {B : Lent} {r : Answer} {B′ : Lent} (P : Promise sheet B r B′) where
+  pub promise-branched : Branched (B′ .branches) (r .lengths)
+  promise-branched = rw (P .lent-is, P .answer) (outcome-branched (P .outcome) (P .comes) B)
+
+  pub promise-fits : {out : List ℕ} → length (B′ .branches) ≡ 16384 → length (B′ .repeaters) ≡ maxCells → longestText ≤ length out
+      → Fits out 0 (answerText r (B′ .branches) (B′ .repeaters))
+  promise-fits b m h = record { place = omega (arith, answer-length r promise-branched (B′ .repeaters)) }
+
+  pub promise-shown : lengthsOf B ≡ programLengths → {out out′ : List ℕ} {end : ℕ} → Fits out 0 (answerText r (B′ .branches) (B′ .repeaters))
+      → Put out 0 (answerText r (B′ .branches) (B′ .repeaters)) out′ end → Shown (Comes sheet programLengths) out′ end
+  promise-shown e f p = record {
+    outcome = P .outcome;
+    so = rw e at (P .comes);
+    within = omega (arith, f .place, p .ends, p .same);
+    is = p .front ∙ rw (P .answer, P .lent-is) (answer-printed (P .outcome) B);
+  }
+
+-- ---- what is printed of a sheet
+
+pub over-fits : {out : List ℕ} → longestText ≤ length out → Fits out 0 (refusedLine 2 0)
+over-fits h = record { place = omega (arith, refused-length 2 0) }
+
+pub printed-over : {sheet : List ℕ} {large : Bool} → SizeJudged sheet large → large ≡ true → {out out′ : List ℕ} {end : ℕ} → longestText ≤ length out
+    → Put out 0 (refusedLine 2 0) out′ end → Printed sheet out′ end
+printed-over (is-over J m h e) t long p =
+    record { outcome = refused 2 0; so = over J m h refl; within = omega (arith, refused-length 2 0, p .ends, p .same); is = p .front }
+printed-over (is-not none e) t long p = never (cc)
+
+pub printed-not-over : {sheet : List ℕ} {large : Bool} → SizeJudged sheet large → large ≡ false → {out : List ℕ} {end : ℕ}
+    → Shown (Comes sheet programLengths) out end → Printed sheet out end
+printed-not-over (is-over J m h e) f s = never (cc)
+printed-not-over (is-not small e) f s = record { outcome = s .outcome; so = not-over small (s .so); within = s .within; is = s .is }
+
+-- a sheet has one outcome here, and so one text
+here-one : {sheet : List ℕ} {o q : Outcome} → ComesHere sheet o → ComesHere sheet q → o ≡ q
+here-one (over J m h e) (over K n g d) = e ∙ sym d
+here-one (over J m h e) (not-over small c) = absurd (omega (arith, small J m))
+here-one (not-over small c) (over K n g d) = absurd (omega (arith, small K n))
+here-one (not-over small c) (not-over small′ d) = comes-one c d
+
+pub one-text : {sheet out out′ : List ℕ} {end end′ : ℕ} → Printed sheet out end → Printed sheet out′ end′ → take end out ≡ take end′ out′
+one-text p q = p .is ∙ ap printed (here-one (p .so) (q .so)) ∙ sym (q .is)
+
+-- the program's own memory has these lengths
+abbrev zeros : ℕ → List ℕ
+zeros n = replicate n 0
+
+pub own-lengths :
+    lengthsOf
+    (lent (zeros 16384) (zeros maxCells) (zeros maxCells) (zeros maxCells) (zeros maxCells) (zeros maxCells) (zeros maxCells) (zeros maxCells) (zeros maxCells)
+    (zeros maxCells) (zeros maxCells) (zeros 24576))
+    ≡ programLengths
+own-lengths = rw (length-replicate {A = ℕ} 16384 0, length-replicate {A = ℕ} maxCells 0, length-replicate {A = ℕ} 24576 0) refl
