@@ -10,4 +10,3 @@ pub mod SinkLaws
 pub mod TreeLaws
 pub mod Finishing
 pub mod FinishingLaws
-pub mod TreeSamples

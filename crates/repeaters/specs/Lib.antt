@@ -1,5 +1,4 @@
 pub mod Repeaters
-pub mod Samples
 pub mod Links
 pub mod LinkLaws
 pub mod Joins
