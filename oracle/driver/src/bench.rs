@@ -121,8 +121,8 @@ fn a_third_solid() -> Load {
     }
 }
 
-/// The least time of `runs` for all searches of a load.
-fn best(runs: usize, mut all: impl FnMut()) -> Duration {
+/// The least time of `runs`.
+pub fn best(runs: usize, mut all: impl FnMut()) -> Duration {
     let run = |_| {
         let start = clock::now();
         all();

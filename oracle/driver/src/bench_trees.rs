@@ -12,7 +12,7 @@ use cases::samples::{default_job, wire};
 use cases::sheet::{Block, Job, Port};
 use oracle::{PublishedJob, Rng, Sheet, check_sheet};
 
-use crate::clock;
+use crate::bench::best;
 use crate::proved::{self, TREE_VALUES, TreeLent};
 
 /// A job that is timed, and how often by each of the two.
@@ -142,16 +142,6 @@ fn blocks_and_other_nets(sides: [u8; 3]) -> Job {
         job.conductors.extend(lane);
     }
     job
-}
-
-/// The least time of `runs`.
-fn best(runs: usize, mut run: impl FnMut()) -> Duration {
-    let timed = |_| {
-        let start = clock::now();
-        run();
-        clock::now() - start
-    };
-    (0..runs).map(timed).min().unwrap_or_default()
 }
 
 fn sheet_of(job: &Job) -> (Sheet, TreeLent) {

@@ -17,13 +17,33 @@ pub struct Draw {
 }
 
 /// Differences are shown up to so many.
-pub const SHOWN: u64 = 10;
+const SHOWN: u64 = 10;
+
+/// How many cases differ so far.
+#[derive(Default)]
+pub struct Differences(u64);
+
+impl Differences {
+    /// Counts one more, and shows it and its case while they are few.
+    pub fn add(&mut self, draw: &Draw, index: u64, what: &str, case: &str) {
+        self.0 += 1;
+        if self.0 <= SHOWN {
+            println!("case {index} of seed {}: {what}\n{case}", draw.seed);
+        }
+    }
+
+    /// Prints the count; whether there are none.
+    pub fn told(&self) -> bool {
+        println!("{} differences", self.0);
+        self.0 == 0
+    }
+}
 
 /// Compares `count` random searches and prints a summary; false if anything differs.
 pub fn compare(draw: &Draw) -> bool {
     let mut flat = Flat::default();
     let mut by_number = [0_u64; 16];
-    let mut differences = 0;
+    let mut differences = Differences::default();
     for index in 0..draw.count {
         let case = random_search(&mut Rng::for_case(draw.seed, index), draw.profile);
         let found = expected_answer(draw, &case).and_then(|expected| {
@@ -31,14 +51,7 @@ pub fn compare(draw: &Draw) -> bool {
             differs(&case, &expected, &mut flat, index as u8)
         });
         if let Err(what) = found {
-            differences += 1;
-            if differences <= SHOWN {
-                println!(
-                    "case {index} of seed {}: {what}\n{}",
-                    draw.seed,
-                    search_lines(&case)
-                );
-            }
+            differences.add(draw, index, &what, &search_lines(&case));
         }
     }
     let numbers: Vec<String> = (0..)
@@ -52,8 +65,7 @@ pub fn compare(draw: &Draw) -> bool {
         draw.seed,
         numbers.join(", ")
     );
-    println!("{differences} differences");
-    differences == 0
+    differences.told()
 }
 
 fn expected_answer(draw: &Draw, case: &Search) -> Result<SearchAnswer, String> {

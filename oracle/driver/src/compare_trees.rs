@@ -6,33 +6,25 @@ use cases::stats::{Tally, count_sheet, has_rich_tree};
 use cases::text::{sheet_lines, tree_answer_lines};
 use oracle::{Refusal, Rng, Sheet, TreeAnswer, check_sheet, random_sheet};
 
-use crate::compare::{Draw, SHOWN};
+use crate::compare::{Differences, Draw};
 use crate::proved::{self, TREE_VALUES, TreeLent};
 
 /// Compares `count` random sheets and prints a summary; false if anything differs.
 pub fn compare(draw: &Draw) -> bool {
     let mut tally = Tally::default();
-    let mut differences = 0;
+    let mut differences = Differences::default();
     for (index, case) in sheets(draw).take(draw.count as usize) {
         let found = expected_answer(draw, &case).and_then(|expected| {
             count_sheet(&mut tally, &case, &expected);
             differs(&case, &expected, index as u8)
         });
         if let Err(what) = found {
-            differences += 1;
-            if differences <= SHOWN {
-                println!(
-                    "case {index} of seed {}: {what}\n{}",
-                    draw.seed,
-                    sheet_lines(&case)
-                );
-            }
+            differences.add(draw, index, &what, &sheet_lines(&case));
         }
     }
     print!("{}", tally.lines());
     println!("{} sheets of seed {}", draw.count, draw.seed);
-    println!("{differences} differences");
-    differences == 0
+    differences.told()
 }
 
 /// The sheets of the seed that are wanted, each with its index.
