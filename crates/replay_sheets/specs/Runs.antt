@@ -2,7 +2,7 @@
 use mathlib.Core.Path.{_≡_}
 use mathlib.Core.Bool.{Bool, true, false}
 use mathlib.Core.List.{List}
-use Prim.Native.Nat.{ℕ, _+_, _*_, _-_, _/_, _%_}
+use Prim.Native.Nat.{ℕ, _+_, _*_, _-_, _/_}
 use lib.Dec.{eqb, ltb, leb}
 use lib.ListN.{length, set}
 use Rattle.basics.specs.Tests.{either}
@@ -13,7 +13,6 @@ use Rattle.job_sheet.specs.Sheet.{Read, isGood}
 use Rattle.job_sheet.specs.Accepted.{Accepted}
 use Rattle.replay_sheets.specs.declared.stored.Asked.{Asked}
 use Rattle.replay_sheets.specs.declared.stored.Stored.{Stored}
-use Rattle.replay_sheets.specs.declared.judging.Shortage.{Shortage}
 use Rattle.replay_sheets.specs.declared.judging.Verdict.{Verdict}
 use Rattle.replay_sheets.specs.declared.judging.Verdict.the-variants.{Same, Full, Other}
 use Rattle.replay_sheets.specs.declared.attempt.Lens.{Lens}
@@ -83,9 +82,9 @@ isFull Other = false
 unfoldable pub agreesIn : ℕ → Verdict → Bool
 agreesIn kind v = either (eqb kind 3) (isFull v) (isSame v)
 
--- every sheet in kinds 0 and 1; a tree with a branch in 2 and 3; every eighth of those in 4
-unfoldable pub dueIn : ℕ → ℕ → Stored → Bool
-dueIn kind sheets S = either (leb kind 1) true (either (eqb (S .total) 0) false (either (ltb kind 4) true (eqb (sheets % 8) 0)))
+-- every sheet in kinds 0 and 1; a tree with a branch in the others
+unfoldable pub dueIn : ℕ → Stored → Bool
+dueIn kind S = either (leb kind 1) true (either (eqb (S .total) 0) false true)
 
 -- ---- the least queue
 

@@ -155,9 +155,9 @@ fn lens_of(kind: usize, asked: Asked, cells: usize, stored: Stored) -> Lens
     }
 }
 
-// Every sheet in the first two kinds; a tree with a branch in the two of the branch buffer; every eighth of those in the last.
-fn is_due(kind: usize, sheets: u32, stored: Stored) -> bool
-    ensures { λ r. ⌜ r ≡ dueIn kind sheets stored ⌝ }
+// Every sheet in the first two kinds; a tree with a branch in the others.
+fn is_due(kind: usize, stored: Stored) -> bool
+    ensures { λ r. ⌜ r ≡ dueIn kind stored ⌝ }
 {
     if kind <= LONGER {
         return true;
@@ -165,10 +165,7 @@ fn is_due(kind: usize, sheets: u32, stored: Stored) -> bool
     if stored.total == 0 {
         return false;
     }
-    if kind < QUEUE {
-        return true;
-    }
-    sheets % 8 == 0
+    true
 }
 
 fn is_same(verdict: Verdict) -> bool
@@ -336,7 +333,7 @@ fn replay_kind(
     marks: &[u8],
     queue: &mut [u64],
 ) -> Tally {
-    if !is_due(kind, tally.sheets, stored) {
+    if !is_due(kind, stored) {
         return tally;
     }
     let agreed = agrees_in(kind, sheet, asked, stored, cells, covered, marks, queue);

@@ -1,5 +1,5 @@
 -- `is_due` meets its contract, test by test.
-use borrow.Author.Tests.{eq-eqb, ne-eqb, le-leb, lt-leb, lt-ltb, le-ltb}
+use borrow.Author.Tests.{eq-eqb, ne-eqb, le-leb, lt-leb}
 use Rattle.replay_sheets.specs.Runs.{dueIn}
 use Rattle.replay_sheets.proofs.replay.is_due.Statement.{statement}
 use Rattle.replay_sheets.proofs.replay.is_due.Tie as tie
@@ -14,11 +14,7 @@ returns-2 c = rw (lt-leb _ _ (c .before .before .if1 .left), eq-eqb _ _ (c .if2 
 
 returns-3 : tie.Need-returns-3
 unfolding dueIn
-returns-3 c = rw (lt-leb _ _ (c .before .before .before .if1 .left), ne-eqb _ _ (c .before .if2 .left), lt-ltb _ _ (c .if3 .taken))
-
-returns-4 : tie.Need-returns-4
-unfolding dueIn
-returns-4 c = rw (lt-leb _ _ (c .before .before .before .if1 .left), ne-eqb _ _ (c .before .if2 .left), le-ltb _ _ (c .if3 .left))
+returns-3 c = rw (lt-leb _ _ (c .before .before .if1 .left), ne-eqb _ _ (c .if2 .left))
 
 pub is-due-spec : {M : Type 1} → statement M
-is-due-spec = tie.close (tie.spec returns returns-2 returns-3 returns-4)
+is-due-spec = tie.close (tie.spec returns returns-2 returns-3)
