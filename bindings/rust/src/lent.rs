@@ -74,7 +74,8 @@ impl SearchMemory {
         }
     }
 
-    fn call(&mut self, room: Room, config: Config, kinds: &[u8], start: usize, goal: usize) -> u32 {
+    /// The bare call: the number comes back, 0 for a route, and the memory is as the router leaves it.
+    pub fn call(&mut self, room: Room, config: Config, kinds: &[u8], start: usize, goal: usize) -> u32 {
         // SAFETY: each pointer and length is that of a slice that lives through the call, and no two of them overlap. The router has
         // no requirement on what it is handed, and reads and writes within the slices alone.
         unsafe {
@@ -154,7 +155,7 @@ impl TreeMemory {
 
     /// The tree of a sheet. A refusal by 1 to 6 leaves the memory as it was, `values` included.
     pub fn route_tree(&mut self, sheet: &Sheet) -> Result<Tree, Refusal> {
-        let number = self.call(sheet);
+        let number = self.call(sheet.bytes());
         match number {
             0 => Ok(Tree {
                 branches: self.cut_branches(),
@@ -165,13 +166,14 @@ impl TreeMemory {
         }
     }
 
-    fn call(&mut self, sheet: &Sheet) -> u32 {
+    /// The bare call, over any bytes: the number comes back, 0 for a tree, and the memory is as the router leaves it.
+    pub fn call(&mut self, sheet: &[u8]) -> u32 {
         // SAFETY: each pointer and length is that of a slice that lives through the call, and no two of them overlap. The router has
         // no requirement on what it is handed, and reads and writes within the slices alone.
         unsafe {
             dustroute_tree(
-                sheet.bytes().as_ptr(),
-                sheet.bytes().len(),
+                sheet.as_ptr(),
+                sheet.len(),
                 self.branches.as_mut_ptr(),
                 self.branches.len(),
                 self.occupied.as_mut_ptr(),

@@ -8,10 +8,11 @@ use native.Mathlib.Nat.{suc-pred-eq-of-pos}
 use lib.ListN.{length, getD, set, replicate, length-set, length-replicate}
 use lib.Seq.{getD-set-same, getD-set-other}
 use Rattle.basics.specs.Lists.{In}
+use Rattle.basics.specs.Zeros.{zeros}
 use Rattle.best_first.specs.Search.{Graph, Move, Entry, State, Taken, on, push, counted, outset, expand}
 use Rattle.best_first.specs.Ways.{Sound}
 use Rattle.best_first.specs.Statements.{Taking, stored, cost-of, entered}
-use Rattle.best_first.specs.Lists.{After, hit, miss, after, zeros, in-reach}
+use Rattle.best_first.specs.Lists.{After, hit, miss, after, in-reach}
 use Rattle.best_first.specs.Equations.{no-cheaper, expand-none, expand-skip, Gain, offered}
 use Rattle.best_first.specs.Links.{Linked, lowered, to-in, not-itself, push-linked, start-alone, outset-linked}
 

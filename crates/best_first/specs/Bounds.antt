@@ -8,10 +8,11 @@ use native.Mathlib.Omega.{arith}
 use native.Mathlib.Nat.{mul-suc, mul-comm, mul-le-mul-left, eq-zero-or-pos, suc-pred-eq-of-pos}
 use lib.ListN.{length, getD, set, replicate, length-set, length-replicate}
 use Rattle.basics.specs.Lists.{In}
+use Rattle.basics.specs.Zeros.{zeros}
 use Rattle.best_first.specs.Search.{Graph, Move, Entry, State, Taken, push, counted, outset}
 use Rattle.best_first.specs.Ways.{Sound}
 use Rattle.best_first.specs.Statements.{Taking, stored, cost-of, Reached, at-outset, then, Bounded}
-use Rattle.best_first.specs.Lists.{After, hit, miss, after, zeros, in-reach, marked, marked-le, marked-none, marked-new, marked-old}
+use Rattle.best_first.specs.Lists.{After, hit, miss, after, in-reach, marked, marked-le, marked-none, marked-new, marked-old}
 use Rattle.best_first.specs.Entries.{same-sym, same-in}
 use Rattle.best_first.specs.Equations.{offered, Gain}
 use Rattle.best_first.specs.Reached.{through}

@@ -8,9 +8,10 @@ use native.Mathlib.Omega.{arith}
 use lib.ListN.{length, getD, set, replicate, length-set, length-replicate}
 use lib.Seq.{getD-set-same, getD-set-other}
 use Rattle.basics.specs.Lists.{In}
+use Rattle.basics.specs.Zeros.{zeros}
 use Rattle.best_first.specs.Search.{Graph, Move}
 use Rattle.best_first.specs.Ways.{Sound}
-use Rattle.best_first.specs.Lists.{After, hit, miss, after, zeros}
+use Rattle.best_first.specs.Lists.{After, hit, miss, after}
 use Rattle.best_first.specs.Equations.{Gain}
 
 pub record Origin (G : Graph) (previous : List ℕ) (v : ℕ) : Type 0 where

@@ -1,7 +1,6 @@
 -- Lists after a store, and how many elements of a list are not 0.
 use mathlib.Core.Path.{_≡_, refl, ap, _∙_}
 use mathlib.Core.Logic.{_≢_}
-use mathlib.Core.Bool.{Bool, true, false}
 use mathlib.Core.List.{List, [], _∷_}
 use Prim.Native.Nat.{ℕ, zero, suc, _≤_, _<_, zero-le, suc-le-suc}
 use native.Mathlib.Omega.{arith}
@@ -13,12 +12,6 @@ use lib.Seq.{getD-set-same, getD-set-other}
 pub length-zero : {X : Type 0} (l : List X) → length l ≡ 0 → l ≡ []
 length-zero [] e = refl
 length-zero (x ∷ l) e = absurd (omega arith)
-
--- an element of n zeros, in reach or not
-pub zeros : (n i : ℕ) → getD {A = ℕ} (replicate n 0) i 0 ≡ 0
-zeros zero i = refl
-zeros (suc n) zero = refl
-zeros (suc n) (suc i) = zeros n i
 
 -- an element that is not 0 stands in the list
 pub in-reach : (l : List ℕ) (v : ℕ) → 0 < getD l v 0 → v < length l

@@ -7,7 +7,6 @@ use mathlib.Core.List.{List, [], _∷_}
 use Prim.Native.Nat.{ℕ, suc, _+_, _-_, _≤_, _<_}
 use native.Mathlib.Omega.{arith}
 use lib.ListN.{length}
-use Rattle.basics.specs.Lists.{In}
 use Rattle.best_first.specs.Search.{Graph, Move, Entry, State, Pushed, full, on, expand, push, cheaper, Answer, no-route, limit-passed, queue-full, arrived, counted, run, outset, best-first}
 use Rattle.best_first.specs.Ways.{Sound}
 use Rattle.best_first.specs.Statements.{stored, cost-of, Reached, at-outset, then, Bounded, outcome, Shut}
@@ -36,16 +35,6 @@ both-join (on r) (on s) full p q = absurd q
 both-join (on r) (on s) (on t) p q = (alike-apart (p .1) (p .0), alike-trans (alike-sym (p .1)) (q .1))
 
 module _ {G : Graph} {degree dearest : ℕ} (S : Sound G degree dearest) {u d : ℕ} {x : Pushed} where
-  pub trying-bounded : {due : List Move} {s : State} → Trying G degree dearest u d x due s → Bounded G degree dearest s
-  trying-bounded T = bounded S (T .still .sane)
-
-  -- u keeps its cost, and what is due are moves of u
-  pub trying-now : {due : List Move} {s : State} → Trying G degree dearest u d x due s → stored s u ≡ suc d
-  trying-now T = T .still .now
-
-  pub trying-lawful : {due : List Move} {s : State} → Trying G degree dearest u d x due s → (m : Move) → In m due → In m (G .moves u)
-  trying-lawful T = T .still .lawful
-
   module _ {m : Move} {ms : List Move} {s : State} (T : Trying G degree dearest u d x (m ∷ ms) s) where
     -- the move offers no lower cost
     pub trying-skip : cheaper (d + m .cost) (stored s (m .to)) ≡ false → Trying G degree dearest u d x ms s

@@ -7,10 +7,11 @@ use native.Mathlib.Omega.{arith}
 use native.Mathlib.Nat.{eq-zero-or-pos}
 use lib.ListN.{getD, set, replicate}
 use Rattle.basics.specs.Lists.{In}
+use Rattle.basics.specs.Zeros.{zeros}
 use Rattle.best_first.specs.Search.{Graph, Move, Entry, State, Taken, push, counted, outset}
 use Rattle.best_first.specs.Ways.{Sound, Consistent}
 use Rattle.best_first.specs.Statements.{Taking, stored}
-use Rattle.best_first.specs.Lists.{After, hit, miss, zeros}
+use Rattle.best_first.specs.Lists.{After, hit, miss}
 use Rattle.best_first.specs.Equations.{Gain}
 use Rattle.best_first.specs.Base.{Base, Mid, taken-fresh, mark-taken, still-closed, same}
 

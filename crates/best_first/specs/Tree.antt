@@ -11,10 +11,11 @@ use native.Mathlib.Nat.{eq-zero-or-pos}
 use lib.ListN.{length, getD, set}
 use lib.Seq.{getD-set-same, getD-set-other}
 use Rattle.basics.specs.Lists.{In}
+use Rattle.basics.specs.Zeros.{zeros}
 use Rattle.best_first.specs.Search.{Graph, Move, State, Taken, push, outset, trace}
 use Rattle.best_first.specs.Ways.{Sound}
 use Rattle.best_first.specs.Statements.{Taking, stored, Reached, Lawful}
-use Rattle.best_first.specs.Lists.{After, hit, miss, zeros}
+use Rattle.best_first.specs.Lists.{After, hit, miss}
 use Rattle.best_first.specs.Equations.{Gain, offered}
 use Rattle.best_first.specs.Links.{Linked, Link, Origin, start-alone}
 use Rattle.best_first.specs.Base.{Base, Mid, still-closed, same, now-known, all-loose, taken-fresh, mark-taken}

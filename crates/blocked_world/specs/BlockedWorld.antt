@@ -2,7 +2,7 @@
 -- Definitions alone; their laws are in the files named Laws.
 use mathlib.Core.Path.{_≡_}
 use mathlib.Core.Logic.{_≢_}
-use mathlib.Core.Bool.{Bool, true, not, _&&_}
+use mathlib.Core.Bool.{Bool, not, _&&_}
 use mathlib.Core.List.{List}
 use Prim.Native.Nat.{ℕ, _<_}
 use lib.Dec.{eqb}
@@ -15,11 +15,8 @@ use Rattle.room.specs.declared.Neighbour.the-variants.{Inside, Outside}
 use Rattle.room.specs.Room.{Good, volume, above}
 use Rattle.room.specs.Units.{air, solid}
 use Rattle.routing_resources.specs.Marks.{isMarked, withByte}
-use Rattle.routing.specs.Routing.{Task}
-use Rattle.routing.specs.Classes.{classAt}
-
-abbrev pub anEnd : ℕ → ℕ → ℕ → Bool
-anEnd start goal v = either (eqb v start) true (eqb v goal)
+use Rattle.room_search.specs.Routing.{Task, anEnd}
+use Rattle.room_search.specs.Classes.{classAt}
 
 -- a blocked Air cell other than start and goal
 unfoldable pub countsAsSolid : List ℕ → List ℕ → ℕ → ℕ → ℕ → Bool

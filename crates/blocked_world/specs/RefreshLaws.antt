@@ -19,8 +19,8 @@ use Rattle.room.specs.MoveLaws.{beneath-in}
 use Rattle.routing_resources.specs.Marks.{isMarked, withByte}
 use Rattle.routing_resources.specs.MarkLaws.{with-set}
 use Rattle.geometry.specs.RoomPairs.{beneath-above}
-use Rattle.routing.specs.Routing.{kindAt}
-use Rattle.blocked_world.specs.BlockedWorld.{anEnd, countsAsSolid, seenKind, seenKinds, classSeen, Says, renewed, renewedAt, refreshed, SameBut}
+use Rattle.room_search.specs.Routing.{kindAt, anEnd}
+use Rattle.blocked_world.specs.BlockedWorld.{countsAsSolid, seenKind, seenKinds, classSeen, Says, renewed, renewedAt, refreshed, SameBut}
 use Rattle.blocked_world.specs.SeenLaws.{seen-at, renewed-length, renewed-there, renewed-other, renewed-right}
 
 -- ---- settings that differ at one cell
@@ -66,9 +66,6 @@ module _ (kinds blocked : List ℕ) (start goal : ℕ) where
       either-false : (b : Bool) → either b true false ≡ b
       either-false true = refl
       either-false false = refl
-
-  pub start-left : SameBut start kinds blocked start goal blocked goal goal
-  start-left = same-but start kinds blocked start goal blocked goal goal (λ v n. refl) no-start
 
   pub goal-left : SameBut goal kinds blocked start goal blocked start start
   goal-left = same-but goal kinds blocked start goal blocked start start (λ v n. refl) no-goal

@@ -15,9 +15,9 @@ use Rattle.room.specs.declared.RouterConfig.{RouterConfig}
 use Rattle.room.specs.Room.{volume, beneath}
 use Rattle.room.specs.Units.{air, solid}
 use Rattle.routing_resources.specs.MarkLaws.{with-at}
-use Rattle.routing.specs.Routing.{kindAt, classFor, graphOf, graph, entering}
-use Rattle.routing.specs.SameGraph.{same-graph}
-use Rattle.blocked_world.specs.BlockedWorld.{anEnd, countsAsSolid, seenKind, seenKinds, seenTask, classSeen, Says, renewed}
+use Rattle.room_search.specs.Routing.{kindAt, classFor, graphOf, graph, entering, anEnd}
+use Rattle.room_search.specs.SameGraph.{same-graph}
+use Rattle.blocked_world.specs.BlockedWorld.{countsAsSolid, seenKind, seenKinds, seenTask, classSeen, Says, renewed}
 
 module _ (kinds blocked : List ℕ) (start goal : ℕ) where
   pub seen-at : (v : ℕ) → v < length kinds → getD (seenKinds kinds blocked start goal) v 0 ≡ seenKind kinds blocked start goal v

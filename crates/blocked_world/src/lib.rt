@@ -7,8 +7,8 @@ ghost use mathlib.Core.Path.{_≡_};
 ghost use Prim.Native.Nat.{_<_};
 ghost use lib.ListN.{length};
 ghost use Rattle.room.specs.Room.{volume, beneath};
-ghost use Rattle.routing.specs.Routing.{kindAt};
-ghost use Rattle.blocked_world.specs.BlockedWorld.{anEnd, seenKind, seenKinds, classSeen, Says, Fitting, renewed, refreshed};
+ghost use Rattle.room_search.specs.Routing.{kindAt, anEnd};
+ghost use Rattle.blocked_world.specs.BlockedWorld.{seenKind, seenKinds, classSeen, Says, Fitting, renewed, refreshed};
 
 fn is_end(start: usize, goal: usize, cell: usize) -> bool
     ensures { λ r. ⌜ r ≡ anEnd start goal cell ⌝ }
@@ -71,7 +71,7 @@ fn class_seen(
 {
     let below = seen_beneath(room, kinds, blocked, start, goal, cell);
     let kind = seen_kind(kinds, blocked, start, goal, cell);
-    routing::class_for(is_end(start, goal, cell), kind, below)
+    room_search::class_for(is_end(start, goal, cell), kind, below)
 }
 
 // Writes one cell's class anew.

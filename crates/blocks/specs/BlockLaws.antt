@@ -3,14 +3,15 @@
 use mathlib.Core.Path.{_≡_, refl, sym, ap, _∙_}
 use mathlib.Core.Logic.{_⊎_, inl, inr}
 use mathlib.Core.List.{List, [], _∷_}
-use Prim.Native.Nat.{ℕ, zero, suc, _+_, _≤_, _<_}
+use Prim.Native.Nat.{ℕ, zero, suc, _≤_, _<_}
 use native.Mathlib.Nat.{le-of-suc-le-suc, not-suc-le-zero}
 use native.Mathlib.Omega.{arith}
 use lib.Dec.{eqb, ltb}
 use lib.ListN.{length, getD}
 use lib.Seq.{ext-getD}
 use borrow.Author.Tests.{eqb-true, eqb-false, ltb-true, ltb-false}
-use Rattle.basics.specs.Tests.{ask, never}
+use Rattle.basics.specs.Tests.{ask}
+use Rattle.basics.specs.Promises.{Determines}
 use Rattle.room.specs.declared.Room.{Room}
 use Rattle.room.specs.Room.{volume}
 use Rattle.room.specs.RoomLaws.{cell-in}
@@ -22,8 +23,8 @@ use Rattle.job_sheet.specs.Places.{noBlock, blockIn, blocksIn}
 use Rattle.job_sheet.specs.RecordLaws.{many-long}
 use Rattle.job_sheet.specs.Sheet.{blockSize}
 use Rattle.blocks.specs.declared.Placement.{Placement}
-use Rattle.blocks.specs.declared.Placement.the-variants.{Placed, RepeatAt}
-use Rattle.blocks.specs.Blocks.{blockCell, ofBlock, kindOf, nodeOf, tabulated, kindsOf, cellAt, nodeAt, kindAt, Repeat, NotAfter, Placing, placed, repeated, BlocksLaid}
+use Rattle.blocks.specs.declared.Placement.the-variants.{RepeatAt}
+use Rattle.blocks.specs.Blocks.{blockCell, ofBlock, kindOf, tabulated, kindsOf, cellAt, nodeAt, Repeat, NotAfter, Placing, placed, repeated, BlocksLaid}
 
 -- ---- a table has one entry for each number
 
@@ -99,13 +100,6 @@ module _ {X : Type 0} (f : Block → X) (none : X) (R : Room) (bs : List Block) 
       go (of-record j k c x) = x ∙ ap (λ n. f (getD bs n noBlock)) (cell-once R bs (length bs) free j i k h c)
       go (of-none n x) = absurd (n i h refl)
 
-module _ (R : Room) (bs : List Block) (free : (k : ℕ) → Repeat R bs (length bs) k → ⊥) (i : ℕ) (h : i < length bs) where
-  pub kind-of-its-cell : kindOf R bs (cellAt R bs i) ≡ kindAt bs i
-  kind-of-its-cell = of-its-cell (λ b. b .kind) air R bs free i h
-
-  pub node-of-its-cell : nodeOf R bs (cellAt R bs i) ≡ nodeAt bs i + 1
-  node-of-its-cell = of-its-cell (λ b. b .node + 1) 0 R bs free i h
-
 -- ---- blocks of a sound list
 
 pub kinds-long : (R : Room) (bs : List Block) → length (kindsOf R bs) ≡ volume R
@@ -121,9 +115,6 @@ module _ (R : Room) (bs : List Block) (sound : (i : ℕ) → i < length bs → S
       go : OfCell (λ b. b .kind) air R bs v (kindOf R bs v) → kindOf R bs v ≤ maxKind
       go (of-record i h c x) = rw x (sound i h .kind-known)
       go (of-none n x) = rw x (omega arith)
-
-  pub kinds-known : (v : ℕ) → v < volume R → getD (kindsOf R bs) v 0 ≤ maxKind
-  kinds-known v h = rw (tabulated-at (volume R) (kindOf R bs) v h) (kind-known v)
 
 pub list-long : (sheet : List ℕ) (p : Part) → length (blocksIn sheet p) ≡ p .count
 unfolding blocksIn
@@ -155,12 +146,19 @@ module _ {R : Room} {bs : List Block} where
   placing-one (repeated i at least e) (placed free e′) = absurd (free i at)
   placing-one (repeated i at least e) (repeated j at′ least′ e′) = e ∙ ap RepeatAt (same-place R bs i j (least j at′) (least′ i at)) ∙ sym e′
 
-  pub placed-free : {n : ℕ} → Placing R bs n Placed → (i : ℕ) → Repeat R bs n i → ⊥
-  placed-free (placed free e) = free
-  placed-free (repeated i at least e) = never (cc)
+-- two results of `place_blocks` coincide: the answer, and the final bytes of both buffers
+pub record Result : Type 0 where
+  pub kinds : List ℕ
+  pub nodes : List ℕ
+  pub placement : Placement
 
-  pub blocks-laid-one : {kinds nodes kinds′ nodes′ : List ℕ} {r r′ : Placement} → BlocksLaid R bs kinds nodes r → BlocksLaid R bs kinds′ nodes′ r′
-      → (kinds ≡ kinds′) × (nodes ≡ nodes′) × (r ≡ r′)
-  blocks-laid-one L M =
+module _ (R : Room) (bs : List Block) where
+  abbrev pub Keeps : Result → Type 0
+  Keeps L = BlocksLaid R bs (L .kinds) (L .nodes) (L .placement)
+
+  pub coincide : Determines Keeps
+  coincide x y L M =
       let e = placing-one (L .placing) (M .placing) in
-      (L .kinds-are ∙ rw e (sym (M .kinds-are)), L .nodes-are ∙ rw e (sym (M .nodes-are)), e)
+      let k : x .kinds ≡ y .kinds = L .kinds-are ∙ rw e (sym (M .kinds-are)) in
+      let n : x .nodes ≡ y .nodes = L .nodes-are ∙ rw e (sym (M .nodes-are)) in
+      λ i. record { kinds = k i; nodes = n i; placement = e i }

@@ -13,10 +13,9 @@ use Rattle.basics.specs.Lists.{In}
 use Rattle.room.specs.declared.Room.{Room}
 use Rattle.room.specs.Room.{volume}
 use Rattle.routing_resources.specs.Resources.{AllCells}
-use Rattle.job_sheet.specs.Sheet.{maxSinks, joined}
+use Rattle.job_sheet.specs.Sheet.{joined}
 use Rattle.ends.specs.declared.Tap.{Tap}
-use Rattle.branches.specs.declared.BranchLengths.{BranchLengths}
-use Rattle.branches.specs.Branches.{branchOf, allButLast, inserted, total, longestBranch, CellsBelow, SheetOrder, LengthsOf, Short}
+use Rattle.branches.specs.Branches.{branchOf, allButLast, inserted, total, CellsBelow, SheetOrder, LengthsOf}
 use Rattle.branches.specs.LoopLaws.{total-append}
 use Rattle.branches.specs.WriteLaws.{branch-long}
 
@@ -218,14 +217,3 @@ lengths-first n m h =
       all = omega arith;
       each-is = λ i g. getD-replicate {A = ℕ} m i 0 0 (omega arith) ∙ ap length (sym (getD-replicate {A = List ℕ} n i [] [] (omega arith)));
     }
-
--- ---- one length set
-
-pub short-set : {L : BranchLengths} → Short L → (k n : ℕ) → n ≤ longestBranch → Short (record { count = L .count; each = set (L .each) k n })
-short-set {L = L} S k n h = record { whole = length-set (L .each) k n ∙ S .whole; short = at }
-  where
-    at : (i : ℕ) → i < maxSinks → getD (set (L .each) k n) i 0 ≤ longestBranch
-    at i g =
-        ask (eqb i k)
-        (λ t. let e : i ≡ k = eqb-true i k t in rw (e, getD-set-same (L .each) k n 0 (omega (arith, S .whole))) h)
-        (λ f. rw (getD-set-other (L .each) k i n 0 (eqb-false i k f)) (S .short i g))

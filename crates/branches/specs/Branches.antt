@@ -60,6 +60,10 @@ pub record CellsBelow (n : ℕ) (cells : List ℕ) : Type 0 where
 abbrev pub longestBranch : ℕ
 longestBranch = 16385
 
+-- the lengths of the branches, as many as there are
+abbrev pub lengthsIn : BranchLengths → List ℕ
+lengthsIn L = take (L .count) (L .each)
+
 -- each of the lengths can be that of a branch
 pub record Short (lengths : BranchLengths) : Type 0 where
   pub whole : length (lengths .each) ≡ maxSinks

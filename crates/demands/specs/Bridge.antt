@@ -20,9 +20,9 @@ use Rattle.room.specs.RoomLaws.{cell-pos, pos-in}
 use Rattle.room.specs.MoveLaws.{Small, small, listed, leads, leads-to}
 use Rattle.best_first.specs.Search
 use Rattle.best_first.specs.Ways.{Step, Way}
-use Rattle.routing.specs.Routing.{Task, routeable, bearing, classFor, entering, total, priceOf, moveInto, movesBy, graphOf, graph}
-use Rattle.routing.specs.GraphLaws.{made}
-use Rattle.routing.specs.Lawful.{supportOf, LawfulStep, stepCost, Leads, costFrom}
+use Rattle.room_search.specs.Routing.{Task, routeable, bearing, classFor, entering, total, priceOf, moveInto, movesBy, graphOf, graph}
+use Rattle.room_search.specs.GraphLaws.{made}
+use Rattle.room_search.specs.Lawful.{supportOf, LawfulStep, stepCost, Leads, costFrom}
 
 -- ---- what a cell's class says
 

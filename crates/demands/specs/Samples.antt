@@ -6,9 +6,9 @@ use lib.ListN.{replicate, set}
 use Rattle.room.specs.declared.Room.{Room}
 use Rattle.room.specs.declared.RouterConfig.{RouterConfig}
 use Rattle.room.specs.Room.{volume, at, posOf, cellOf, moves, between, sidesGood, stays, neighbour, beneath, above, distance}
-use Rattle.room.specs.Units.{air, solid, redstoneWire, lever, wire, facingMove, ahead, usualConfig, configGood}
+use Rattle.room.specs.Units.{air, solid, redstoneWire, lever, facingMove, ahead, usualConfig, configGood}
 use Rattle.best_first.specs.Search.{sooner, least, push, offer, expand, trace, turn, run, outset, best-first}
-use Rattle.routing.specs.Routing.{routeableKind, routeable, bearing, classFor, priceOf, movesBy, graphOf, searched}
+use Rattle.room_search.specs.Routing.{routeableKind, routeable, bearing, classFor, priceOf, movesBy, graphOf, searched}
 use Rattle.routing.specs.Answers.{Input, buffersGood, endsInside, judged, fitAnswer, answerOf, numberOf, detailOf, costOf, expandedOf, cellsFor}
 use Rattle.routing_resources.specs.Marks.{withByte}
 use Rattle.routing_resources.specs.Resources.{directions, isNeighbour, inKeepout, clearanceOf, isClearance}

@@ -18,8 +18,8 @@ use Rattle.room.specs.Room.{Moved, posOf, moves, apart, distance}
 use Rattle.room.specs.MoveLaws.{Small, small, leads}
 use Rattle.best_first.specs.Search
 use Rattle.best_first.specs.Statements.{slack, Slacks}
-use Rattle.routing.specs.Routing.{priceOf, total, graphOf}
-use Rattle.routing.specs.GraphLaws.{Made, made}
+use Rattle.room_search.specs.Routing.{priceOf, total, graphOf}
+use Rattle.room_search.specs.GraphLaws.{Made, made}
 
 -- ---- the change of a distance
 

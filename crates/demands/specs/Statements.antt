@@ -7,8 +7,8 @@ use mathlib.Core.List.{List, _∷_}
 use Prim.Native.Nat.{ℕ, _*_, _≤_, _<_}
 use Rattle.room.specs.declared.RouterConfig.{RouterConfig}
 use Rattle.room.specs.Room.{Good, volume}
-use Rattle.routing.specs.Routing.{Task, routeable}
-use Rattle.routing.specs.Lawful.{LawfulWay, wayCost}
+use Rattle.room_search.specs.Routing.{Task, routeable}
+use Rattle.room_search.specs.Lawful.{LawfulWay, wayCost}
 use Rattle.routing.specs.Answers.{Input, taskOf, answerOf, numberOf, costOf, cellsFor}
 
 -- ---- of which tasks

@@ -13,9 +13,9 @@ use Rattle.best_first.specs.Ways.{Step, Way, Sound, Consistent}
 use Rattle.best_first.specs.Statements.{Honest, Right, Decided, by-route, by-no-route, expanded-of, stored, Taking, outcome, Reached, pushes, times, Slacks}
 use Rattle.best_first.specs.Theorems as any-graph
 use Rattle.routing.specs.declared.Judgement.the-variants.{Fit}
-use Rattle.routing.specs.Routing.{Task, routeable, entering, graphOf, graph, searched}
-use Rattle.routing.specs.GraphLaws.{dearest, sound, consistent}
-use Rattle.routing.specs.Lawful.{LawfulStep, stepCost, LawfulWay, wayCost}
+use Rattle.room_search.specs.Routing.{Task, routeable, entering, graphOf, graph, searched}
+use Rattle.room_search.specs.GraphLaws.{dearest, sound, consistent}
+use Rattle.room_search.specs.Lawful.{LawfulStep, stepCost, LawfulWay, wayCost}
 use Rattle.routing.specs.Answers.{Input, taskOf, judged, answered, fitAnswer, answerOf, costOf, cellsFor}
 use Rattle.routing.specs.PromiseLaws.{roomy}
 use Rattle.demands.specs.Statements.{Ready, Priced, Ample, Lawful, Cheapest, NoLawfulWay, Meaning}

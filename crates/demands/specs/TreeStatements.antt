@@ -8,7 +8,7 @@ use Prim.Native.Nat.{ℕ, suc, _<_}
 use lib.Dec.{eqb}
 use Rattle.room.specs.declared.Neighbour.the-variants.{Inside, Outside}
 use Rattle.room.specs.Room.{volume}
-use Rattle.routing.specs.Routing.{Task}
+use Rattle.room_search.specs.Routing.{Task}
 use Rattle.routing_resources.specs.Marks.{isMarked, markedBy}
 use Rattle.geometry.specs.Geometry.{conflictOf}
 use Rattle.blocked_world.specs.BlockedWorld.{seenTask}

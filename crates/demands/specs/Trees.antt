@@ -15,7 +15,7 @@ use Rattle.room.specs.declared.Neighbour.the-variants.{Inside, Outside}
 use Rattle.room.specs.Room.{Good, volume}
 use Rattle.best_first.specs.Search.{Answer, route, no-route}
 use Rattle.best_first.specs.Statements.{Decided}
-use Rattle.routing.specs.Routing.{Task, routeable, searched}
+use Rattle.room_search.specs.Routing.{Task, routeable, searched}
 use Rattle.routing_resources.specs.Marks.{isMarked, markedBy}
 use Rattle.geometry.specs.Geometry.{conflictOf}
 use Rattle.goals.specs.Goals.{Site, Trial, found, failed, full, trialOf, searchedFor, atConflict, afterSearch, maxAttempts, attempts, cheaper, triedGoal, bestBelow, routeToTree}

@@ -5,6 +5,7 @@ use Prim.Native.Nat.{ℕ}
 use lib.Dec.{leb}
 use lib.ListN.{length}
 use Rattle.basics.specs.Tests.{either}
+use Rattle.lent.specs.Lent.{outputAfter, workAfter}
 use Rattle.room.specs.declared.Room.{Room}
 use Rattle.room.specs.declared.RouterConfig.{RouterConfig}
 use Rattle.room.specs.Room.{sidesGood}
@@ -13,7 +14,7 @@ use Rattle.routing.specs.declared.Answer.{Answer}
 use Rattle.routing.specs.declared.Answer.the-variants.{Routed, Refused, NotRouteable, NoRoute, LimitPassed, QueueFull}
 use Rattle.routing.specs.declared.Refusal.{Refusal}
 use Rattle.routing.specs.declared.Refusal.the-variants.{Sides, Config, Buffer}
-use Rattle.routing.specs.Answers.{Input, answerOf, numberOf, detailOf, cellsFor, outputAfter, workAfter}
+use Rattle.routing.specs.Answers.{Input, answerOf, numberOf, detailOf, cellsFor, touches}
 
 abbrev pub roomOf : ℕ → ℕ → ℕ → Room
 roomOf wide high deep = record { wide = wide; high = high; deep = deep }
@@ -49,9 +50,9 @@ valuesOf a = detailOf a ∷ routeValues a
 -- them.
 pub record Exported (I : Input) (path known previous classes queue values : List ℕ) (r : ℕ) (path′ known′ previous′ classes′ queue′ values′ : List ℕ) : Type 0 where
   pub number : r ≡ numberOf (exported I values)
-  pub path-is : path′ ≡ outputAfter (exported I values) (cellsFor (exported I values) I) path
-  pub known-is : known′ ≡ workAfter (exported I values) known
-  pub previous-is : previous′ ≡ workAfter (exported I values) previous
-  pub classes-is : classes′ ≡ workAfter (exported I values) classes
-  pub queue-is : queue′ ≡ workAfter (exported I values) queue
-  pub values-is : values′ ≡ outputAfter (exported I values) (valuesOf (exported I values)) values
+  pub path-is : path′ ≡ outputAfter (touches (exported I values)) (cellsFor (exported I values) I) path
+  pub known-is : known′ ≡ workAfter (touches (exported I values)) known
+  pub previous-is : previous′ ≡ workAfter (touches (exported I values)) previous
+  pub classes-is : classes′ ≡ workAfter (touches (exported I values)) classes
+  pub queue-is : queue′ ≡ workAfter (touches (exported I values)) queue
+  pub values-is : values′ ≡ outputAfter (touches (exported I values)) (valuesOf (exported I values)) values

@@ -5,8 +5,10 @@ use Prim.Native.Nat.{ℕ, zero, suc, _-_, _≤_, _<_}
 use native.Mathlib.Omega.{arith}
 use lib.ListN.{length, set, replicate}
 use borrow.Author.Tests.{le-leb, lt-leb}
+use Rattle.basics.specs.Promises.{Determines}
+use Rattle.lent.specs.Lent.{outputAfter}
 use Rattle.routing.specs.declared.Answer.{Answer}
-use Rattle.routing.specs.Answers.{Input, numberOf, outputAfter, refusalNumber, Promise}
+use Rattle.routing.specs.Answers.{Input, numberOf, refusalNumber, Promise, touches}
 use Rattle.dustroute.specs.Export.{shortRefusal, exported, valuesOf, Exported}
 
 -- four values written to a cleared buffer
@@ -37,7 +39,7 @@ module _ {I : Input} {path known previous classes queue values : List ℕ} where
 
   -- the search's answer, told
   pub exported-told : {a : Answer} {r : ℕ} {path′ known′ previous′ classes′ queue′ values′ : List ℕ} → 4 ≤ length values
-      → Promise I path known previous classes queue a path′ known′ previous′ classes′ queue′ → r ≡ numberOf a → values′ ≡ outputAfter a (valuesOf a) values
+      → Promise I path known previous classes queue a path′ known′ previous′ classes′ queue′ → r ≡ numberOf a → values′ ≡ outputAfter (touches a) (valuesOf a) values
       → Exported I path known previous classes queue values r path′ known′ previous′ classes′ queue′ values′
   unfolding exported
   exported-told h P n v =
@@ -52,27 +54,28 @@ module _ {I : Input} {path known previous classes queue values : List ℕ} where
         values-is = rw e (rw (P .answer) at v);
       }
 
--- ---- two results that keep the promise coincide
+-- ---- two results that keep the promise coincide: the number, the values, and every byte of lent memory
 
-pub record Same (r s : ℕ) (path path′ known known′ previous previous′ classes classes′ queue queue′ values values′ : List ℕ) : Type 0 where
-  pub number : r ≡ s
-  pub path-same : path ≡ path′
-  pub known-same : known ≡ known′
-  pub previous-same : previous ≡ previous′
-  pub classes-same : classes ≡ classes′
-  pub queue-same : queue ≡ queue′
-  pub values-same : values ≡ values′
+pub record Result : Type 0 where
+  pub number : ℕ
+  pub path : List ℕ
+  pub known : List ℕ
+  pub previous : List ℕ
+  pub classes : List ℕ
+  pub queue : List ℕ
+  pub values : List ℕ
 
-pub coincide : {I : Input} {path known previous classes queue values : List ℕ} {r s : ℕ} {path₁ known₁ previous₁ classes₁ queue₁ values₁ path₂ known₂ previous₂ classes₂ queue₂ values₂ : List ℕ}
-    → Exported I path known previous classes queue values r path₁ known₁ previous₁ classes₁ queue₁ values₁
-    → Exported I path known previous classes queue values s path₂ known₂ previous₂ classes₂ queue₂ values₂
-    → Same r s path₁ path₂ known₁ known₂ previous₁ previous₂ classes₁ classes₂ queue₁ queue₂ values₁ values₂
-coincide P Q = record {
-  number = P .number ∙ sym (Q .number);
-  path-same = P .path-is ∙ sym (Q .path-is);
-  known-same = P .known-is ∙ sym (Q .known-is);
-  previous-same = P .previous-is ∙ sym (Q .previous-is);
-  classes-same = P .classes-is ∙ sym (Q .classes-is);
-  queue-same = P .queue-is ∙ sym (Q .queue-is);
-  values-same = P .values-is ∙ sym (Q .values-is);
-}
+module _ (I : Input) (path known previous classes queue values : List ℕ) where
+  abbrev pub Keeps : Result → Type 0
+  Keeps R = Exported I path known previous classes queue values (R .number) (R .path) (R .known) (R .previous) (R .classes) (R .queue) (R .values)
+
+  pub coincide : Determines Keeps
+  coincide x y P Q = λ i. record {
+    number = (P .number ∙ sym (Q .number)) i;
+    path = (P .path-is ∙ sym (Q .path-is)) i;
+    known = (P .known-is ∙ sym (Q .known-is)) i;
+    previous = (P .previous-is ∙ sym (Q .previous-is)) i;
+    classes = (P .classes-is ∙ sym (Q .classes-is)) i;
+    queue = (P .queue-is ∙ sym (Q .queue-is)) i;
+    values = (P .values-is ∙ sym (Q .values-is)) i;
+  }

@@ -7,13 +7,14 @@ use Prim.Native.Nat.{ℕ, _+_, _≤_, _<_}
 use lib.Dec.{ltb}
 use lib.ListN.{length}
 use Rattle.basics.specs.Tests.{either}
+use Rattle.lent.specs.Lent.{outputAfter}
 use Rattle.job_sheet.specs.declared.Reading.{Reading}
 use Rattle.job_sheet.specs.Sheet.{Read, isGood, numberOf, maxSinks}
 use Rattle.net_tree.specs.declared.Answer.{Answer}
 use Rattle.net_tree.specs.declared.Ended.{Ended}
 use Rattle.net_tree.specs.declared.Ended.the-variants.{Routed, Refused}
 use Rattle.net_tree.specs.declared.Lengths.{Lengths}
-use Rattle.net_tree.specs.Answers.{Lent, lengthsOf, Outcome, refused, Comes, answerOf, filled, lentAfter}
+use Rattle.net_tree.specs.Answers.{Lent, lengthsOf, Outcome, refused, Comes, answerOf, lentAfter}
 
 -- the values: the detail, how many branches, occupied cells and repeaters there are, then sixteen lengths
 abbrev pub valueCount : ℕ
@@ -50,7 +51,7 @@ touchesBy (Routed occupied repeaters) = true
 touchesBy (Refused number detail) = ltb 6 number
 
 abbrev pub valuesAfter : Answer → List ℕ → List ℕ
-valuesAfter a values = either (touchesBy (a .ended)) (filled (treeValues a) values) values
+valuesAfter a values = outputAfter (touchesBy (a .ended)) (treeValues a) values
 
 -- ---- too few values
 

@@ -8,14 +8,15 @@ use native.Mathlib.Omega.{arith}
 use borrow.Rule.Slice.PartMut.{putMid, midOf}
 use lib.ListN.{length, getD, take, drop, set, replicate, length-set}
 use Rattle.basics.specs.Tests.{either}
+use Rattle.basics.specs.Zeros.{drop-zeros}
+use Rattle.basics.specs.Promises.{Determines}
 use Rattle.job_sheet.specs.declared.Verdict.{Verdict}
 use Rattle.job_sheet.specs.declared.Verdict.the-variants as verdict
 use Rattle.job_sheet.specs.Sheet.{isGood, numberOf}
-use Rattle.job_sheet.specs.Theorems.{one-answer}
+use Rattle.job_sheet.specs.Theorems.{coincide as one-reading}
 use Rattle.net_tree.specs.declared.Answer.{Answer}
 use Rattle.net_tree.specs.declared.Lengths.{Lengths}
 use Rattle.net_tree.specs.Answers.{Lent, Outcome, refused, answerOf, touches, lentAfter, Promise}
-use Rattle.net_tree.specs.GrowthLaws.{drop-zeros}
 use Rattle.net_tree.specs.PromiseLaws.{comes-one}
 use Rattle.dustroute.specs.TreeExport.{valueCount, numberTold, valuesAfter, ShortNumber, TreeComes, short, told, TreeExported}
 
@@ -104,7 +105,7 @@ module _ {sheet : List ℕ} {B : Lent} {values : List ℕ} where
 -- ---- two results that keep the promise coincide: the number, the values, and every byte of lent memory
 
 short-one : {sheet : List ℕ} {m n : ℕ} → ShortNumber sheet m → ShortNumber sheet n → m ≡ n
-short-one {sheet = sheet} p q = p .number-is ∙ rw (one-answer sheet (p .reading) (q .reading) (p .read) (q .read)) (sym (q .number-is))
+short-one {sheet = sheet} p q = p .number-is ∙ rw (one-reading sheet (p .reading) (q .reading) (p .read) (q .read)) (sym (q .number-is))
 
 tree-comes-one : {sheet : List ℕ} {L : Lengths} {values : ℕ} {o q : Outcome} → TreeComes sheet L values o → TreeComes sheet L values q → o ≡ q
 tree-comes-one (short h m s e) (short k n t d) = e ∙ ap (λ x. refused x 0) (short-one s t) ∙ sym d
@@ -112,11 +113,19 @@ tree-comes-one (short h m s e) (told k c) = absurd (omega arith)
 tree-comes-one (told h c) (short k n t d) = absurd (omega arith)
 tree-comes-one (told h c) (told k d) = comes-one c d
 
-pub coincide : {sheet : List ℕ} {B : Lent} {values : List ℕ} {r s : ℕ} {B′ B″ : Lent} {values′ values″ : List ℕ}
-    → TreeExported sheet B values r B′ values′ → TreeExported sheet B values s B″ values″ → (r ≡ s) × (B′ ≡ B″) × (values′ ≡ values″)
-coincide {B = B} {values = values} P Q =
-    let e = tree-comes-one (P .comes) (Q .comes) in (
-      P .number ∙ ap (λ o. numberTold (answerOf o)) e ∙ sym (Q .number),
-      P .lent-is ∙ ap (λ o. lentAfter o B) e ∙ sym (Q .lent-is),
-      P .values-is ∙ ap (λ o. valuesAfter (answerOf o) values) e ∙ sym (Q .values-is),
-    )
+pub record Result : Type 0 where
+  pub number : ℕ
+  pub lent : Lent
+  pub values : List ℕ
+
+module _ (sheet : List ℕ) (B : Lent) (values : List ℕ) where
+  abbrev pub Keeps : Result → Type 0
+  Keeps R = TreeExported sheet B values (R .number) (R .lent) (R .values)
+
+  pub coincide : Determines Keeps
+  coincide x y P Q =
+      let e = tree-comes-one (P .comes) (Q .comes) in
+      let n = P .number ∙ ap (λ o. numberTold (answerOf o)) e ∙ sym (Q .number) in
+      let b = P .lent-is ∙ ap (λ o. lentAfter o B) e ∙ sym (Q .lent-is) in
+      let v = P .values-is ∙ ap (λ o. valuesAfter (answerOf o) values) e ∙ sym (Q .values-is) in
+      λ i. record { number = n i; lent = b i; values = v i }

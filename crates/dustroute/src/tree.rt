@@ -7,8 +7,9 @@ ghost use mathlib.Core.Path.{_≡_};
 ghost use mathlib.Core.List.{_∷_, _++_};
 ghost use Prim.Native.Nat.{_≤_};
 ghost use lib.ListN.{length, drop};
+ghost use Rattle.lent.specs.Lent.{filled};
 ghost use Rattle.job_sheet.specs.Sheet.{maxSinks};
-ghost use Rattle.net_tree.specs.Answers.{filled, lent};
+ghost use Rattle.net_tree.specs.Answers.{lent};
 ghost use Rattle.dustroute.specs.TreeExport.{valueCount, numberTold, valuesAfter, ShortNumber, TreeExported};
 
 // How many values a tree comes to: its detail and three counts, then the lengths of sixteen branches.

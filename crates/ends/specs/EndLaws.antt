@@ -9,7 +9,7 @@ use lib.Dec.{eqb}
 use borrow.Author.Tests.{eq-eqb, ne-eqb, eqb-false}
 use lib.ListN.{length, getD, take, drop, set, replicate, drop-of-length-le, length-map, length-replicate, length-append, List·getD-append}
 use lib.Seq.{drop-cons, getD-take, take-suc, length-take-le, set-at}
-use Rattle.basics.specs.Tests.{either, ask, never}
+use Rattle.basics.specs.Tests.{ask, never}
 use Rattle.room.specs.declared.Room.{Room}
 use Rattle.room.specs.Room.{Within, volume}
 use Rattle.room.specs.Units.{wire}
@@ -25,7 +25,7 @@ use Rattle.ends.specs.declared.Taps.{Taps}
 use Rattle.ends.specs.declared.Fault.{Fault}
 use Rattle.ends.specs.declared.Fault.the-variants.{Good, NoFacing, Outside}
 use Rattle.ends.specs.declared.Ends.{Ends}
-use Rattle.ends.specs.Ends.{sinksIn, sourceAt, sinkAt, dueFor, firstDue, endsAt, noTap, tapOf, tapsOf, tapFrom, alone, terminalIn, faultBy, faultOf, endsOf}
+use Rattle.ends.specs.Ends.{sinksIn, sourceAt, sinkAt, dueFor, firstDue, endsAt, noTap, tapOf, tapsOf, tapFrom, alone, terminalIn, faultBy, faultOf, endsOf, tapsIn}
 
 -- the sinks are in the room
 pub record SinksWithin (R : Room) (k : Sinks) : Type 0 where
@@ -155,6 +155,13 @@ pub record NetIn (R : Room) (source : ℕ) (k : Taps) : Type 0 where
   pub whole : length (k .taps) ≡ maxSinks
   pub terminal-in : (i : ℕ) → i < k .count → getD (k .taps) i noTap .terminal < volume R
   pub approach-in : (i : ℕ) → i < k .count → getD (k .taps) i noTap .approach < volume R
+
+-- the taps in use are as many as are counted
+pub taps-counted : (k : Taps) → k .count ≤ maxSinks → length (k .taps) ≡ maxSinks → length (tapsIn k) ≡ k .count
+taps-counted k few whole = length-take-le (k .count) (k .taps) (omega (arith, few, whole))
+
+pub tap-is : (k : Taps) (i : ℕ) → i < k .count → getD (k .taps) i noTap ≡ getD (tapsIn k) i noTap
+tap-is k i h = sym (getD-take (k .count) (k .taps) i noTap h)
 
 later-zero : (place : ℕ) → suc place ≡ 0 → ⊥
 later-zero place e = omega arith

@@ -1,6 +1,6 @@
 -- The ends of one net: which of numbers 8 and 9 is due for which of them, and else where its wire begins and ends. Definitions alone; their laws are
 -- in EndLaws.
-use mathlib.Core.Bool.{Bool, true, false}
+use mathlib.Core.Bool.{Bool, false}
 use mathlib.Core.List.{List, [], _∷_, _++_, map}
 use Prim.Native.Nat.{ℕ, zero, suc, _+_, _-_}
 use lib.Dec.{eqb}
@@ -61,6 +61,10 @@ tapFrom wire Realized.Outside = noTap
 
 unfoldable pub tapOf : Room → Endpoint → Tap
 tapOf R e = tapFrom (eqb (e .port) wire) (sinkAt R e)
+
+-- the taps in use, one a sink
+abbrev pub tapsIn : Taps → List Tap
+tapsIn k = take (k .count) (k .taps)
 
 abbrev pub tapsOf : Room → List Endpoint → Taps
 tapsOf R sinks = record { count = length sinks; taps = map (tapOf R) sinks ++ replicate (maxSinks - length sinks) noTap }

@@ -17,7 +17,7 @@ use Rattle.room.specs.declared.Cost.{Cost}
 use Rattle.room.specs.declared.Neighbour.{Neighbour}
 use Rattle.room.specs.declared.Neighbour.the-variants.{Inside, Outside}
 use Rattle.room.specs.Room.{Good, volume}
-use Rattle.routing.specs.Steps.{placesOf}
+use Rattle.room_search.specs.Steps.{placesOf}
 use Rattle.routing_resources.specs.Marks.{isMarked, withByte, markedBy, unmarkedBy}
 use Rattle.routing_resources.specs.MarkLaws.{with-length, with-at}
 use Rattle.routing_resources.specs.Resources.{AllCells}
@@ -29,8 +29,8 @@ use Rattle.blocked_world.specs.RefreshLaws.{mark-put, refreshed-says}
 use Rattle.goals.specs.declared.Tried.{Tried}
 use Rattle.goals.specs.declared.Tried.the-variants.{Found, Failed, Full}
 use Rattle.goals.specs.declared.Attempt.the-variants.{Ended, Conflict}
-use Rattle.goals.specs.Goals.{Site, Trial, found, failed, searchedFor, atConflict, afterSearch, attempts}
-use Rattle.goals.specs.Trials.{Tells, siteOf, Searchable, Able, endsGoal, attemptThen, Repeats, Attempted}
+use Rattle.goals.specs.Goals.{Site, Trial, found, failed, searchedFor, atConflict, afterSearch, attempts, endsGoal}
+use Rattle.goals.specs.Trials.{Tells, siteOf, Searchable, Able, attemptThen, Repeats, Attempted}
 use Rattle.goals.specs.PathLaws.{found-by, found-cells, conflict-in}
 
 pub tells-failed : (cells : List ℕ) → Tells failed Failed cells

@@ -1,6 +1,6 @@
 -- One sink's goals, as "The tree of one net" of the requirement has them: the search for one goal, its attempts, and the cheapest of all goals.
 -- Definitions alone; their laws are in the files named Laws.
-use mathlib.Core.Bool.{_||_}
+use mathlib.Core.Bool.{_||_, Bool}
 use mathlib.Core.List.{List}
 use Prim.Native.Nat.{ℕ, zero, suc}
 use lib.Dec.{ltb, eqb}
@@ -11,7 +11,7 @@ use Rattle.room.specs.declared.Neighbour.{Neighbour}
 use Rattle.room.specs.declared.Neighbour.the-variants.{Inside, Outside}
 use Rattle.room.specs.Room.{volume}
 use Rattle.best_first.specs.Search.{Answer, route, no-route, limit-passed, queue-full}
-use Rattle.routing.specs.Routing.{Task, routeable, searched}
+use Rattle.room_search.specs.Routing.{Task, routeable, searched}
 use Rattle.routing_resources.specs.Marks.{markedBy, isMarked}
 use Rattle.geometry.specs.Geometry.{conflictOf}
 use Rattle.blocked_world.specs.BlockedWorld.{seenTask}
@@ -44,11 +44,15 @@ trialOf (queue-full x) = full x
 unfoldable pub searchedFor : Task → Trial
 searchedFor T = either (routeable T (T .start)) (either (routeable T (T .goal)) (trialOf (searched T)) failed) failed
 
--- "A conflict that is start, goal or blocked already ends the goal; any other is blocked for this goal and the search repeats."
+-- "A conflict that is start, goal or blocked already ends the goal"
+abbrev pub endsGoal : List ℕ → ℕ → ℕ → ℕ → Bool
+endsGoal blocked start goal v = eqb v start || (eqb v goal || isMarked blocked v)
+
+-- "any other is blocked for this goal and the search repeats"
 unfoldable pub atConflict : List ℕ → ℕ → ℕ → (List ℕ → Trial) → Trial → Neighbour → Trial
 atConflict blocked start goal again kept Outside = kept
 atConflict blocked start goal again kept (Inside v) =
-    either (eqb v start || (eqb v goal || isMarked blocked v)) failed (again (markedBy (eqb v) blocked))
+    either (endsGoal blocked start goal v) failed (again (markedBy (eqb v) blocked))
 
 unfoldable pub afterSearch : Site → List ℕ → ℕ → ℕ → (List ℕ → Trial) → Trial → Trial
 afterSearch S blocked start goal again (found path cost) =

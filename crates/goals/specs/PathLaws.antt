@@ -18,9 +18,9 @@ use Rattle.best_first.specs.Ways.{Step, Way, Sound}
 use Rattle.best_first.specs.Statements.{Lawful}
 use Rattle.best_first.specs.Reached.{Ending, empty, arrives, passes, fills, ending}
 use Rattle.best_first.specs.Theorems.{honest}
-use Rattle.routing.specs.Routing.{Task, routeable, entering, graphOf, graph, searched}
-use Rattle.routing.specs.GraphLaws.{sound}
-use Rattle.routing.specs.EntryLaws.{path-short}
+use Rattle.room_search.specs.Routing.{Task, routeable, entering, graphOf, graph, searched}
+use Rattle.room_search.specs.GraphLaws.{sound}
+use Rattle.room_search.specs.Traces.{path-short}
 use Rattle.routing_resources.specs.Resources.{clearanceOf, AllCells}
 use Rattle.routing_resources.specs.ResourceLaws.{clearance-in}
 use Rattle.geometry.specs.Geometry.{orElse, firstBelow, firstPair, ifPassed, atClearance, stairConflict, conflictAmong, conflictOf, upperOfPair, conductor, standsIn}

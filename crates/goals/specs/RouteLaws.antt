@@ -22,13 +22,13 @@ use Rattle.best_first.specs.Search
 use Rattle.best_first.specs.Search.{Graph}
 use Rattle.best_first.specs.Ways.{Step, Way}
 use Rattle.best_first.specs.Statements.{Lawful}
-use Rattle.routing.specs.Routing.{Task, routeableKind, classFor, entering, graphOf, graph}
-use Rattle.routing.specs.GraphLaws.{made}
+use Rattle.room_search.specs.Routing.{Task, routeableKind, classFor, entering, graphOf, graph, anEnd}
+use Rattle.room_search.specs.GraphLaws.{made}
 use Rattle.routing_resources.specs.Marks.{isMarked, markedBy}
 use Rattle.routing_resources.specs.MarkLaws.{marked-after}
 use Rattle.routing_resources.specs.Resources.{AllCells}
 use Rattle.geometry.specs.Geometry.{conflictOf}
-use Rattle.blocked_world.specs.BlockedWorld.{anEnd, countsAsSolid, seenKind, seenTask}
+use Rattle.blocked_world.specs.BlockedWorld.{countsAsSolid, seenKind, seenTask}
 use Rattle.blocked_world.specs.SeenLaws.{seen-at}
 use Rattle.goals.specs.Goals.{Site, Trial, found, failed, full, searchedFor, atConflict, afterSearch, maxAttempts, attempts, cheaper, triedGoal, bestBelow, routeToTree}
 use Rattle.goals.specs.PathLaws.{FoundBy, found-by, found-lawful, found-cells, found-short}

@@ -16,13 +16,12 @@ use Rattle.room.specs.declared.Cost.{Cost}
 use Rattle.room.specs.Room.{volume, posOf}
 use Rattle.room.specs.Units.{air}
 use Rattle.best_first.specs.Search.{trace}
-use Rattle.routing.specs.declared.Outcome.{Outcome}
-use Rattle.routing.specs.declared.Outcome.the-variants.{Arrived, NoRoute, LimitPassed, QueueFull}
-use Rattle.routing.specs.Routing.{Task, routeableKind, routeable, graphOf, searched}
-use Rattle.routing.specs.Steps.{placesOf}
-use Rattle.routing.specs.Turns.{Fresh, Ran, graphIn}
-use Rattle.routing.specs.Entry.{Showable}
-use Rattle.blocked_world.specs.BlockedWorld.{anEnd, countsAsSolid, seenKind, seenTask}
+use Rattle.room_search.specs.declared.Outcome.{Outcome}
+use Rattle.room_search.specs.declared.Outcome.the-variants.{Arrived, NoRoute, LimitPassed, QueueFull}
+use Rattle.room_search.specs.Routing.{Task, routeableKind, routeable, graphOf, searched, anEnd}
+use Rattle.room_search.specs.Steps.{placesOf}
+use Rattle.room_search.specs.Turns.{Fresh, Ran, graphIn, Showable}
+use Rattle.blocked_world.specs.BlockedWorld.{countsAsSolid, seenKind, seenTask}
 use Rattle.blocked_world.specs.SeenLaws.{seen-at, says-graph}
 use Rattle.goals.specs.declared.Tried.{Tried}
 use Rattle.goals.specs.declared.Tried.the-variants.{Found, Failed, Full}

@@ -1,6 +1,6 @@
 -- What the contracts of the goals' functions cite.
 use mathlib.Core.Path.{_≡_}
-use mathlib.Core.Bool.{Bool, true, false, _&&_, _||_}
+use mathlib.Core.Bool.{Bool, true, false, _&&_}
 use mathlib.Core.List.{List}
 use Prim.Native.Nat.{ℕ, _≤_, _<_}
 use lib.Dec.{eqb, ltb}
@@ -10,11 +10,11 @@ use Rattle.room.specs.declared.RouterConfig.{RouterConfig}
 use Rattle.room.specs.Room.{Good, volume, posOf}
 use Rattle.room.specs.Units.{Fair, air}
 use Rattle.best_first.specs.Search.{Graph, Answer}
-use Rattle.routing.specs.declared.Spot.{Spot}
-use Rattle.routing.specs.declared.Outcome.{Outcome}
-use Rattle.routing.specs.Routing.{routeableKind}
-use Rattle.routing.specs.Steps.{placesOf}
-use Rattle.routing.specs.Turns.{Told}
+use Rattle.room_search.specs.declared.Spot.{Spot}
+use Rattle.room_search.specs.declared.Outcome.{Outcome}
+use Rattle.room_search.specs.Routing.{routeableKind}
+use Rattle.room_search.specs.Steps.{placesOf}
+use Rattle.room_search.specs.Turns.{Told}
 use Rattle.routing_resources.specs.Marks.{isMarked, markedBy}
 use Rattle.geometry.specs.Geometry.{NoPair, Marks}
 use Rattle.blocked_world.specs.BlockedWorld.{seenTask, Says}
@@ -99,10 +99,6 @@ pub record Able (S : Site) (blocked classes known previous path : List ℕ) (sta
   pub memory : Memory (S .room) known previous path
   pub goal-in : goal < volume (S .room)
   pub says : Says (S .room) (S .kinds) blocked start goal classes
-
--- "A conflict that is start, goal or blocked already ends the goal"
-abbrev pub endsGoal : List ℕ → ℕ → ℕ → ℕ → Bool
-endsGoal blocked start goal v = eqb v start || (eqb v goal || isMarked blocked v)
 
 -- one attempt, with what the attempts after it come to
 abbrev pub attemptThen : Site → List ℕ → ℕ → ℕ → (List ℕ → Trial) → Trial

@@ -5,27 +5,26 @@ ghost use Prim.Native.Nat.{_≤_, _<_, pred};
 ghost use lib.ListN.{length, getD};
 ghost use Rattle.room.specs.Room.{volume};
 ghost use Rattle.best_first.specs.Search.{trace};
-ghost use Rattle.routing.specs.Traces.{Linked};
-ghost use Rattle.routing.specs.Turns.{Ran};
-ghost use Rattle.routing.specs.Entry.{Showable};
+ghost use Rattle.room_search.specs.Traces.{Linked};
+ghost use Rattle.room_search.specs.Turns.{Ran, Showable};
 ghost use Rattle.goals.specs.Goals.{found};
 ghost use Rattle.goals.specs.Trials.{Tells, spotOf, bothRouteable, Searchable, Shown, SearchTold};
 use crate::Tried;
 use room::Cost;
 use room::Room;
 use room::RouterConfig;
-use routing::Outcome;
-use routing::Spot;
+use room_search::Outcome;
+use room_search::Spot;
 
 // Whether both ends may hold wire.
 fn both_routeable(kinds: &[u8], start: usize, goal: usize) -> bool
     requires { ⌜ (start < length (now kinds)) × (goal < length (now kinds)) ⌝ }
     ensures { λ r. ⌜ r ≡ bothRouteable (now (kinds .entry)) start goal ⌝ }
 {
-    if !routing::routeable_kind(true, kinds[start]) {
+    if !room_search::routeable_kind(true, kinds[start]) {
         return false;
     }
-    routing::routeable_kind(true, kinds[goal])
+    room_search::routeable_kind(true, kinds[goal])
 }
 
 // Searches over the class bytes, from cleared memory on.
@@ -52,7 +51,7 @@ fn search_classes(
         cell: goal,
         at: room.pos(goal),
     };
-    routing::run(room, config, classes, known, previous, queue, from, to)
+    room_search::run(room, config, classes, known, previous, queue, from, to)
 }
 
 // The path by predecessors goes to the front of the buffer.
@@ -68,8 +67,8 @@ fn write_route(
     requires { ⌜ 0 < getD (now known) goal 0 ⌝ }
     ensures { λ r. ⌜ Tells (found (trace cells (now (previous .entry)) goal []) (pred (getD (now (known .entry)) goal 0))) r (now (path .exit)) ⌝ }
 {
-    let length = routing::trace_length(previous, goal, cells);
-    routing::trace_into(previous, goal, cells, path, length);
+    let length = room_search::trace_length(previous, goal, cells);
+    room_search::trace_into(previous, goal, cells, path, length);
     Tried::Found {
         length: length,
         cost: Cost(known[goal] - 1),

@@ -7,6 +7,7 @@ use Prim.Native.Nat.{ℕ, _≤_}
 use native.Mathlib.Omega.{arith}
 use lib.ListN.{length}
 use Rattle.basics.specs.Tests.{ask, never}
+use Rattle.basics.specs.Promises.{Determines}
 use Rattle.room.specs.Room.{at, sidesGood, between, within}
 use Rattle.room.specs.Units.{configGood, usualConfig}
 use Rattle.job_sheet.specs.declared.Job.{Job}
@@ -42,10 +43,10 @@ pub complete : (J : Contents) (r : Reading) → length (bytesOf J) ≤ maxBytes 
 complete J r short few = answers-meaning (bytesOf J) J r (record { bytes = refl; short = short; few-sinks = few })
 
 -- every sheet has one answer only
-pub one-answer : (sheet : List ℕ) (r q : Reading) → Read sheet r → Read sheet q → r ≡ q
-one-answer sheet r q (meaning J m e) b = e ∙ sym (answers-meaning sheet J q m b)
-one-answer sheet r q (nothing no-meaning e) (meaning J m f) = absurd (no-meaning J m)
-one-answer sheet r q (nothing no-meaning e) (nothing no-meaning′ f) = e ∙ sym f
+pub coincide : (sheet : List ℕ) → Determines (Read sheet)
+coincide sheet r q (meaning J m e) b = e ∙ sym (answers-meaning sheet J q m b)
+coincide sheet r q (nothing no-meaning e) (meaning J m f) = absurd (no-meaning J m)
+coincide sheet r q (nothing no-meaning e) (nothing no-meaning′ f) = e ∙ sym f
 
 -- what is accepted is a job that the sheet means and that has no fault
 pub sound : (sheet : List ℕ) (r : Reading) → Read sheet r → r .verdict ≡ Good → Accepted sheet (r .job)

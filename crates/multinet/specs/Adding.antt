@@ -11,7 +11,7 @@ use Rattle.geometry.specs.Geometry.{standsIn}
 use Rattle.ends.specs.declared.Tap.{Tap}
 use Rattle.job_sheet.specs.Sheet.{maxSinks}
 use Rattle.branches.specs.declared.BranchLengths.{BranchLengths}
-use Rattle.branches.specs.Branches.{branchOf, allButLast, inserted, total, Short}
+use Rattle.branches.specs.Branches.{branchOf, allButLast, inserted, total, Short, lengthsIn}
 use Rattle.multinet.specs.declared.Turned.{Turned}
 use Rattle.multinet.specs.declared.Turned.the-variants.{Grown, NoRoom}
 
@@ -39,7 +39,7 @@ abbrev pub before-sink : BranchLengths → ℕ → ℕ
 before-sink L k = total (take k (L .each))
 
 abbrev pub used-by : BranchLengths → ℕ
-used-by L = total (take (L .count) (L .each))
+used-by L = total (lengthsIn L)
 
 -- a path of the room, and branches whose lengths are known
 pub record Placeable (R : Room) (k : ℕ) (L : BranchLengths) (tap : Tap) (path branches joinable blocked : List ℕ) : Type 0 where

@@ -1,6 +1,5 @@
 -- Laws of finishing: the ends marked, and the branches read back from the buffer.
 use mathlib.Core.Path.{_≡_, refl, sym, ap, _∙_}
-use mathlib.Core.Bool.{Bool, _||_}
 use mathlib.Core.List.{List, [], _∷_, _++_, map, append-assoc}
 use Prim.Native.Nat.{ℕ, zero, suc, _+_, _≤_, _<_}
 use native.Mathlib.Omega.{arith}
@@ -8,23 +7,24 @@ use lib.Dec.{eqb}
 use lib.ListN.{length, getD, take, drop, length-map, length-replicate, take-append-drop}
 use lib.Seq.{take-at, drop-at, getD-take, length-take-le, ext-getD, take-length}
 use Rattle.basics.specs.Lists.{any}
+use Rattle.ends.specs.EndLaws.{taps-counted}
 use Rattle.room.specs.declared.Room.{Room}
 use Rattle.room.specs.Room.{volume}
 use Rattle.routing_resources.specs.Marks.{markedBy, noMarks}
 use Rattle.routing_resources.specs.MarkLaws.{with-length, with-or}
 use Rattle.routing_resources.specs.Resources.{AllCells}
-use Rattle.job_sheet.specs.Sheet.{joined, maxSinks}
+use Rattle.job_sheet.specs.Sheet.{joined}
 use Rattle.ends.specs.declared.Tap.{Tap}
 use Rattle.ends.specs.declared.Taps.{Taps}
-use Rattle.ends.specs.Ends.{noTap}
+use Rattle.ends.specs.Ends.{tapsIn}
 use Rattle.geometry.specs.Geometry.{standsIn}
 use Rattle.branches.specs.declared.BranchLengths.{BranchLengths}
-use Rattle.branches.specs.Branches.{SheetOrder, LengthsOf, total, Short, CellsBelow}
+use Rattle.branches.specs.Branches.{total, CellsBelow, lengthsIn}
 use Rattle.branches.specs.BranchLaws.{joined-place, below-append, cells-below}
 use Rattle.repeaters.specs.Repeaters.{cutInto, branchesOf, repeaterMarks}
-use Rattle.repeaters.specs.Joins.{Stepping, AllStepping, Laid}
+use Rattle.repeaters.specs.Joins.{AllStepping}
 use Rattle.repeaters.specs.Sinks as repeating
-use Rattle.multinet.specs.Tree.{endAt, isEnd, endMarks}
+use Rattle.multinet.specs.Tree.{endAt, isEnd}
 use Rattle.multinet.specs.StepLaws.{Steps, steps-stepping}
 use Rattle.multinet.specs.Finishing.{EndsIn, Holds, Finishable, Finished}
 
@@ -35,16 +35,13 @@ pub end-marked : {marks marks′ marks″ : List ℕ} (m : List ℕ) (t : Tap) �
 end-marked m t e a b = b ∙ rw (a, e) (with-or 1 (eqb (t .terminal)) (eqb (t .approach)) m)
 
 module _ {source : ℕ} {k : Taps} {marks : List ℕ} (E : EndsIn source k marks) where
-  pub ends-long : length (take (k .count) (k .taps)) ≡ k .count
-  ends-long = length-take-le (k .count) (k .taps) (omega (arith, E .few, E .whole))
+  pub ends-long : length (tapsIn k) ≡ k .count
+  ends-long = taps-counted k (E .few) (E .whole)
 
-  pub end-is : (i : ℕ) → i < k .count → getD (k .taps) i noTap ≡ getD (take (k .count) (k .taps)) i noTap
-  end-is i h = sym (getD-take (k .count) (k .taps) i noTap h)
-
-  pub ends-marked : {marks′ marks″ : List ℕ} → marks′ ≡ markedBy (eqb source) marks → marks″ ≡ markedBy (λ v. any (endAt v) (take (k .count) (k .taps))) marks′
+  pub ends-marked : {marks′ marks″ : List ℕ} → marks′ ≡ markedBy (eqb source) marks → marks″ ≡ markedBy (λ v. any (endAt v) (tapsIn k)) marks′
       → marks″ ≡ markedBy (isEnd source k) marks
   unfolding isEnd
-  ends-marked a b = b ∙ rw a (with-or 1 (eqb source) (λ v. any (endAt v) (take (k .count) (k .taps))) marks)
+  ends-marked a b = b ∙ rw a (with-or 1 (eqb source) (λ v. any (endAt v) (tapsIn k)) marks)
 
 -- ---- the branches
 
@@ -69,11 +66,11 @@ all-below R [] f = record { below = λ i h. absurd (omega arith) }
 all-below R (b ∷ bs) f = below-append (cells-below (f 0 (omega arith))) (all-below R bs (λ i h. f (suc i) (omega arith)))
 
 module _ {R : Room} {L : BranchLengths} {branches : List ℕ} {bs : List (List ℕ)} (H : Holds R L branches bs) where
-  lengths-list : take (L .count) (L .each) ≡ map length bs
+  lengths-list : lengthsIn L ≡ map length bs
   lengths-list =
-      let n : length (take (L .count) (L .each)) ≡ L .count = length-take-le (L .count) (L .each) (omega (arith, H .count-is, H .lengths-are .all)) in
+      let n : length (lengthsIn L) ≡ L .count = length-take-le (L .count) (L .each) (omega (arith, H .count-is, H .lengths-are .all)) in
       let m = length-map bs length in
-      ext-getD 0 (take (L .count) (L .each)) (map length bs) (n ∙ sym (H .count-is) ∙ sym m)
+      ext-getD 0 (lengthsIn L) (map length bs) (n ∙ sym (H .count-is) ∙ sym m)
       (λ i h. getD-take (L .count) (L .each) i 0 (omega (arith, n)) ∙ H .lengths-are .each-is i (omega (arith, n, H .count-is)) ∙ sym (mapped-length bs i (omega (arith, n, H .count-is))))
 
   pub branches-back : branchesOf L branches ≡ bs
@@ -81,12 +78,12 @@ module _ {R : Room} {L : BranchLengths} {branches : List ℕ} {bs : List (List �
       let whole : branches ≡ joined bs ++ drop (length (joined bs)) branches = sym (take-append-drop (length (joined bs)) branches) ∙ ap (λ l. l ++ drop (length (joined bs)) branches) (H .in-order .in-order) in
       rw (lengths-list) (ap (cutInto (map length bs)) whole ∙ cut-joined bs (drop (length (joined bs)) branches))
 
-  pub used-is : total (take (L .count) (L .each)) ≡ length (joined bs)
+  pub used-is : total (lengthsIn L) ≡ length (joined bs)
   used-is =
       let n = H .count-is in
       rw (← n) (joined-place bs (L .each) (H .lengths-are) (length bs) (omega arith) ∙ ap (λ l. length (joined l)) (take-length bs))
 
-  pub used-part : take (total (take (L .count) (L .each))) branches ≡ joined bs
+  pub used-part : take (total (lengthsIn L)) branches ≡ joined bs
   used-part = rw used-is (H .in-order .in-order)
 
 -- ---- the finished tree
@@ -99,10 +96,10 @@ module _ {R : Room} {source : ℕ} {k : Taps} {L : BranchLengths} {branches occu
   pub source-marked : source < length occupied
   source-marked = rw (none-long occupied (F .occupied-clear)) (F .net .source-in)
 
-  pub used-fits : {used : ℕ} → used ≡ total (take (L .count) (L .each)) → used ≤ length branches
+  pub used-fits : {used : ℕ} → used ≡ total (lengthsIn L) → used ≤ length branches
   used-fits u = omega (arith, u, used-is (F .holds), F .holds .in-order .within)
 
-  pub cells-occupied : {used n : ℕ} → used ≡ total (take (L .count) (L .each)) → n ≡ length occupied → CellsBelow n (take used branches)
+  pub cells-occupied : {used n : ℕ} → used ≡ total (lengthsIn L) → n ≡ length occupied → CellsBelow n (take used branches)
   cells-occupied u e =
       rw (u, used-part (F .holds), e, none-long occupied (F .occupied-clear)) (all-below R (F .bs) (λ i h. F .cells-in i (omega (arith, F .holds .count-is))))
 
@@ -135,11 +132,11 @@ module _ {R : Room} {source : ℕ} {k : Taps} {L : BranchLengths} {branches occu
     line-long = F .line-long;
   }
 
-  pub finished : {used : ℕ} {occupied′ occupied″ forbidden′ repeaters′ : List ℕ} → used ≡ total (take (L .count) (L .each))
+  pub finished : {used : ℕ} {occupied′ occupied″ forbidden′ repeaters′ : List ℕ} → used ≡ total (lengthsIn L)
       → occupied′ ≡ markedBy (eqb source) occupied
       → occupied″ ≡ markedBy (standsIn (take used branches)) occupied′
       → forbidden′ ≡ markedBy (isEnd source k) forbidden
-      → repeaters′ ≡ repeaterMarks R source (take (k .count) (k .taps)) (branchesOf L branches) forbidden′
+      → repeaters′ ≡ repeaterMarks R source (tapsIn k) (branchesOf L branches) forbidden′
       → Finished R source k L branches occupied″ repeaters′
   finished u a b f r = record {
     occupied-are = λ bs H. b ∙ rw (u, used-part H, a, F .occupied-clear) refl;

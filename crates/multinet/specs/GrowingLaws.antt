@@ -5,15 +5,13 @@ use mathlib.Core.Bool.{Bool, true, false, _||_}
 use mathlib.Core.List.{List, [], _∷_, _++_, reverse, reverse-cons, append-nil}
 use Prim.Native.Nat.{ℕ, zero, suc, _+_, _-_, _≤_, _<_}
 use native.Mathlib.Decide.{ℕ-discrete}
-use native.Mathlib.Numerals.{add-one}
 use native.Mathlib.Omega.{arith}
-use lib.Dec.{leb, eqb}
-use lib.ListN.{length, getD, take, drop, set, replicate, length-set, length-append}
+use lib.Dec.{eqb}
+use lib.ListN.{length, getD, take, drop, set, length-set, length-append}
 use lib.Seq.{getD-set-same, getD-set-other, drop-drop}
-use borrow.Author.Tests.{le-leb, lt-leb, eqb-true, eq-eqb}
-use Rattle.basics.specs.Tests.{either, ask, never}
-use Rattle.basics.specs.Lists.{In, any}
-use Rattle.room.specs.declared.Room.{Room}
+use borrow.Author.Tests.{le-leb, lt-leb, eqb-true}
+use Rattle.basics.specs.Tests.{ask, never}
+use Rattle.basics.specs.Lists.{In}
 use Rattle.room.specs.declared.Neighbour.{Neighbour}
 use Rattle.room.specs.declared.Neighbour.the-variants.{Inside, Outside}
 use Rattle.room.specs.Room.{volume, inOrOut}
@@ -21,17 +19,16 @@ use Rattle.routing_resources.specs.Marks.{markedBy, isMarked}
 use Rattle.routing_resources.specs.MarkLaws.{with-length, with-or, with-same}
 use Rattle.routing_resources.specs.Resources.{isClearance, AllCells}
 use Rattle.job_sheet.specs.Sheet.{joined, maxSinks}
-use Rattle.geometry.specs.Geometry.{firstBelow, orElse, standsIn, NoPair, Marks}
-use Rattle.geometry.specs.PairLaws.{none-first}
+use Rattle.geometry.specs.Geometry.{firstBelow, orElse, standsIn, NoPair}
 use Rattle.geometry.specs.LayLaws.{stands-in, in-stands}
 use Rattle.geometry.specs.GeometryLaws.{no-pair-after, marks-with}
 use Rattle.ends.specs.declared.Tap.{Tap}
-use Rattle.turns.specs.Turns.{far, turnOf, sinkAt}
+use Rattle.turns.specs.Turns.{far, sinkAt}
 use Rattle.turns.specs.TurnLaws.{its-turn}
 use Rattle.goals.specs.Goals.{Site, Trial, found, failed, full, routeToTree}
-use Rattle.branches.specs.Branches.{branchOf, allButLast, inserted, SheetOrder, LengthsOf}
+use Rattle.branches.specs.Branches.{branchOf, allButLast, inserted}
 use Rattle.branches.specs.BranchLaws.{branch-some, branch-short, branch-cells, but-last-in, joined-none, joined-set, order-kept, behind-kept, inserted-long, lengths-set}
-use Rattle.multinet.specs.Tree.{Plot, Tree, Growth, grown, stopped, tapAt, siteOf, withBranch, fitsIn, afterSink, growSink, growOn, growFrom, growthOf}
+use Rattle.multinet.specs.Tree.{Plot, Tree, grown, stopped, tapAt, siteOf, withBranch, afterSink, growSink, growOn, growFrom, growthOf}
 use Rattle.multinet.specs.StepLaws.{Steps, branch-steps}
 use Rattle.multinet.specs.Growing.{Sound, Way, turnIn, branchIn, Sprouted, Growing}
 

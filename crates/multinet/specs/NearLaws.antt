@@ -1,27 +1,24 @@
 -- A sink's terminal is its approach, or one step from it.
-use mathlib.Core.Path.{_≡_, refl, sym, _∙_}
-use mathlib.Core.Logic.{_⊎_, inl, inr}
+use mathlib.Core.Path.{_≡_, refl}
+use mathlib.Core.Logic.{inl, inr}
 use mathlib.Core.Bool.{Bool}
 use Prim.Native.Nat.{ℕ, _<_}
 use lib.Dec.{eqb}
 use lib.ListN.{getD}
 use Rattle.basics.specs.Tests.{ask}
 use Rattle.room.specs.declared.Room.{Room}
-use Rattle.room.specs.declared.Neighbour.{Neighbour}
 use Rattle.room.specs.declared.Neighbour.the-variants.{Inside}
 use Rattle.room.specs.Room.{Good, Within, volume}
 use Rattle.room.specs.Units.{wire, facingHorizontal, facingMove, ahead}
 use Rattle.room.specs.MoveLaws.{facing-in}
 use Rattle.port_realization.specs.declared.Realized.{Realized}
 use Rattle.port_realization.specs.Ports.{approachOf}
-use Rattle.port_realization.specs.PortLaws.{Ends, ends}
+use Rattle.port_realization.specs.PortLaws.{ends}
 use Rattle.job_sheet.specs.declared.Endpoint.{Endpoint}
 use Rattle.job_sheet.specs.declared.Sinks.{Sinks}
 use Rattle.ends.specs.declared.Fault.the-variants as fault
-use Rattle.ends.specs.declared.Tap.{Tap}
 use Rattle.ends.specs.Ends.{sinksIn, sinkAt, noTap, tapFrom, tapOf, tapsOf, faultOf}
 use Rattle.ends.specs.EndLaws.{SinksWithin, tap-at}
-use Rattle.repeaters.specs.Joins.{Step}
 use Rattle.multinet.specs.StepLaws.{step-back, Near}
 
 module _ {R : Room} (G : Good R) where

@@ -1,36 +1,30 @@
 -- Laws of a sink's turn: what its functions ask, and what they come to.
 use mathlib.Core.Path.{_≡_, refl, sym, ap, _∙_}
-use mathlib.Core.List.{List, [], _∷_, _++_}
-use Prim.Native.Nat.{ℕ, zero, suc, _+_, _*_, _≤_, _<_}
+use mathlib.Core.List.{List, [], _∷_}
+use Prim.Native.Nat.{ℕ, zero, suc, _*_, _≤_, _<_}
 use native.Mathlib.Omega.{arith}
-use lib.ListN.{length, getD, take, set}
+use lib.ListN.{length, getD, take}
 use lib.Seq.{take-length}
-use Rattle.room.specs.declared.Room.{Room}
-use Rattle.room.specs.declared.RouterConfig.{RouterConfig}
 use Rattle.room.specs.declared.Neighbour.the-variants.{Inside, Outside}
-use Rattle.room.specs.Room.{volume}
-use Rattle.routing.specs.Routing.{graphOf}
-use Rattle.routing.specs.Steps.{placesOf}
-use Rattle.job_sheet.specs.Sheet.{joined, maxSinks}
-use Rattle.ends.specs.declared.Taps.{Taps}
-use Rattle.ends.specs.Ends.{noTap}
+use Rattle.room_search.specs.Routing.{graphOf}
+use Rattle.job_sheet.specs.Sheet.{joined}
 use Rattle.goals.specs.declared.Tried.{Tried}
 use Rattle.goals.specs.declared.Tried.the-variants.{Found, Failed, Full}
 use Rattle.room.specs.declared.Cost.{Cost}
-use Rattle.goals.specs.Goals.{Trial, found, failed, full, routeToTree}
+use Rattle.goals.specs.Goals.{Trial, found, routeToTree}
 use Rattle.goals.specs.Trials.{Tells, told, Grounds}
 use Rattle.goals.specs.RouteLaws.{tree-joins, joins-lawful, joins-cells, joins-short, joins-steps}
 use Rattle.branches.specs.declared.BranchLengths.{BranchLengths}
-use Rattle.branches.specs.Branches.{branchOf, total, Short}
+use Rattle.branches.specs.Branches.{total, Short}
 use Rattle.branches.specs.BranchLaws.{joined-place, place-within}
 use Rattle.multinet.specs.declared.Turned.{Turned}
-use Rattle.multinet.specs.declared.Turned.the-variants.{Grown, Skipped, QueueFull, NoGoal, NoRoom}
-use Rattle.multinet.specs.Adding.{BranchAdded, before-sink, used-by, Placeable, BranchPlaced, no-room, placed}
-use Rattle.multinet.specs.Tree.{Plot, Tree, tapAt, siteOf, stopped, growthOf}
+use Rattle.multinet.specs.declared.Turned.the-variants.{Skipped, QueueFull, NoGoal}
+use Rattle.multinet.specs.Adding.{before-sink, used-by, Placeable, BranchPlaced, no-room, placed}
+use Rattle.multinet.specs.Tree.{Plot, tapAt, siteOf}
 use Rattle.multinet.specs.StepLaws.{stepping-steps}
-use Rattle.multinet.specs.Growing.{Sound, Way, branchIn, Sprouted, Growing}
+use Rattle.multinet.specs.Growing.{Sound, Way, branchIn, Growing}
 use Rattle.multinet.specs.GrowingLaws.{way-some, sinkNow, sink-now, no-sink, sink-fails, sink-full, sink-no-room, sink-grows}
-use Rattle.multinet.specs.Sinks.{Findable, plotOf, Turnable, Came, TurnCame}
+use Rattle.multinet.specs.Sinks.{Findable, Turnable, TurnCame}
 
 -- sixteen branches of at most so many cells
 total-most : (each : List ℕ) (n : ℕ) → ((i : ℕ) → i < n → getD each i 0 ≤ 16385) → total (take n each) ≤ n * 16385

@@ -8,7 +8,7 @@ use lib.ListN.{length, set}
 use Rattle.room.specs.declared.Room.{Room}
 use Rattle.room.specs.declared.RouterConfig.{RouterConfig}
 use Rattle.room.specs.Room.{volume}
-use Rattle.routing.specs.Steps.{placesOf}
+use Rattle.room_search.specs.Steps.{placesOf}
 use Rattle.job_sheet.specs.Sheet.{maxSinks}
 use Rattle.ends.specs.declared.Taps.{Taps}
 use Rattle.goals.specs.Goals.{Site}
@@ -19,7 +19,7 @@ use Rattle.multinet.specs.declared.Turned.the-variants.{Grown, Skipped, 
 use Rattle.multinet.specs.declared.Growth.{Growth}
 use Rattle.routing_resources.specs.Marks.{markedBy, noMarks}
 use Rattle.geometry.specs.Geometry.{Marks}
-use Rattle.multinet.specs.Tree.{Plot, Tree, grown, stopped, growthOf}
+use Rattle.multinet.specs.Tree.{Plot, stopped, growthOf}
 use Rattle.multinet.specs.Growing.{Sound, Growing}
 
 -- marks that joinable and blocked cells may have, and work memory of exactly V cells, whatever it holds

@@ -1,5 +1,5 @@
 -- A branch goes by steps, as the path that it was made of does the other way round.
-use mathlib.Core.Path.{_≡_, refl, sym, ap, _∙_}
+use mathlib.Core.Path.{_≡_}
 use mathlib.Core.Logic.{_⊎_, inl, inr}
 use mathlib.Core.List.{List, [], _∷_, _++_, reverse, reverse-cons, append-nil}
 use Prim.Native.Nat.{ℕ, zero, suc, _+_, _<_}
@@ -7,11 +7,10 @@ use native.Mathlib.Nat.{suc-add}
 use native.Mathlib.Omega.{arith}
 use lib.Dec.{eqb}
 use lib.ListN.{length, getD}
-use borrow.Author.Tests.{eqb-true, eqb-false}
+use borrow.Author.Tests.{eqb-false}
 use Rattle.basics.specs.Tests.{ask}
 use Rattle.room.specs.declared.Room.{Room}
-use Rattle.room.specs.declared.Neighbour.the-variants.{Inside}
-use Rattle.room.specs.Room.{Good, volume}
+use Rattle.room.specs.Room.{Good}
 use Rattle.room.specs.MoveLaws.{opposite, opposite-in, symmetric, leads}
 use Rattle.ends.specs.declared.Tap.{Tap}
 use Rattle.branches.specs.Branches.{branchOf}

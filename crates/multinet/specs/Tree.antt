@@ -1,10 +1,10 @@
 -- "The tree of one net" of the requirement, from the outset to the repeaters: a tree grows by one branch a sink. Definitions alone; their laws are in
 -- the files named Laws.
 use mathlib.Core.Bool.{Bool, _||_}
-use mathlib.Core.List.{List, [], _∷_}
+use mathlib.Core.List.{List, []}
 use Prim.Native.Nat.{ℕ, zero, suc, _+_}
 use lib.Dec.{leb, eqb}
-use lib.ListN.{length, getD, take, set, replicate}
+use lib.ListN.{length, getD, set, replicate}
 use Rattle.basics.specs.Tests.{either}
 use Rattle.basics.specs.Lists.{any}
 use Rattle.room.specs.declared.Room.{Room}
@@ -17,7 +17,7 @@ use Rattle.routing_resources.specs.Resources.{isClearance}
 use Rattle.job_sheet.specs.Sheet.{joined}
 use Rattle.ends.specs.declared.Tap.{Tap}
 use Rattle.ends.specs.declared.Taps.{Taps}
-use Rattle.ends.specs.Ends.{noTap}
+use Rattle.ends.specs.Ends.{noTap, tapsIn}
 use Rattle.geometry.specs.Geometry.{standsIn}
 use Rattle.turns.specs.Turns.{far, sinkAt}
 use Rattle.goals.specs.Goals.{Site, Trial, found, failed, full, routeToTree}
@@ -48,9 +48,6 @@ pub data Growth : Type 0 where
 
 abbrev pub tapAt : Plot → ℕ → Tap
 tapAt P k = getD (P .taps .taps) k noTap
-
-abbrev pub tapsOf : Plot → List Tap
-tapsOf P = take (P .taps .count) (P .taps .taps)
 
 -- the source terminal is joinable and occupied from the outset
 unfoldable pub planted : Plot → List ℕ → Tree
@@ -107,10 +104,10 @@ abbrev pub endAt : ℕ → Tap → Bool
 endAt v t = eqb (t .terminal) v || eqb (t .approach) v
 
 unfoldable pub isEnd : ℕ → Taps → ℕ → Bool
-isEnd source k v = eqb source v || any (endAt v) (take (k .count) (k .taps))
+isEnd source k v = eqb source v || any (endAt v) (tapsIn k)
 
 abbrev pub endMarks : Room → ℕ → Taps → List ℕ
 endMarks R source k = markedBy (isEnd source k) (noMarks (volume R))
 
 unfoldable pub repeatersOf : Plot → Tree → List ℕ
-repeatersOf P T = repeaterMarks (P .room) (P .source) (tapsOf P) (T .branches) (endMarks (P .room) (P .source) (P .taps))
+repeatersOf P T = repeaterMarks (P .room) (P .source) (tapsIn (P .taps)) (T .branches) (endMarks (P .room) (P .source) (P .taps))

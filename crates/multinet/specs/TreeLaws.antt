@@ -1,35 +1,30 @@
 -- Laws of the whole growth: how the loop over the turns begins, goes on and ends.
 use mathlib.Core.Path.{_≡_, refl, sym, ap, _∙_}
-use mathlib.Core.Bool.{Bool, true, false}
-use mathlib.Core.List.{List, [], _∷_}
-use Prim.Native.Nat.{ℕ, zero, suc, _+_, _-_, _≤_, _<_}
+use mathlib.Core.Bool.{true, false}
+use mathlib.Core.List.{List, []}
+use Prim.Native.Nat.{ℕ, _+_, _-_, _≤_, _<_}
 use native.Mathlib.Omega.{arith}
 use lib.Dec.{eqb, ltb}
-use lib.ListN.{length, getD, set, replicate, length-replicate, getD-replicate, List·getD-eq-default}
+use lib.ListN.{length, replicate, length-replicate, getD-replicate, List·getD-eq-default}
 use borrow.Author.Tests.{eqb-true, ltb-true, ltb-false}
 use Rattle.basics.specs.Tests.{ask, never}
-use Rattle.room.specs.declared.Room.{Room}
+use Rattle.basics.specs.Zeros.{zeros}
 use Rattle.room.specs.Room.{volume}
 use Rattle.routing_resources.specs.Marks.{markedBy, noMarks, isMarked}
 use Rattle.routing_resources.specs.MarkLaws.{with-length, with-none, marked-after}
-use Rattle.job_sheet.specs.Sheet.{joined, maxSinks}
-use Rattle.geometry.specs.Geometry.{standsIn, NoPair, Marks}
+use Rattle.job_sheet.specs.Sheet.{joined}
+use Rattle.geometry.specs.Geometry.{standsIn, Marks}
 use Rattle.geometry.specs.GeometryLaws.{no-pair-one, marks-none, marks-with}
 use Rattle.goals.specs.Trials.{Memory}
 use Rattle.branches.specs.declared.BranchLengths.{BranchLengths}
 use Rattle.branches.specs.BranchLaws.{order-first, lengths-first, joined-nothing}
 use Rattle.multinet.specs.declared.Turned.{Turned}
 use Rattle.multinet.specs.declared.Turned.the-variants.{Grown, Skipped, QueueFull, NoGoal, NoRoom}
-use Rattle.multinet.specs.Tree.{Plot, Tree, planted, growFrom, growthOf}
-use Rattle.multinet.specs.Growing.{Sound, branchIn, Sprouted, Growing}
+use Rattle.multinet.specs.Tree.{Plot, planted, growFrom, growthOf}
+use Rattle.multinet.specs.Growing.{Sound, Sprouted, Growing}
 use Rattle.multinet.specs.Sinks.{Turnable, Came, TurnCame, stopsBy, Recordable, eachBy, recordedBy, Plantable, Turning, Ended, GrowthTold}
 
 -- ---- the outset
-
-getD-zeros : (n i : ℕ) → _≡_ {A = ℕ} (getD (replicate n 0) i 0) 0
-getD-zeros zero i = refl
-getD-zeros (suc n) zero = refl
-getD-zeros (suc n) (suc i) = getD-zeros n i
 
 stands-none : (v : ℕ) → standsIn [] v ≡ false
 unfolding standsIn
@@ -91,7 +86,7 @@ module _ {P : Plot} {joinable blocked classes known previous path best : List �
         lengths-are = lengths-first (P .taps .count) 16 (A .sound .net .few);
         each-long = refl;
         each-short = λ i h. rw (getD-replicate {A = ℕ} 16 i 0 0 h) (omega arith);
-        each-none = λ i h. getD-zeros 16 i;
+        each-none = λ i h. zeros 16 i;
       }
 
   pub first-turn : (branches : List ℕ) → P .buffer ≡ length branches → Turning P blocked branches 0 (record { count = P .taps .count; each = replicate 16 0 }) joinable blocked branches

@@ -8,6 +8,7 @@ use lib.Dec.{leb, ltb}
 use lib.ListN.{length, replicate}
 use Rattle.basics.specs.Tests.{either}
 use Rattle.basics.specs.Lists.{every}
+use Rattle.lent.specs.Lent.{outputAfter, workAfter}
 use Rattle.room.specs.declared.Room.{Room}
 use Rattle.room.specs.Room.{volume}
 use Rattle.job_sheet.specs.declared.Reading.{Reading}
@@ -124,30 +125,20 @@ abbrev pub repeaterMarks : Outcome → List ℕ
 repeaterMarks (routed bs occupied repeaters) = repeaters
 repeaterMarks (refused number detail) = []
 
--- "7 to 15 leave every lent writable buffer zero. A success writes the answer, zeros behind it, and zeroes work memory."
-abbrev pub filled : List ℕ → List ℕ → List ℕ
-filled cells buffer = cells ++ replicate (length buffer - length cells) 0
-
-abbrev pub outputAfter : Outcome → List ℕ → List ℕ → List ℕ
-outputAfter o cells buffer = either (touches o) (filled cells buffer) buffer
-
-abbrev pub workAfter : Outcome → List ℕ → List ℕ
-workAfter o buffer = either (touches o) (replicate (length buffer) 0) buffer
-
 abbrev pub lentAfter : Outcome → Lent → Lent
 lentAfter o B = record {
-  branches = outputAfter o (branchCells o) (B .branches);
-  occupied = outputAfter o (occupiedMarks o) (B .occupied);
-  repeaters = outputAfter o (repeaterMarks o) (B .repeaters);
-  kinds = workAfter o (B .kinds);
-  blocked = workAfter o (B .blocked);
-  classes = workAfter o (B .classes);
-  joinable = workAfter o (B .joinable);
-  known = workAfter o (B .known);
-  previous = workAfter o (B .previous);
-  path = workAfter o (B .path);
-  best = workAfter o (B .best);
-  queue = workAfter o (B .queue);
+  branches = outputAfter (touches o) (branchCells o) (B .branches);
+  occupied = outputAfter (touches o) (occupiedMarks o) (B .occupied);
+  repeaters = outputAfter (touches o) (repeaterMarks o) (B .repeaters);
+  kinds = workAfter (touches o) (B .kinds);
+  blocked = workAfter (touches o) (B .blocked);
+  classes = workAfter (touches o) (B .classes);
+  joinable = workAfter (touches o) (B .joinable);
+  known = workAfter (touches o) (B .known);
+  previous = workAfter (touches o) (B .previous);
+  path = workAfter (touches o) (B .path);
+  best = workAfter (touches o) (B .best);
+  queue = workAfter (touches o) (B .queue);
 }
 
 -- the promise of `route_net_tree`

@@ -1,12 +1,16 @@
 -- What the contracts of the entry's parts cite.
 use mathlib.Core.Path.{_≡_}
-use mathlib.Core.Bool.{true}
 use mathlib.Core.List.{List, _++_}
 use Prim.Native.Nat.{ℕ, _<_}
 use lib.ListN.{length, drop, replicate}
+use mathlib.Core.Bool.{Bool, true, false}
+use Rattle.lent.specs.Lent.{filled}
+use Rattle.multinet.specs.declared.Growth.{Growth}
+use Rattle.multinet.specs.declared.Turned.the-variants.{Grown, Skipped, QueueFull, NoGoal, NoRoom}
+use Rattle.multinet.specs.declared.Turned.{Turned}
 use Rattle.room.specs.declared.Room.{Room}
 use Rattle.room.specs.Room.{volume}
-use Rattle.routing.specs.Steps.{placesOf}
+use Rattle.room_search.specs.Steps.{placesOf}
 use Rattle.routing_resources.specs.Marks.{noMarks}
 use Rattle.geometry.specs.Geometry.{Marks}
 use Rattle.job_sheet.specs.declared.Job.{Job}
@@ -24,7 +28,7 @@ use Rattle.multinet.specs.Finishing.{Finishable, Finished}
 use Rattle.net_tree.specs.declared.Answer.{Answer}
 use Rattle.net_tree.specs.declared.Ended.{Ended}
 use Rattle.net_tree.specs.declared.Ended.the-variants.{Routed, Refused}
-use Rattle.net_tree.specs.Answers.{Lent, lengthsOf, buffersGood, Outcome, routed, refused, outcomeOf, jobOutcome, answerOf, filled}
+use Rattle.net_tree.specs.Answers.{Lent, lengthsOf, buffersGood, Outcome, routed, refused, outcomeOf, jobOutcome, answerOf}
 
 -- what the outputs hold: the answer and zeros behind it; after a number, whatever it was that they held when it was due
 abbrev pub Written : Outcome → (branches branches′ occupied′ repeaters′ : List ℕ) → Type 0
@@ -41,6 +45,31 @@ pub record Harvestable (R : Room) (source : ℕ) (taps : Taps) (L : BranchLength
 pub record Harvested (R : Room) (source : ℕ) (taps : Taps) (L : BranchLengths) (branches : List ℕ) (r : Answer) (occupied repeaters : List ℕ) : Type 0 where
   pub answer : r ≡ record { ended = Routed (markedCount occupied) (markedCount repeaters); lengths = L }
   pub finished : Finished R source taps L branches occupied repeaters
+
+-- every sink has its branch
+abbrev pub isWhole : Turned → Bool
+isWhole (Grown k n) = false
+isWhole Skipped = true
+isWhole (QueueFull x) = false
+isWhole (NoGoal cell) = false
+isWhole (NoRoom place) = false
+
+-- the number that ended the growth
+abbrev pub refusedBy : Turned → Outcome
+refusedBy (Grown k n) = refused 0 0
+refusedBy Skipped = refused 0 0
+refusedBy (QueueFull x) = refused 13 (x .0)
+refusedBy (NoGoal cell) = refused 14 cell
+refusedBy (NoRoom place) = refused 15 place
+
+-- a growth that can be harvested if it is whole
+pub record Gatherable (R : Room) (source : ℕ) (taps : Taps) (g : Growth) (branches occupied repeaters classes known previous path : List ℕ) : Type 0 where
+  pub harvestable : isWhole (g .ended) ≡ true → Harvestable R source taps (g .lengths) branches occupied repeaters classes known previous path
+
+-- the harvest of a whole tree, or a refusal
+pub data Gathered (R : Room) (source : ℕ) (taps : Taps) (g : Growth) (branches : List ℕ) (r : Answer) (occupied repeaters : List ℕ) : Type 0 where
+  ended-early : isWhole (g .ended) ≡ false → r ≡ answerOf (refusedBy (g .ended)) → Gathered R source taps g branches r occupied repeaters
+  in-whole : isWhole (g .ended) ≡ true → Harvested R source taps (g .lengths) branches r occupied repeaters → Gathered R source taps g branches r occupied repeaters
 
 -- a plot that no number refuses, these cells blocked, cleared outputs, and work memory of exactly V cells
 pub record Growable (P : Plot) (B : Lent) : Type 0 where
@@ -106,10 +135,6 @@ pub record FrontRouted (sheet : List ℕ) (job : Job) (B : Lent) (r : Answer) (b
   pub is-routed : JobRouted sheet B r branches′ occupied-front repeaters-front
   pub occupied-is : occupied′ ≡ occupied-front ++ drop (volume (job .room)) (B .occupied)
   pub repeaters-is : repeaters′ ≡ repeaters-front ++ drop (volume (job .room)) (B .repeaters)
-
--- all zero, to its very end
-abbrev pub Emptied : List ℕ → List ℕ → Type 0
-Emptied before after = after ≡ replicate (length before) 0
 
 -- an output that a refusal leaves all zero
 abbrev pub settledBy : Ended → List ℕ → List ℕ

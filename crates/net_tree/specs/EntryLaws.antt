@@ -3,7 +3,7 @@ use mathlib.Core.Path.{_≡_, refl, sym, ap, _∙_}
 use mathlib.Core.Logic.{inl, inr}
 use mathlib.Core.Bool.{true}
 use mathlib.Core.List.{List, [], _∷_, _++_}
-use Prim.Native.Nat.{ℕ, zero, suc, _/_, _≤_, _<_}
+use Prim.Native.Nat.{ℕ, _/_, _≤_, _<_}
 use native.Mathlib.Omega.{arith}
 use lib.Dec.{leb}
 use lib.ListN.{length, take, drop, replicate, length-append, length-drop}
@@ -11,6 +11,7 @@ use lib.Seq.{length-take-le}
 use borrow.Author.Tests.{leb-true}
 use Rattle.basics.specs.Tests.{and-left, and-right}
 use Rattle.basics.specs.Lists.{In, every, every-in}
+use Rattle.basics.specs.Zeros.{take-zeros}
 use Rattle.room.specs.declared.Room.{Room}
 use Rattle.room.specs.Room.{volume}
 use Rattle.routing_resources.specs.Marks.{noMarks}
@@ -59,11 +60,6 @@ roomy R L e =
       best-room = fit _ (inr (inr (inr (inr (inr (inr (inr (inr (inr (inl refl))))))))));
       places-some = leb-true 1 (L .queue / 2) (and-right all (leb 1 (L .queue / 2)) e);
     }
-
-pub take-zeros : (n m : ℕ) → n ≤ m → take {A = ℕ} n (replicate m 0) ≡ replicate n 0
-take-zeros zero m h = refl
-take-zeros (suc n) zero h = absurd (omega arith)
-take-zeros (suc n) (suc m) h = ap (λ l. 0 ∷ l) (take-zeros n m (omega arith))
 
 module _ {sheet : List ℕ} {job : Job} {B : Lent} (A : Lendable sheet job B) where
   pub enough : Roomy (volume (job .room)) (lengthsOf B)

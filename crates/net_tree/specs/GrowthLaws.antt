@@ -7,9 +7,11 @@ use lib.Dec.{eqb, ltb}
 use lib.ListN.{length, getD, drop, replicate, length-append, length-map, length-replicate, take-append-drop}
 use lib.Seq.{ext-getD}
 use borrow.Author.Tests.{ltb-true, ltb-false}
-use Rattle.basics.specs.Tests.{ask}
+use Rattle.basics.specs.Tests.{ask, never}
+use Rattle.basics.specs.Zeros.{drop-zeros}
+use mathlib.Core.Bool.{true, false}
+use Rattle.lent.specs.Lent.{filled}
 use Rattle.room.specs.declared.Room.{Room}
-use Rattle.room.specs.declared.Nodes.{Nodes}
 use Rattle.routing_resources.specs.Marks.{markedBy, noMarks}
 use Rattle.job_sheet.specs.Sheet.{joined, maxSinks}
 use Rattle.ends.specs.declared.Taps.{Taps}
@@ -24,15 +26,10 @@ use Rattle.multinet.specs.Sinks.{Plantable, Ended, GrowthTold}
 use Rattle.multinet.specs.Finishing.{Holds, Finishable}
 use Rattle.net_tree.specs.declared.Answer.{Answer}
 use Rattle.net_tree.specs.declared.Ended.the-variants.{Routed}
-use Rattle.net_tree.specs.Answers.{Lent, refused, outcomeOf, branchLengths, answerOf, filled}
-use Rattle.net_tree.specs.Entry.{Harvestable, Harvested, Growable, TreeGrown}
+use Rattle.net_tree.specs.Answers.{Lent, refused, outcomeOf, branchLengths, answerOf}
+use Rattle.net_tree.specs.Entry.{Harvestable, Harvested, Growable, TreeGrown, isWhole, refusedBy, Gatherable, Gathered, ended-early, in-whole}
 
 -- ---- lists
-
-pub drop-zeros : (n m : ℕ) → drop {A = ℕ} n (replicate m 0) ≡ replicate (m - n) 0
-drop-zeros zero m = let e : m - 0 ≡ m = omega arith in rw e
-drop-zeros (suc n) zero = let e : 0 - suc n ≡ 0 = omega arith in rw e
-drop-zeros (suc n) (suc m) = let e : suc m - suc n ≡ m - n = omega arith in drop-zeros n m ∙ ap (λ k. replicate k 0) (sym e)
 
 map-at : (bs : List (List ℕ)) (tail : List ℕ) (i : ℕ) → i < length bs → getD (map length bs ++ tail) i 0 ≡ length (getD bs i [])
 map-at [] tail i h = absurd (omega arith)
@@ -59,6 +56,13 @@ same-answer o p l = λ i. record { ended = Routed (markedCount (o i)) (markedCou
 
 -- ---- growing
 
+whole-skipped : (t : Turned) → isWhole t ≡ true → t ≡ Skipped
+whole-skipped (Grown k n) e = never cc
+whole-skipped Skipped e = refl
+whole-skipped (QueueFull x) e = never cc
+whole-skipped (NoGoal cell) e = never cc
+whole-skipped (NoRoom place) e = never cc
+
 module _ {P : Plot} {B : Lent} (A : Growable P B) where
   pub plantable : {joinable : List ℕ} → joinable ≡ markedBy (eqb (P .source)) (noMarks (length (B .joinable)))
       → Plantable P joinable (B .blocked) (B .classes) (B .known) (B .previous) (B .path) (B .best)
@@ -80,18 +84,13 @@ module _ {P : Plot} {B : Lent} (A : Growable P B) where
     told-as : {t : Turned} → g .ended ≡ t → Ended P (B .blocked) (B .branches) (g .lengths) joinable blocked branches t
     told-as e = rw (← e) (T .told)
 
-    module _ {r : Answer} {branches′ occupied′ repeaters′ : List ℕ} where
-      pub queue-full : {x : Nodes} → g .ended ≡ QueueFull x → r ≡ answerOf (refused 13 (x .0)) → TreeGrown P B r branches′ occupied′ repeaters′
-      queue-full e a = stopped-grown (told-as e) (omega arith) a
-
-      pub no-goal : {cell : ℕ} → g .ended ≡ NoGoal cell → r ≡ answerOf (refused 14 cell) → TreeGrown P B r branches′ occupied′ repeaters′
-      no-goal e a = stopped-grown (told-as e) (omega arith) a
-
-      pub no-room : {place : ℕ} → g .ended ≡ NoRoom place → r ≡ answerOf (refused 15 place) → TreeGrown P B r branches′ occupied′ repeaters′
-      no-room e a = stopped-grown (told-as e) (omega arith) a
-
-      pub never-one : {k n : ℕ} → g .ended ≡ Grown k n → TreeGrown P B r branches′ occupied′ repeaters′
-      never-one e = absurd (told-as e)
+    refused-grown : (t : Turned) → g .ended ≡ t → isWhole t ≡ false → {r : Answer} → r ≡ answerOf (refusedBy t) → {branches′ occupied′ repeaters′ : List ℕ}
+        → TreeGrown P B r branches′ occupied′ repeaters′
+    refused-grown (Grown k n) e f a = absurd (told-as e)
+    refused-grown Skipped e f a = never cc
+    refused-grown (QueueFull x) e f a = stopped-grown (told-as e) (omega arith) a
+    refused-grown (NoGoal cell) e f a = stopped-grown (told-as e) (omega arith) a
+    refused-grown (NoRoom place) e f a = stopped-grown (told-as e) (omega arith) a
 
     module _ (e : g .ended ≡ Skipped) where
       abbrev all-in : Growing P (B .blocked) (B .branches) (P .taps .count) joinable blocked branches (g .lengths .each)
@@ -110,7 +109,7 @@ module _ {P : Plot} {B : Lent} (A : Growable P B) where
       holds : Holds (P .room) (g .lengths) branches bs
       holds = record { in-order = all-in .in-order; lengths-are = all-in .lengths-are; count-is = count-is }
 
-      pub harvestable : {classes known previous path : List ℕ} → length classes ≡ length (B .classes) → length known ≡ length (B .known)
+      harvestable : {classes known previous path : List ℕ} → length classes ≡ length (B .classes) → length known ≡ length (B .known)
           → length previous ≡ length (B .previous) → length path ≡ length (B .path)
           → Harvestable (P .room) (P .source) (P .taps) (g .lengths) branches (B .occupied) (B .repeaters) classes known previous path
       harvestable cl kn pr pa = record {
@@ -155,7 +154,7 @@ module _ {P : Plot} {B : Lent} (A : Growable P B) where
           sym (take-append-drop (length (joined bs)) branches)
           ∙ rw (all-in .in-order .in-order, all-in .behind) (ap (λ l. joined bs ++ drop (length (joined bs)) l) (A .branches-clear) ∙ ap (λ l. joined bs ++ l) (drop-zeros (length (joined bs)) (length (B .branches))))
 
-      pub harvested : {r : Answer} {occupied repeaters : List ℕ} → Harvested (P .room) (P .source) (P .taps) (g .lengths) branches r occupied repeaters
+      harvested : {r : Answer} {occupied repeaters : List ℕ} → Harvested (P .room) (P .source) (P .taps) (g .lengths) branches r occupied repeaters
           → TreeGrown P B r branches occupied repeaters
       unfolding repeatersOf
       harvested {occupied = occupied} {repeaters = repeaters} H =
@@ -165,3 +164,15 @@ module _ {P : Plot} {B : Lent} (A : Growable P B) where
             answer = H .answer ∙ same-answer o p lengths-are ∙ ap (λ x. answerOf (outcomeOf P x)) (sym grown-is);
             outputs = rw grown-is (branches-are, o, p);
           }
+
+    -- ---- both
+
+    pub gatherable : {classes known previous path : List ℕ} → length classes ≡ length (B .classes) → length known ≡ length (B .known)
+        → length previous ≡ length (B .previous) → length path ≡ length (B .path)
+        → Gatherable (P .room) (P .source) (P .taps) g branches (B .occupied) (B .repeaters) classes known previous path
+    gatherable cl kn pr pa = record { harvestable = λ w. harvestable (whole-skipped (g .ended) w) cl kn pr pa }
+
+    pub gathered : {r : Answer} {occupied repeaters : List ℕ} → Gathered (P .room) (P .source) (P .taps) g branches r occupied repeaters
+        → TreeGrown P B r branches occupied repeaters
+    gathered (ended-early f a) = refused-grown (g .ended) refl f a
+    gathered (in-whole w H) = harvested (whole-skipped (g .ended) w) H

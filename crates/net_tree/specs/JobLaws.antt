@@ -8,7 +8,7 @@ use lib.ListN.{length, length-replicate}
 use lib.Seq.{length-take-le}
 use Rattle.basics.specs.Tests.{never}
 use Rattle.room.specs.Room.{volume}
-use Rattle.routing.specs.Steps.{placesOf}
+use Rattle.room_search.specs.Steps.{placesOf}
 use Rattle.routing_resources.specs.Marks.{noMarks}
 use Rattle.routing_resources.specs.MarkLaws.{with-length}
 use Rattle.job_sheet.specs.declared.Job.{Job}

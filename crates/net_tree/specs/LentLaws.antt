@@ -7,6 +7,8 @@ use native.Mathlib.Omega.{arith}
 use lib.ListN.{length, drop, replicate, length-append, length-drop, length-replicate}
 use borrow.Author.Tests.{lt-ltb}
 use Rattle.basics.specs.Tests.{never}
+use Rattle.basics.specs.Zeros.{drop-zeros}
+use Rattle.lent.specs.Lent.{filled, outputAfter, workAfter, Emptied}
 use Rattle.room.specs.Room.{volume}
 use Rattle.job_sheet.specs.declared.Job.{Job}
 use Rattle.job_sheet.specs.declared.Reading.{Reading}
@@ -16,10 +18,9 @@ use Rattle.job_sheet.specs.Sheet.{Read, isGood, numberOf, joined}
 use Rattle.job_sheet.specs.Accepted.{Accepted}
 use Rattle.job_sheet.specs.Theorems.{sound, usable}
 use Rattle.net_tree.specs.declared.Answer.{Answer}
-use Rattle.net_tree.specs.Answers.{Lent, lent, lengthsOf, buffersGood, Outcome, routed, refused, jobOutcome, Comes, unread, unlent, set-out, answerOf, touches, branchCells, occupiedMarks, repeaterMarks, filled, outputAfter, workAfter, lentAfter, Promise}
-use Rattle.net_tree.specs.Entry.{Written, Lendable, Cleared, FrontRouted, Emptied, settledBy}
+use Rattle.net_tree.specs.Answers.{Lent, lent, lengthsOf, buffersGood, Outcome, routed, refused, jobOutcome, Comes, unread, unlent, set-out, answerOf, touches, branchCells, occupiedMarks, repeaterMarks, lentAfter, Promise}
+use Rattle.net_tree.specs.Entry.{Written, Lendable, Cleared, FrontRouted, settledBy}
 use Rattle.net_tree.specs.EntryLaws.{enough}
-use Rattle.net_tree.specs.GrowthLaws.{drop-zeros}
 
 -- ---- cleared outputs
 
@@ -87,7 +88,7 @@ module _ {sheet : List ℕ} {job : Job} {B : Lent} (A : Lendable sheet job B) {b
 
     -- a refusal leaves zeros
     refused-after : {number : ℕ} → 6 < number → (buffer mid : List ℕ) {zeros : List ℕ} → length mid ≡ length zeros → Emptied buffer zeros
-        → replicate (length mid) 0 ≡ outputAfter (refused number 0) [] buffer
+        → replicate (length mid) 0 ≡ outputAfter (touches (refused number 0)) [] buffer
     refused-after {number = number} h buffer mid k e =
         let z : length buffer - 0 ≡ length mid = omega (arith, k, emptied-long buffer e) in
         rw (lt-ltb 6 number h) (ap (λ n. replicate n 0) (sym z))
@@ -95,9 +96,9 @@ module _ {sheet : List ℕ} {job : Job} {B : Lent} (A : Lendable sheet job B) {b
     module _ {branches″ occupied″ repeaters″ : List ℕ}
         (sb : branches″ ≡ settledBy (r .ended) branches′) (so : occupied″ ≡ settledBy (r .ended) occupied′) (sr : repeaters″ ≡ settledBy (r .ended) repeaters′) where
       pub record Outputs (o : Outcome) : Type 0 where
-        branches-are : branches″ ≡ outputAfter o (branchCells o) (B .branches)
-        occupied-are : occupied″ ≡ outputAfter o (occupiedMarks o) (B .occupied)
-        repeaters-are : repeaters″ ≡ outputAfter o (repeaterMarks o) (B .repeaters)
+        branches-are : branches″ ≡ outputAfter (touches o) (branchCells o) (B .branches)
+        occupied-are : occupied″ ≡ outputAfter (touches o) (occupiedMarks o) (B .occupied)
+        repeaters-are : repeaters″ ≡ outputAfter (touches o) (repeaterMarks o) (B .repeaters)
 
       outputs : (o : Outcome) → r ≡ answerOf o → Written o branches branches′ (F .occupied-front) (F .repeaters-front) → Outputs o
       outputs (routed bs marks repeating) a w = record {
@@ -115,7 +116,7 @@ module _ {sheet : List ℕ} {job : Job} {B : Lent} (A : Lendable sheet job B) {b
         repeaters-are = sr ∙ ap (λ x. settledBy (x .ended) repeaters′) a ∙ refused-after w (B .repeaters) repeaters′ kr er;
       }
 
-      work-after : (buffer mid : List ℕ) {final : List ℕ} → length mid ≡ length buffer → Emptied mid final → final ≡ workAfter job-outcome buffer
+      work-after : (buffer mid : List ℕ) {final : List ℕ} → length mid ≡ length buffer → Emptied mid final → final ≡ workAfter (touches job-outcome) buffer
       work-after buffer mid k e = e ∙ rw (touched job-outcome (F .is-routed .outputs)) (ap (λ n. replicate n 0) k)
 
       -- work memory that keeps its lengths, and is cleared

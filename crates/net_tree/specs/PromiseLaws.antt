@@ -4,10 +4,11 @@ use mathlib.Core.Bool.{true, false}
 use mathlib.Core.List.{List}
 use Prim.Native.Nat.{ℕ}
 use Rattle.basics.specs.Tests.{never}
+use Rattle.basics.specs.Promises.{Determines}
 use Rattle.job_sheet.specs.declared.Reading.{Reading}
 use Rattle.job_sheet.specs.declared.Verdict.the-variants as verdict
 use Rattle.job_sheet.specs.Sheet.{Contents, Means, Read, judged, isGood}
-use Rattle.job_sheet.specs.Theorems.{one-meaning, one-answer, answers-meaning}
+use Rattle.job_sheet.specs.Theorems.{one-meaning, coincide as one-reading, answers-meaning}
 use Rattle.outset.specs.declared.Outset.{Outset}
 use Rattle.outset.specs.SetOut.{OutsetOf}
 use Rattle.outset.specs.SetOutLaws.{outset-one}
@@ -33,7 +34,7 @@ module _ {sheet : List ℕ} (L : Lengths) where
 -- one outcome comes of a sheet
 module _ {sheet : List ℕ} {L : Lengths} where
   pub comes-one : {o q : Outcome} → Comes sheet L o → Comes sheet L q → o ≡ q
-  comes-one (unread r p f e) (unread s q g d) = e ∙ rw (one-answer sheet r s p q) (sym d)
+  comes-one (unread r p f e) (unread s q g d) = e ∙ rw (one-reading sheet r s p q) (sym d)
   comes-one (unread r p f e) (unlent J m g b d) = clash (sym f ∙ read-good p m g)
   comes-one (unread r p f e) (set-out J m g b O kinds nodes blocked s d) = clash (sym f ∙ read-good p m g)
   comes-one (unlent J m g b e) (unread r p f d) = clash (sym f ∙ read-good p m g)
@@ -43,8 +44,19 @@ module _ {sheet : List ℕ} {L : Lengths} where
   comes-one (set-out J m g b O kinds nodes blocked s e) (unlent K n h c d) = clash (sym c ∙ (rw (one-meaning sheet J K m n) at b))
   comes-one (set-out J m g b O kinds nodes blocked s e) (set-out K n h c Q kinds′ nodes′ blocked′ t d) = e ∙ same-job L m n s t ∙ sym d
 
--- two results that keep the promise coincide: the answer, and every byte of lent memory
-pub coincide : {sheet : List ℕ} {B : Lent} {r s : Answer} {B′ B″ : Lent} → Promise sheet B r B′ → Promise sheet B s B″ → (r ≡ s) × (B′ ≡ B″)
-coincide {B = B} p q =
-    let e = comes-one (p .comes) (q .comes) in
-    (p .answer ∙ ap answerOf e ∙ sym (q .answer), p .lent-is ∙ ap (λ o. lentAfter o B) e ∙ sym (q .lent-is))
+-- ---- two results that keep the promise coincide: the answer, and every byte of lent memory
+
+pub record Result : Type 0 where
+  pub answer : Answer
+  pub lent : Lent
+
+module _ (sheet : List ℕ) (B : Lent) where
+  abbrev pub Keeps : Result → Type 0
+  Keeps R = Promise sheet B (R .answer) (R .lent)
+
+  pub coincide : Determines Keeps
+  coincide x y p q =
+      let e = comes-one (p .comes) (q .comes) in
+      let a = p .answer ∙ ap answerOf e ∙ sym (q .answer) in
+      let b = p .lent-is ∙ ap (λ o. lentAfter o B) e ∙ sym (q .lent-is) in
+      λ i. record { answer = a i; lent = b i }

@@ -7,8 +7,9 @@ use crate::job::route_job;
 use job_sheet::Job;
 use room::Room;
 ghost use mathlib.Core.Path.{_≡_};
+ghost use Rattle.lent.specs.Lent.{Emptied};
 ghost use Rattle.net_tree.specs.Answers.{buffersGood, Promise, lent};
-ghost use Rattle.net_tree.specs.Entry.{Emptied, settledBy, Lendable, Cleared, FrontRouted};
+ghost use Rattle.net_tree.specs.Entry.{settledBy, Lendable, Cleared, FrontRouted};
 ghost use Rattle.room.specs.Room.{Good};
 
 // Whether the lent memory suffices; where it doesn't, number 6 is due.

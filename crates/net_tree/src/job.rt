@@ -4,6 +4,7 @@ use crate::Ended;
 use branches::BranchLengths;
 use ends::Taps;
 use job_sheet::Job;
+use multinet::Growth;
 use multinet::Turned;
 use room::Room;
 use room::RouterConfig;
@@ -14,7 +15,7 @@ ghost use lib.ListN.{length};
 ghost use Rattle.routing_resources.specs.Marks.{markedBy, noMarks};
 ghost use Rattle.net_tree.specs.Answers.{answerOf, refused, lent};
 ghost use Rattle.multinet.specs.Sinks.{plotOf};
-ghost use Rattle.net_tree.specs.Entry.{Harvestable, Harvested, Growable, TreeGrown, Routable, JobRouted};
+ghost use Rattle.net_tree.specs.Entry.{Harvestable, Harvested, isWhole, refusedBy, Gatherable, Gathered, Growable, TreeGrown, Routable, JobRouted};
 
 // A refusal carries no branches.
 pub fn refuse(number: u32, detail: usize) -> Answer
@@ -78,6 +79,70 @@ fn harvest(
     }
 }
 
+// Whether every sink has its branch.
+fn is_whole(ended: Turned) -> bool
+    ensures { λ r. ⌜ r ≡ isWhole ended ⌝ }
+{
+    match ended {
+        Turned::Skipped => true,
+        Turned::Grown { sink: _, length: _ } => false,
+        Turned::QueueFull(_) => false,
+        Turned::NoGoal(_) => false,
+        Turned::NoRoom(_) => false,
+    }
+}
+
+// The number that ended the growth.
+fn refusal_of(ended: Turned) -> Answer
+    ensures { λ r. ⌜ r ≡ answerOf (refusedBy ended) ⌝ }
+{
+    match ended {
+        Turned::QueueFull(expanded) => refuse(13, expanded.0 as usize),
+        Turned::NoGoal(approach) => refuse(14, approach),
+        Turned::NoRoom(place) => refuse(15, place),
+        // growing ends with no single sink's branch, and a whole tree is not refused
+        Turned::Grown { sink: _, length: _ } => refuse(0, 0),
+        Turned::Skipped => refuse(0, 0),
+    }
+}
+
+// What comes of a growth: the harvest of a whole tree, or a refusal.
+fn gather(
+    room: Room,
+    source: usize,
+    taps: Taps,
+    growth: Growth,
+    branches: &[u32],
+    occupied: &mut [u8],
+    repeaters: &mut [u8],
+    classes: &mut [u8],
+    known: &mut [u32],
+    previous: &mut [u32],
+    path: &mut [u32],
+) -> Answer
+    requires { ⌜ Gatherable room source taps growth (now branches) (now occupied) (now repeaters) (now classes) (now known) (now previous) (now path) ⌝ }
+    ensures { λ r. ⌜ Gathered room source taps growth (now (branches .entry)) r (now (occupied .exit)) (now (repeaters .exit)) ⌝ }
+{
+    let ended = growth.ended;
+    if !is_whole(ended) {
+        return refusal_of(ended);
+    }
+    let lengths = growth.lengths;
+    harvest(
+        room,
+        source,
+        taps,
+        lengths,
+        branches,
+        occupied,
+        repeaters,
+        classes,
+        known,
+        previous,
+        path,
+    )
+}
+
 // Grows and harvests the tree of a plot in which these cells are blocked; or number 13, 14 or 15 is due.
 fn grow_job(
     room: Room,
@@ -117,27 +182,19 @@ fn grow_job(
         queue,
         branches,
     );
-    let ended = growth.ended;
-    match ended {
-        Turned::QueueFull(expanded) => refuse(13, expanded.0 as usize),
-        Turned::NoGoal(approach) => refuse(14, approach),
-        Turned::NoRoom(place) => refuse(15, place),
-        // growing ends with no single sink's branch
-        Turned::Grown { sink: _, length: _ } => refuse(0, 0),
-        Turned::Skipped => harvest(
-            room,
-            source,
-            taps,
-            growth.lengths,
-            branches,
-            occupied,
-            repeaters,
-            classes,
-            known,
-            previous,
-            path,
-        ),
-    }
+    gather(
+        room,
+        source,
+        taps,
+        growth,
+        branches,
+        occupied,
+        repeaters,
+        classes,
+        known,
+        previous,
+        path,
+    )
 }
 
 // The tree of an accepted job: set out, grown and harvested; or the first number from 7 on that is due.

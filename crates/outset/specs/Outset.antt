@@ -1,12 +1,13 @@
 -- "Blocked at the outset", as "The tree of one net" of the requirement has it: which cells no branch may enter when the first search starts.
 -- Definitions alone; their laws are in OutsetLaws.
 use mathlib.Core.Bool.{Bool, true, false, not, _&&_, _||_}
-use mathlib.Core.List.{List, [], _∷_}
+use mathlib.Core.List.{List}
 use Prim.Native.Nat.{ℕ, _+_}
 use lib.Dec.{eqb}
-use lib.ListN.{getD, take}
+use lib.ListN.{getD}
 use Rattle.basics.specs.Tests.{either}
 use Rattle.basics.specs.Lists.{any}
+use Rattle.ends.specs.Ends.{tapsIn}
 use Rattle.room.specs.declared.Room.{Room}
 use Rattle.room.specs.declared.Pos.{Pos}
 use Rattle.room.specs.declared.Neighbour.{Neighbour}
@@ -65,7 +66,7 @@ tapCell R v t = atOrBeneath R v (t .terminal) || atOrBeneath R v (t .approach)
 
 -- "the source terminal, all sink terminals and approaches, and the cells right beneath them"
 unfoldable pub ownCell : Room → ℕ → Taps → ℕ → Bool
-ownCell R source k v = atOrBeneath R v source || any (tapCell R v) (take (k .count) (k .taps))
+ownCell R source k v = atOrBeneath R v source || any (tapCell R v) (tapsIn k)
 
 -- "Then .. are taken out."
 unfoldable pub blockedAtOutset : List ℕ → List ℕ → Contents → ℕ → Taps → List ℕ

@@ -1,13 +1,12 @@
 -- Laws of the outset: how the loops over the sheet's lists and the net's ends mark, and what the functions ask of their parameters.
 use mathlib.Core.Path.{_≡_, refl, sym, ap, _∙_}
 use mathlib.Core.Bool.{Bool, true, false, not, _&&_, _||_}
-use mathlib.Core.List.{List, [], _∷_}
-use Prim.Native.Nat.{ℕ, suc, _+_, _≤_, _<_}
+use mathlib.Core.List.{List}
+use Prim.Native.Nat.{ℕ, _+_, _≤_, _<_}
 use native.Mathlib.Numerals.{add-one}
-use native.Mathlib.Omega.{arith}
 use lib.Dec.{eqb}
-use lib.ListN.{length, getD, take, drop, drop-of-length-le}
-use lib.Seq.{drop-cons, getD-take, length-take-le}
+use lib.ListN.{length, getD, drop, drop-of-length-le}
+use lib.Seq.{drop-cons}
 use Rattle.basics.specs.Lists.{any}
 use Rattle.room.specs.declared.Room.{Room}
 use Rattle.room.specs.declared.Pos.{Pos}
@@ -21,13 +20,13 @@ use Rattle.job_sheet.specs.declared.Block.{Block}
 use Rattle.job_sheet.specs.declared.Part.{Part}
 use Rattle.job_sheet.specs.declared.Job.{Job}
 use Rattle.job_sheet.specs.Sheet.{Contents, positionSize}
-use Rattle.job_sheet.specs.Accepted.{PositionList, BlockList, Usable}
+use Rattle.job_sheet.specs.Accepted.{PositionList, Usable}
 use Rattle.job_sheet.specs.Places.{positionIn, positionsIn, blocksIn}
 use Rattle.job_sheet.specs.RecordLaws.{many-long}
 use Rattle.ends.specs.declared.Tap.{Tap}
 use Rattle.ends.specs.declared.Taps.{Taps}
-use Rattle.ends.specs.Ends.{noTap}
-use Rattle.ends.specs.EndLaws.{NetIn}
+use Rattle.ends.specs.Ends.{tapsIn}
+use Rattle.ends.specs.EndLaws.{NetIn, taps-counted}
 use Rattle.outset.specs.Outset.{standsAt, nearConductor, blockedBy, powers, solidOf, outputKeepout, sourceKeepout, atOrBeneath, tapCell, ownCell, blockedAtOutset}
 
 -- ---- what the functions ask
@@ -118,16 +117,9 @@ module _ (R : Room) (marks : List ℕ) {marks′ marks″ : List ℕ} where
       → marks″ ≡ unmarkedBy (λ v. tapCell R v t) marks
   out-tap t m n = n ∙ rw m (with-or 0 (λ v. atOrBeneath R v (t .terminal)) (λ v. atOrBeneath R v (t .approach)) marks)
 
--- the taps in use
-abbrev pub tapsIn : Taps → List Tap
-tapsIn k = take (k .count) (k .taps)
-
 module _ {R : Room} {source : ℕ} {k : Taps} (N : NetIn R source k) where
   pub taps-long : length (tapsIn k) ≡ k .count
-  taps-long = length-take-le (k .count) (k .taps) (omega (arith, N .few, N .whole))
-
-  pub tap-is : (i : ℕ) → i < k .count → getD (k .taps) i noTap ≡ getD (tapsIn k) i noTap
-  tap-is i h = sym (getD-take (k .count) (k .taps) i noTap h)
+  taps-long = taps-counted k (N .few) (N .whole)
 
   pub out-ends : (marks : List ℕ) {marks′ marks″ : List ℕ} → marks′ ≡ unmarkedBy (λ v. atOrBeneath R v source) marks
       → marks″ ≡ unmarkedBy (λ v. any (tapCell R v) (tapsIn k)) marks′

@@ -7,6 +7,7 @@ use native.Mathlib.Omega.{arith}
 use lib.ListN.{length, replicate, length-append, length-replicate}
 use lib.Seq.{take-append-seam}
 use Rattle.basics.specs.Tests.{never}
+use Rattle.basics.specs.Promises.{Determines}
 use Rattle.room.specs.declared.Room.{Room}
 use Rattle.room.specs.Room.{Good, Within, volume}
 use Rattle.routing_resources.specs.Marks.{noMarks}
@@ -18,7 +19,8 @@ use Rattle.job_sheet.specs.Places.{blocksIn}
 use Rattle.job_sheet.specs.Theorems.{one-meaning, usable}
 use Rattle.blocks.specs.declared.Placement.{Placement}
 use Rattle.blocks.specs.Blocks.{kindsOf, nodesOf, BlocksLaid}
-use Rattle.blocks.specs.BlockLaws.{tabulated-long, own-list, blocks-laid-for, blocks-laid-one}
+use Rattle.blocks.specs.BlockLaws as blocks
+use Rattle.blocks.specs.BlockLaws.{tabulated-long, own-list, blocks-laid-for}
 use Rattle.ends.specs.declared.Ends.{Ends}
 use Rattle.ends.specs.declared.Fault.{Fault}
 use Rattle.ends.specs.Ends.{sinksIn, endsOf}
@@ -136,18 +138,27 @@ module _ {sheet : List ℕ} {job : Job} (A : Accepted sheet job) where
 -- ---- it leaves no choice
 
 module _ {J : Contents} {r s : Outset} {kinds nodes blocked kinds′ nodes′ blocked′ : List ℕ} (O : OutsetOf J r kinds nodes blocked) (P : OutsetOf J s kinds′ nodes′ blocked′) where
+  laid-same : _≡_ {A = blocks.Result} (record { kinds = kinds; nodes = nodes; placement = r .placement }) (record { kinds = kinds′; nodes = nodes′; placement = s .placement })
+  laid-same = blocks.coincide (J .room) (J .blocks) _ _ (O .laid) (P .laid)
+
   same-answer : r ≡ s
-  same-answer =
-      let p = blocks-laid-one (O .laid) (P .laid) .2 in
-      let e = O .ends-are ∙ sym (P .ends-are) in
-      λ i. record { placement = p i; ends = e i }
+  same-answer = let e = O .ends-are ∙ sym (P .ends-are) in λ i. record { placement = laid-same i .placement; ends = e i }
 
   pub outset-one : (r ≡ s) × (kinds ≡ kinds′) × (nodes ≡ nodes′) × (blocked ≡ blocked′)
-  outset-one =
-      let L = blocks-laid-one (O .laid) (P .laid) in
-      (same-answer, L .0, L .1, O .blocked-are ∙ rw same-answer (sym (P .blocked-are)))
+  outset-one = (same-answer, ap (λ L. L .kinds) laid-same, ap (λ L. L .nodes) laid-same, O .blocked-are ∙ rw same-answer (sym (P .blocked-are)))
 
 -- two results of `set_out` for one accepted sheet coincide: the answer, and the final bytes of all three buffers
-pub set-out-one : {sheet : List ℕ} {job : Job} → Accepted sheet job → {r s : Outset} {kinds nodes blocked kinds′ nodes′ blocked′ : List ℕ}
-    → SetOut sheet r kinds nodes blocked → SetOut sheet s kinds′ nodes′ blocked′ → (r ≡ s) × (kinds ≡ kinds′) × (nodes ≡ nodes′) × (blocked ≡ blocked′)
-set-out-one A S T = outset-one (S .is (A .contents) (A .means)) (T .is (A .contents) (A .means))
+pub record Result : Type 0 where
+  pub outset : Outset
+  pub kinds : List ℕ
+  pub nodes : List ℕ
+  pub blocked : List ℕ
+
+module _ {sheet : List ℕ} {job : Job} (A : Accepted sheet job) where
+  abbrev pub Keeps : Result → Type 0
+  Keeps R = SetOut sheet (R .outset) (R .kinds) (R .nodes) (R .blocked)
+
+  pub coincide : Determines Keeps
+  coincide x y S T =
+      let e = outset-one (S .is (A .contents) (A .means)) (T .is (A .contents) (A .means)) in
+      λ i. record { outset = e .0 i; kinds = e .1 i; nodes = e .2 i; blocked = e .3 i }

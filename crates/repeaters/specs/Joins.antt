@@ -13,8 +13,8 @@ use Rattle.room.specs.declared.Move.{Move}
 use Rattle.room.specs.declared.Neighbour.{Neighbour}
 use Rattle.room.specs.Room.{volume, posOf, by, moves, neighbour}
 use Rattle.branches.specs.declared.BranchLengths.{BranchLengths}
-use Rattle.branches.specs.Branches.{total}
-use Rattle.repeaters.specs.Repeaters.{lengthsOf, branchesOf}
+use Rattle.branches.specs.Branches.{total, lengthsIn}
+use Rattle.repeaters.specs.Repeaters.{branchesOf}
 use Rattle.repeaters.specs.Links.{orderedMove}
 
 -- ---- what is asked of the branches
@@ -38,7 +38,7 @@ AllStepping R (branch ∷ branches) = Stepping R branch × AllStepping R branche
 pub record Laid (R : Room) (L : BranchLengths) (cells : List ℕ) : Type 0 where
   pub full : length (L .each) ≡ 16
   pub few : L .count ≤ 16
-  pub within : total (lengthsOf L) ≤ length cells
+  pub within : total (lengthsIn L) ≤ length cells
   pub stepping : AllStepping R (branchesOf L cells)
 
 -- ---- the masks

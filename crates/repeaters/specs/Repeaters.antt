@@ -6,6 +6,7 @@ use Prim.Native.Nat.{ℕ, zero, suc, _+_, _-_, _*_}
 use lib.Dec.{ltb, eqb}
 use lib.ListN.{length, getD, take, drop, set, replicate}
 use Rattle.basics.specs.Tests.{either}
+use Rattle.branches.specs.Branches.{lengthsIn}
 use Rattle.room.specs.declared.Room.{Room}
 use Rattle.room.specs.declared.Pos.{Pos}
 use Rattle.room.specs.Room.{volume, posOf}
@@ -13,7 +14,6 @@ use Rattle.room.specs.Units.{north, east, south, west}
 use Rattle.best_first.specs.Search.{trace}
 use Rattle.routing_resources.specs.Marks.{noMarks, isMarked}
 use Rattle.ends.specs.declared.Tap.{Tap}
-use Rattle.ends.specs.declared.Taps.{Taps}
 use Rattle.branches.specs.declared.BranchLengths.{BranchLengths}
 
 -- ---- the tree
@@ -23,11 +23,8 @@ unfoldable pub cutInto : List ℕ → List ℕ → List (List ℕ)
 cutInto [] cells = []
 cutInto (n ∷ ns) cells = take n cells ∷ cutInto ns (drop n cells)
 
-abbrev pub lengthsOf : BranchLengths → List ℕ
-lengthsOf L = take (L .count) (L .each)
-
 abbrev pub branchesOf : BranchLengths → List ℕ → List (List ℕ)
-branchesOf L cells = cutInto (lengthsOf L) cells
+branchesOf L cells = cutInto (lengthsIn L) cells
 
 -- u and v are the two cells of a step, either way round
 unfoldable pub isStep : ℕ → ℕ → ℕ → ℕ → Bool
@@ -194,9 +191,6 @@ module _ (limit : ℕ) (fit : ℕ → Bool) (path : List ℕ) where
   reinforced marks = either (ltb (lastReset path marks + limit) (end path)) (withRepeater path marks (tailPlace marks)) marks
 
 -- ---- "sink by sink"
-
-abbrev pub tapsOf : Taps → List Tap
-tapsOf T = take (T .count) (T .taps)
 
 abbrev pub runLimit : ℕ
 runLimit = 12

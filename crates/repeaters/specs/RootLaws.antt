@@ -17,7 +17,7 @@ use Rattle.room.specs.declared.Neighbour.{Neighbour}
 use Rattle.room.specs.Room.{volume}
 use Rattle.best_first.specs.Search.{trace}
 use Rattle.best_first.specs.Equations.{trace-start, trace-back}
-use Rattle.routing.specs.Traces.{Linked, traceLength, trace-length}
+use Rattle.room_search.specs.Traces.{Linked, traceLength, trace-length}
 use Rattle.routing_resources.specs.Resources.{AllCells}
 use Rattle.repeaters.specs.Repeaters.{Wave, wave, meet, meetAll, spread, parentsFrom, rootPath}
 use Rattle.repeaters.specs.Links.{orderedMoves, orderedMove, linkedPlace, consPlace, cellsBy, linkedCells}

@@ -11,8 +11,8 @@ use Rattle.room.specs.Room.{volume}
 use Rattle.routing_resources.specs.Marks.{noMarks}
 use Rattle.ends.specs.declared.Tap.{Tap}
 use Rattle.ends.specs.declared.Taps.{Taps}
-use Rattle.ends.specs.Ends.{noTap}
-use Rattle.repeaters.specs.Repeaters.{treeNeighbours, parentsFrom, tapsOf, inTurn, runOf, tailOf, planned, repeaterMarks}
+use Rattle.ends.specs.Ends.{noTap, tapsIn}
+use Rattle.repeaters.specs.Repeaters.{treeNeighbours, parentsFrom, inTurn, runOf, tailOf, planned, repeaterMarks}
 use Rattle.repeaters.specs.Links.{linkedCells, Ready}
 use Rattle.repeaters.specs.Roots.{Traced}
 use Rattle.repeaters.specs.RootLaws.{path-cells}
@@ -32,7 +32,7 @@ ready {R} {links} {parents} G {cell} h T = record {
 pub record Sown (put : Tap → List ℕ → List ℕ) (T : Taps) (start marks : List ℕ) (k : ℕ) : Type 0 where
   pub within : k ≤ T .count
   pub long : length marks ≡ length start
-  pub same : inTurn put (drop k (tapsOf T)) marks ≡ inTurn put (tapsOf T) start
+  pub same : inTurn put (drop k (tapsIn T)) marks ≡ inTurn put (tapsIn T) start
 
 module _ {put : Tap → List ℕ → List ℕ} {T : Taps} {start : List ℕ} where
   pub sown-none : Sown put T start start 0
@@ -45,18 +45,18 @@ module _ {put : Tap → List ℕ → List ℕ} {T : Taps} {start : List ℕ} whe
     sown-next f h tap t {marks′} e g = record {
       within = omega arith;
       long = e ∙ I .long;
-      same = ap (inTurn put (drop (k + 1) (tapsOf T))) g ∙ rw first at (I .same);
+      same = ap (inTurn put (drop (k + 1) (tapsIn T))) g ∙ rw first at (I .same);
     }
       where
-        first : drop k (tapsOf T) ≡ tap ∷ drop (k + 1) (tapsOf T)
+        first : drop k (tapsIn T) ≡ tap ∷ drop (k + 1) (tapsIn T)
         first =
-            let b : k < length (tapsOf T) = rw (length-take-le (T .count) (T .taps) f) h in
-            drop-cons (tapsOf T) k noTap b ∙ rw (getD-take (T .count) (T .taps) k noTap h, add-one, t)
+            let b : k < length (tapsIn T) = rw (length-take-le (T .count) (T .taps) f) h in
+            drop-cons (tapsIn T) k noTap b ∙ rw (getD-take (T .count) (T .taps) k noTap h, add-one, t)
 
-    pub sown-all : T .count ≤ length (T .taps) → T .count ≤ k → marks ≡ inTurn put (tapsOf T) start
+    pub sown-all : T .count ≤ length (T .taps) → T .count ≤ k → marks ≡ inTurn put (tapsIn T) start
     unfolding inTurn
     sown-all f h =
-        let none : drop k (tapsOf T) ≡ [] = drop-of-length-le (tapsOf T) {i = k} (rw (length-take-le (T .count) (T .taps) f) h) in
+        let none : drop k (tapsIn T) ≡ [] = drop-of-length-le (tapsIn T) {i = k} (rw (length-take-le (T .count) (T .taps) f) h) in
         rw none at (I .same)
 
 module _ (R : Room) (source : ℕ) (taps : List Tap) (branches : List (List ℕ)) (forbidden links parents : List ℕ) where

@@ -10,8 +10,8 @@ use lib.ListN.{length, getD, take, drop, length-drop, drop-of-length-le}
 use lib.Seq.{drop-cons, drop-drop, length-take-le, getD-take}
 use Rattle.room.specs.declared.Room.{Room}
 use Rattle.branches.specs.declared.BranchLengths.{BranchLengths}
-use Rattle.branches.specs.Branches.{total}
-use Rattle.repeaters.specs.Repeaters.{cutInto, lengthsOf, branchesOf, isStep, besideOn, neighbouring}
+use Rattle.branches.specs.Branches.{total, lengthsIn}
+use Rattle.repeaters.specs.Repeaters.{cutInto, branchesOf, isStep, besideOn, neighbouring}
 use Rattle.repeaters.specs.Joins.{Stepping, AllStepping, Laid, Joined}
 use Rattle.repeaters.specs.JoinLaws.{Adding, adding-none, adding-next, adding-all}
 
@@ -41,9 +41,9 @@ no-steps branch i h u v = one-cell (drop i branch) (rw (length-drop i branch) (o
 
 pub record Laying (R : Room) (L : BranchLengths) (cells start links : List ℕ) (from k : ℕ) : Type 0 where
   pub within : k ≤ L .count
-  pub room : from + total (drop k (lengthsOf L)) ≤ length cells
-  pub stepping : AllStepping R (cutInto (drop k (lengthsOf L)) (drop from cells))
-  pub adding : Adding R (neighbouring (cutInto (drop k (lengthsOf L)) (drop from cells))) (neighbouring (branchesOf L cells)) start links
+  pub room : from + total (drop k (lengthsIn L)) ≤ length cells
+  pub stepping : AllStepping R (cutInto (drop k (lengthsIn L)) (drop from cells))
+  pub adding : Adding R (neighbouring (cutInto (drop k (lengthsIn L)) (drop from cells))) (neighbouring (branchesOf L cells)) start links
 
 module _ {R : Room} {L : BranchLengths} {cells start : List ℕ} (D : Laid R L cells) where
   pub laying-none : Laying R L cells start start 0 0
@@ -57,20 +57,20 @@ module _ {R : Room} {L : BranchLengths} {cells start : List ℕ} (D : Laid R L c
       ends : from + (to - from) ≡ to
       ends = omega arith
 
-      first : drop k (lengthsOf L) ≡ (to - from) ∷ drop (k + 1) (lengthsOf L)
+      first : drop k (lengthsIn L) ≡ (to - from) ∷ drop (k + 1) (lengthsIn L)
       first =
-          let b : k < length (lengthsOf L) = rw (length-take-le (L .count) (L .each) (omega (arith, D .few, D .full))) h in
-          drop-cons (lengthsOf L) k 0 b ∙ rw (getD-take (L .count) (L .each) k 0 h, add-one, size-is)
+          let b : k < length (lengthsIn L) = rw (length-take-le (L .count) (L .each) (omega (arith, D .few, D .full))) h in
+          drop-cons (lengthsIn L) k 0 b ∙ rw (getD-take (L .count) (L .each) k 0 h, add-one, size-is)
 
-      cut : cutInto (drop k (lengthsOf L)) (drop from cells) ≡ take (to - from) (drop from cells) ∷ cutInto (drop (k + 1) (lengthsOf L)) (drop to cells)
+      cut : cutInto (drop k (lengthsIn L)) (drop from cells) ≡ take (to - from) (drop from cells) ∷ cutInto (drop (k + 1) (lengthsIn L)) (drop to cells)
       unfolding cutInto
       cut = rw (first, drop-drop (to - from) from cells, ends)
 
-      more : total (drop k (lengthsOf L)) ≡ to - from + total (drop (k + 1) (lengthsOf L))
+      more : total (drop k (lengthsIn L)) ≡ to - from + total (drop (k + 1) (lengthsIn L))
       unfolding total
       more = rw first
 
-      left-stepping : AllStepping R (take (to - from) (drop from cells) ∷ cutInto (drop (k + 1) (lengthsOf L)) (drop to cells))
+      left-stepping : AllStepping R (take (to - from) (drop from cells) ∷ cutInto (drop (k + 1) (lengthsIn L)) (drop to cells))
       left-stepping = rw cut at (I .stepping)
 
       pub branch-in : to ≤ length cells
@@ -92,5 +92,5 @@ module _ {R : Room} {L : BranchLengths} {cells start : List ℕ} (D : Laid R L c
     unfolding neighbouring cutInto
     laying-all h = adding-all (I .adding) (λ u v. rw none)
       where
-        none : drop k (lengthsOf L) ≡ []
-        none = drop-of-length-le (lengthsOf L) {i = k} (rw (length-take-le (L .count) (L .each) (omega (arith, D .few, D .full))) h)
+        none : drop k (lengthsIn L) ≡ []
+        none = drop-of-length-le (lengthsIn L) {i = k} (rw (length-take-le (L .count) (L .each) (omega (arith, D .few, D .full))) h)

@@ -14,7 +14,8 @@ use roots::rooted_parent;
 use sinks::plan_repeaters;
 use sinks::reinforce_wire_sink_tails;
 ghost use mathlib.Core.Path.{_≡_};
-ghost use Rattle.repeaters.specs.Repeaters.{branchesOf, tapsOf, repeaterMarks};
+ghost use Rattle.ends.specs.Ends.{tapsIn};
+ghost use Rattle.repeaters.specs.Repeaters.{branchesOf, repeaterMarks};
 ghost use Rattle.repeaters.specs.Sinks.{Placeable};
 
 // How far the walk along a path has come: its last reset, its place, and the latest place after that reset and before this
@@ -41,7 +42,7 @@ pub fn place_repeaters(
     line: &mut [u32],
 )
     requires { ⌜ Placeable room source taps lengths (now branches) (now forbidden) (now repeaters) (now links) (now parents) (now line) ⌝ }
-    ensures { λ _. ⌜ now (repeaters .exit) ≡ repeaterMarks room source (tapsOf taps) (branchesOf lengths (now (branches .entry))) (now (forbidden .entry)) ⌝ }
+    ensures { λ _. ⌜ now (repeaters .exit) ≡ repeaterMarks room source (tapsIn taps) (branchesOf lengths (now (branches .entry))) (now (forbidden .entry)) ⌝ }
 {
     lent::clear_words(links);
     tree_adjacency(room, branches, lengths, links);

@@ -8,8 +8,9 @@ use room::Room;
 ghost use mathlib.Core.Path.{_≡_};
 ghost use Prim.Native.Nat.{_<_};
 ghost use lib.ListN.{length};
+ghost use Rattle.ends.specs.Ends.{tapsIn};
 ghost use Rattle.room.specs.Room.{volume};
-ghost use Rattle.repeaters.specs.Repeaters.{tapsOf, inTurn, runOf, tailOf};
+ghost use Rattle.repeaters.specs.Repeaters.{inTurn, runOf, tailOf};
 ghost use Rattle.repeaters.specs.Links.{linkedCells};
 ghost use Rattle.repeaters.specs.Sinks.{TapsIn, Grown};
 
@@ -53,7 +54,7 @@ pub fn plan_repeaters(
     requires { ⌜ TapsIn room taps ⌝ }
     requires { ⌜ length (now repeaters) ≡ volume room ⌝ }
     requires { ⌜ length (now line) ≡ volume room ⌝ }
-    ensures { λ _. ⌜ now (repeaters .exit) ≡ inTurn (runOf room (linkedCells room (now (links .entry))) (now (parents .entry)) (now (forbidden .entry))) (tapsOf taps) (now (repeaters .entry)) ⌝ }
+    ensures { λ _. ⌜ now (repeaters .exit) ≡ inTurn (runOf room (linkedCells room (now (links .entry))) (now (parents .entry)) (now (forbidden .entry))) (tapsIn taps) (now (repeaters .entry)) ⌝ }
 {
     let count = taps.count;
     let mut k: usize = 0;
@@ -101,7 +102,7 @@ pub fn reinforce_wire_sink_tails(
     requires { ⌜ TapsIn room taps ⌝ }
     requires { ⌜ length (now repeaters) ≡ volume room ⌝ }
     requires { ⌜ length (now line) ≡ volume room ⌝ }
-    ensures { λ _. ⌜ now (repeaters .exit) ≡ inTurn (tailOf room (linkedCells room (now (links .entry))) (now (parents .entry)) (now (forbidden .entry))) (tapsOf taps) (now (repeaters .entry)) ⌝ }
+    ensures { λ _. ⌜ now (repeaters .exit) ≡ inTurn (tailOf room (linkedCells room (now (links .entry))) (now (parents .entry)) (now (forbidden .entry))) (tapsIn taps) (now (repeaters .entry)) ⌝ }
 {
     let count = taps.count;
     let mut k: usize = 0;

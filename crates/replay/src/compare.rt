@@ -1,22 +1,28 @@
-// One search, run over rubbish and held to the stored answer.
-use crate::memory::begins_with;
-use crate::memory::bytes_hold;
-use crate::memory::longs_hold;
-use crate::memory::spoil_bytes;
-use crate::memory::spoil_longs;
-use crate::memory::spoil_words;
-use crate::memory::words_hold;
-use crate::stored::Stored;
-use crate::stored::part;
+// One search, run over memory full of rubbish and held to the stored answer.
+use crate::searches::Stored;
+use crate::searches::Told;
+use crate::searches::part;
+use reply::detail_of;
+use reply::number_of;
 use routing::Answer;
 use routing::Route;
-
-// All as stored; or the queue was full and everything is zero; or something else.
-pub enum Verdict {
-    Same,
-    Full,
-    Other,
-}
+use stored::memory::bytes_hold;
+use stored::memory::cells_hold;
+use stored::memory::longs_hold;
+use stored::memory::spoil_bytes;
+use stored::memory::spoil_longs;
+use stored::memory::spoil_words;
+use stored::memory::words_hold;
+use stored::runs::Verdict;
+use stored::runs::touches_nothing;
+ghost use mathlib.Core.Path.{_≡_};
+ghost use lib.ListN.{length};
+ghost use Rattle.stored.specs.Runs.{fullIf, sameIf};
+ghost use Rattle.routing.specs.Answers.{lengthsOf};
+ghost use Rattle.stored.specs.Places.{cellsFrom};
+ghost use Rattle.replay.specs.Searches.{cellsIn};
+ghost use Rattle.replay.specs.Verdicts.{sameRoute, sameWay, sameAnswer, earlyEnough, fullEarly, memory, workHolds, memoryHolds};
+ghost use Rattle.replay.specs.Verdicts.{verdictOf, AllRubbish, Judged, Ran, RanIn};
 
 // The lengths at which buffers are lent: those of a number a cell, and the queue.
 pub struct Lent {
@@ -24,154 +30,166 @@ pub struct Lent {
     pub queue: usize,
 }
 
-fn same_route(route: Route, stored: Stored) -> bool {
-    if route.cost.0 != stored.cost {
+fn same_route(route: Route, told: Told) -> bool
+    ensures { λ r. ⌜ r ≡ sameRoute route told ⌝ }
+{
+    if route.cost.0 != told.cost {
         return false;
     }
-    if route.expanded.0 != stored.expanded {
+    if route.expanded.0 != told.expanded {
         return false;
     }
-    if stored.next < stored.cells_at {
-        return false;
-    }
-    route.length == (stored.next - stored.cells_at) / 2
+    route.length == told.length as usize
 }
 
-fn same_answer(answer: Answer, stored: Stored) -> bool {
-    if reply::number_of(answer) != stored.number {
-        return false;
-    }
-    if reply::detail_of(answer) != stored.detail {
-        return false;
-    }
-    if let Answer::Routed(route) = answer {
-        same_route(route, stored)
-    } else {
-        true
+fn same_way(answer: Answer, told: Told) -> bool
+    ensures { λ r. ⌜ r ≡ sameWay answer told ⌝ }
+{
+    match answer {
+        Answer::Routed(route) => same_route(route, told),
+        Answer::Refused(_) => true,
+        Answer::NotRouteable(_) => true,
+        Answer::NoRoute(_) => true,
+        Answer::LimitPassed(_) => true,
+        Answer::QueueFull(_) => true,
     }
 }
 
-fn work_holds(
-    kept: bool,
-    seed: usize,
-    known: &[u32],
-    previous: &[u32],
-    classes: &[u8],
-    queue: &[u64],
-) -> bool {
-    if !words_hold(known, 0, kept, seed) {
+fn same_answer(answer: Answer, told: Told) -> bool
+    ensures { λ r. ⌜ r ≡ sameAnswer answer told ⌝ }
+{
+    if number_of(answer) != told.number {
         return false;
     }
-    if !words_hold(previous, 0, kept, seed) {
+    if detail_of(answer) != told.detail {
         return false;
     }
-    if !bytes_hold(classes, kept, seed) {
-        return false;
-    }
-    longs_hold(queue, kept, seed)
-}
-
-// "Numbers 1 to 6 touch nothing; 7 to 15 leave every lent writable buffer zero. A success writes the answer, zeros behind
-// it, and zeroes work memory."
-fn memory_holds(
-    cells: &[u8],
-    number: u32,
-    seed: usize,
-    path: &[u32],
-    known: &[u32],
-    previous: &[u32],
-    classes: &[u8],
-    queue: &[u64],
-) -> bool {
-    let kept = 1 <= number && number <= 6;
-    if !begins_with(path, cells) {
-        return false;
-    }
-    if !words_hold(path, cells.len() / 2, kept, seed) {
-        return false;
-    }
-    work_holds(kept, seed, known, previous, classes, queue)
-}
-
-fn wide(count: u32) -> usize {
-    count as usize
+    same_way(answer, told)
 }
 
 // A queue may be found full at any of the cells that the stored search expanded: one of the two numbers is 0.
-fn early_enough(answer: Answer, stored: Stored) -> bool {
-    let expanded = reply::detail_of(answer);
-    if expanded <= stored.detail {
+fn early_enough(answer: Answer, told: Told) -> bool
+    ensures { λ r. ⌜ r ≡ earlyEnough answer told ⌝ }
+{
+    let expanded = detail_of(answer);
+    if expanded <= told.detail {
         return true;
     }
-    expanded <= wide(stored.expanded)
+    expanded <= told.expanded as usize
 }
 
-fn judge(
-    answer: Answer,
-    stored: Stored,
-    cells: &[u8],
-    seed: usize,
+fn full_early(answer: Answer, told: Told) -> bool
+    ensures { λ r. ⌜ r ≡ fullEarly answer told ⌝ }
+{
+    if number_of(answer) != 13 {
+        return false;
+    }
+    early_enough(answer, told)
+}
+
+// Work memory: the rubbish that was there, or zeros.
+fn work_holds(kept: bool, known: &[u32], previous: &[u32], classes: &[u8], queue: &[u64]) -> bool
+    ensures { λ r. ⌜ r ≡ workHolds kept (now (known .entry)) (now (previous .entry)) (now (classes .entry)) (now (queue .entry)) ⌝ }
+{
+    if !words_hold(kept, &known[..0], known) {
+        return false;
+    }
+    if !words_hold(kept, &known[..0], previous) {
+        return false;
+    }
+    if !bytes_hold(kept, &classes[..0], classes) {
+        return false;
+    }
+    longs_hold(kept, queue)
+}
+
+// "7 to 15 leave every lent writable buffer zero. A success writes the answer, zeros behind it, and zeroes work memory."
+fn memory_holds(
+    kept: bool,
+    file: &[u8],
+    at: usize,
+    count: u32,
     path: &[u32],
     known: &[u32],
     previous: &[u32],
     classes: &[u8],
     queue: &[u64],
-) -> Verdict {
-    if same_answer(answer, stored) {
-        if memory_holds(
-            cells,
-            stored.number,
-            seed,
-            path,
-            known,
-            previous,
-            classes,
-            queue,
-        ) {
-            return Verdict::Same;
-        }
+) -> bool
+    ensures { λ r. ⌜ r ≡ memoryHolds kept (cellsFrom (now (file .entry)) at count) (memory (now (path .entry)) (now (known .entry)) (now (previous .entry)) (now (classes .entry)) (now (queue .entry))) ⌝ }
+{
+    if !cells_hold(kept, file, at, count, path) {
+        return false;
+    }
+    work_holds(kept, known, previous, classes, queue)
+}
+
+fn same_if(holds: bool) -> Verdict
+    ensures { λ r. ⌜ r ≡ sameIf holds ⌝ }
+{
+    if holds { Verdict::Same } else { Verdict::Other }
+}
+
+fn full_if(holds: bool) -> Verdict
+    ensures { λ r. ⌜ r ≡ fullIf holds ⌝ }
+{
+    if holds { Verdict::Full } else { Verdict::Other }
+}
+
+// The answer and all memory, held to what is stored, or to what a full queue leaves.
+fn judge(
+    answer: Answer,
+    told: Told,
+    file: &[u8],
+    path: &[u32],
+    known: &[u32],
+    previous: &[u32],
+    classes: &[u8],
+    queue: &[u64],
+) -> Verdict
+    ensures { λ r. ⌜ r ≡ verdictOf told (cellsIn (now (file .entry)) told) answer (memory (now (path .entry)) (now (known .entry)) (now (previous .entry)) (now (classes .entry)) (now (queue .entry))) ⌝ }
+{
+    let at = told.cells;
+    if same_answer(answer, told) {
+        let kept = touches_nothing(told.number);
+        let count = told.length;
+        return same_if(memory_holds(kept, file, at, count, path, known, previous, classes, queue));
+    }
+    if !full_early(answer, told) {
         return Verdict::Other;
     }
-    if reply::number_of(answer) != 13 {
-        return Verdict::Other;
-    }
-    if !early_enough(answer, stored) {
-        return Verdict::Other;
-    }
-    if memory_holds(&cells[..0], 13, seed, path, known, previous, classes, queue) {
-        return Verdict::Full;
-    }
-    Verdict::Other
+    full_if(memory_holds(false, file, at, 0, path, known, previous, classes, queue))
 }
 
 fn spoil(
-    seed: usize,
     path: &mut [u32],
     known: &mut [u32],
     previous: &mut [u32],
     classes: &mut [u8],
     queue: &mut [u64],
-) {
-    spoil_words(path, seed);
-    spoil_words(known, seed);
-    spoil_words(previous, seed);
-    spoil_bytes(classes, seed);
-    spoil_longs(queue, seed);
+)
+    ensures { λ _. ⌜ AllRubbish (memory (now (path .exit)) (now (known .exit)) (now (previous .exit)) (now (classes .exit)) (now (queue .exit))) ⌝ }
+{
+    spoil_words(path);
+    spoil_words(known);
+    spoil_words(previous);
+    spoil_bytes(classes);
+    spoil_longs(queue);
 }
 
-// The search, over memory full of rubbish.
+// The search, and its answer and memory held to what is stored.
 fn attempt(
-    kinds: &[u8],
-    cells: &[u8],
     stored: Stored,
-    seed: usize,
+    kinds: &[u8],
+    file: &[u8],
     path: &mut [u32],
     known: &mut [u32],
     previous: &mut [u32],
     classes: &mut [u8],
     queue: &mut [u64],
-) -> Verdict {
-    spoil(seed, path, known, previous, classes, queue);
+) -> Verdict
+    ensures { λ r. ⌜ Judged stored (now (kinds .entry)) (cellsIn (now (file .entry)) (stored .told)) (lengthsOf (now (path .entry)) (now (known .entry)) (now (previous .entry)) (now (classes .entry)) (now (queue .entry))) r ⌝ }
+{
+    spoil(path, known, previous, classes, queue);
     let answer = routing::astar_route(
         stored.room,
         stored.config,
@@ -184,32 +202,24 @@ fn attempt(
         classes,
         queue,
     );
-    judge(
-        answer,
-        stored,
-        cells,
-        seed,
-        path,
-        known,
-        previous,
-        classes,
-        queue,
-    )
+    let told = stored.told;
+    judge(answer, told, file, path, known, previous, classes, queue)
 }
 
-// The front of each buffer is lent, at the lengths asked for. Buffers of ours that are too short would be no search.
+// The search in the front of each buffer, at these lengths. Lengths that a buffer doesn't have would be no search.
 fn attempt_lent(
-    kinds: &[u8],
-    cells: &[u8],
     stored: Stored,
     lent: Lent,
-    seed: usize,
+    kinds: &[u8],
+    file: &[u8],
     path: &mut [u32],
     known: &mut [u32],
     previous: &mut [u32],
     classes: &mut [u8],
     queue: &mut [u64],
-) -> Verdict {
+) -> Verdict
+    ensures { λ r. ⌜ Ran stored (now (kinds .entry)) (cellsIn (now (file .entry)) (stored .told)) (lengthsOf (now (path .entry)) (now (known .entry)) (now (previous .entry)) (now (classes .entry)) (now (queue .entry))) lent r ⌝ }
+{
     let count = lent.cells;
     let longs = lent.queue;
     if path.len() < count {
@@ -228,10 +238,9 @@ fn attempt_lent(
         return Verdict::Other;
     }
     attempt(
-        kinds,
-        cells,
         stored,
-        seed,
+        kinds,
+        file,
         &mut path[..count],
         &mut known[..count],
         &mut previous[..count],
@@ -240,28 +249,25 @@ fn attempt_lent(
     )
 }
 
-// A stored search, run at these lengths and over the seed's rubbish.
-pub fn run_stored(
-    record: &[u8],
-    stored: Stored,
-    lent: Lent,
-    seed: usize,
-    path: &mut [u32],
-    known: &mut [u32],
-    previous: &mut [u32],
-    classes: &mut [u8],
-    queue: &mut [u64],
-) -> Verdict {
+// A stored search, run at these lengths, in memory of its own but for the queue: room for the longest buffer that is stored, of 16,484
+// numbers, and some more.
+pub fn run_stored(file: &[u8], stored: Stored, lent: Lent, queue: &mut [u64]) -> Verdict
+    ensures { λ r. ⌜ RanIn (now (file .entry)) (length (now (queue .entry))) stored lent r ⌝ }
+{
+    let mut path = [0u32; 16600];
+    let mut known = [0u32; 16600];
+    let mut previous = [0u32; 16600];
+    let mut classes = [0u8; 16600];
+    let kinds = part(file, stored.kinds, stored.count);
     attempt_lent(
-        part(record, stored.kinds_at, stored.kinds_end),
-        part(record, stored.cells_at, stored.next),
         stored,
         lent,
-        seed,
-        path,
-        known,
-        previous,
-        classes,
+        kinds,
+        file,
+        &mut path,
+        &mut known,
+        &mut previous,
+        &mut classes,
         queue,
     )
 }

@@ -1,12 +1,14 @@
 // Runs every search of the stored answers and compares number, detail, path, cost, expanded count and all lent memory.
+ghost use mathlib.Core.Path.{_≡_};
+ghost use lib.ListN.{length};
+
 mod compare;
-mod memory;
 mod replay;
-mod stored;
+mod searches;
 
 use crate::replay::Outcome;
 use crate::replay::count_number;
-use crate::stored::at_end;
+use crate::replay::replay;
 use libc::STDOUT_FILENO;
 
 fn print_count(word: &[u8], count: u32) {
@@ -25,37 +27,46 @@ fn print_number(number: u32, count: u32) {
     print_count(b": ", count);
 }
 
-fn stored_with(number: u32) -> u32 {
-    let from = os::open_read(b"searches.bin");
-    let count = count_number(from, number);
-    libc::close(from);
-    count
-}
-
-fn print_numbers() {
+fn print_numbers(file: &[u8]) {
     let mut number: u32 = 0;
     while number < 16 {
-        print_number(number, stored_with(number));
+        print_number(number, count_number(file, number));
         number += 1;
     }
 }
 
-fn print_outcome(outcome: Outcome, whole: bool) {
-    if !outcome.agreed {
-        print_count(b"differs at search ", outcome.searches);
-        return;
-    }
-    if !whole {
-        print_count(b"the file does not end after search ", outcome.searches);
-        return;
-    }
+fn print_agreed(file: &[u8], outcome: Outcome) {
     print_count(b"searches ", outcome.searches);
-    print_numbers();
+    print_numbers(file);
     print_count(b"comparisons ", outcome.runs);
     io::write_all(STDOUT_FILENO, b"all agree\n");
 }
 
-// The largest stored queue has 196,608 places, and the longest other buffer 16,484 numbers; each is lent longer too.
+// A file that has not come to its end is told as such before all else: what was read of it says nothing of the rest.
+fn print_outcome(file: &[u8], ended: bool, outcome: Outcome) {
+    if !ended {
+        print_count(b"the file does not end after search ", outcome.searches);
+        return;
+    }
+    if !outcome.agreed {
+        print_count(b"differs at search ", outcome.searches);
+        return;
+    }
+    if outcome.at != file.len() {
+        print_count(b"the file does not end after search ", outcome.searches);
+        return;
+    }
+    print_agreed(file, outcome);
+}
+
+// Room for the file, which has 659,266 bytes.
+fn file_buffer() -> [u8; 1000000]
+    ensures { λ r. ⌜ 1000000 ≡ length r ⌝ }
+{
+    [0; 1000000]
+}
+
+// The largest stored queue has 196,608 places, and is lent longer too.
 fn main() {
     let name = b"searches.bin";
     let from = os::open_read(name);
@@ -63,19 +74,10 @@ fn main() {
         os::fail(name);
         return;
     }
-    let mut path = [0u32; 16600];
-    let mut known = [0u32; 16600];
-    let mut previous = [0u32; 16600];
-    let mut classes = [0u8; 16600];
-    let mut queue = [0u64; 393300];
-    let outcome = replay::replay(
-        from,
-        &mut path,
-        &mut known,
-        &mut previous,
-        &mut classes,
-        &mut queue,
-    );
-    print_outcome(outcome, at_end(from));
+    let mut file = file_buffer();
+    let bytes = io::read_full(from, &mut file);
     libc::close(from);
+    let mut queue = [0u64; 393300];
+    let outcome = replay(&file[..bytes], &mut queue);
+    print_outcome(&file[..bytes], bytes < 1000000, outcome);
 }

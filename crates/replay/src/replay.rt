@@ -1,206 +1,98 @@
 // Every stored search is run several times, and each run is held to the stored answer.
 use crate::compare::Lent;
-use crate::compare::Verdict;
 use crate::compare::run_stored;
-use crate::stored::Stored;
-use crate::stored::read_count;
-use crate::stored::read_number;
-use crate::stored::read_record;
-use crate::stored::record_buffer;
-use crate::stored::stored_at;
-use crate::stored::twice;
-
-// Where the search for the least queue stands: places at which the queue is full and at which they are enough.
-struct Gap {
-    full: u32,
-    enough: u32,
-    runs: u32,
-    agreed: bool,
-}
+use crate::searches::Stored;
+use crate::searches::count_in;
+use crate::searches::stored_at;
+use stored::places::past;
+use stored::runs::Gap;
+use stored::runs::add;
+use stored::runs::is_open;
+use stored::runs::is_same;
+use stored::runs::longer;
+use stored::runs::middle;
+use stored::runs::narrowed;
+use stored::runs::queue_more;
+use stored::runs::twice;
+ghost use mathlib.Core.Path.{_≡_};
+ghost use lib.ListN.{length};
+ghost use Rattle.replay.specs.Runs.{storedLengths, cellsMore, longerLengths, SameTwice};
+ghost use Rattle.replay.specs.Runs.{Halved, Narrowed, isNarrowed, ReplayedOne, oneFurther, Next, Replayed, oneMore, numbered};
 
 struct Tally {
     runs: u32,
     agreed: bool,
 }
 
-// How far the file has been replayed: how many searches and runs agreed, and whether all did.
+// How far the file has been replayed: to which place, how many searches and runs agreed, and whether all did.
 pub struct Outcome {
+    pub at: usize,
     pub searches: u32,
     pub runs: u32,
     pub agreed: bool,
 }
 
-// A sum of counts, which stay far below a million.
-fn add(count: u32, more: u32) -> u32 {
-    if 1000000 < count {
-        return count;
-    }
-    if 1000000 < more {
-        return count;
-    }
-    count + more
-}
-
-fn longer(length: usize, by: u8) -> usize {
-    if length < 1000000 {
-        length + by as usize
-    } else {
-        length
-    }
-}
-
 // Exactly the stored lengths.
-fn stored_lengths(stored: Stored) -> Lent {
+fn stored_lengths(stored: Stored) -> Lent
+    ensures { λ r. ⌜ r ≡ storedLengths stored ⌝ }
+{
     Lent {
         cells: stored.lent,
         queue: twice(stored.places),
     }
 }
 
-// Longer buffers that change no answer. Numbers 6 and 13 hang on the lengths: half a place more is none in the queue, and
-// for 6 the others stay as they are.
-fn longer_lengths(stored: Stored) -> Lent {
-    let cells = stored.lent;
-    let queue = twice(stored.places);
-    if stored.number == 6 {
-        return Lent {
-            cells: cells,
-            queue: longer(queue, 1),
-        };
-    }
-    if stored.number == 13 {
-        return Lent {
-            cells: longer(cells, 100),
-            queue: longer(queue, 1),
-        };
-    }
-    Lent {
-        cells: longer(cells, 100),
-        queue: longer(queue, 51),
-    }
-}
-
-fn is_same(verdict: Verdict) -> bool {
-    if let Verdict::Same = verdict {
-        true
+fn cells_more(cells: usize, number: u32) -> usize
+    ensures { λ r. ⌜ r ≡ cellsMore cells number ⌝ }
+{
+    if number == 6 {
+        cells
     } else {
-        false
+        longer(cells, 100)
     }
 }
 
-// Whether the stored answer comes at the stored lengths and at longer ones, each over rubbish of its own.
-fn same_twice(
-    record: &[u8],
-    stored: Stored,
-    path: &mut [u32],
-    known: &mut [u32],
-    previous: &mut [u32],
-    classes: &mut [u8],
-    queue: &mut [u64],
-) -> bool {
-    let exact = stored_lengths(stored);
-    let first = run_stored(
-        record,
-        stored,
-        exact,
-        1,
-        path,
-        known,
-        previous,
-        classes,
-        queue,
-    );
-    let more = longer_lengths(stored);
-    let second = run_stored(
-        record,
-        stored,
-        more,
-        2,
-        path,
-        known,
-        previous,
-        classes,
-        queue,
-    );
+// Longer buffers that change no answer. Numbers 6 and 13 hang on lengths.
+fn longer_lengths(stored: Stored) -> Lent
+    ensures { λ r. ⌜ r ≡ longerLengths stored ⌝ }
+{
+    let number = stored.told.number;
+    Lent {
+        cells: cells_more(stored.lent, number),
+        queue: longer(twice(stored.places), queue_more(number)),
+    }
+}
+
+// Whether the stored answer comes at the stored lengths and at longer ones.
+fn same_twice(file: &[u8], stored: Stored, queue: &mut [u64]) -> bool
+    ensures { λ r. ⌜ SameTwice (now (file .entry)) (length (now (queue .entry))) stored r ⌝ }
+{
+    let first = run_stored(file, stored, stored_lengths(stored), queue);
+    let second = run_stored(file, stored, longer_lengths(stored), queue);
     is_same(first) && is_same(second)
 }
 
-fn middle(full: u32, enough: u32) -> u32 {
-    if enough <= full {
-        return full;
-    }
-    full + (enough - full) / 2
-}
-
-// The gap, narrowed by what a run at some places gave.
-fn narrowed(gap: Gap, places: u32, verdict: Verdict) -> Gap {
-    let runs = add(gap.runs, 1);
-    match verdict {
-        Verdict::Same => Gap {
-            full: gap.full,
-            enough: places,
-            runs: runs,
-            agreed: true,
-        },
-        Verdict::Full => Gap {
-            full: places,
-            enough: gap.enough,
-            runs: runs,
-            agreed: true,
-        },
-        Verdict::Other => Gap {
-            full: gap.full,
-            enough: gap.enough,
-            runs: gap.runs,
-            agreed: false,
-        },
-    }
-}
-
 // Halves the gap: half way the answer is the stored one, or the queue is full. A gap of one place stays.
-fn narrow_once(
-    record: &[u8],
-    stored: Stored,
-    gap: Gap,
-    path: &mut [u32],
-    known: &mut [u32],
-    previous: &mut [u32],
-    classes: &mut [u8],
-    queue: &mut [u64],
-) -> Gap {
-    let places = middle(gap.full, gap.enough);
-    if !gap.agreed || places == gap.full {
+fn narrow_once(file: &[u8], stored: Stored, gap: Gap, queue: &mut [u64]) -> Gap
+    ensures { λ r. ⌜ Halved (now (file .entry)) (length (now (queue .entry))) stored gap r ⌝ }
+{
+    if !is_open(gap) {
         return gap;
     }
+    let places = middle(gap.full, gap.enough);
     let lent = Lent {
         cells: stored.lent,
         queue: twice(places),
     };
-    let verdict = run_stored(
-        record,
-        stored,
-        lent,
-        3,
-        path,
-        known,
-        previous,
-        classes,
-        queue,
-    );
+    let verdict = run_stored(file, stored, lent, queue);
     narrowed(gap, places, verdict)
 }
 
 // Looks for the least queue that gives the stored answer: with one place less the queue is full. A count of places has 32
 // bits, so that 32 turns close the gap.
-fn narrow(
-    record: &[u8],
-    stored: Stored,
-    path: &mut [u32],
-    known: &mut [u32],
-    previous: &mut [u32],
-    classes: &mut [u8],
-    queue: &mut [u64],
-) -> Gap {
+fn narrow(file: &[u8], stored: Stored, queue: &mut [u64]) -> Gap
+    ensures { λ r. ⌜ Narrowed (now (file .entry)) (length (now (queue .entry))) stored r ⌝ }
+{
     let mut gap = Gap {
         full: 0,
         enough: stored.places,
@@ -209,30 +101,33 @@ fn narrow(
     };
     let mut turns: u32 = 0;
     while turns < 32 {
-        gap = narrow_once(record, stored, gap, path, known, previous, classes, queue);
+        gap = narrow_once(file, stored, gap, queue);
         turns += 1;
     }
     gap
 }
 
 // Small rooms whose search came to an end of its own: a route, no route, or the node limit passed.
-fn is_narrowed(stored: Stored) -> bool {
+fn is_narrowed(stored: Stored) -> bool
+    ensures { λ r. ⌜ r ≡ isNarrowed stored ⌝ }
+{
+    let number = stored.told.number;
     if 200 < stored.lent {
         return false;
     }
-    stored.number == 0 || stored.number == 11 || stored.number == 12
+    if number == 0 {
+        return true;
+    }
+    if number == 11 {
+        return true;
+    }
+    number == 12
 }
 
-fn replay_one(
-    record: &[u8],
-    stored: Stored,
-    path: &mut [u32],
-    known: &mut [u32],
-    previous: &mut [u32],
-    classes: &mut [u8],
-    queue: &mut [u64],
-) -> Tally {
-    if !same_twice(record, stored, path, known, previous, classes, queue) {
+fn replay_one(file: &[u8], stored: Stored, queue: &mut [u64]) -> Tally
+    ensures { λ r. ⌜ ReplayedOne (now (file .entry)) (length (now (queue .entry))) stored r ⌝ }
+{
+    if !same_twice(file, stored, queue) {
         return Tally {
             runs: 0,
             agreed: false,
@@ -244,76 +139,83 @@ fn replay_one(
             agreed: true,
         };
     }
-    let gap = narrow(record, stored, path, known, previous, classes, queue);
+    let gap = narrow(file, stored, queue);
     Tally {
         runs: add(2, gap.runs),
         agreed: gap.agreed,
     }
 }
 
-// One search further, unless one has differed.
-fn replay_next(
-    from: i32,
-    outcome: Outcome,
-    path: &mut [u32],
-    known: &mut [u32],
-    previous: &mut [u32],
-    classes: &mut [u8],
-    queue: &mut [u64],
-) -> Outcome {
-    if !outcome.agreed {
-        return outcome;
-    }
-    let mut record = record_buffer();
-    read_record(from, &mut record);
-    let stored = stored_at(&record, 0);
-    let tally = replay_one(&record, stored, path, known, previous, classes, queue);
+// One search further, to the place behind it, unless it differs.
+fn one_further(outcome: Outcome, next: usize, tally: Tally) -> Outcome
+    ensures { λ r. ⌜ r ≡ oneFurther outcome next tally ⌝ }
+{
     if !tally.agreed {
         return Outcome {
+            at: outcome.at,
             searches: outcome.searches,
             runs: outcome.runs,
             agreed: false,
         };
     }
     Outcome {
+        at: next,
         searches: add(outcome.searches, 1),
         runs: add(outcome.runs, tally.runs),
         agreed: true,
     }
 }
 
+// The next search, unless one has differed.
+fn replay_next(file: &[u8], outcome: Outcome, queue: &mut [u64]) -> Outcome
+    ensures { λ r. ⌜ Next (now (file .entry)) (length (now (queue .entry))) outcome r ⌝ }
+{
+    if !outcome.agreed {
+        return outcome;
+    }
+    let stored = stored_at(file, outcome.at);
+    let tally = replay_one(file, stored, queue);
+    one_further(outcome, stored.next, tally)
+}
+
 // All stored searches in their order, up to the first that differs.
-pub fn replay(
-    from: i32,
-    path: &mut [u32],
-    known: &mut [u32],
-    previous: &mut [u32],
-    classes: &mut [u8],
-    queue: &mut [u64],
-) -> Outcome {
-    let count = read_count(from);
+pub fn replay(file: &[u8], queue: &mut [u64]) -> Outcome
+    ensures { λ r. ⌜ Replayed (now (file .entry)) (length (now (queue .entry))) r ⌝ }
+{
+    let count = count_in(file);
     let mut outcome = Outcome {
+        at: past(file, 0, 8),
         searches: 0,
         runs: 0,
         agreed: true,
     };
     let mut passed: u32 = 0;
     while passed < count {
-        outcome = replay_next(from, outcome, path, known, previous, classes, queue);
+        outcome = replay_next(file, outcome, queue);
         passed += 1;
     }
     outcome
 }
 
-// How many stored answers of an opened file have a number.
-pub fn count_number(from: i32, number: u32) -> u32 {
-    let count = read_count(from);
+// One more, where an answer has the number.
+fn one_more(met: u32, here: u32, number: u32) -> u32
+    ensures { λ r. ⌜ r ≡ oneMore met here number ⌝ }
+{
+    if here == number { add(met, 1) } else { met }
+}
+
+// How many stored answers have a number.
+pub fn count_number(file: &[u8], number: u32) -> u32
+    ensures { λ r. ⌜ r ≡ numbered (now (file .entry)) number ⌝ }
+{
+    let count = count_in(file);
     let mut met: u32 = 0;
+    let mut at = past(file, 0, 8);
     let mut passed: u32 = 0;
     while passed < count {
-        if read_number(from) == number {
-            met = add(met, 1);
-        }
+        let stored = stored_at(file, at);
+        met = one_more(met, stored.told.number, number);
+        at = stored.next;
         passed += 1;
     }
     met

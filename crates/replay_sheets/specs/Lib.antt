@@ -1,8 +1,10 @@
 pub mod CountLaws
 pub mod Counts
-pub mod Memory
-pub mod MemoryLaws
+pub mod ReplayLaws
+pub mod Replays
 pub mod RunLaws
 pub mod Runs
+pub mod SheetLaws
+pub mod Sheets
 pub mod VerdictLaws
 pub mod Verdicts

@@ -1,22 +1,23 @@
 -- Laws of the verdict on an answer and lent memory.
 use mathlib.Core.Path.{_≡_, refl, sym, _∙_}
 use mathlib.Core.Bool.{Bool, true, false, _&&_, not}
-use mathlib.Core.List.{List}
-use Prim.Native.Nat.{ℕ, zero, suc, _+_, _<_}
+use mathlib.Core.List.{List, _++_}
+use Prim.Native.Nat.{ℕ, zero, suc, _+_, _≤_, _<_}
 use native.Mathlib.Numerals.{add-one}
 use native.Mathlib.Omega.{arith}
-use lib.Dec.{eqb}
-use lib.ListN.{length, getD}
-use borrow.Author.Tests.{not-true, not-false, eqb-true, eq-eqb, ne-eqb}
-use Rattle.basics.specs.Tests.{ask, and-both}
+use lib.Dec.{eqb, leb}
+use lib.ListN.{length, getD, take, drop, length-take}
+use lib.Seq.{length-take-le, getD-take, take-at}
+use borrow.Author.Tests.{not-true, not-false, eqb-true, leb-true, eq-eqb, ne-eqb}
+use Rattle.basics.specs.Tests.{ask, and-left, and-right, and-both}
 use Rattle.net_tree.specs.declared.Lengths.{Lengths}
-use Rattle.net_tree.specs.declared.Answer.{Answer}
-use Rattle.net_tree.specs.Answers.{Lent, Promise}
-use Rattle.replay_sheets.specs.declared.stored.Stored.{Stored}
+use Rattle.net_tree.specs.Answers.{Lent, lent, lengthsOf}
+use Rattle.stored.specs.Memory.{Rubbish}
+use Rattle.replay_sheets.specs.declared.sheets.Stored.{Stored}
 use Rattle.replay_sheets.specs.declared.judging.Shortage.{Shortage}
-use Rattle.replay_sheets.specs.declared.judging.Verdict.{Verdict}
+use Rattle.stored.specs.declared.runs.Verdict.{Verdict}
 use Rattle.replay_sheets.specs.declared.attempt.Lens.{Lens}
-use Rattle.replay_sheets.specs.Verdicts.{sameBelow, verdictOf, AllRubbish, Judged, lengthsBy, Ran, judged}
+use Rattle.replay_sheets.specs.Verdicts.{sameBelow, AllRubbish, Judged, OwnRubbish, hasRoom, lengthsBy, Ran, judged}
 
 -- ---- a test that a function makes, and its result turned round
 
@@ -56,46 +57,92 @@ module _ (a b : List ℕ) where
       later : sameBelow n a b ≡ false → sameBelow (suc n) a b ≡ false
       later g = rw g (last (eqb (getD a n 0) (getD b n 0)))
 
--- ---- a run, judged
+-- ---- the fronts that are lent have the lengths asked for
 
-module _ {sheet : List ℕ} {L : Lengths} {S : Stored} {F : Shortage} {cells covered marks : List ℕ} {r : Verdict} where
-  -- spoiling keeps the lengths
-  pub judged-by : {B B′ : Lent} {a : Answer} → AllRubbish B → Promise sheet B a B′ → r ≡ verdictOf S F cells covered marks a B′
-      → length (B .branches) ≡ L .branches → length (B .occupied) ≡ L .occupied → length (B .repeaters) ≡ L .repeaters
-      → length (B .kinds) ≡ L .kinds → length (B .blocked) ≡ L .blocked → length (B .classes) ≡ L .classes → length (B .joinable) ≡ L .joinable
-      → length (B .known) ≡ L .known → length (B .previous) ≡ L .previous → length (B .path) ≡ L .path → length (B .best) ≡ L .best
-      → length (B .queue) ≡ L .queue → Judged sheet L S F cells covered marks r
-  judged-by {B = B} {B′ = B′} {a = a} s p v e0 e1 e2 e3 e4 e5 e6 e7 e8 e9 e10 e11 = record {
-    lent-before = B;
-    lent-after = B′;
-    answer = a;
-    lengths = λ i. record {
-      branches = e0 i;
-      occupied = e1 i;
-      repeaters = e2 i;
-      kinds = e3 i;
-      blocked = e4 i;
-      classes = e5 i;
-      joinable = e6 i;
-      known = e7 i;
-      previous = e8 i;
-      path = e9 i;
-      best = e10 i;
-      queue = e11 i;
-    };
-    spoiled = s;
-    promise = p;
-    verdict = v;
+module _ (N : Lens) (queue : ℕ) (e : hasRoom N queue ≡ true) where
+  fits-both : leb (N .branch) 16600 && leb (N .cells) 16600 ≡ true
+  unfolding hasRoom
+  fits-both = and-left (leb (N .branch) 16600 && leb (N .cells) 16600) (leb (N .queue) queue) e
+
+  pub fits-branch : N .branch ≤ 16600
+  fits-branch = leb-true (N .branch) 16600 (and-left (leb (N .branch) 16600) (leb (N .cells) 16600) fits-both)
+
+  pub fits-cells : N .cells ≤ 16600
+  fits-cells = leb-true (N .cells) 16600 (and-right (leb (N .branch) 16600) (leb (N .cells) 16600) fits-both)
+
+  pub fits-queue : N .queue ≤ queue
+  unfolding hasRoom
+  fits-queue = leb-true (N .queue) queue (and-right (leb (N .branch) 16600 && leb (N .cells) 16600) (leb (N .queue) queue) e)
+
+pub fits-again : (N : Lens) (queue queue′ : List ℕ) → hasRoom N (length queue) ≡ true → length queue′ ≡ length queue → N .queue ≤ length queue′
+fits-again N queue queue′ e k = rw k (fits-queue N (length queue) e)
+
+module _ {s : List ℕ} (R : OwnRubbish s) where
+  pub front-fits : (n : ℕ) → n ≤ 16600 → n ≤ length s
+  front-fits n h = rw (R .long) h
+
+  pub front-long : (n : ℕ) → n ≤ 16600 → length (take n s) ≡ n
+  front-long n h = length-take-le n s (front-fits n h)
+
+  front-rubbish : (n : ℕ) → Rubbish (take n s)
+  front-rubbish n = λ i h. let l = length-take n s in getD-take n s i 0 (omega arith) ∙ R .rubbish-all i (omega arith)
+
+-- spoiled, and lent again
+pub spoiled-front : (n : ℕ) (spoiled queue : List ℕ) → n ≤ length queue → length spoiled ≡ length (take n queue) → Rubbish spoiled
+    → Rubbish (take n (spoiled ++ drop n queue))
+spoiled-front n spoiled queue h e R = rw (take-at spoiled (drop n queue) n (e ∙ length-take-le n queue h)) R
+
+abbrev pub fronts : Lens → (words bytes queue : List ℕ) → Lent
+fronts N words bytes queue =
+    lent (take (N .branch) words) (take (N .cells) bytes) (take (N .cells) bytes) (take (N .cells) bytes) (take (N .cells) bytes) (take (N .cells) bytes)
+    (take (N .cells) bytes) (take (N .cells) words) (take (N .cells) words) (take (N .cells) words) (take (N .cells) words) (take (N .queue) queue)
+
+module _ (N : Lens) {words bytes : List ℕ} (W : OwnRubbish words) (B : OwnRubbish bytes) (queue : List ℕ) where
+  pub fronts-rubbish : Rubbish (take (N .queue) queue) → AllRubbish (fronts N words bytes queue)
+  fronts-rubbish Q = let w = front-rubbish W (N .cells) in let b = front-rubbish B (N .cells) in record {
+    branches-spoiled = front-rubbish W (N .branch);
+    occupied-spoiled = b;
+    repeaters-spoiled = b;
+    kinds-spoiled = b;
+    blocked-spoiled = b;
+    classes-spoiled = b;
+    joinable-spoiled = b;
+    known-spoiled = w;
+    previous-spoiled = w;
+    path-spoiled = w;
+    best-spoiled = w;
+    queue-spoiled = Q;
   }
 
-  -- the fronts that are lent have the lengths asked for
-  pub ran-at : {N : Lens} → Judged sheet L S F cells covered marks r → L ≡ lengthsBy N → Ran sheet N S F cells covered marks r
-  ran-at J e = judged (record {
-    lent-before = J .lent-before;
-    lent-after = J .lent-after;
-    answer = J .answer;
-    lengths = J .lengths ∙ e;
-    spoiled = J .spoiled;
-    promise = J .promise;
-    verdict = J .verdict;
-  })
+  pub fronts-by : (longs : ℕ) → hasRoom N longs ≡ true → N .queue ≤ length queue → lengthsOf (fronts N words bytes queue) ≡ lengthsBy N
+  fronts-by longs e h =
+      let f = front-long W (N .branch) (fits-branch N longs e) in
+      let w = front-long W (N .cells) (fits-cells N longs e) in
+      let b = front-long B (N .cells) (fits-cells N longs e) in
+      let q = length-take-le (N .queue) queue h in
+      λ i. record {
+        branches = f i;
+        occupied = b i;
+        repeaters = b i;
+        kinds = b i;
+        blocked = b i;
+        classes = b i;
+        joinable = b i;
+        known = w i;
+        previous = w i;
+        path = w i;
+        best = w i;
+        queue = q i;
+      }
+
+pub ran-at : {sheet : List ℕ} {L : Lengths} {S : Stored} {F : Shortage} {cells covered marks : List ℕ} {r : Verdict} (N : Lens) (longs : ℕ)
+    → hasRoom N longs ≡ true → Judged sheet L S F cells covered marks r → L ≡ lengthsBy N → Ran sheet N S F cells covered marks longs r
+ran-at N longs h J e = judged h (record {
+  lent-before = J .lent-before;
+  lent-after = J .lent-after;
+  answer = J .answer;
+  lengths = J .lengths ∙ e;
+  spoiled = J .spoiled;
+  promise = J .promise;
+  verdict = J .verdict;
+})

@@ -4,8 +4,9 @@ use mathlib.Core.Bool.{Bool, true, false, _&&_}
 use mathlib.Core.List.{List, []}
 use Prim.Native.Nat.{ℕ, zero, suc}
 use lib.Dec.{eqb, leb}
-use lib.ListN.{getD, replicate}
+use lib.ListN.{length, getD, replicate}
 use Rattle.basics.specs.Tests.{either}
+use Rattle.stored.specs.Runs.{fullIf, sameIf, touchesNothing}
 use Rattle.branches.specs.declared.BranchLengths.{BranchLengths}
 use Rattle.branches.specs.Branches.{markedCount}
 use Rattle.net_tree.specs.declared.Lengths.{Lengths}
@@ -13,12 +14,12 @@ use Rattle.net_tree.specs.declared.Answer.{Answer}
 use Rattle.net_tree.specs.declared.Ended.{Ended}
 use Rattle.net_tree.specs.declared.Ended.the-variants.{Routed, Refused}
 use Rattle.net_tree.specs.Answers.{Lent, lengthsOf, Promise}
-use Rattle.replay_sheets.specs.declared.stored.Stored.{Stored}
+use Rattle.replay_sheets.specs.declared.sheets.Stored.{Stored}
 use Rattle.replay_sheets.specs.declared.judging.Shortage.{Shortage}
-use Rattle.replay_sheets.specs.declared.judging.Verdict.{Verdict}
-use Rattle.replay_sheets.specs.declared.judging.Verdict.the-variants.{Same, Full, Other}
+use Rattle.stored.specs.declared.runs.Verdict.{Verdict}
+use Rattle.stored.specs.declared.runs.Verdict.the-variants.{Other}
 use Rattle.replay_sheets.specs.declared.attempt.Lens.{Lens}
-use Rattle.replay_sheets.specs.Memory.{Rubbish, holds, covers}
+use Rattle.stored.specs.Memory.{Rubbish, holds, covers}
 
 -- ---- the answer
 
@@ -60,10 +61,6 @@ shortAnswer a F = shortEnd (a .ended) F && sameLengths (a .lengths) noLengths
 
 -- ---- lent memory
 
--- "Numbers 1 to 6 touch nothing"
-unfoldable pub touchesNothing : ℕ → Bool
-touchesNothing number = either (eqb number 0) false (leb number 6)
-
 -- the rubbish that was there; or marks on all cells of the branches, and as many as are stored
 unfoldable pub occupiedHolds : Bool → ℕ → (covered occupied : List ℕ) → Bool
 occupiedHolds kept count covered occupied = either kept (holds true covered occupied) (covers covered occupied && eqb (markedCount occupied) count)
@@ -86,14 +83,6 @@ memoryHolds kept count cells covered marks B =
     && workHolds kept (B .kinds) (B .blocked) (B .classes) (B .joinable) (B .known) (B .previous) (B .path) (B .best) (B .queue)
 
 -- ---- both
-
-abbrev pub sameIf : Bool → Verdict
-sameIf true = Same
-sameIf false = Other
-
-abbrev pub fullIf : Bool → Verdict
-fullIf true = Full
-fullIf false = Other
 
 -- all as stored; or what a buffer gives that is too short, and zeros; or something else
 unfoldable pub verdictOf : Stored → Shortage → (cells covered marks : List ℕ) → Answer → Lent → Verdict
@@ -129,6 +118,15 @@ pub record Judged (sheet : List ℕ) (L : Lengths) (S : Stored) (F : Shortage) (
   pub promise : Promise sheet lent-before answer lent-after
   pub verdict : r ≡ verdictOf S F cells covered marks answer lent-after
 
+-- a buffer of the program's own, full of rubbish
+pub record OwnRubbish (s : List ℕ) : Type 0 where
+  pub long : length s ≡ 16600
+  pub rubbish-all : Rubbish s
+
+-- lengths that the program's own memory has, with a queue so long
+unfoldable pub hasRoom : Lens → ℕ → Bool
+hasRoom N queue = leb (N .branch) 16600 && leb (N .cells) 16600 && leb (N .queue) queue
+
 abbrev pub lengthsBy : Lens → Lengths
 lengthsBy N = record {
   branches = N .branch;
@@ -145,7 +143,7 @@ lengthsBy N = record {
   queue = N .queue;
 }
 
--- a run at these lengths; lengths that the program's own memory does not have are no run, and something else
-pub data Ran (sheet : List ℕ) (N : Lens) (S : Stored) (F : Shortage) (cells covered marks : List ℕ) (r : Verdict) : Type 0 where
-  too-long : r ≡ Other → Ran sheet N S F cells covered marks r
-  judged : Judged sheet (lengthsBy N) S F cells covered marks r → Ran sheet N S F cells covered marks r
+-- a run at these lengths, with a queue so long; lengths that the program's own memory does not have are no run, and something else
+pub data Ran (sheet : List ℕ) (N : Lens) (S : Stored) (F : Shortage) (cells covered marks : List ℕ) (longs : ℕ) (r : Verdict) : Type 0 where
+  too-long : hasRoom N longs ≡ false → r ≡ Other → Ran sheet N S F cells covered marks longs r
+  judged : hasRoom N longs ≡ true → Judged sheet (lengthsBy N) S F cells covered marks r → Ran sheet N S F cells covered marks longs r

@@ -1,13 +1,20 @@
 // One run of a sheet, over memory full of rubbish.
 use crate::judging::Shortage;
-use crate::judging::Verdict;
 use crate::judging::judge;
-use crate::memory::spoil_bytes;
-use crate::memory::spoil_longs;
-use crate::memory::spoil_words;
-use crate::stored::Stored;
+use crate::sheets::Stored;
+use stored::memory::spoil_bytes;
+use stored::memory::spoil_longs;
+use stored::memory::spoil_words;
+use stored::runs::Verdict;
+ghost use mathlib.Core.Path.{_≡_};
+ghost use Prim.Native.Nat.{_≤_};
+ghost use lib.ListN.{length, take};
 ghost use Rattle.net_tree.specs.Answers.{lent, lengthsOf};
-ghost use Rattle.replay_sheets.specs.Verdicts.{AllRubbish, Judged, Ran};
+ghost use Rattle.stored.specs.Memory.{Rubbish};
+ghost use Rattle.replay_sheets.specs.Verdicts.{OwnRubbish, AllRubbish, Judged, hasRoom, Ran};
+
+// How many numbers the program's own buffers have: room for the largest room and branch buffer that are stored, and some more.
+const ROOM: usize = 16600;
 
 // The lengths at which buffers are lent: those of a number a cell, the branch buffer, and the queue.
 pub struct Lens {
@@ -16,37 +23,32 @@ pub struct Lens {
     pub queue: usize,
 }
 
-fn spoil(
-    branches: &mut [u32],
-    occupied: &mut [u8],
-    repeaters: &mut [u8],
-    kinds: &mut [u8],
-    blocked: &mut [u8],
-    classes: &mut [u8],
-    joinable: &mut [u8],
-    known: &mut [u32],
-    previous: &mut [u32],
-    path: &mut [u32],
-    best: &mut [u32],
-    queue: &mut [u64],
-)
-    ensures { λ _. ⌜ AllRubbish (lent (now (branches .exit)) (now (occupied .exit)) (now (repeaters .exit)) (now (kinds .exit)) (now (blocked .exit)) (now (classes .exit)) (now (joinable .exit)) (now (known .exit)) (now (previous .exit)) (now (path .exit)) (now (best .exit)) (now (queue .exit))) ⌝ }
+// Buffers of the program's own, full of rubbish.
+fn rubbish_words() -> [u32; ROOM]
+    ensures { λ r. ⌜ OwnRubbish r ⌝ }
 {
-    spoil_words(branches);
-    spoil_bytes(occupied);
-    spoil_bytes(repeaters);
-    spoil_bytes(kinds);
-    spoil_bytes(blocked);
-    spoil_bytes(classes);
-    spoil_bytes(joinable);
-    spoil_words(known);
-    spoil_words(previous);
-    spoil_words(path);
-    spoil_words(best);
-    spoil_longs(queue);
+    let mut words = [0u32; ROOM];
+    spoil_words(&mut words);
+    words
 }
 
-// The run, and its answer and memory held to what is stored.
+fn rubbish_bytes() -> [u8; ROOM]
+    ensures { λ r. ⌜ OwnRubbish r ⌝ }
+{
+    let mut bytes = [0u8; ROOM];
+    spoil_bytes(&mut bytes);
+    bytes
+}
+
+// Fills the front of the queue with rubbish.
+fn spoil_front(queue: &mut [u64], longs: usize)
+    requires { ⌜ longs ≤ length (now queue) ⌝ }
+    ensures { λ _. ⌜ Rubbish (take longs (now (queue .exit))) ⌝ }
+{
+    spoil_longs(&mut queue[..longs]);
+}
+
+// The answer over memory full of rubbish, and all memory behind it, held to what is stored.
 fn attempt(
     sheet: &[u8],
     stored: Stored,
@@ -67,22 +69,9 @@ fn attempt(
     best: &mut [u32],
     queue: &mut [u64],
 ) -> Verdict
+    requires { ⌜ AllRubbish (lent (now branches) (now occupied) (now repeaters) (now kinds) (now blocked) (now classes) (now joinable) (now known) (now previous) (now path) (now best) (now queue)) ⌝ }
     ensures { λ r. ⌜ Judged (now (sheet .entry)) (lengthsOf (lent (now (branches .entry)) (now (occupied .entry)) (now (repeaters .entry)) (now (kinds .entry)) (now (blocked .entry)) (now (classes .entry)) (now (joinable .entry)) (now (known .entry)) (now (previous .entry)) (now (path .entry)) (now (best .entry)) (now (queue .entry)))) stored shortage (now (cells .entry)) (now (covered .entry)) (now (marks .entry)) r ⌝ }
 {
-    spoil(
-        branches,
-        occupied,
-        repeaters,
-        kinds,
-        blocked,
-        classes,
-        joinable,
-        known,
-        previous,
-        path,
-        best,
-        queue,
-    );
     let answer = net_tree::route_net_tree(
         sheet,
         branches,
@@ -120,8 +109,20 @@ fn attempt(
     )
 }
 
-// The run in the front of each buffer, at these lengths. Lengths that a buffer doesn't have would be no run.
-fn lend(
+fn has_room(lens: Lens, longs: usize) -> bool
+    ensures { λ r. ⌜ r ≡ hasRoom lens longs ⌝ }
+{
+    if ROOM < lens.branch {
+        return false;
+    }
+    if ROOM < lens.cells {
+        return false;
+    }
+    lens.queue <= longs
+}
+
+// The run at these lengths, in the front of each buffer. Lengths that a buffer doesn't have would be no run.
+pub fn run(
     sheet: &[u8],
     stored: Stored,
     lens: Lens,
@@ -129,60 +130,30 @@ fn lend(
     cells: &[u32],
     covered: &[u8],
     marks: &[u8],
-    branches: &mut [u32],
-    occupied: &mut [u8],
-    repeaters: &mut [u8],
-    kinds: &mut [u8],
-    blocked: &mut [u8],
-    classes: &mut [u8],
-    joinable: &mut [u8],
-    known: &mut [u32],
-    previous: &mut [u32],
-    path: &mut [u32],
-    best: &mut [u32],
     queue: &mut [u64],
 ) -> Verdict
-    ensures { λ r. ⌜ Ran (now (sheet .entry)) lens stored shortage (now (cells .entry)) (now (covered .entry)) (now (marks .entry)) r ⌝ }
+    ensures { λ r. ⌜ Ran (now (sheet .entry)) lens stored shortage (now (cells .entry)) (now (covered .entry)) (now (marks .entry)) (length (now (queue .entry))) r ⌝ }
 {
+    if !has_room(lens, queue.len()) {
+        return Verdict::Other;
+    }
     let branch = lens.branch;
     let count = lens.cells;
     let longs = lens.queue;
-    if branches.len() < branch {
-        return Verdict::Other;
-    }
-    if occupied.len() < count {
-        return Verdict::Other;
-    }
-    if repeaters.len() < count {
-        return Verdict::Other;
-    }
-    if kinds.len() < count {
-        return Verdict::Other;
-    }
-    if blocked.len() < count {
-        return Verdict::Other;
-    }
-    if classes.len() < count {
-        return Verdict::Other;
-    }
-    if joinable.len() < count {
-        return Verdict::Other;
-    }
-    if known.len() < count {
-        return Verdict::Other;
-    }
-    if previous.len() < count {
-        return Verdict::Other;
-    }
-    if path.len() < count {
-        return Verdict::Other;
-    }
-    if best.len() < count {
-        return Verdict::Other;
-    }
-    if queue.len() < longs {
-        return Verdict::Other;
-    }
+    spoil_front(queue, longs);
+    let words = rubbish_words();
+    let bytes = rubbish_bytes();
+    let mut branches = words;
+    let mut occupied = bytes;
+    let mut repeaters = bytes;
+    let mut kinds = bytes;
+    let mut blocked = bytes;
+    let mut classes = bytes;
+    let mut joinable = bytes;
+    let mut known = words;
+    let mut previous = words;
+    let mut path = words;
+    let mut best = words;
     attempt(
         sheet,
         stored,
@@ -202,52 +173,5 @@ fn lend(
         &mut path[..count],
         &mut best[..count],
         &mut queue[..longs],
-    )
-}
-
-// The run in memory of its own, but for the queue: room for the largest room and branch buffer that are stored, and some more.
-pub fn run(
-    sheet: &[u8],
-    stored: Stored,
-    lens: Lens,
-    shortage: Shortage,
-    cells: &[u32],
-    covered: &[u8],
-    marks: &[u8],
-    queue: &mut [u64],
-) -> Verdict
-    ensures { λ r. ⌜ Ran (now (sheet .entry)) lens stored shortage (now (cells .entry)) (now (covered .entry)) (now (marks .entry)) r ⌝ }
-{
-    let mut branches = [0u32; 16600];
-    let mut occupied = [0u8; 16600];
-    let mut repeaters = [0u8; 16600];
-    let mut kinds = [0u8; 16600];
-    let mut blocked = [0u8; 16600];
-    let mut classes = [0u8; 16600];
-    let mut joinable = [0u8; 16600];
-    let mut known = [0u32; 16600];
-    let mut previous = [0u32; 16600];
-    let mut path = [0u32; 16600];
-    let mut best = [0u32; 16600];
-    lend(
-        sheet,
-        stored,
-        lens,
-        shortage,
-        cells,
-        covered,
-        marks,
-        &mut branches,
-        &mut occupied,
-        &mut repeaters,
-        &mut kinds,
-        &mut blocked,
-        &mut classes,
-        &mut joinable,
-        &mut known,
-        &mut previous,
-        &mut path,
-        &mut best,
-        queue,
     )
 }

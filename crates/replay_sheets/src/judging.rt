@@ -1,30 +1,26 @@
 // Whether an answer, and all lent memory behind it, are as stored.
-use crate::memory::bytes_hold;
-use crate::memory::covers;
-use crate::memory::longs_hold;
-use crate::memory::words_hold;
-use crate::stored::Stored;
-use crate::stored::no_lengths;
+use crate::sheets::Stored;
+use crate::sheets::no_lengths;
 use branches::BranchLengths;
 use branches::count_marks;
 use net_tree::Answer;
 use net_tree::Ended;
+use stored::memory::bytes_hold;
+use stored::memory::covers;
+use stored::memory::longs_hold;
+use stored::memory::words_hold;
+use stored::runs::Verdict;
+use stored::runs::touches_nothing;
 ghost use mathlib.Core.Path.{_≡_};
+ghost use Rattle.stored.specs.Runs.{fullIf, sameIf};
 ghost use Rattle.net_tree.specs.Answers.{lent};
 ghost use Rattle.replay_sheets.specs.Verdicts.{sameLengths, sameCounts, sameRefusal, sameEnd, sameAnswer, shortRefusal, shortEnd, shortAnswer};
-ghost use Rattle.replay_sheets.specs.Verdicts.{touchesNothing, occupiedHolds, outputsHold, fourHold, workHolds, memoryHolds, sameIf, fullIf, verdictOf};
+ghost use Rattle.replay_sheets.specs.Verdicts.{occupiedHolds, outputsHold, fourHold, workHolds, memoryHolds, verdictOf};
 
 // What a buffer gives that is too short: a number, and the greatest detail that it can have. The least is 1.
 pub struct Shortage {
     pub number: u32,
     pub most: usize,
-}
-
-// All as stored; or the number that a buffer gives that is too short, and everything is zero; or something else.
-pub enum Verdict {
-    Same,
-    Full,
-    Other,
 }
 
 fn same_lengths(a: BranchLengths, b: BranchLengths) -> bool
@@ -266,16 +262,6 @@ fn memory_holds(
         best,
         queue,
     )
-}
-
-// "Numbers 1 to 6 touch nothing".
-fn touches_nothing(number: u32) -> bool
-    ensures { λ r. ⌜ r ≡ touchesNothing number ⌝ }
-{
-    if number == 0 {
-        return false;
-    }
-    number <= 6
 }
 
 fn same_if(holds: bool) -> Verdict

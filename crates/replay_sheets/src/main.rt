@@ -3,13 +3,14 @@
 mod attempt;
 mod counts;
 mod judging;
-mod memory;
 mod replay;
-mod stored;
+mod sheets;
 
 use crate::counts::Tally;
-use crate::stored::at_end;
 use libc::STDOUT_FILENO;
+ghost use mathlib.Core.Path.{_≡_};
+ghost use Prim.Native.Nat.{_<_};
+ghost use Rattle.replay_sheets.specs.Replays.{endsThere};
 
 fn print_count(word: &[u8], count: u32) {
     io::write_all(STDOUT_FILENO, word);
@@ -39,42 +40,46 @@ fn print_numbers(met: [u32; 16]) {
 }
 
 // A line for a kind of comparison, with the first sheet that differs, if any does.
-fn print_kind(word: &[u8], compared: u32, differ: u32, first: u32) {
-    print_count(word, compared);
-    print_count(b" sheets, ", differ);
+fn print_kind(word: &[u8], kind: usize, compared: [u32; 5], differ: [u32; 5], first: [u32; 5])
+    requires { ⌜ kind < 5 ⌝ }
+{
+    print_count(word, compared[kind]);
+    print_count(b" sheets, ", differ[kind]);
     io::write_all(STDOUT_FILENO, b" differ");
-    if first != 0 {
-        print_count(b", the first is sheet ", first);
+    if first[kind] != 0 {
+        print_count(b", the first is sheet ", first[kind]);
     }
     end_line();
 }
 
 fn print_kinds(compared: [u32; 5], differ: [u32; 5], first: [u32; 5]) {
-    print_kind(
-        b"buffers of exactly V cells: ",
-        compared[0],
-        differ[0],
-        first[0],
-    );
-    print_kind(b"longer buffers: ", compared[1], differ[1], first[1]);
-    print_kind(
-        b"branch buffer exactly full: ",
-        compared[2],
-        differ[2],
-        first[2],
-    );
+    print_kind(b"buffers of exactly V cells: ", 0, compared, differ, first);
+    print_kind(b"longer buffers: ", 1, compared, differ, first);
+    print_kind(b"branch buffer exactly full: ", 2, compared, differ, first);
     print_kind(
         b"branch buffer one cell short: ",
-        compared[3],
-        differ[3],
-        first[3],
+        3,
+        compared,
+        differ,
+        first,
     );
     print_kind(
         b"least queue, and one place less: ",
-        compared[4],
-        differ[4],
-        first[4],
+        4,
+        compared,
+        differ,
+        first,
     );
+}
+
+// Whether the file ends with the last record, and within the buffer that it was read to.
+fn ends_there(at: usize, bytes: usize) -> bool
+    ensures { λ r. ⌜ r ≡ endsThere at bytes ⌝ }
+{
+    if bytes == 1000000 {
+        return false;
+    }
+    at == bytes
 }
 
 fn print_tally(tally: Tally, whole: bool) {
@@ -91,7 +96,7 @@ fn print_tally(tally: Tally, whole: bool) {
     }
 }
 
-// The largest stored queue has 196,608 places; each is lent longer too.
+// Reads the whole file. The largest stored queue has 196,608 places; each is lent longer too.
 fn main() {
     let name = b"sheets.bin";
     let from = os::open_read(name);
@@ -99,8 +104,11 @@ fn main() {
         os::fail(name);
         return;
     }
-    let mut queue = [0u64; 393300];
-    let tally = replay::replay(from, &mut queue);
-    print_tally(tally, at_end(from));
+    let mut file = [0u8; 1000000];
+    let bytes = io::read_full(from, &mut file);
     libc::close(from);
+    let mut queue = [0u64; 393300];
+    let stand = replay::replay(&file[..bytes], &mut queue);
+    let tally = stand.tally;
+    print_tally(tally, ends_there(stand.at, bytes));
 }

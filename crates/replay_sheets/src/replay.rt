@@ -6,19 +6,31 @@ use crate::counts::counted;
 use crate::counts::nothing_yet;
 use crate::counts::one_sheet_more;
 use crate::judging::Shortage;
-use crate::judging::Verdict;
-use crate::stored::Asked;
-use crate::stored::Stored;
-use crate::stored::not_read;
-use crate::stored::read_answer;
-use crate::stored::read_asked;
-use crate::stored::read_count;
-use crate::stored::read_sheet;
+use crate::sheets::Asked;
+use crate::sheets::Stored;
+use crate::sheets::answer_at;
+use crate::sheets::asked_at;
+use crate::sheets::count_in;
+use crate::sheets::known_if;
+use crate::sheets::sheet_at;
+use stored::places::past;
+use stored::runs::Gap;
+use stored::runs::Verdict;
+use stored::runs::is_open;
+use stored::runs::is_same;
+use stored::runs::longer;
+use stored::runs::middle;
+use stored::runs::narrowed;
+use stored::runs::queue_more;
+use stored::runs::twice;
 ghost use mathlib.Core.Path.{_≡_};
-ghost use Prim.Native.Nat.{_*_, _-_};
+ghost use Prim.Native.Nat.{_-_};
 ghost use lib.Dec.{eqb};
+ghost use lib.ListN.{length};
 ghost use Rattle.basics.specs.Tests.{either};
-ghost use Rattle.replay_sheets.specs.Runs.{lesserOf, SizeOf, longerBy, longerLens, branchOf, lensOf, queueMore, isSame, isFull, agreesIn, dueIn, middleOf, narrowedBy, Halved, AgreesIn};
+ghost use Rattle.stored.specs.Runs.{longerBy};
+ghost use Rattle.replay_sheets.specs.Runs.{lesserOf, SizeOf, longerLens, branchOf, lensOf, isFull, agreesIn, dueIn, Halved, Narrows, AgreesIn};
+ghost use Rattle.replay_sheets.specs.Replays.{InKind, InKinds, Next, Replayed};
 
 // The kinds of comparison: buffers of exactly V cells, longer ones, a branch buffer exactly full, one that is one cell short, and
 // the least queue.
@@ -32,11 +44,10 @@ const BRANCH_SHORT: usize = 3;
 
 const QUEUE: usize = 4;
 
-// Where the search for the least queue stands: places at which the queue is full, and at which they are enough.
-struct Gap {
-    full: u32,
-    enough: u32,
-    agreed: bool,
+// How far the file has been replayed: where the next record stands, and what has come of those before it.
+pub struct Stand {
+    pub at: usize,
+    pub tally: Tally,
 }
 
 // A sheet's size: V, or the stored length where that is shorter, and the node limit. A sheet that is not accepted has the stored length.
@@ -67,33 +78,6 @@ fn lesser(a: usize, b: usize) -> usize
     ensures { λ r. ⌜ r ≡ lesserOf a b ⌝ }
 {
     if a < b { a } else { b }
-}
-
-fn longer(length: usize, by: u8) -> usize
-    ensures { λ r. ⌜ r ≡ longerBy length by ⌝ }
-{
-    if length < 1000000 {
-        length + by as usize
-    } else {
-        length
-    }
-}
-
-// A place of the queue takes two numbers.
-fn twice(count: u32) -> usize
-    ensures { λ r. ⌜ r ≡ count * 2 ⌝ }
-{
-    count as usize * 2
-}
-
-// Half a place more is none in the queue.
-fn queue_more(number: u32) -> u8
-    ensures { λ r. ⌜ r ≡ queueMore number ⌝ }
-{
-    if number == 6 {
-        return 1;
-    }
-    if number == 13 { 1 } else { 51 }
 }
 
 fn cells_more(lent: usize, number: u32) -> usize
@@ -168,16 +152,6 @@ fn is_due(kind: usize, stored: Stored) -> bool
     true
 }
 
-fn is_same(verdict: Verdict) -> bool
-    ensures { λ r. ⌜ r ≡ isSame verdict ⌝ }
-{
-    match verdict {
-        Verdict::Same => true,
-        Verdict::Full => false,
-        Verdict::Other => false,
-    }
-}
-
 fn is_full(verdict: Verdict) -> bool
     ensures { λ r. ⌜ r ≡ isFull verdict ⌝ }
 {
@@ -197,37 +171,6 @@ fn agrees(kind: usize, verdict: Verdict) -> bool
     is_same(verdict)
 }
 
-fn middle(full: u32, enough: u32) -> u32
-    ensures { λ r. ⌜ r ≡ middleOf full enough ⌝ }
-{
-    if enough <= full {
-        return full;
-    }
-    full + (enough - full) / 2
-}
-
-fn narrowed(gap: Gap, places: u32, verdict: Verdict) -> Gap
-    ensures { λ r. ⌜ r ≡ narrowedBy gap places verdict ⌝ }
-{
-    match verdict {
-        Verdict::Same => Gap {
-            full: gap.full,
-            enough: places,
-            agreed: true,
-        },
-        Verdict::Full => Gap {
-            full: places,
-            enough: gap.enough,
-            agreed: true,
-        },
-        Verdict::Other => Gap {
-            full: gap.full,
-            enough: gap.enough,
-            agreed: false,
-        },
-    }
-}
-
 // Halves the gap: half way the answer is the stored one, or the queue is full. A gap of one place stays.
 fn narrow_once(
     sheet: &[u8],
@@ -240,15 +183,12 @@ fn narrow_once(
     marks: &[u8],
     queue: &mut [u64],
 ) -> Gap
-    ensures { λ r. ⌜ Halved (now (sheet .entry)) asked size stored (now (cells .entry)) (now (covered .entry)) (now (marks .entry)) gap r ⌝ }
+    ensures { λ r. ⌜ Halved (now (sheet .entry)) asked size stored (now (cells .entry)) (now (covered .entry)) (now (marks .entry)) (length (now (queue .entry))) gap r ⌝ }
 {
+    if !is_open(gap) {
+        return gap;
+    }
     let places = middle(gap.full, gap.enough);
-    if !gap.agreed {
-        return gap;
-    }
-    if places == gap.full {
-        return gap;
-    }
     let lens = Lens {
         cells: size.cells,
         branch: asked.branch,
@@ -272,10 +212,13 @@ fn narrows(
     covered: &[u8],
     marks: &[u8],
     queue: &mut [u64],
-) -> bool {
+) -> bool
+    ensures { λ r. ⌜ Narrows (now (sheet .entry)) asked size stored (now (cells .entry)) (now (covered .entry)) (now (marks .entry)) (length (now (queue .entry))) r ⌝ }
+{
     let mut gap = Gap {
         full: 0,
         enough: asked.places,
+        runs: 0,
         agreed: true,
     };
     let mut turns: u32 = 0;
@@ -306,7 +249,7 @@ fn agrees_in(
     marks: &[u8],
     queue: &mut [u64],
 ) -> bool
-    ensures { λ r. ⌜ AgreesIn kind (now (sheet .entry)) asked stored (now (cells .entry)) (now (covered .entry)) (now (marks .entry)) r ⌝ }
+    ensures { λ r. ⌜ AgreesIn kind (now (sheet .entry)) asked stored (now (cells .entry)) (now (covered .entry)) (now (marks .entry)) (length (now (queue .entry))) r ⌝ }
 {
     let size = size_of(sheet, asked.lent);
     if kind == QUEUE {
@@ -332,7 +275,9 @@ fn replay_kind(
     covered: &[u8],
     marks: &[u8],
     queue: &mut [u64],
-) -> Tally {
+) -> Tally
+    ensures { λ r. ⌜ InKind kind (now (sheet .entry)) asked stored (now (cells .entry)) (now (covered .entry)) (now (marks .entry)) (length (now (queue .entry))) tally r ⌝ }
+{
     if !is_due(kind, stored) {
         return tally;
     }
@@ -350,7 +295,9 @@ fn replay_kinds(
     covered: &[u8],
     marks: &[u8],
     queue: &mut [u64],
-) -> Tally {
+) -> Tally
+    ensures { λ r. ⌜ InKinds (now (sheet .entry)) asked stored (now (cells .entry)) (now (covered .entry)) (now (marks .entry)) (length (now (queue .entry))) tally r ⌝ }
+{
     let mut now = one_sheet_more(tally, stored.number);
     let mut kind: usize = 0;
     while kind < 5 {
@@ -370,72 +317,48 @@ fn replay_kinds(
     now
 }
 
-// A sheet at the front of a buffer. One that the buffer doesn't hold counts as another answer than any.
-fn replay_front(
-    tally: Tally,
-    bytes: usize,
-    sheet: &[u8],
-    asked: Asked,
-    stored: Stored,
-    cells: &[u32],
-    covered: &[u8],
-    marks: &[u8],
-    queue: &mut [u64],
-) -> Tally {
-    if sheet.len() < bytes {
-        return replay_kinds(
-            tally,
-            &sheet[..0],
-            asked,
-            not_read(),
-            cells,
-            covered,
-            marks,
-            queue,
-        );
-    }
-    replay_kinds(
-        tally,
-        &sheet[..bytes],
-        asked,
-        stored,
-        cells,
-        covered,
-        marks,
-        queue,
-    )
-}
-
-// Reads the next record and replays it.
-fn replay_next(from: i32, tally: Tally, queue: &mut [u64]) -> Tally {
-    let mut sheet = [0u8; 65536];
+// The record that stands there: its sheet in each kind. The next one stands where it ends.
+fn replay_next(file: &[u8], stand: Stand, queue: &mut [u64]) -> Stand
+    ensures { λ r. ⌜ Next (now (file .entry)) (length (now (queue .entry))) stand r ⌝ }
+{
     let mut cells = [0u32; 16600];
     let mut covered = [0u8; 16600];
     let mut marks = [0u8; 16600];
-    let asked = read_asked(from);
-    let bytes = read_sheet(from, &mut sheet);
-    let stored = read_answer(from, &mut cells, &mut covered, &mut marks);
-    replay_front(
+    let tally = stand.tally;
+    let part = sheet_at(file, stand.at);
+    let from = part.from;
+    let end = part.end;
+    let answered = answer_at(file, end, &mut cells, &mut covered, &mut marks);
+    let stored = answered.stored;
+    let after = replay_kinds(
         tally,
-        bytes,
-        &sheet,
-        asked,
-        stored,
+        &file[from..end],
+        asked_at(file, stand.at),
+        known_if(part.whole, stored),
         &cells,
         &covered,
         &marks,
         queue,
-    )
+    );
+    Stand {
+        at: answered.end,
+        tally: after,
+    }
 }
 
-// All stored sheets in their order.
-pub fn replay(from: i32, queue: &mut [u64]) -> Tally {
-    let count = read_count(from);
-    let mut tally = nothing_yet();
+// All stored sheets in their order, behind the head's eight bytes.
+pub fn replay(file: &[u8], queue: &mut [u64]) -> Stand
+    ensures { λ r. ⌜ Replayed (now (file .entry)) (length (now (queue .entry))) r ⌝ }
+{
+    let count = count_in(file);
+    let mut stand = Stand {
+        at: past(file, 0, 8),
+        tally: nothing_yet(),
+    };
     let mut passed: u32 = 0;
     while passed < count {
-        tally = replay_next(from, tally, queue);
+        stand = replay_next(file, stand, queue);
         passed += 1;
     }
-    tally
+    stand
 }

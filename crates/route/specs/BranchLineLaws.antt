@@ -7,8 +7,8 @@ use native.Mathlib.Omega.{arith}
 use lib.ListN.{length, take, drop, getD, drop-of-length-le}
 use lib.Seq.{drop-cons, drop-drop, getD-take, length-take-le}
 use Rattle.branches.specs.declared.BranchLengths.{BranchLengths}
-use Rattle.branches.specs.Branches.{total}
-use Rattle.route.specs.Lines.{netLine, branchLine, repeatersLine, branchLinesBy, lengthsIn, branchLines, treeText}
+use Rattle.branches.specs.Branches.{total, lengthsIn}
+use Rattle.route.specs.Lines.{netLine, branchLine, repeatersLine, branchLinesBy, branchLines, treeText}
 use Rattle.route.specs.Marked.{marked}
 use Rattle.route.specs.Putting.{Put, Fits, Going, Branched, both, then-fits, first-fits, going-begun, going-on, going-done, going-fits}
 

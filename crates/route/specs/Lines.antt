@@ -4,6 +4,7 @@ use Prim.Native.Nat.{ℕ, zero, suc, _+_, _/_, _%_}
 use lib.Dec.{ltb}
 use lib.ListN.{take, drop}
 use Rattle.basics.specs.Tests.{either}
+use Rattle.branches.specs.Branches.{lengthsIn}
 use Rattle.branches.specs.declared.BranchLengths.{BranchLengths}
 use Rattle.net_tree.specs.declared.Answer.{Answer}
 use Rattle.net_tree.specs.declared.Ended.{Ended}
@@ -74,9 +75,6 @@ refusedLine number detail = line refusedWord (number ∷ detail ∷ [])
 unfoldable pub branchLinesBy : List ℕ → List ℕ → List ℕ
 branchLinesBy cells [] = []
 branchLinesBy cells (n ∷ ns) = branchLine (take n cells) ++ branchLinesBy (drop n cells) ns
-
-abbrev pub lengthsIn : BranchLengths → List ℕ
-lengthsIn lengths = take (lengths .count) (lengths .each)
 
 abbrev pub branchLines : List ℕ → BranchLengths → List ℕ
 branchLines cells lengths = branchLinesBy cells (lengthsIn lengths)

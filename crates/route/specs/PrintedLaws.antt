@@ -10,6 +10,8 @@ use lib.ListN.{length, take, drop, getD, replicate, length-append, length-map, l
 use lib.Seq.{take-at, take-append-seam, drop-append-seam}
 use borrow.Author.Tests.{ltb-true, ltb-false}
 use Rattle.basics.specs.Tests.{ask, never}
+use Rattle.basics.specs.Promises.{Determines}
+use Rattle.lent.specs.Lent.{filled}
 use Rattle.room.specs.Room.{volume}
 use Rattle.job_sheet.specs.declared.Reading.{Reading}
 use Rattle.job_sheet.specs.declared.Verdict.{Verdict}
@@ -17,14 +19,14 @@ use Rattle.job_sheet.specs.declared.Verdict.the-variants.{Good, Sheet, Sides, C
 use Rattle.job_sheet.specs.Sheet.{Contents, Means, Read, meaning, nothing, bytesBy, rest, numberOf, joined}
 use Rattle.job_sheet.specs.Theorems.{number-one}
 use Rattle.branches.specs.declared.BranchLengths.{BranchLengths}
-use Rattle.branches.specs.Branches.{total}
+use Rattle.branches.specs.Branches.{total, lengthsIn}
 use Rattle.net_tree.specs.declared.Lengths.{Lengths}
 use Rattle.net_tree.specs.declared.Answer.{Answer}
 use Rattle.net_tree.specs.declared.Ended.{Ended}
 use Rattle.net_tree.specs.declared.Ended.the-variants.{Routed, Refused}
-use Rattle.net_tree.specs.Answers.{Lent, Outcome, routed, refused, Comes, Promise, answerOf, filled, lentAfter, lengthsOf, lent}
+use Rattle.net_tree.specs.Answers.{Lent, Outcome, routed, refused, Comes, Promise, answerOf, lentAfter, lengthsOf, lent}
 use Rattle.net_tree.specs.PromiseLaws.{comes-one}
-use Rattle.route.specs.Lines.{decimalWithin, number, numbers, line, netLine, branchLine, repeatersLine, refusedLine, branchLinesBy, lengthsIn, branchLines, treeText, endedText, answerText}
+use Rattle.route.specs.Lines.{decimalWithin, number, numbers, line, netLine, branchLine, repeatersLine, refusedLine, branchLinesBy, branchLines, treeText, endedText, answerText}
 use Rattle.route.specs.Marked.{ifMarked, markedFrom, marked}
 use Rattle.route.specs.Putting.{Put, Fits, Branched}
 use Rattle.route.specs.CountLaws.{few-branches}
@@ -221,8 +223,15 @@ here-one (over J m h e) (not-over small c) = absurd (omega (arith, small J m))
 here-one (not-over small c) (over K n g d) = absurd (omega (arith, small K n))
 here-one (not-over small c) (not-over small′ d) = comes-one c d
 
-pub one-text : {sheet out out′ : List ℕ} {end end′ : ℕ} → Printed sheet out end → Printed sheet out′ end′ → take end out ≡ take end′ out′
-one-text p q = p .is ∙ ap printed (here-one (p .so) (q .so)) ∙ sym (q .is)
+-- the text that a result of `print_sheet` is
+pub record Puts (sheet text : List ℕ) : Type 0 where
+  pub out : List ℕ
+  pub end : ℕ
+  pub put : Printed sheet out end
+  pub text-is : text ≡ take end out
+
+pub coincide : (sheet : List ℕ) → Determines (Puts sheet)
+coincide sheet x y p q = p .text-is ∙ p .put .is ∙ ap printed (here-one (p .put .so) (q .put .so)) ∙ sym (q .put .is) ∙ sym (q .text-is)
 
 -- the program's own memory has these lengths
 abbrev zeros : ℕ → List ℕ

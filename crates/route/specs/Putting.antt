@@ -6,8 +6,7 @@ use native.Mathlib.Omega.{arith}
 use lib.ListN.{length, take, length-append}
 use Rattle.job_sheet.specs.Sheet.{maxSinks}
 use Rattle.branches.specs.declared.BranchLengths.{BranchLengths}
-use Rattle.branches.specs.Branches.{total}
-use Rattle.route.specs.Lines.{lengthsIn}
+use Rattle.branches.specs.Branches.{total, lengthsIn}
 
 -- the text stands behind what stood before `at`, and ends at `end`
 pub record Put (out : List ℕ) (at : ℕ) (text out′ : List ℕ) (end : ℕ) : Type 0 where

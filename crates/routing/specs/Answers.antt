@@ -2,12 +2,13 @@
 -- it.
 use mathlib.Core.Path.{_≡_}
 use mathlib.Core.Bool.{Bool, true, false, _&&_}
-use mathlib.Core.List.{List, [], _∷_, _++_}
+use mathlib.Core.List.{List, []}
 use Prim.Native.Nat.{ℕ, _-_, _/_}
 use lib.Dec.{leb, ltb, eqb}
-use lib.ListN.{length, replicate}
+use lib.ListN.{length}
 use Rattle.basics.specs.Tests.{either}
 use Rattle.basics.specs.Lists.{every}
+use Rattle.lent.specs.Lent.{outputAfter, workAfter}
 use Rattle.room.specs.declared.Room.{Room}
 use Rattle.room.specs.declared.RouterConfig.{RouterConfig}
 use Rattle.room.specs.Room.{sidesGood, volume}
@@ -20,7 +21,7 @@ use Rattle.routing.specs.declared.Refusal.the-variants.{Sides, Config, B
 use Rattle.routing.specs.declared.Lengths.{Lengths}
 use Rattle.routing.specs.declared.Judgement.{Judgement}
 use Rattle.routing.specs.declared.Judgement.the-variants.{Fit, Unfit}
-use Rattle.routing.specs.Routing.{Task, routeable, searched}
+use Rattle.room_search.specs.Routing.{Task, routeable, searched}
 
 -- what is handed over; of the lent buffers only their lengths count. A place of the queue takes two numbers
 pub record Input : Type 0 where
@@ -140,21 +141,14 @@ cellsFor (NoRoute x) I = []
 cellsFor (LimitPassed x) I = []
 cellsFor (QueueFull x) I = []
 
--- "7 to 15 leave every lent writable buffer zero. A success writes the answer, zeros behind it, and zeroes work memory."
-abbrev pub outputAfter : Answer → List ℕ → List ℕ → List ℕ
-outputAfter a cells buffer = either (touches a) (cells ++ replicate (length buffer - length cells) 0) buffer
-
-abbrev pub workAfter : Answer → List ℕ → List ℕ
-workAfter a buffer = either (touches a) (replicate (length buffer) 0) buffer
-
 -- the promise of `astar_route`
 pub record Promise (I : Input) (path known previous classes queue : List ℕ) (r : Answer) (path′ known′ previous′ classes′ queue′ : List ℕ) : Type 0 where
   pub answer : r ≡ answerOf I
-  pub path-is : path′ ≡ outputAfter (answerOf I) (cellsFor (answerOf I) I) path
-  pub known-is : known′ ≡ workAfter (answerOf I) known
-  pub previous-is : previous′ ≡ workAfter (answerOf I) previous
-  pub classes-is : classes′ ≡ workAfter (answerOf I) classes
-  pub queue-is : queue′ ≡ workAfter (answerOf I) queue
+  pub path-is : path′ ≡ outputAfter (touches (answerOf I)) (cellsFor (answerOf I) I) path
+  pub known-is : known′ ≡ workAfter (touches (answerOf I)) known
+  pub previous-is : previous′ ≡ workAfter (touches (answerOf I)) previous
+  pub classes-is : classes′ ≡ workAfter (touches (answerOf I)) classes
+  pub queue-is : queue′ ≡ workAfter (touches (answerOf I)) queue
 
 abbrev pub lengthsOf : List ℕ → List ℕ → List ℕ → List ℕ → List ℕ → Lengths
 lengthsOf path known previous classes queue = record {

@@ -8,9 +8,9 @@ use Rattle.room.specs.declared.Room.{Room}
 use Rattle.room.specs.declared.RouterConfig.{RouterConfig}
 use Rattle.room.specs.Room.{Good, volume}
 use Rattle.basics.specs.Tests.{either}
+use Rattle.lent.specs.Lent.{Emptied}
 use Rattle.room.specs.Units.{Fair, air}
-use Rattle.routing.specs.declared.Outcome.{Outcome}
-use Rattle.routing.specs.declared.Outcome.the-variants.{Arrived, NoRoute, LimitPassed, QueueFull}
+use Rattle.room_search.specs.declared.Outcome.{Outcome}
 use Rattle.best_first.specs.Search as search
 use Rattle.best_first.specs.Search.{trace}
 use Rattle.room.specs.declared.Nodes.{Nodes}
@@ -19,10 +19,9 @@ use Rattle.routing.specs.declared.Route.{Route}
 use Rattle.routing.specs.declared.Ends.{Ends}
 use Rattle.routing.specs.declared.Ends.the-variants.{Good as EndsGood, Bad as EndsBad}
 use Rattle.routing.specs.declared.Answer.{Answer}
-use Rattle.routing.specs.Routing.{Task, routeableKind, graph, searched}
-use Rattle.routing.specs.Steps.{placesOf}
-use Rattle.routing.specs.Traces.{Linked}
-use Rattle.routing.specs.Turns.{Told}
+use Rattle.room_search.specs.Routing.{Task, routeableKind, graph, searched}
+use Rattle.room_search.specs.Steps.{placesOf}
+use Rattle.room_search.specs.Turns.{Told}
 use Rattle.routing.specs.Answers.{answered, cellsOf}
 
 abbrev pub searchTask : Room → RouterConfig → List ℕ → ℕ → ℕ → List ℕ → Task
@@ -44,13 +43,6 @@ pub record Searchable (R : Room) (C : RouterConfig) (kinds : List ℕ) (start go
 pub record Found (T : Task) (o : Outcome) (known previous : List ℕ) : Type 0 where
   pub told : Told (graph T) (searched T) known previous o
 
--- what the outcome asks of the slices, so that the path can be written
-abbrev pub Showable : Outcome → ℕ → List ℕ → List ℕ → Type 0
-Showable (Arrived x) goal known previous = Linked previous × (0 < getD known goal 0)
-Showable (NoRoute x) goal known previous = Unit {0}
-Showable (LimitPassed x) goal known previous = Unit {0}
-Showable (QueueFull x) goal known previous = Unit {0}
-
 -- the answer, and the path written to a cleared buffer
 pub record Shown (o : Outcome) (cells goal : ℕ) (known previous path : List ℕ) (r : Answer) (path′ : List ℕ) : Type 0 where
   pub shows : (T : Task) → volume (T .room) ≡ cells → T .goal ≡ goal → Found T o known previous
@@ -62,10 +54,6 @@ pub record Written (cells goal : ℕ) (known previous path : List ℕ) (expanded
   pub cost-is : r .cost .0 ≡ pred (getD known goal 0)
   pub expanded-is : r .expanded ≡ expanded
   pub path-is : path′ ≡ trace cells previous goal [] ++ drop (length (trace cells previous goal [])) path
-
--- all zero, to its very end
-abbrev pub Emptied : List ℕ → List ℕ → Type 0
-Emptied before after = after ≡ replicate (length before) 0
 
 -- which end is not routeable: the start, else the goal
 abbrev pub endsOf : List ℕ → ℕ → ℕ → Ends

@@ -1,29 +1,28 @@
 -- The parts of the public search put together.
 use mathlib.Core.Path.{_≡_, refl, sym, ap, _∙_}
-use mathlib.Core.List.{List, [], _∷_, _++_}
-use Prim.Native.Nat.{ℕ, zero, suc, _-_, _≤_, _<_, pred}
-use native.Mathlib.Nat.{sub-zero, zero-sub, suc-sub-suc}
-use native.Mathlib.Omega.{arith}
+use mathlib.Core.List.{List, [], _++_}
+use Prim.Native.Nat.{ℕ, _-_, _≤_, pred}
+use native.Mathlib.Nat.{sub-zero}
 use lib.ListN.{length, getD, take, drop, replicate}
 use lib.Seq.{take-at, length-take-le, length-front}
+use Rattle.basics.specs.Zeros.{drop-zeros}
+use Rattle.lent.specs.Lent.{Emptied}
 use Rattle.room.specs.declared.Room.{Room}
 use Rattle.room.specs.declared.RouterConfig.{RouterConfig}
 use Rattle.room.specs.declared.Pos.{Pos}
 use Rattle.room.specs.Room.{volume, posOf}
 use Rattle.best_first.specs.Search.{trace, route}
-use Rattle.best_first.specs.Equations.{trace-short}
 use Rattle.room.specs.declared.Nodes.{Nodes}
 use Rattle.routing.specs.declared.Route.{Route}
 use Rattle.routing.specs.declared.Answer.the-variants.{Routed, NoRoute as NoRoute′, LimitPassed as LimitPassed′, QueueFull as QueueFull′}
-use Rattle.routing.specs.declared.Outcome.{Outcome}
-use Rattle.routing.specs.declared.Outcome.the-variants.{Arrived, NoRoute, LimitPassed, QueueFull}
-use Rattle.routing.specs.Routing.{Task, graphOf, graph, searched}
-use Rattle.routing.specs.Classes.{Plain, withEnd}
-use Rattle.routing.specs.SameGraph.{made-length, made-graph}
-use Rattle.routing.specs.Turns.{Fresh, Ran, Told}
-use Rattle.routing.specs.Entry.{searchTask, Searchable, Found, Showable, Written, Emptied, Roomy}
+use Rattle.room_search.specs.declared.Outcome.{Outcome}
+use Rattle.room_search.specs.declared.Outcome.the-variants.{Arrived, NoRoute, LimitPassed, QueueFull}
+use Rattle.room_search.specs.Routing.{Task, graphOf, searched}
+use Rattle.room_search.specs.Classes.{Plain, withEnd}
+use Rattle.room_search.specs.SameGraph.{made-length, made-graph}
+use Rattle.room_search.specs.Turns.{Fresh, Ran, Showable}
+use Rattle.routing.specs.Entry.{searchTask, Searchable, Found, Written, Roomy}
 use Rattle.routing.specs.Answers.{lengthsOf, answered, cellsOf}
-use Rattle.routing.specs.Traces.{traceLength, trace-length}
 
 -- memory cleared and classes filled in, the search can run; what it comes to is what the definition says
 module _ {R : Room} {C : RouterConfig} {kinds : List ℕ} {start goal : ℕ} {known₀ previous₀ classes₀ queue : List ℕ}
@@ -52,18 +51,6 @@ module _ {R : Room} {C : RouterConfig} {kinds : List ℕ} {start goal : ℕ} {kn
   searchable-found from to o known previous r = record { told = rw (made-graph T classes P (S .start-in) (S .goal-in)) at (r .told) }
 
 -- ---- the answer
-
-drop-zeros : (k n : ℕ) → drop k (replicate n 0) ≡ replicate {A = ℕ} (n - k) 0
-drop-zeros zero n = rw sub-zero
-drop-zeros (suc k) zero = rw zero-sub
-drop-zeros (suc k) (suc n) = rw suc-sub-suc (drop-zeros k n)
-
--- the path has at most V cells
-pub path-short : (cells : ℕ) (previous : List ℕ) (goal : ℕ) → length (trace cells previous goal []) ≤ cells
-path-short cells previous goal = omega (arith, trace-short cells previous goal [])
-
-pub counted-is : (cells : ℕ) (previous : List ℕ) (goal : ℕ) → traceLength cells previous goal ≡ length (trace cells previous goal [])
-counted-is cells previous goal = omega (arith, trace-length cells previous goal [])
 
 -- there is no route: the buffer stays cleared
 bare : (path : List ℕ) → path ≡ replicate (length path) 0 → path ≡ [] ++ replicate (length path - 0) 0

@@ -1,33 +1,34 @@
 -- The promise of the public search, by its cases; and that it determines everything.
 use mathlib.Core.Path.{_≡_, refl, sym, ap, _∙_}
 use mathlib.Core.Bool.{Bool, true, false, _&&_}
-use mathlib.Core.List.{List, [], _∷_, _++_}
-use Prim.Native.Nat.{ℕ, _-_, _/_, _≤_, _<_}
+use mathlib.Core.List.{List}
+use Prim.Native.Nat.{ℕ, _-_, _/_}
 use native.Mathlib.Nat.{sub-zero}
 use native.Mathlib.Omega.{arith}
 use lib.Dec.{leb, ltb, eqb}
-use lib.ListN.{length, getD, replicate}
+use lib.ListN.{length, getD}
 use borrow.Author.Tests.{leb-true, ltb-true, eqb-true, eq-eqb}
 use Rattle.basics.specs.Tests.{either, ask, and-left, and-right}
 use Rattle.basics.specs.Lists.{every}
+use Rattle.basics.specs.Promises.{Determines}
+use Rattle.lent.specs.Lent.{Emptied}
 use Rattle.room.specs.declared.Room.{Room}
 use Rattle.room.specs.declared.RouterConfig.{RouterConfig}
-use Rattle.room.specs.Room.{Good, sidesGood, volume}
-use Rattle.room.specs.Units.{Fair, configGood, kindKnown, air}
+use Rattle.room.specs.Room.{sidesGood, volume}
+use Rattle.room.specs.Units.{configGood, kindKnown, air}
 use Rattle.room.specs.RoomLaws.{good}
 use Rattle.room.specs.UnitLaws.{fair}
 use Rattle.best_first.specs.Search as search
 use Rattle.routing.specs.declared.Lengths.{Lengths}
 use Rattle.routing.specs.declared.Refusal.{Refusal}
 use Rattle.routing.specs.declared.Refusal.the-variants.{Sides, Config, Buffer, Code, Position}
-use Rattle.routing.specs.declared.Judgement.{Judgement}
 use Rattle.routing.specs.declared.Judgement.the-variants.{Fit, Unfit}
 use Rattle.routing.specs.declared.Ends.the-variants.{Good as EndsGood, Bad as EndsBad}
 use Rattle.routing.specs.declared.Answer.{Answer}
 use Rattle.routing.specs.declared.Answer.the-variants.{Refused, NotRouteable}
-use Rattle.routing.specs.Routing.{Task, isEnd, routeableKind, routeable, searched}
+use Rattle.room_search.specs.Routing.{routeableKind, routeable, searched}
 use Rattle.routing.specs.Answers.{Input, taskOf, buffersGood, endsInside, judged, answered, fitAnswer, answerOf, touches, cellsOf, cellsFor, Promise, input, lengthsOf}
-use Rattle.routing.specs.Entry.{endsOf, Roomy, Emptied, Fitted, searchTask}
+use Rattle.routing.specs.Entry.{endsOf, Roomy, Fitted, searchTask}
 
 -- ---- an input that is judged fit
 
@@ -176,25 +177,26 @@ module _ (R : Room) (C : RouterConfig) (kinds : List ℕ) (start goal : ℕ) (pa
           queue-is = rw (is, t) (F .queue-is);
         }
 
--- ---- two results that keep the promise coincide
+-- ---- two results that keep the promise coincide: the answer, and every byte of lent memory
 
-pub record Same (r s : Answer) (path path′ known known′ previous previous′ classes classes′ queue queue′ : List ℕ) : Type 0 where
-  pub answer : r ≡ s
-  pub path-same : path ≡ path′
-  pub known-same : known ≡ known′
-  pub previous-same : previous ≡ previous′
-  pub classes-same : classes ≡ classes′
-  pub queue-same : queue ≡ queue′
+pub record Result : Type 0 where
+  pub answer : Answer
+  pub path : List ℕ
+  pub known : List ℕ
+  pub previous : List ℕ
+  pub classes : List ℕ
+  pub queue : List ℕ
 
-pub coincide : {I : Input} {path known previous classes queue : List ℕ} {r s : Answer} {path₁ known₁ previous₁ classes₁ queue₁ path₂ known₂ previous₂ classes₂ queue₂ : List ℕ}
-    → Promise I path known previous classes queue r path₁ known₁ previous₁ classes₁ queue₁
-    → Promise I path known previous classes queue s path₂ known₂ previous₂ classes₂ queue₂
-    → Same r s path₁ path₂ known₁ known₂ previous₁ previous₂ classes₁ classes₂ queue₁ queue₂
-coincide P Q = record {
-  answer = P .answer ∙ sym (Q .answer);
-  path-same = P .path-is ∙ sym (Q .path-is);
-  known-same = P .known-is ∙ sym (Q .known-is);
-  previous-same = P .previous-is ∙ sym (Q .previous-is);
-  classes-same = P .classes-is ∙ sym (Q .classes-is);
-  queue-same = P .queue-is ∙ sym (Q .queue-is);
-}
+module _ (I : Input) (path known previous classes queue : List ℕ) where
+  abbrev pub Keeps : Result → Type 0
+  Keeps R = Promise I path known previous classes queue (R .answer) (R .path) (R .known) (R .previous) (R .classes) (R .queue)
+
+  pub coincide : Determines Keeps
+  coincide x y P Q = λ i. record {
+    answer = (P .answer ∙ sym (Q .answer)) i;
+    path = (P .path-is ∙ sym (Q .path-is)) i;
+    known = (P .known-is ∙ sym (Q .known-is)) i;
+    previous = (P .previous-is ∙ sym (Q .previous-is)) i;
+    classes = (P .classes-is ∙ sym (Q .classes-is)) i;
+    queue = (P .queue-is ∙ sym (Q .queue-is)) i;
+  }

@@ -1,33 +1,33 @@
 // The public search, over lent memory.
 ghost use mathlib.Core.Path.{_≡_};
 ghost use mathlib.Core.Bool.{true};
-ghost use mathlib.Core.List.{[], _++_};
 ghost use Prim.Native.Nat.{_-_, _≤_, _<_};
 ghost use lib.ListN.{length, getD, replicate};
-ghost use Rattle.routing.specs.Traces.{Linked};
-ghost use Rattle.room.specs.Room.{Good, volume};
-ghost use Rattle.room.specs.Units.{Fair};
-ghost use Rattle.routing.specs.Answers.{input, lengthsOf, judged, Promise};
-ghost use Rattle.routing.specs.Entry.{Searchable, Found, searchTask, Showable, Shown, Written, Emptied, endsOf, Roomy, Fitted};
-ghost use Rattle.routing.specs.Routing.{searched};
+ghost use Rattle.room_search.specs.Turns.{Showable};
+ghost use Rattle.lent.specs.Lent.{Emptied};
+ghost use Rattle.room_search.specs.Traces.{Linked};
+ghost use Rattle.room.specs.Room.{volume};
+ghost use Rattle.routing.specs.Answers.{input, lengthsOf, Promise};
+ghost use Rattle.routing.specs.Entry.{Searchable, Found, searchTask, Shown, Written, endsOf, Roomy, Fitted};
+ghost use Rattle.room_search.specs.Routing.{searched};
 use crate::Answer;
 use crate::Ends;
 use crate::Judgement;
 use crate::Lengths;
-use crate::Outcome;
 use crate::Route;
-use crate::Spot;
-use crate::classes::fill_classes;
-use crate::classes::make_end;
-use crate::classes::routeable_kind;
 use crate::judge::judge;
-use crate::search::run;
-use crate::trace::trace_into;
-use crate::trace::trace_length;
 use room::Cost;
 use room::Nodes;
 use room::Room;
 use room::RouterConfig;
+use room_search::Outcome;
+use room_search::Spot;
+use room_search::fill_classes;
+use room_search::make_end;
+use room_search::routeable_kind;
+use room_search::run;
+use room_search::trace_into;
+use room_search::trace_length;
 
 // Searches over memory of exactly V cells, whatever it holds.
 fn search_room(

@@ -1,49 +1,8 @@
-// One search over a room of kinds.
-mod astar;
-mod classes;
-mod expand;
-mod judge;
-mod search;
-mod trace;
+// One search over a room of kinds: its input is judged, its memory cleared, and its answer told.
+mod astar; // astar.rt: the public search
+mod judge; // judge.rt: numbers 2, 3, 6, 5 and 4
 
 pub use astar::astar_route;
-pub use classes::class_for;
-pub use classes::routeable_kind;
-pub use search::run;
-pub use trace::trace_into;
-pub use trace::trace_length;
-
-// How many entries wait, and the last serial given.
-pub struct Line {
-    pub waiting: usize,
-    pub serial: u64,
-}
-
-// What trying a cell's moves comes to: the search goes on, or a push found the queue full.
-pub enum Step {
-    On(Line),
-    Full,
-}
-
-// A cell and its position.
-pub struct Spot {
-    pub cell: usize,
-    pub at: room::Pos,
-}
-
-// How a search has ended, with the expanded count.
-pub enum Outcome {
-    Arrived(room::Nodes),
-    NoRoute(room::Nodes),
-    LimitPassed(room::Nodes),
-    QueueFull(room::Nodes),
-}
-
-// What one taking comes to.
-pub enum Turn {
-    GoesOn(Line),
-    Ended(Outcome),
-}
 
 // A route: how many cells its path has, its cost in tenths, and how many cells were expanded.
 pub struct Route {

@@ -1,6 +1,6 @@
 -- Laws of marks: what each byte is, that marking is determined, composes and commutes, how a loop marks in turns, and what unmarking leaves.
 use mathlib.Core.Path.{_≡_, refl, sym, ap, _∙_}
-use mathlib.Core.Bool.{Bool, true, false, not, _&&_, _||_, or-comm}
+use mathlib.Core.Bool.{Bool, true, false, not, _&&_, _||_}
 use mathlib.Core.List.{List, [], _∷_}
 use Prim.Native.Nat.{ℕ, zero, suc, _+_, _<_}
 use native.Mathlib.Nat.{le-of-suc-le-suc, not-suc-le-zero}
@@ -68,9 +68,6 @@ module _ (byte : ℕ) where
           with-at q (withByte byte p ms) v (rw (with-length p ms) h)
           ∙ rw (with-at p ms v h) (both-bytes byte (getD ms v 0) (p v) (q v))
 
-  pub with-swap : (p q : ℕ → Bool) (ms : List ℕ) → withByte byte q (withByte byte p ms) ≡ withByte byte p (withByte byte q ms)
-  with-swap p q ms = with-or p q ms ∙ with-same _ _ ms (λ v h. or-comm (p v) (q v)) ∙ sym (with-or q p ms)
-
 -- Writing in turns: `rest k` tests for the cells that the turns from k on write, `rest 0` for all of them. Those that are left, written to the
 -- marks of now, make what all make of the marks at the start
 pub record Turn (byte : ℕ) (rest : ℕ → ℕ → Bool) (start marks : List ℕ) (k : ℕ) : Type 0 where
@@ -99,9 +96,6 @@ module _ {byte : ℕ} {rest : ℕ → ℕ → Bool} {start marks : List ℕ} {k 
 module _ (p : ℕ → Bool) (ms : List ℕ) (v : ℕ) (h : v < length ms) where
   pub marked-after : isMarked (markedBy p ms) v ≡ p v || isMarked ms v
   marked-after = ask (p v) (λ t. rw (with-at 1 p ms v h, t)) (λ f. rw (with-at 1 p ms v h, f))
-
-  pub unmarked-after : isMarked (unmarkedBy p ms) v ≡ not (p v) && isMarked ms v
-  unmarked-after = ask (p v) (λ t. rw (with-at 0 p ms v h, t)) (λ f. rw (with-at 0 p ms v h, f))
 
 -- cells marked and then taken out again, from no mark on
 pub taken-out : (p q : ℕ → Bool) (n : ℕ) → unmarkedBy q (markedBy p (noMarks n)) ≡ markedBy (λ v. p v && not (q v)) (noMarks n)

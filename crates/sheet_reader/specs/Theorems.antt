@@ -4,9 +4,10 @@ use mathlib.Core.List.{List}
 use Prim.Native.Nat.{ℕ, _+_, _≤_, _<_}
 use native.Mathlib.Omega.{arith}
 use lib.ListN.{length}
+use Rattle.basics.specs.Promises.{Determines}
 use Rattle.job_sheet.specs.declared.Reading.{Reading}
 use Rattle.job_sheet.specs.Sheet.{Read}
-use Rattle.job_sheet.specs.Theorems.{one-answer}
+use Rattle.job_sheet.specs.Theorems as plain
 use Rattle.sheet_reader.specs.Reader.{onward}
 use Rattle.sheet_reader.specs.ReaderLaws.{onward-on, onward-off}
 
@@ -22,5 +23,5 @@ pub stays-off : (sheet : List ℕ) (place n : ℕ) → length sheet < place → 
 stays-off sheet place n h = too-short sheet place n (omega arith)
 
 -- the reader answers as the plain reading does: `Read` is what `read_sheet` of this crate and `job_sheet::read_sheet` both promise, without a condition
-pub same-reading : (sheet : List ℕ) (through plain : Reading) → Read sheet through → Read sheet plain → through ≡ plain
-same-reading = one-answer
+pub coincide : (sheet : List ℕ) → Determines (Read sheet)
+coincide = plain.coincide

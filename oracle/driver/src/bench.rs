@@ -15,7 +15,7 @@ use published::world::{Block, BlockKind, Pos, World};
 
 use crate::clock;
 use crate::flat::Flat;
-use crate::proved::{self, Lent};
+use crate::proved;
 
 /// Searches that are timed together.
 struct Load {
@@ -134,7 +134,7 @@ pub fn best(runs: usize, mut all: impl FnMut()) -> Duration {
 /// Prints one line: each time, and that all answers are the same. The queue has `places` for each cell.
 fn measure(load: &Load, places: usize) {
     let cells = load.searches[0].kinds.len();
-    let mut lent = Lent::filled(cells, 2 * places * cells, 4, 0);
+    let mut lent = proved::search_memory(cells, 2 * places * cells, 4, 0);
     let mut flat = Flat::default();
     let mut routes = 0;
     for case in &load.searches {

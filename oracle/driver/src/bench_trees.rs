@@ -13,7 +13,8 @@ use cases::sheet::{Block, Job, Port};
 use oracle::{PublishedJob, Rng, Sheet, check_sheet};
 
 use crate::bench::best;
-use crate::proved::{self, TREE_VALUES, TreeLent};
+use crate::proved;
+use dustroute::lent::{TREE_VALUES, TreeMemory};
 
 /// A job that is timed, and how often by each of the two.
 struct Load {
@@ -144,7 +145,7 @@ fn blocks_and_other_nets(sides: [u8; 3]) -> Job {
     job
 }
 
-fn sheet_of(job: &Job) -> (Sheet, TreeLent) {
+fn sheet_of(job: &Job) -> (Sheet, TreeMemory) {
     let cells: usize = job.sides.iter().map(|side| usize::from(*side)).product();
     let sheet = Sheet {
         queue: 12 * cells as u32,
@@ -152,13 +153,13 @@ fn sheet_of(job: &Job) -> (Sheet, TreeLent) {
         lent: cells as u32,
         bytes: job.bytes(),
     };
-    let lent = TreeLent::filled(cells, 16_384, 24 * cells, TREE_VALUES, 0);
+    let lent = proved::tree_memory(cells, 16_384, 24 * cells, TREE_VALUES, 0);
     (sheet, lent)
 }
 
-fn proved_time(runs: usize, sheet: &Sheet, lent: &mut TreeLent) -> Duration {
+fn proved_time(runs: usize, sheet: &Sheet, lent: &mut TreeMemory) -> Duration {
     best(runs, || {
-        assert_eq!(proved::tree(black_box(&sheet.bytes), lent), 0, "a tree");
+        assert_eq!(lent.call(black_box(&sheet.bytes)), 0, "a tree");
     })
 }
 

@@ -4,7 +4,8 @@ use cases::text::{search_answer_lines, search_lines};
 use oracle::{Profile, Refusal, Rng, Search, SearchAnswer, check_search, random_search};
 
 use crate::flat::Flat;
-use crate::proved::{self, Lent};
+use crate::proved::{self, search_memory};
+use dustroute::lent::SearchMemory;
 
 pub struct Draw {
     pub seed: u64,
@@ -102,7 +103,7 @@ fn differs(
 ) -> Result<(), String> {
     let [cells, queue] = [case.lent as usize, 2 * case.queue as usize];
     let word = salt | 1;
-    proved_differs(case, expected, Lent::filled(cells, queue, 4, word))?;
+    proved_differs(case, expected, search_memory(cells, queue, 4, word))?;
     // Longer memory must not turn a refusal by 6 into an answer, nor add a place to the queue.
     let extra = if values_of(expected).0 == 6 {
         0
@@ -112,7 +113,7 @@ fn differs(
     proved_differs(
         case,
         expected,
-        Lent::filled(cells + extra, queue + 1, 4 + extra, word),
+        search_memory(cells + extra, queue + 1, 4 + extra, word),
     )?;
     let (number, _) = values_of(expected);
     let short = SearchAnswer::Refused(Refusal::bare(if matches!(number, 2 | 3) {
@@ -123,7 +124,7 @@ fn differs(
     proved_differs(
         case,
         &short,
-        Lent::filled(cells, queue, usize::from(salt % 4), word),
+        search_memory(cells, queue, usize::from(salt % 4), word),
     )?;
     if case.judge().is_ok() && flat.search(case, case.queue as usize) != *expected {
         return Err("the plain Rust over flat arrays differs".into());
@@ -131,7 +132,11 @@ fn differs(
     Ok(())
 }
 
-fn proved_differs(case: &Search, expected: &SearchAnswer, before: Lent) -> Result<(), String> {
+fn proved_differs(
+    case: &Search,
+    expected: &SearchAnswer,
+    before: SearchMemory,
+) -> Result<(), String> {
     let mut after = before.clone();
     let number = proved::search(case, &mut after);
     let (due, values) = values_of(expected);
@@ -168,7 +173,7 @@ fn proved_differs(case: &Search, expected: &SearchAnswer, before: Lent) -> Resul
             told()
         ));
     }
-    if !after.work_is_zero() {
+    if !proved::search_work_is_zero(&after) {
         return Err(format!("work memory is not zero: number {}", told()));
     }
     Ok(())

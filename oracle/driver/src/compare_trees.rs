@@ -7,7 +7,8 @@ use cases::text::{sheet_lines, tree_answer_lines};
 use oracle::{Refusal, Rng, Sheet, TreeAnswer, check_sheet, random_sheet};
 
 use crate::compare::{Differences, Draw};
-use crate::proved::{self, TREE_VALUES, TreeLent};
+use crate::proved::{self, tree_memory};
+use dustroute::lent::{TREE_VALUES, TreeMemory};
 
 /// Compares `count` random sheets and prints a summary; false if anything differs.
 pub fn compare(draw: &Draw) -> bool {
@@ -84,7 +85,7 @@ fn differs(case: &Sheet, expected: &TreeAnswer, salt: u8) -> Result<(), String> 
         tree_differs(
             case,
             expected,
-            TreeLent::filled(cells, branch, queue, values, word),
+            tree_memory(cells, branch, queue, values, word),
         )
     };
     run(expected, cells, branch, queue, TREE_VALUES)?;
@@ -128,9 +129,9 @@ fn differs(case: &Sheet, expected: &TreeAnswer, salt: u8) -> Result<(), String> 
     )
 }
 
-fn tree_differs(case: &Sheet, expected: &TreeAnswer, before: TreeLent) -> Result<(), String> {
+fn tree_differs(case: &Sheet, expected: &TreeAnswer, before: TreeMemory) -> Result<(), String> {
     let mut after = before.clone();
-    let number = proved::tree(&case.bytes, &mut after);
+    let number = after.call(&case.bytes);
     let told = || {
         format!(
             "number {number}, values {:?}, due\n{}",
@@ -153,7 +154,7 @@ fn tree_differs(case: &Sheet, expected: &TreeAnswer, before: TreeLent) -> Result
     if after.values[..TREE_VALUES] != values_of(expected) || !behind_zero {
         return Err(format!("the values differ: {}", told()));
     }
-    if !after.work_is_zero() {
+    if !proved::tree_work_is_zero(&after) {
         return Err(format!("work memory is not zero: {}", told()));
     }
     outputs_differ(case, expected, &after).map_err(|what| format!("{what}: {}", told()))
@@ -168,7 +169,7 @@ fn marks(cells: impl Iterator<Item = u16>, length: usize) -> Vec<u8> {
     marks
 }
 
-fn outputs_differ(case: &Sheet, expected: &TreeAnswer, after: &TreeLent) -> Result<(), String> {
+fn outputs_differ(case: &Sheet, expected: &TreeAnswer, after: &TreeMemory) -> Result<(), String> {
     let (branches, repeaters, count) = match expected {
         TreeAnswer::Refused(_) => (&[][..], &[][..], 0),
         TreeAnswer::Tree {

@@ -5,7 +5,7 @@ use cases::samples::default_search;
 use published::routing::{RouterConfig, astar_route};
 use published::world::{Block, BlockKind, Pos, World};
 
-use crate::proved::{self, Lent};
+use crate::proved;
 
 /// A stair so dear that nobody should take one: two of them come round to nothing in 32 bits.
 const STAIR: u32 = 2_147_483_648;
@@ -50,7 +50,7 @@ pub fn show() {
         ),
         Err(error) => println!("published Rust, release build: {error:?}"),
     }
-    let mut lent = Lent::filled(room.cells(), 24 * room.cells(), 4, 0);
+    let mut lent = proved::search_memory(room.cells(), 24 * room.cells(), 4, 0);
     println!(
         "the proved search: number {}",
         proved::search(&case, &mut lent)

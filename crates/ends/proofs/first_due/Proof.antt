@@ -1,7 +1,6 @@
 -- `first_due` meets its contract: the source first, then the sinks one by one.
 use mathlib.Core.Path.{sym, ap, _∙_}
 use Prim.Native.Nat.{_-_}
-use native.Mathlib.Omega.{arith}
 use Rattle.ends.specs.Ends.{dueFor}
 use Rattle.ends.specs.EndLaws.{Passed, none-passed, due-source, due-sink, due-none, sink-passed}
 use borrow.Author.Needs.{needs}

@@ -2,10 +2,11 @@
 use mathlib.Core.Path.{_∙_}
 use Prim.Native.Nat.{_≤_, _-_}
 use native.Mathlib.Omega.{arith}
+use Rattle.ends.specs.EndLaws.{tap-is}
 use Rattle.routing_resources.specs.MarkLaws.{Turn, first-turn}
-use Rattle.ends.specs.Ends.{noTap}
+use Rattle.ends.specs.Ends.{noTap, tapsIn}
 use Rattle.outset.specs.Outset.{tapCell}
-use Rattle.outset.specs.OutsetLaws.{restOf, turn-on, turn-done, tapsIn, taps-long, tap-is, out-ends}
+use Rattle.outset.specs.OutsetLaws.{restOf, turn-on, turn-done, out-ends, taps-long}
 use Rattle.outset.proofs.take_out_ends.Statement.{statement}
 use Rattle.outset.proofs.take_out_ends.Tie as tie
 
@@ -37,7 +38,7 @@ loop-less : tie.Need-loop-less Inv-loop μ-loop
 loop-less c = omega (arith, c .before .before .before .before .before .loop-test .taken)
 
 loop-again : tie.Need-loop-again Inv-loop μ-loop
-loop-again c = (omega (arith, c .before .before .before .before .before .loop-test .taken), turn-on (tapCell _) _ (c .before .before .before .before .before .before .loop .inv .1) noTap _ (tap-is (c .before .before .before .before .before .before .before .before .before .before .before .before .pre .1 .0) _ (c .before .before .before .before .before .loop-test .taken)) (rw (taps-long (c .before .before .before .before .before .before .before .before .before .before .before .before .pre .1 .0)) (c .before .before .before .before .before .loop-test .taken)) (c .before .before .take-out-tap .ensures))
+loop-again c = (omega (arith, c .before .before .before .before .before .loop-test .taken), turn-on (tapCell _) _ (c .before .before .before .before .before .before .loop .inv .1) noTap _ (tap-is _ _ (c .before .before .before .before .before .loop-test .taken)) (rw (taps-long (c .before .before .before .before .before .before .before .before .before .before .before .before .pre .1 .0)) (c .before .before .before .before .before .loop-test .taken)) (c .before .before .take-out-tap .ensures))
 
 same-length : tie.Need-same-length Inv-loop μ-loop
 same-length c = c .before .loop .inv .1 .long ∙ c .before .before .before .before .take-out .kept .1 .0

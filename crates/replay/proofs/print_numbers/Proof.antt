@@ -1,20 +1,20 @@
 -- `print_numbers` is safe and ends: fewer numbers are left.
-use borrow.Author.Needs.{needs}
 use Prim.Native.Nat.{_-_}
+use borrow.Author.Needs.{needs}
 use Rattle.replay.proofs.print_numbers.Statement.{statement}
 use Rattle.replay.proofs.print_numbers.Tie as tie
 
 abbrev Inv-loop : tie.InvT-loop
-Inv-loop number₀ number = Unit {0}
+Inv-loop file number₀ number = Unit {0}
 
 abbrev μ-loop : tie.MeasureT-loop
-μ-loop number₀ number = 16 - number
+μ-loop file number₀ number = 16 - number
 
 loop-holds : tie.Need-loop-holds Inv-loop μ-loop
 loop-holds c = search needs
 
-stored-with-requires : tie.Need-stored-with-requires Inv-loop μ-loop
-stored-with-requires c κs = search needs
+count-number-requires : tie.Need-count-number-requires Inv-loop μ-loop
+count-number-requires c κs = search needs
 
 print-number-requires : tie.Need-print-number-requires Inv-loop μ-loop
 print-number-requires c κs = search needs
@@ -38,7 +38,7 @@ print-numbers-spec =
     Inv-loop
     μ-loop
     loop-holds
-    stored-with-requires
+    count-number-requires
     print-number-requires
     add-number
     loop-less

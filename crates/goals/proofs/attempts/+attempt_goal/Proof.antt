@@ -5,7 +5,6 @@ use native.Mathlib.Omega.{arith}
 use lib.Dec.{eqb}
 use Rattle.routing_resources.specs.Marks.{withByte}
 use Rattle.goals.specs.AttemptLaws.{able-fitting, able-marked, site-same, attempts-none, attempts-ended, attempts-repeat, able-next, blocked-back, classes-back}
-use Rattle.goals.specs.AttemptLaws.{able-fitting, site-same, attempts-none, attempts-ended, attempts-repeat, able-next, blocked-back, classes-back}
 use Prim.Native.Nat.{ℕ, _<_}
 use borrow.Fn.Kinds.{In}
 use borrow.Fn.PlainCycle.{Measures, is, falls, and}

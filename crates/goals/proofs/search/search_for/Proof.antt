@@ -2,7 +2,6 @@
 use mathlib.Core.Path.{sym, _∙_}
 use borrow.Author.Tests.{not-true, not-false}
 use Rattle.goals.specs.SearchLaws.{ran-showable, told-failed, told-searched}
-use mathlib.Core.Path.{sym, _∙_}
 use borrow.Author.Needs.{needs}
 use Rattle.goals.proofs.search.search_for.Statement.{statement}
 use Rattle.goals.proofs.search.search_for.Tie as tie

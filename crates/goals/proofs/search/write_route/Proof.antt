@@ -3,7 +3,7 @@ use native.Mathlib.Omega.{arith}
 use mathlib.Core.Path.{_∙_}
 use native.Mathlib.Numerals.{sub-one}
 use lib.ListN.{getD}
-use Rattle.routing.specs.EntryLaws.{path-short, counted-is}
+use Rattle.room_search.specs.Traces.{path-short, counted-is}
 use Rattle.goals.specs.SearchLaws.{tells-route}
 use borrow.Author.Needs.{needs}
 use Rattle.goals.proofs.search.write_route.Statement.{statement}

@@ -2,17 +2,17 @@
 use mathlib.Core.Path.{_∙_}
 use Prim.Native.Nat.{_≤_, _-_}
 use native.Mathlib.Omega.{arith}
-use lib.ListN.{take}
+use Rattle.ends.specs.EndLaws.{tap-is}
 use Rattle.routing_resources.specs.MarkLaws.{Turn, first-turn}
-use Rattle.ends.specs.Ends.{noTap}
+use Rattle.ends.specs.Ends.{noTap, tapsIn}
 use Rattle.outset.specs.OutsetLaws.{restOf, turn-on, turn-done}
 use Rattle.multinet.specs.Tree.{endAt}
-use Rattle.multinet.specs.FinishingLaws.{ends-long, end-is, ends-marked}
+use Rattle.multinet.specs.FinishingLaws.{ends-marked, ends-long}
 use Rattle.multinet.proofs.finishing.mark_ends.Statement.{statement}
 use Rattle.multinet.proofs.finishing.mark_ends.Tie as tie
 
 abbrev Inv-loop : tie.InvT-loop
-Inv-loop source marks₀ taps i₀ marks i = (i ≤ taps .count) × Turn 1 (restOf endAt (take (taps .count) (taps .taps))) marks₀ marks i
+Inv-loop source marks₀ taps i₀ marks i = (i ≤ taps .count) × Turn 1 (restOf endAt (tapsIn taps)) marks₀ marks i
 
 abbrev μ-loop : tie.MeasureT-loop
 μ-loop source marks₀ taps i₀ marks i = taps .count - i
@@ -39,7 +39,7 @@ loop-less : tie.Need-loop-less Inv-loop μ-loop
 loop-less c = omega (arith, c .before .before .before .before .before .loop-test .taken)
 
 loop-again : tie.Need-loop-again Inv-loop μ-loop
-loop-again c = (omega (arith, c .before .before .before .before .before .loop-test .taken), turn-on endAt _ (c .before .before .before .before .before .before .loop .inv .1) noTap _ (end-is (c .before .before .before .before .before .before .before .before .before .before .before .before .pre) _ (c .before .before .before .before .before .loop-test .taken)) (rw (ends-long (c .before .before .before .before .before .before .before .before .before .before .before .before .pre)) (c .before .before .before .before .before .loop-test .taken)) (c .before .before .mark-end .ensures))
+loop-again c = (omega (arith, c .before .before .before .before .before .loop-test .taken), turn-on endAt _ (c .before .before .before .before .before .before .loop .inv .1) noTap _ (tap-is _ _ (c .before .before .before .before .before .loop-test .taken)) (rw (ends-long (c .before .before .before .before .before .before .before .before .before .before .before .before .pre)) (c .before .before .before .before .before .loop-test .taken)) (c .before .before .mark-end .ensures))
 
 same-length : tie.Need-same-length Inv-loop μ-loop
 same-length c = c .before .loop .inv .1 .long ∙ c .before .before .before .before .mark .kept .0

@@ -1,26 +1,31 @@
--- `count_number` is safe and ends: what is left of the count falls.
-use borrow.Author.Needs.{needs}
+-- `count_number` meets its contract: what the records left come to is the whole.
 use Prim.Native.Nat.{_-_}
+use Rattle.replay.specs.Runs.{numbered}
+use Rattle.replay.specs.RunLaws.{Counted, counted-none, counted-next, counted-done}
+use borrow.Author.Needs.{needs}
 use Rattle.replay.proofs.replay.count_number.Statement.{statement}
 use Rattle.replay.proofs.replay.count_number.Tie as tie
 
 abbrev Inv-loop : tie.InvT-loop
-Inv-loop from number count met₀ passed₀ met passed = Unit {0}
+Inv-loop file number count met₀ at₀ passed₀ met at passed = Counted file number count at₀ passed at met
 
 abbrev μ-loop : tie.MeasureT-loop
-μ-loop from number count met₀ passed₀ met passed = count - passed
+μ-loop file number count met₀ at₀ passed₀ met at passed = count - passed
 
-read-count-requires : tie.Need-read-count-requires Inv-loop μ-loop
-read-count-requires c κs = search needs
+count-in-requires : tie.Need-count-in-requires Inv-loop μ-loop
+count-in-requires c κs = search needs
+
+past-requires : tie.Need-past-requires Inv-loop μ-loop
+past-requires c κs = search needs
 
 loop-holds : tie.Need-loop-holds Inv-loop μ-loop
-loop-holds c = search needs
+loop-holds c = counted-none
 
-read-number-requires : tie.Need-read-number-requires Inv-loop μ-loop
-read-number-requires c κs = search needs
+stored-at-requires : tie.Need-stored-at-requires Inv-loop μ-loop
+stored-at-requires c κs = search needs
 
-add-requires : tie.Need-add-requires Inv-loop μ-loop
-add-requires c κs = search needs
+one-more-requires : tie.Need-one-more-requires Inv-loop μ-loop
+one-more-requires c κs = search needs
 
 add-passed : tie.Need-add-passed Inv-loop μ-loop
 add-passed c = search needs
@@ -29,10 +34,11 @@ loop-less : tie.Need-loop-less Inv-loop μ-loop
 loop-less c = search needs
 
 loop-again : tie.Need-loop-again Inv-loop μ-loop
-loop-again c = search needs
+loop-again c = counted-next (c .before .before .before .loop .inv) (c .before .before .loop-test .taken) (c .before .stored-at .ensures) (c .one-more .ensures)
 
 returns : tie.Need-returns Inv-loop μ-loop
-returns c = search needs
+unfolding numbered
+returns c = rw (← (c .before .before .before .count-in .ensures), ← (c .before .before .past .ensures)) (counted-done (c .before .loop .inv) (c .loop-test .left))
 
 pub count-number-spec : {M : Type 1} → statement M
 count-number-spec =
@@ -40,10 +46,11 @@ count-number-spec =
     (tie.spec
     Inv-loop
     μ-loop
-    read-count-requires
+    count-in-requires
+    past-requires
     loop-holds
-    read-number-requires
-    add-requires
+    stored-at-requires
+    one-more-requires
     add-passed
     loop-less
     loop-again

@@ -1,21 +1,23 @@
--- `narrow` is safe and ends: the lengths stay, and fewer turns are left.
-use mathlib.Core.Path.{_≡_}
-use Prim.Native.Nat.{_-_}
+-- `narrow` meets its contract: the gap is halved once a turn.
+use mathlib.Core.Path.{_≡_, refl}
+use Prim.Native.Nat.{_-_, _≤_}
+use native.Mathlib.Numerals.{add-one}
+use native.Mathlib.Omega.{arith}
 use lib.ListN.{length}
+use Rattle.replay.specs.Runs.{Halved}
 use borrow.Author.Needs.{needs}
+use Rattle.stored.specs.Runs.{Turns, none, one-more}
 use Rattle.replay.proofs.replay.narrow.Statement.{statement}
 use Rattle.replay.proofs.replay.narrow.Tie as tie
 
 abbrev Inv-loop : tie.InvT-loop
-Inv-loop file stored path₀ known₀ previous₀ classes₀ queue₀ gap₀ turns₀ path known previous classes queue gap turns =
-    (length path ≡ length path₀) × (length known ≡ length known₀) × (length previous ≡ length previous₀) × (length classes ≡ length classes₀) × (length queue ≡ length queue₀)
+Inv-loop file stored queue₀ gap₀ turns₀ queue gap turns = (turns ≤ 32) × Turns (λ _. Halved file (length queue₀) stored) gap₀ turns gap × (length queue ≡ length queue₀)
 
 abbrev μ-loop : tie.MeasureT-loop
-μ-loop file stored path₀ known₀ previous₀ classes₀ queue₀ gap₀ turns₀ path known previous classes queue gap turns =
-    32 - turns
+μ-loop file stored queue₀ gap₀ turns₀ queue gap turns = 32 - turns
 
 loop-holds : tie.Need-loop-holds Inv-loop μ-loop
-loop-holds c = search needs
+loop-holds c = (search needs, none refl, refl)
 
 narrow-once-requires : tie.Need-narrow-once-requires Inv-loop μ-loop
 narrow-once-requires c κs = search needs
@@ -27,25 +29,13 @@ loop-less : tie.Need-loop-less Inv-loop μ-loop
 loop-less c = search needs
 
 loop-again : tie.Need-loop-again Inv-loop μ-loop
-loop-again c = search needs
+loop-again c = (search needs, rw add-one (one-more (c .before .before .before .before .before .loop .inv .1) (rw (c .before .before .before .before .before .loop .inv .2) at (c .before .before .narrow-once .ensures))), search needs)
 
 same-length : tie.Need-same-length Inv-loop μ-loop
-same-length c = search needs
-
-same-length-2 : tie.Need-same-length-2 Inv-loop μ-loop
-same-length-2 c = search needs
-
-same-length-3 : tie.Need-same-length-3 Inv-loop μ-loop
-same-length-3 c = search needs
-
-same-length-4 : tie.Need-same-length-4 Inv-loop μ-loop
-same-length-4 c = search needs
-
-same-length-5 : tie.Need-same-length-5 Inv-loop μ-loop
-same-length-5 c = search needs
+same-length c = c .before .loop .inv .2
 
 returns : tie.Need-returns Inv-loop μ-loop
-returns c = search needs
+returns c = let e : c .before .loop .turns ≡ 32 = omega arith in record { halvings = rw e at (c .before .loop .inv .1) }
 
 pub narrow-spec : {M : Type 1} → statement M
 narrow-spec =
@@ -59,8 +49,4 @@ narrow-spec =
     loop-less
     loop-again
     same-length
-    same-length-2
-    same-length-3
-    same-length-4
-    same-length-5
     returns)

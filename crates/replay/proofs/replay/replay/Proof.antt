@@ -1,24 +1,29 @@
--- `replay` is safe and ends: the lengths stay, and fewer searches are left.
-use mathlib.Core.Path.{_≡_}
-use Prim.Native.Nat.{_-_}
+-- `replay` meets its contract: one record a turn.
+use mathlib.Core.Path.{_≡_, refl}
+use Prim.Native.Nat.{_-_, _≤_}
+use native.Mathlib.Numerals.{add-one}
+use native.Mathlib.Omega.{arith}
 use lib.ListN.{length}
+use Rattle.replay.specs.Runs.{Next}
 use borrow.Author.Needs.{needs}
+use Rattle.stored.specs.Runs.{Turns, none, one-more}
 use Rattle.replay.proofs.replay.replay.Statement.{statement}
 use Rattle.replay.proofs.replay.replay.Tie as tie
 
 abbrev Inv-loop : tie.InvT-loop
-Inv-loop from path₀ known₀ previous₀ classes₀ queue₀ count outcome₀ passed₀ path known previous classes queue outcome passed =
-    (length path ≡ length path₀) × (length known ≡ length known₀) × (length previous ≡ length previous₀) × (length classes ≡ length classes₀) × (length queue ≡ length queue₀)
+Inv-loop file queue₀ count outcome₀ passed₀ queue outcome passed = (passed ≤ count) × Turns (λ _. Next file (length queue₀)) outcome₀ passed outcome × (length queue ≡ length queue₀)
 
 abbrev μ-loop : tie.MeasureT-loop
-μ-loop from path₀ known₀ previous₀ classes₀ queue₀ count outcome₀ passed₀ path known previous classes queue outcome passed =
-    count - passed
+μ-loop file queue₀ count outcome₀ passed₀ queue outcome passed = count - passed
 
-read-count-requires : tie.Need-read-count-requires Inv-loop μ-loop
-read-count-requires c κs = search needs
+count-in-requires : tie.Need-count-in-requires Inv-loop μ-loop
+count-in-requires c κs = search needs
+
+past-requires : tie.Need-past-requires Inv-loop μ-loop
+past-requires c κs = search needs
 
 loop-holds : tie.Need-loop-holds Inv-loop μ-loop
-loop-holds c = search needs
+loop-holds c = (search needs, none refl, refl)
 
 replay-next-requires : tie.Need-replay-next-requires Inv-loop μ-loop
 replay-next-requires c κs = search needs
@@ -30,25 +35,13 @@ loop-less : tie.Need-loop-less Inv-loop μ-loop
 loop-less c = search needs
 
 loop-again : tie.Need-loop-again Inv-loop μ-loop
-loop-again c = search needs
+loop-again c = (search needs, rw add-one (one-more (c .before .before .before .before .before .loop .inv .1) (rw (c .before .before .before .before .before .loop .inv .2) at (c .before .before .replay-next .ensures))), search needs)
 
 same-length : tie.Need-same-length Inv-loop μ-loop
-same-length c = search needs
-
-same-length-2 : tie.Need-same-length-2 Inv-loop μ-loop
-same-length-2 c = search needs
-
-same-length-3 : tie.Need-same-length-3 Inv-loop μ-loop
-same-length-3 c = search needs
-
-same-length-4 : tie.Need-same-length-4 Inv-loop μ-loop
-same-length-4 c = search needs
-
-same-length-5 : tie.Need-same-length-5 Inv-loop μ-loop
-same-length-5 c = search needs
+same-length c = c .before .loop .inv .2
 
 returns : tie.Need-returns Inv-loop μ-loop
-returns c = search needs
+returns c = let e : c .before .loop .passed ≡ c .before .before .before .count-in .result = omega arith in record { searches = rw (← (c .before .before .past .ensures)) (rw (e, c .before .before .before .count-in .ensures) at (c .before .loop .inv .1)) }
 
 pub replay-spec : {M : Type 1} → statement M
 replay-spec =
@@ -56,15 +49,12 @@ replay-spec =
     (tie.spec
     Inv-loop
     μ-loop
-    read-count-requires
+    count-in-requires
+    past-requires
     loop-holds
     replay-next-requires
     add-passed
     loop-less
     loop-again
     same-length
-    same-length-2
-    same-length-3
-    same-length-4
-    same-length-5
     returns)

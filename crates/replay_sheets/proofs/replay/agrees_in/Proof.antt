@@ -14,7 +14,7 @@ same-length : tie.Need-same-length
 same-length c = search needs
 
 returns : tie.Need-returns
-returns c = least-queue (c .before .before .before .before .if1 .taken)
+returns c = least-queue (c .before .before .before .before .if1 .taken) _ (c .before .before .before .before .before .size-of .ensures) (c .before .before .narrows .ensures)
 
 lens-of-requires : tie.Need-lens-of-requires
 lens-of-requires c κs = search needs
@@ -29,7 +29,7 @@ same-length-2 : tie.Need-same-length-2
 same-length-2 c = search needs
 
 returns-2 : tie.Need-returns-2
-returns-2 c = one-run _ (c .before .before .before .before .before .before .before .size-of .ensures) _ (c .before .before .before .before .before .lens-of .ensures) _ (c .before .before .before .run .ensures) (c .agrees .ensures)
+returns-2 c = one-run (c .before .before .before .before .before .before .if1 .left) _ (c .before .before .before .before .before .before .before .size-of .ensures) _ (c .before .before .before .before .before .lens-of .ensures) _ (c .before .before .before .run .ensures) (c .agrees .ensures)
 
 pub agrees-in-spec : {M : Type 1} → statement M
 agrees-in-spec =

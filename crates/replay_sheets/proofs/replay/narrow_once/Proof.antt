@@ -1,18 +1,19 @@
 -- `narrow_once` meets its contract: the gap stays, or a run half way narrows it.
-use mathlib.Core.Path.{refl}
+use mathlib.Core.Path.{refl, sym, _∙_}
+use borrow.Author.Tests.{not-true, not-false}
 use Rattle.replay_sheets.specs.Runs.{stays, halves}
 use borrow.Author.Needs.{needs}
 use Rattle.replay_sheets.proofs.replay.narrow_once.Statement.{statement}
 use Rattle.replay_sheets.proofs.replay.narrow_once.Tie as tie
 
-middle-requires : tie.Need-middle-requires
-middle-requires c κs = search needs
+is-open-requires : tie.Need-is-open-requires
+is-open-requires c κs = search needs
 
 returns : tie.Need-returns
-returns c = stays refl
+returns c = stays (sym (c .before .is-open .ensures) ∙ not-true _ (c .if1 .taken)) refl
 
-returns-2 : tie.Need-returns-2
-returns-2 c = stays refl
+middle-requires : tie.Need-middle-requires
+middle-requires c κs = search needs
 
 twice-requires : tie.Need-twice-requires
 twice-requires c κs = search needs
@@ -26,18 +27,18 @@ narrowed-requires c κs = search needs
 same-length : tie.Need-same-length
 same-length c = search needs
 
-returns-3 : tie.Need-returns-3
-returns-3 c = halves _ (c .before .before .before .before .before .before .before .before .before .before .middle .ensures) _ (c .before .before .before .before .before .twice .ensures) _ (c .before .before .before .run .ensures) (c .narrowed .ensures)
+returns-2 : tie.Need-returns-2
+returns-2 c = halves (sym (c .before .before .before .before .before .before .before .before .is-open .ensures) ∙ not-false _ (c .before .before .before .before .before .before .before .if1 .left)) _ (c .before .before .before .before .before .before .middle .ensures) _ (c .before .before .before .before .before .twice .ensures) _ (c .before .before .before .run .ensures) (c .narrowed .ensures)
 
 pub narrow-once-spec : {M : Type 1} → statement M
 narrow-once-spec =
     tie.close
     (tie.spec
-    middle-requires
+    is-open-requires
     returns
-    returns-2
+    middle-requires
     twice-requires
     run-requires
     narrowed-requires
     same-length
-    returns-3)
+    returns-2)

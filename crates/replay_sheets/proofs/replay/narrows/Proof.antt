@@ -1,19 +1,24 @@
--- `narrows` is safe and ends: the queue's length stays, and fewer turns are left.
-use mathlib.Core.Path.{_≡_}
-use Prim.Native.Nat.{_-_}
+-- `narrows` meets its contract: the gap is halved once a turn.
+use mathlib.Core.Path.{_≡_, refl}
+use Prim.Native.Nat.{_-_, _≤_}
+use native.Mathlib.Numerals.{add-one}
+use native.Mathlib.Omega.{arith}
 use lib.ListN.{length}
+use Rattle.replay_sheets.specs.RunLaws.{halved-long}
 use borrow.Author.Needs.{needs}
+use Rattle.replay_sheets.specs.Runs.{Halved}
+use Rattle.stored.specs.Runs.{Turns, none, one-more}
 use Rattle.replay_sheets.proofs.replay.narrows.Statement.{statement}
 use Rattle.replay_sheets.proofs.replay.narrows.Tie as tie
 
 abbrev Inv-loop : tie.InvT-loop
-Inv-loop sheet asked size stored cells covered marks queue₀ gap₀ turns₀ queue gap turns = length queue ≡ length queue₀
+Inv-loop sheet asked size stored cells covered marks queue₀ gap₀ turns₀ queue gap turns = (length queue ≡ length queue₀) × (turns ≤ 32) × Turns (λ _. Halved sheet asked size stored cells covered marks (length queue₀)) gap₀ turns gap
 
 abbrev μ-loop : tie.MeasureT-loop
 μ-loop sheet asked size stored cells covered marks queue₀ gap₀ turns₀ queue gap turns = 32 - turns
 
 loop-holds : tie.Need-loop-holds Inv-loop μ-loop
-loop-holds c = search needs
+loop-holds c = (search needs, search needs, none refl)
 
 narrow-once-requires : tie.Need-narrow-once-requires Inv-loop μ-loop
 narrow-once-requires c κs = search needs
@@ -25,13 +30,13 @@ loop-less : tie.Need-loop-less Inv-loop μ-loop
 loop-less c = search needs
 
 loop-again : tie.Need-loop-again Inv-loop μ-loop
-loop-again c = search needs
+loop-again c = (search needs, search needs, rw add-one (one-more (c .before .before .before .before .before .loop .inv .2) (halved-long (c .before .before .before .before .before .loop .inv .0) (c .before .before .narrow-once .ensures))))
 
 same-length : tie.Need-same-length Inv-loop μ-loop
 same-length c = search needs
 
 returns : tie.Need-returns Inv-loop μ-loop
-returns c = search needs
+returns c = let e : c .before .loop .turns ≡ 32 = omega arith in record { gap = _; halved = rw e at (c .before .loop .inv .2); says = refl }
 
 pub narrows-spec : {M : Type 1} → statement M
 narrows-spec =

@@ -1,25 +1,33 @@
--- `replay` is safe and ends: the queue's length stays, and fewer sheets are left.
+-- `replay` meets its contract: one record a turn.
 use mathlib.Core.Path.{_≡_}
-use Prim.Native.Nat.{_-_}
+use Prim.Native.Nat.{_-_, _≤_}
+use native.Mathlib.Numerals.{add-one}
+use native.Mathlib.Omega.{arith}
 use lib.ListN.{length}
+use Rattle.replay_sheets.specs.ReplayLaws.{next-long}
 use borrow.Author.Needs.{needs}
+use Rattle.replay_sheets.specs.Replays.{Next, noneYet}
+use Rattle.stored.specs.Runs.{Turns, none, one-more}
 use Rattle.replay_sheets.proofs.replay.replay.Statement.{statement}
 use Rattle.replay_sheets.proofs.replay.replay.Tie as tie
 
 abbrev Inv-loop : tie.InvT-loop
-Inv-loop from queue₀ count tally₀ passed₀ queue tally passed = length queue ≡ length queue₀
+Inv-loop file queue₀ count stand₀ passed₀ queue stand passed = (length queue ≡ length queue₀) × (passed ≤ count) × Turns (λ _. Next file (length queue₀)) (noneYet file) passed stand
 
 abbrev μ-loop : tie.MeasureT-loop
-μ-loop from queue₀ count tally₀ passed₀ queue tally passed = count - passed
+μ-loop file queue₀ count stand₀ passed₀ queue stand passed = count - passed
 
-read-count-requires : tie.Need-read-count-requires Inv-loop μ-loop
-read-count-requires c κs = search needs
+count-in-requires : tie.Need-count-in-requires Inv-loop μ-loop
+count-in-requires c κs = search needs
+
+past-requires : tie.Need-past-requires Inv-loop μ-loop
+past-requires c κs = search needs
 
 nothing-yet-requires : tie.Need-nothing-yet-requires Inv-loop μ-loop
 nothing-yet-requires c κs = search needs
 
 loop-holds : tie.Need-loop-holds Inv-loop μ-loop
-loop-holds c = search needs
+loop-holds c = (search needs, search needs, none (λ i. record { at = c .before .past .ensures i; tally = c .nothing-yet .ensures i }))
 
 replay-next-requires : tie.Need-replay-next-requires Inv-loop μ-loop
 replay-next-requires c κs = search needs
@@ -31,13 +39,13 @@ loop-less : tie.Need-loop-less Inv-loop μ-loop
 loop-less c = search needs
 
 loop-again : tie.Need-loop-again Inv-loop μ-loop
-loop-again c = search needs
+loop-again c = (search needs, search needs, rw add-one (one-more (c .before .before .before .before .before .loop .inv .2) (next-long (c .before .before .before .before .before .loop .inv .0) (c .before .before .replay-next .ensures))))
 
 same-length : tie.Need-same-length Inv-loop μ-loop
 same-length c = search needs
 
 returns : tie.Need-returns Inv-loop μ-loop
-returns c = search needs
+returns c = let e : c .before .loop .passed ≡ c .before .before .before .before .count-in .result = omega arith in rw (e, c .before .before .before .before .count-in .ensures) at (c .before .loop .inv .2)
 
 pub replay-spec : {M : Type 1} → statement M
 replay-spec =
@@ -45,7 +53,8 @@ replay-spec =
     (tie.spec
     Inv-loop
     μ-loop
-    read-count-requires
+    count-in-requires
+    past-requires
     nothing-yet-requires
     loop-holds
     replay-next-requires

@@ -4,7 +4,8 @@ use Prim.Native.Nat.{_-_}
 use native.Mathlib.Omega.{arith}
 use mathlib.Core.Path.{refl}
 use lib.ListN.{getD, drop}
-use Rattle.route.specs.Lines.{lengthsIn, branchLines}
+use Rattle.branches.specs.Branches.{lengthsIn}
+use Rattle.route.specs.Lines.{branchLines}
 use Rattle.route.specs.BranchLineLaws.{Branching, branching-begun, next-within, branch-fits, branching-on, branching-done, lengths-count, length-at, part-is}
 use Rattle.route.proofs.lines.put_branches.Statement.{statement}
 use Rattle.route.proofs.lines.put_branches.Tie as tie

@@ -3,7 +3,7 @@ use native.Mathlib.Omega.{arith}
 use mathlib.Core.Path.{refl, _∙_}
 use native.Mathlib.Numerals.{sub-one}
 use lib.ListN.{getD}
-use Rattle.routing.specs.EntryLaws.{path-short, counted-is}
+use Rattle.room_search.specs.Traces.{path-short, counted-is}
 use borrow.Author.Needs.{needs}
 use Rattle.routing.proofs.astar.show_route.Statement.{statement}
 use Rattle.routing.proofs.astar.show_route.Tie as tie

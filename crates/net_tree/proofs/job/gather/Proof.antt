@@ -1,0 +1,56 @@
+-- `gather` meets its contract: the number that ended the growth, or the harvest of a whole tree.
+use mathlib.Core.Path.{sym, _∙_}
+use borrow.Author.Tests.{not-true, not-false}
+use Rattle.net_tree.specs.Entry.{ended-early, in-whole}
+use borrow.Author.Needs.{needs}
+use Rattle.net_tree.proofs.job.gather.Statement.{statement}
+use Rattle.net_tree.proofs.job.gather.Tie as tie
+
+is-whole-requires : tie.Need-is-whole-requires
+is-whole-requires c κs = search needs
+
+refusal-of-requires : tie.Need-refusal-of-requires
+refusal-of-requires c κs = search needs
+
+returns : tie.Need-returns
+returns c = ended-early (sym (c .before .before .is-whole .ensures) ∙ not-true _ (c .before .if1 .taken)) (c .refusal-of .ensures)
+
+harvest-requires : tie.Need-harvest-requires
+harvest-requires c κs = c .before .before .before .before .before .before .before .before .before .before .before .before .before .before .before .before .pre .harvestable (sym (c .before .before .before .before .before .before .before .before .is-whole .ensures) ∙ not-false _ (c .before .before .before .before .before .before .before .if1 .left))
+
+same-length : tie.Need-same-length
+same-length c = search needs
+
+same-length-2 : tie.Need-same-length-2
+same-length-2 c = search needs
+
+same-length-3 : tie.Need-same-length-3
+same-length-3 c = search needs
+
+same-length-4 : tie.Need-same-length-4
+same-length-4 c = search needs
+
+same-length-5 : tie.Need-same-length-5
+same-length-5 c = search needs
+
+same-length-6 : tie.Need-same-length-6
+same-length-6 c = search needs
+
+returns-2 : tie.Need-returns-2
+returns-2 c = in-whole (sym (c .before .before .before .before .before .before .before .before .before .before .before .before .before .before .before .before .before .before .before .before .before .is-whole .ensures) ∙ not-false _ (c .before .before .before .before .before .before .before .before .before .before .before .before .before .before .before .before .before .before .before .before .if1 .left)) (c .before .before .before .before .before .before .before .before .before .before .before .before .harvest .ensures)
+
+pub gather-spec : {M : Type 1} → statement M
+gather-spec =
+    tie.close
+    (tie.spec
+    is-whole-requires
+    refusal-of-requires
+    returns
+    harvest-requires
+    same-length
+    same-length-2
+    same-length-3
+    same-length-4
+    same-length-5
+    same-length-6
+    returns-2)

@@ -1,0 +1,23 @@
+-- `memory_holds` meets its contract: the path, then work memory.
+use Rattle.replay.specs.Verdicts.{memoryHolds}
+use Rattle.replay.specs.VerdictLaws.{test-fails, test-passes}
+use borrow.Author.Needs.{needs}
+use Rattle.replay.proofs.compare.memory_holds.Statement.{statement}
+use Rattle.replay.proofs.compare.memory_holds.Tie as tie
+
+cells-hold-requires : tie.Need-cells-hold-requires
+cells-hold-requires c κs = search needs
+
+returns : tie.Need-returns
+unfolding memoryHolds
+returns c = rw (test-fails (c .before .cells-hold .ensures) (c .if1 .taken))
+
+work-holds-requires : tie.Need-work-holds-requires
+work-holds-requires c κs = search needs
+
+returns-2 : tie.Need-returns-2
+unfolding memoryHolds
+returns-2 c = rw (test-passes (c .before .before .cells-hold .ensures) (c .before .if1 .left)) (c .work-holds .ensures)
+
+pub memory-holds-spec : {M : Type 1} → statement M
+memory-holds-spec = tie.close (tie.spec cells-hold-requires returns work-holds-requires returns-2)

@@ -1,0 +1,44 @@
+-- `run_stored` meets its contract: the kinds are those of the file, and the buffers its own.
+use Prim.Native.Nat.{ℕ}
+use lib.ListN.{length, length-replicate}
+use Rattle.replay.specs.VerdictLaws.{ran-in}
+use borrow.Author.Needs.{needs}
+use Rattle.replay.proofs.compare.run_stored.Statement.{statement}
+use Rattle.replay.proofs.compare.run_stored.Tie as tie
+
+part-requires : tie.Need-part-requires
+part-requires c κs = search needs
+
+slice-aggregate-attempt-lent : tie.Need-slice-aggregate-attempt-lent
+slice-aggregate-attempt-lent c = search needs
+
+slice-aggregate-attempt-lent-2 : tie.Need-slice-aggregate-attempt-lent-2
+slice-aggregate-attempt-lent-2 c = search needs
+
+slice-aggregate-attempt-lent-3 : tie.Need-slice-aggregate-attempt-lent-3
+slice-aggregate-attempt-lent-3 c = search needs
+
+slice-aggregate-attempt-lent-4 : tie.Need-slice-aggregate-attempt-lent-4
+slice-aggregate-attempt-lent-4 c = search needs
+
+attempt-lent-requires : tie.Need-attempt-lent-requires
+attempt-lent-requires c κs = search needs
+
+same-length : tie.Need-same-length
+same-length c = search needs
+
+returns : tie.Need-returns
+returns c = ran-in _ (c .before .before .before .before .before .before .before .before .before .before .before .before .part .ensures) (λ i. record { path = length-replicate {0} {A = ℕ} 16600 0 i; known = length-replicate {0} {A = ℕ} 16600 0 i; previous = length-replicate {0} {A = ℕ} 16600 0 i; classes = length-replicate {0} {A = ℕ} 16600 0 i; queue = length (c .before .before .before .before .before .before .before .before .before .before .before .before .before .before .before .args .queue .now) }) (c .before .before .before .before .before .before .attempt-lent .ensures)
+
+pub run-stored-spec : {M : Type 1} → statement M
+run-stored-spec =
+    tie.close
+    (tie.spec
+    part-requires
+    slice-aggregate-attempt-lent
+    slice-aggregate-attempt-lent-2
+    slice-aggregate-attempt-lent-3
+    slice-aggregate-attempt-lent-4
+    attempt-lent-requires
+    same-length
+    returns)

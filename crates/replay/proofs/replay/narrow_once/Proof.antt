@@ -1,0 +1,44 @@
+-- `narrow_once` meets its contract: the gap stays, or a run half way narrows it.
+use mathlib.Core.Path.{refl}
+use Rattle.replay.specs.Runs.{stays, halves}
+use Rattle.replay.specs.VerdictLaws.{test-fails, test-passes}
+use borrow.Author.Needs.{needs}
+use Rattle.replay.proofs.replay.narrow_once.Statement.{statement}
+use Rattle.replay.proofs.replay.narrow_once.Tie as tie
+
+is-open-requires : tie.Need-is-open-requires
+is-open-requires c κs = search needs
+
+returns : tie.Need-returns
+returns c = stays (test-fails (c .before .is-open .ensures) (c .if1 .taken)) refl
+
+middle-requires : tie.Need-middle-requires
+middle-requires c κs = search needs
+
+twice-requires : tie.Need-twice-requires
+twice-requires c κs = search needs
+
+run-stored-requires : tie.Need-run-stored-requires
+run-stored-requires c κs = search needs
+
+narrowed-requires : tie.Need-narrowed-requires
+narrowed-requires c κs = search needs
+
+same-length : tie.Need-same-length
+same-length c = search needs
+
+returns-2 : tie.Need-returns-2
+returns-2 c = halves (test-passes (c .before .before .before .before .before .before .before .before .is-open .ensures) (c .before .before .before .before .before .before .before .if1 .left)) _ (c .before .before .before .before .before .before .middle .ensures) _ (c .before .before .before .before .before .twice .ensures) _ (c .before .before .before .run-stored .ensures) (c .narrowed .ensures)
+
+pub narrow-once-spec : {M : Type 1} → statement M
+narrow-once-spec =
+    tie.close
+    (tie.spec
+    is-open-requires
+    returns
+    middle-requires
+    twice-requires
+    run-stored-requires
+    narrowed-requires
+    same-length
+    returns-2)

@@ -1,0 +1,6 @@
+pub mod Searches
+pub mod SearchLaws
+pub mod Verdicts
+pub mod VerdictLaws
+pub mod Runs
+pub mod RunLaws

@@ -1,0 +1,66 @@
+-- Laws of the runs.
+use mathlib.Core.Path.{_≡_, refl, sym, _∙_}
+use mathlib.Core.Bool.{Bool, true, false, not}
+use mathlib.Core.List.{List}
+use Prim.Native.Nat.{ℕ, suc, _+_, _*_, _-_, _≤_, _<_}
+use native.Mathlib.Omega.{arith}
+use Rattle.replay.specs.declared.searches.Stored.{Stored}
+use borrow.Author.Tests.{not-true, not-false}
+use Rattle.stored.specs.Runs.{isSame, longerBy, queueMore, sumOf}
+use Rattle.replay.specs.declared.compare.Lent.{Lent}
+use Rattle.stored.specs.declared.runs.Verdict.{Verdict}
+use Rattle.stored.specs.declared.runs.Gap.{Gap}
+use Rattle.replay.specs.Searches.{storedAt}
+use Rattle.replay.specs.Verdicts.{RanIn}
+use Rattle.replay.specs.Runs.{lent, storedLengths, cellsMore, longerLengths, SameTwice, Narrowed, isNarrowed}
+use Rattle.replay.specs.Runs.{tally, ReplayedOne, differs, twice-alone, narrowed, oneMore, numberedFrom}
+
+pub lent-by : {cells cells′ queue queue′ : ℕ} → cells ≡ cells′ → queue ≡ queue′ → lent cells queue ≡ lent cells′ queue′
+lent-by p q = λ i. lent (p i) (q i)
+
+pub longer-lent : (S : Stored) {cells places more queue : ℕ} → cells ≡ cellsMore (S .lent) (S .told .number) → places ≡ S .places * 2
+    → more ≡ queueMore (S .told .number) → queue ≡ longerBy places more → lent cells queue ≡ longerLengths S
+longer-lent S p q r s = lent-by p (s ∙ rw (q, r))
+
+-- ---- a stored search
+
+module _ {file : List ℕ} {longs : ℕ} {S : Stored} where
+  -- two runs, of which the first left the queue as long as it was; the first that is not the stored answer decides
+  module _ {N N′ : Lent} {left : ℕ} {v w : Verdict} {a : Bool} (e : N ≡ storedLengths S) (p : RanIn file longs S N v) (f : N′ ≡ longerLengths S)
+      (l : left ≡ longs) (q : RanIn file left S N′ w) (d : a ≡ isSame v) where
+    pub first-decides : a ≡ false → SameTwice file longs S a
+    first-decides t = let g = sym d ∙ t in record { exact = v; longer = w; at-exact = rw e at p; at-longer = rw f at (rw l at q); both = rw g t }
+
+    pub second-decides : {b : Bool} → a ≡ true → b ≡ isSame w → SameTwice file longs S b
+    second-decides t h = let g = sym d ∙ t in record { exact = v; longer = w; at-exact = rw e at p; at-longer = rw f at (rw l at q); both = rw g h }
+
+  module _ {b : Bool} (T : SameTwice file longs S b) where
+    pub one-differs : not b ≡ true → ReplayedOne file longs S (tally 0 false)
+    one-differs n = let e = not-true b n in differs (rw e at T) refl
+
+    module _ (n : not b ≡ false) {m : Bool} (e : m ≡ isNarrowed S) where
+      pub one-twice : not m ≡ true → ReplayedOne file longs S (tally 2 true)
+      one-twice l = let t = not-false b n in twice-alone (rw t at T) (sym e ∙ not-true m l) refl
+
+      pub one-narrowed : not m ≡ false → {left : ℕ} → left ≡ longs → {G : Gap} → Narrowed file left S G → {runs : ℕ} → runs ≡ sumOf 2 (G .runs)
+          → ReplayedOne file longs S (tally runs (G .agreed))
+      one-narrowed l e′ {G} N {runs} s = let t = not-false b n in narrowed (rw t at T) (sym e ∙ not-false m l) G (rw e′ at N) runs s refl
+
+-- ---- counting a number: so many records are passed, and what the rest comes to is the whole
+
+pub record Counted (file : List ℕ) (number count start passed at met : ℕ) : Type 0 where
+  pub rest : numberedFrom file number (count - passed) at met ≡ numberedFrom file number count start 0
+
+module _ {file : List ℕ} {number count start : ℕ} where
+  pub counted-none : Counted file number count start 0 start 0
+  counted-none = let z : count - 0 ≡ count = omega arith in record { rest = rw z }
+
+  module _ {passed at met : ℕ} (C : Counted file number count start passed at met) where
+    pub counted-next : {S : Stored} {met′ : ℕ} → passed < count → S ≡ storedAt file at → met′ ≡ oneMore met (S .told .number) number
+        → Counted file number count start (passed + 1) (S .next) met′
+    counted-next h s m =
+        let e : count - passed ≡ suc (count - (passed + 1)) = omega arith in
+        record { rest = rw (m, s) (rw e at (C .rest)) }
+
+    pub counted-done : count ≤ passed → met ≡ numberedFrom file number count start 0
+    counted-done h = let e : count - passed ≡ 0 = omega arith in rw e at (C .rest)

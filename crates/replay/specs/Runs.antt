@@ -1,0 +1,103 @@
+-- Which runs a stored search gets, at which lengths, and what the file comes to, where the program's queue holds so many longs. Definitions alone;
+-- their laws are in RunLaws.
+use mathlib.Core.Path.{_≡_}
+use mathlib.Core.Bool.{Bool, true, false, _&&_}
+use mathlib.Core.List.{List}
+use Prim.Native.Nat.{ℕ, zero, suc, _*_, _-_}
+use lib.Dec.{eqb, ltb}
+use Rattle.basics.specs.Tests.{either}
+use Rattle.stored.specs.Runs.{Turns, isOpen, isSame, longerBy, middleOf, narrowedBy, queueMore, sumOf, wholeGap}
+use Rattle.replay.specs.declared.searches.Stored.{Stored}
+use Rattle.stored.specs.declared.runs.Verdict.{Verdict}
+use Rattle.replay.specs.declared.compare.Lent.{Lent}
+use Rattle.stored.specs.declared.runs.Gap.{Gap}
+use Rattle.replay.specs.declared.replay.Tally.{Tally}
+use Rattle.replay.specs.declared.replay.Outcome.{Outcome}
+use Rattle.replay.specs.Searches.{storedAt, countIn, firstPlace}
+use Rattle.replay.specs.Verdicts.{RanIn}
+
+-- ---- lengths
+
+abbrev pub lent : ℕ → ℕ → Lent
+lent cells queue = record { cells = cells; queue = queue }
+
+abbrev pub storedLengths : Stored → Lent
+storedLengths S = lent (S .lent) (S .places * 2)
+
+unfoldable pub cellsMore : ℕ → ℕ → ℕ
+cellsMore cells number = either (eqb number 6) cells (longerBy cells 100)
+
+-- longer buffers that change no answer. Numbers 6 and 13 hang on lengths
+abbrev pub longerLengths : Stored → Lent
+longerLengths S = lent (cellsMore (S .lent) (S .told .number)) (longerBy (S .places * 2) (queueMore (S .told .number)))
+
+-- ---- the stored answer, twice
+
+-- a run at the stored lengths, and one at longer ones
+pub record SameTwice (file : List ℕ) (longs : ℕ) (S : Stored) (r : Bool) : Type 0 where
+  pub exact : Verdict
+  pub longer : Verdict
+  pub at-exact : RanIn file longs S (storedLengths S) exact
+  pub at-longer : RanIn file longs S (longerLengths S) longer
+  pub both : r ≡ (isSame exact && isSame longer)
+
+-- ---- the least queue
+
+-- a gap that is open is halved by a run half way; any other stays
+pub data Halved (file : List ℕ) (longs : ℕ) (S : Stored) (G r : Gap) : Type 0 where
+  stays : isOpen G ≡ false → r ≡ G → Halved file longs S G r
+  halves : isOpen G ≡ true → (places : ℕ) → places ≡ middleOf (G .full) (G .enough) → (queue : ℕ) → queue ≡ places * 2
+      → (v : Verdict) → RanIn file longs S (lent (S .lent) queue) v → r ≡ narrowedBy G places v → Halved file longs S G r
+
+-- halved 32 times: a count of places has 32 bits
+pub record Narrowed (file : List ℕ) (longs : ℕ) (S : Stored) (r : Gap) : Type 0 where
+  pub halvings : Turns (λ _. Halved file longs S) (wholeGap (S .places)) 32 r
+
+-- small rooms whose search came to an end of its own: a route, no route, or the node limit passed
+unfoldable pub isNarrowed : Stored → Bool
+isNarrowed S = either (ltb 200 (S .lent)) false (either (eqb (S .told .number) 0) true (either (eqb (S .told .number) 11) true (eqb (S .told .number) 12)))
+
+-- ---- a stored search
+
+abbrev pub tally : ℕ → Bool → Tally
+tally runs agreed = record { runs = runs; agreed = agreed }
+
+pub data ReplayedOne (file : List ℕ) (longs : ℕ) (S : Stored) (r : Tally) : Type 0 where
+  differs : SameTwice file longs S false → r ≡ tally 0 false → ReplayedOne file longs S r
+  twice-alone : SameTwice file longs S true → isNarrowed S ≡ false → r ≡ tally 2 true → ReplayedOne file longs S r
+  narrowed : SameTwice file longs S true → isNarrowed S ≡ true → (G : Gap) → Narrowed file longs S G → (runs : ℕ) → runs ≡ sumOf 2 (G .runs)
+      → r ≡ tally runs (G .agreed) → ReplayedOne file longs S r
+
+-- ---- the file
+
+-- one search further, to the place behind it; none further than one that differs
+unfoldable pub oneFurther : Outcome → ℕ → Tally → Outcome
+oneFurther O next T =
+    either (T .agreed)
+    (record { at = next; searches = sumOf (O .searches) 1; runs = sumOf (O .runs) (T .runs); agreed = true })
+    (record { at = O .at; searches = O .searches; runs = O .runs; agreed = false })
+
+pub data Next (file : List ℕ) (longs : ℕ) (O r : Outcome) : Type 0 where
+  stopped : O .agreed ≡ false → r ≡ O → Next file longs O r
+  replayed : O .agreed ≡ true → (S : Stored) → S ≡ storedAt file (O .at) → (T : Tally) → ReplayedOne file longs S T
+      → r ≡ oneFurther O (S .next) T → Next file longs O r
+
+abbrev pub noneYet : List ℕ → Outcome
+noneYet file = record { at = firstPlace file; searches = 0; runs = 0; agreed = true }
+
+-- from no search on, record by record, as many as the file says
+pub record Replayed (file : List ℕ) (longs : ℕ) (r : Outcome) : Type 0 where
+  pub searches : Turns (λ _. Next file longs) (noneYet file) (countIn file) r
+
+-- ---- how many answers have a number
+
+unfoldable pub oneMore : ℕ → ℕ → ℕ → ℕ
+oneMore met here number = either (eqb here number) (sumOf met 1) met
+
+-- so many records more, from a place on
+abbrev pub numberedFrom : List ℕ → ℕ → ℕ → ℕ → ℕ → ℕ
+numberedFrom file number zero at met = met
+numberedFrom file number (suc n) at met = numberedFrom file number n (storedAt file at .next) (oneMore met (storedAt file at .told .number) number)
+
+unfoldable pub numbered : List ℕ → ℕ → ℕ
+numbered file number = numberedFrom file number (countIn file) (firstPlace file) 0

@@ -1,0 +1,126 @@
+-- When a search's answer, and all lent memory behind it, are as stored. Definitions alone; their laws are in VerdictLaws.
+use mathlib.Core.Path.{_≡_}
+use mathlib.Core.Bool.{Bool, true, false, _&&_}
+use mathlib.Core.List.{List, []}
+use Prim.Native.Nat.{ℕ}
+use lib.Dec.{eqb, leb}
+use Rattle.basics.specs.Tests.{either}
+use Rattle.stored.specs.Runs.{fullIf, sameIf, touchesNothing}
+use Rattle.routing.specs.declared.Answer.{Answer}
+use Rattle.routing.specs.declared.Answer.the-variants.{Routed, Refused, NotRouteable, NoRoute, LimitPassed, QueueFull}
+use Rattle.routing.specs.declared.Route.{Route}
+use Rattle.routing.specs.declared.Lengths.{Lengths}
+use Rattle.routing.specs.Answers.{numberOf, detailOf, Promise, input, lengthsOf}
+use Rattle.stored.specs.Memory.{Rubbish, holds}
+use Rattle.replay.specs.declared.searches.Told.{Told}
+use Rattle.replay.specs.declared.searches.Stored.{Stored}
+use Rattle.stored.specs.declared.runs.Verdict.{Verdict}
+use Rattle.stored.specs.declared.runs.Verdict.the-variants.{Other}
+use Rattle.replay.specs.declared.compare.Lent.{Lent}
+use Rattle.replay.specs.Searches.{kindsIn, cellsIn}
+
+-- ---- the answer
+
+unfoldable pub sameRoute : Route → Told → Bool
+sameRoute R T = eqb (R .cost .0) (T .cost) && eqb (R .expanded .0) (T .expanded) && eqb (R .length) (T .length)
+
+-- a route as stored; of all others the number and the detail say everything
+abbrev pub sameWay : Answer → Told → Bool
+sameWay (Routed R) T = sameRoute R T
+sameWay (Refused why) T = true
+sameWay (NotRouteable cell) T = true
+sameWay (NoRoute x) T = true
+sameWay (LimitPassed x) T = true
+sameWay (QueueFull x) T = true
+
+unfoldable pub sameAnswer : Answer → Told → Bool
+sameAnswer a T = eqb (numberOf a) (T .number) && eqb (detailOf a) (T .detail) && sameWay a T
+
+-- a queue may be found full at any of the cells that the stored search expanded: its detail, or the count of a route
+unfoldable pub earlyEnough : Answer → Told → Bool
+earlyEnough a T = either (leb (detailOf a) (T .detail)) true (leb (detailOf a) (T .expanded))
+
+unfoldable pub fullEarly : Answer → Told → Bool
+fullEarly a T = eqb (numberOf a) 13 && earlyEnough a T
+
+-- ---- lent memory
+
+pub record Memory : Type 0 where
+  pub path : List ℕ
+  pub known : List ℕ
+  pub previous : List ℕ
+  pub classes : List ℕ
+  pub queue : List ℕ
+
+abbrev pub memory : (path known previous classes queue : List ℕ) → Memory
+memory path known previous classes queue = record { path = path; known = known; previous = previous; classes = classes; queue = queue }
+
+-- work memory: the rubbish that was there, or zeros
+unfoldable pub workHolds : Bool → (known previous classes queue : List ℕ) → Bool
+workHolds kept known previous classes queue = holds kept [] known && holds kept [] previous && holds kept [] classes && holds kept [] queue
+
+-- the rubbish that was there; or these cells, and zeros
+unfoldable pub memoryHolds : Bool → List ℕ → Memory → Bool
+memoryHolds kept cells M = holds kept cells (M .path) && workHolds kept (M .known) (M .previous) (M .classes) (M .queue)
+
+-- ---- both
+
+-- all as stored; or the queue was full, and zeros; or something else
+unfoldable pub verdictOf : Told → List ℕ → Answer → Memory → Verdict
+verdictOf T cells a M =
+    either (sameAnswer a T)
+    (sameIf (memoryHolds (touchesNothing (T .number)) cells M))
+    (either (fullEarly a T) (fullIf (memoryHolds false [] M)) Other)
+
+-- ---- a run
+
+pub record AllRubbish (M : Memory) : Type 0 where
+  pub path-spoiled : Rubbish (M .path)
+  pub known-spoiled : Rubbish (M .known)
+  pub previous-spoiled : Rubbish (M .previous)
+  pub classes-spoiled : Rubbish (M .classes)
+  pub queue-spoiled : Rubbish (M .queue)
+
+abbrev pub lengthsIn : Memory → Lengths
+lengthsIn M = lengthsOf (M .path) (M .known) (M .previous) (M .classes) (M .queue)
+
+-- what `astar_route` promises of a stored search, over memory
+abbrev pub Promised : Stored → List ℕ → Memory → Answer → Memory → Type 0
+Promised S kinds M a M′ =
+    Promise (input (S .room) (S .config) kinds (S .start) (S .goal) (lengthsIn M)) (M .path) (M .known) (M .previous) (M .classes) (M .queue)
+    a (M′ .path) (M′ .known) (M′ .previous) (M′ .classes) (M′ .queue)
+
+-- what it promises over memory of these lengths that is full of rubbish, judged
+pub record Judged (S : Stored) (kinds cells : List ℕ) (L : Lengths) (r : Verdict) : Type 0 where
+  pub lent-before : Memory
+  pub lent-after : Memory
+  pub answer : Answer
+  pub lengths : lengthsIn lent-before ≡ L
+  pub spoiled : AllRubbish lent-before
+  pub promise : Promised S kinds lent-before answer lent-after
+  pub verdict : r ≡ verdictOf (S .told) cells answer lent-after
+
+abbrev pub lengthsBy : Lent → Lengths
+lengthsBy N = record { path = N .cells; known = N .cells; previous = N .cells; classes = N .cells; queue = N .queue }
+
+-- each buffer is as long as what of it is to be lent
+unfoldable pub fits : Lengths → Lent → Bool
+fits L N =
+    leb (N .cells) (L .path)
+    && leb (N .cells) (L .known)
+    && leb (N .cells) (L .previous)
+    && leb (N .cells) (L .classes)
+    && leb (N .queue) (L .queue)
+
+-- a run at these lengths, in the front of buffers; lengths that a buffer does not have are no run, and something else
+pub data Ran (S : Stored) (kinds cells : List ℕ) (L : Lengths) (N : Lent) (r : Verdict) : Type 0 where
+  too-long : fits L N ≡ false → r ≡ Other → Ran S kinds cells L N r
+  judged : fits L N ≡ true → Judged S kinds cells (lengthsBy N) r → Ran S kinds cells L N r
+
+-- the program's own buffers, with a queue of so many numbers
+abbrev pub own : ℕ → Lengths
+own longs = record { path = 16600; known = 16600; previous = 16600; classes = 16600; queue = longs }
+
+-- a run of what is stored in a file
+abbrev pub RanIn : List ℕ → ℕ → Stored → Lent → Verdict → Type 0
+RanIn file longs S N r = Ran S (kindsIn file S) (cellsIn file (S .told)) (own longs) N r

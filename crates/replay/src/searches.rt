@@ -1,0 +1,150 @@
+// The stored searches: a file of big-endian records, each a search with its answer, as the oracle's README lays them out.
+ghost use mathlib.Core.Path.{_≡_};
+ghost use Rattle.replay.specs.Searches.{byteBehind, wordBehind, roomAt, configAt, toldAt, endOf, answerPlace, storedAt, partOf, countIn};
+use room::Cost;
+use room::Nodes;
+use room::Room;
+use room::RouterConfig;
+use stored::places::byte_at;
+use stored::places::past;
+use stored::places::size_at;
+use stored::places::word_at;
+use stored::runs::twice;
+
+// The letters that the file begins with: DRS1.
+const LETTERS: u32 = 0x44525331;
+
+// The answer that is stored. The path's cells, as many as its length, stay in the file, at this place.
+pub struct Told {
+    pub number: u32,
+    pub detail: usize,
+    pub cost: u32,
+    pub expanded: u32,
+    pub length: u32,
+    pub cells: usize,
+}
+
+// A stored search: what is handed over, the answer, and the place behind it. The kinds, of this count, stay in the file, at this place.
+pub struct Stored {
+    pub room: Room,
+    pub config: RouterConfig,
+    pub start: usize,
+    pub goal: usize,
+    pub places: u32,
+    pub lent: usize,
+    pub kinds: usize,
+    pub count: usize,
+    pub told: Told,
+    pub next: usize,
+}
+
+fn byte_behind(file: &[u8], at: usize, bytes: usize) -> u8
+    ensures { λ r. ⌜ r ≡ byteBehind (now (file .entry)) at bytes ⌝ }
+{
+    byte_at(file, past(file, at, bytes))
+}
+
+fn word_behind(file: &[u8], at: usize, bytes: usize) -> u32
+    ensures { λ r. ⌜ r ≡ wordBehind (now (file .entry)) at bytes ⌝ }
+{
+    word_at(file, past(file, at, bytes))
+}
+
+fn size_behind(file: &[u8], at: usize, bytes: usize) -> usize
+    ensures { λ r. ⌜ r ≡ wordBehind (now (file .entry)) at bytes ⌝ }
+{
+    size_at(file, past(file, at, bytes))
+}
+
+fn room_at(file: &[u8], at: usize) -> Room
+    ensures { λ r. ⌜ r ≡ roomAt (now (file .entry)) at ⌝ }
+{
+    Room {
+        wide: byte_behind(file, at, 0) as usize,
+        high: byte_behind(file, at, 1) as usize,
+        deep: byte_behind(file, at, 2) as usize,
+    }
+}
+
+fn config_at(file: &[u8], at: usize) -> RouterConfig
+    ensures { λ r. ⌜ r ≡ configAt (now (file .entry)) at ⌝ }
+{
+    RouterConfig {
+        limit: Nodes(word_behind(file, at, 3)),
+        horizontal: Cost(word_behind(file, at, 7)),
+        stair: Cost(word_behind(file, at, 11)),
+        support: Cost(word_behind(file, at, 15)),
+    }
+}
+
+fn told_at(file: &[u8], at: usize) -> Told
+    ensures { λ r. ⌜ r ≡ toldAt (now (file .entry)) at ⌝ }
+{
+    Told {
+        number: byte_behind(file, at, 0) as u32,
+        detail: size_behind(file, at, 1),
+        cost: word_behind(file, at, 5),
+        expanded: word_behind(file, at, 9),
+        length: word_behind(file, at, 13),
+        cells: past(file, at, 17),
+    }
+}
+
+// The place behind an answer.
+fn end_of(file: &[u8], at: usize) -> usize
+    ensures { λ r. ⌜ r ≡ endOf (now (file .entry)) at ⌝ }
+{
+    let cells_at = past(file, at, 17);
+    past(file, cells_at, twice(word_behind(file, at, 13)))
+}
+
+// The place of the answer of the search at a place.
+fn answer_place(file: &[u8], at: usize) -> usize
+    ensures { λ r. ⌜ r ≡ answerPlace (now (file .entry)) at ⌝ }
+{
+    let kinds_at = past(file, at, 39);
+    past(file, kinds_at, size_behind(file, at, 35))
+}
+
+// The search that is stored at a place.
+pub fn stored_at(file: &[u8], at: usize) -> Stored
+    ensures { λ r. ⌜ r ≡ storedAt (now (file .entry)) at ⌝ }
+{
+    let answer_at = answer_place(file, at);
+    Stored {
+        room: room_at(file, at),
+        config: config_at(file, at),
+        start: size_behind(file, at, 19),
+        goal: size_behind(file, at, 23),
+        places: word_behind(file, at, 27),
+        lent: size_behind(file, at, 31),
+        kinds: past(file, at, 39),
+        count: size_behind(file, at, 35),
+        told: told_at(file, answer_at),
+        next: end_of(file, answer_at),
+    }
+}
+
+// So many bytes from a place on, none where the file does not hold them all.
+pub fn part(file: &[u8], at: usize, bytes: usize) -> &[u8]
+    ensures { λ r. ⌜ now r ≡ partOf (now (file .entry)) at bytes ⌝ }
+{
+    if file.len() < at {
+        return &file[..0];
+    }
+    if file.len() - at < bytes {
+        return &file[..0];
+    }
+    &file[at..at + bytes]
+}
+
+// How many searches the file says that it holds: none, unless it begins with its letters.
+pub fn count_in(file: &[u8]) -> u32
+    ensures { λ r. ⌜ r ≡ countIn (now (file .entry)) ⌝ }
+{
+    if word_at(file, 0) == LETTERS {
+        word_behind(file, 0, 4)
+    } else {
+        0
+    }
+}

@@ -1,0 +1,20 @@
+-- `has_room` meets its contract, test by test.
+use borrow.Author.Tests.{le-leb, lt-leb}
+use Rattle.replay_sheets.specs.Verdicts.{hasRoom}
+use Rattle.replay_sheets.proofs.attempt.has_room.Statement.{statement}
+use Rattle.replay_sheets.proofs.attempt.has_room.Tie as tie
+
+returns : tie.Need-returns
+unfolding hasRoom
+returns c = rw (lt-leb _ _ (c .if1 .taken))
+
+returns-2 : tie.Need-returns-2
+unfolding hasRoom
+returns-2 c = rw (le-leb _ _ (c .before .before .if1 .left), lt-leb _ _ (c .if2 .taken))
+
+returns-3 : tie.Need-returns-3
+unfolding hasRoom
+returns-3 c = rw (le-leb _ _ (c .before .before .before .if1 .left), le-leb _ _ (c .before .if2 .left))
+
+pub has-room-spec : {M : Type 1} → statement M
+has-room-spec = tie.close (tie.spec returns returns-2 returns-3)

@@ -1,0 +1,58 @@
+-- `answer_at` meets its contract: a tree, or a refusal.
+use Rattle.replay_sheets.specs.SheetLaws.{answer-tree, answer-refused}
+use borrow.Author.Needs.{needs}
+use Rattle.replay_sheets.proofs.sheets.answer_at.Statement.{statement}
+use Rattle.replay_sheets.proofs.sheets.answer_at.Tie as tie
+
+byte-at-requires : tie.Need-byte-at-requires
+byte-at-requires c κs = search needs
+
+tree-at-requires : tie.Need-tree-at-requires
+tree-at-requires c κs = search needs
+
+same-length : tie.Need-same-length
+same-length c = search needs
+
+same-length-2 : tie.Need-same-length-2
+same-length-2 c = search needs
+
+same-length-3 : tie.Need-same-length-3
+same-length-3 c = search needs
+
+returns : tie.Need-returns
+returns c = answer-tree _ _ _ _ _ (c .before .before .before .before .before .before .before .before .before .before .before .byte-at .ensures) (c .before .before .before .before .before .before .before .before .before .before .if1 .taken) (c .before .before .before .before .before .before .tree-at .ensures)
+
+past-requires : tie.Need-past-requires
+past-requires c κs = search needs
+
+size-at-requires : tie.Need-size-at-requires
+size-at-requires c κs = search needs
+
+cast-refusal : tie.Need-cast-refusal
+cast-refusal c = search needs
+
+refusal-requires : tie.Need-refusal-requires
+refusal-requires c κs = search needs
+
+past-requires-2 : tie.Need-past-requires-2
+past-requires-2 c κs = search needs
+
+returns-2 : tie.Need-returns-2
+returns-2 c = answer-refused _ _ _ _ _ (c .before .before .before .before .before .byte-at .ensures) (c .before .before .before .before .if1 .left) (c .before .before .before .past .ensures) (c .before .before .size-at .ensures .0) (c .before .refusal .ensures) (c .past2 .ensures)
+
+pub answer-at-spec : {M : Type 1} → statement M
+answer-at-spec =
+    tie.close
+    (tie.spec
+    byte-at-requires
+    tree-at-requires
+    same-length
+    same-length-2
+    same-length-3
+    returns
+    past-requires
+    size-at-requires
+    cast-refusal
+    refusal-requires
+    past-requires-2
+    returns-2)

@@ -1,0 +1,46 @@
+-- How a file is replayed: record by record, each sheet in each kind of comparison, and every tally follows from the one before it. `longs` is how
+-- long the program's queue is.
+use mathlib.Core.Path.{_≡_}
+use mathlib.Core.Bool.{Bool, true, false}
+use mathlib.Core.List.{List}
+use Prim.Native.Nat.{ℕ}
+use lib.Dec.{eqb}
+use Rattle.basics.specs.Tests.{either}
+use Rattle.stored.specs.Runs.{Turns}
+use Rattle.stored.specs.Places.{past}
+use Rattle.replay_sheets.specs.declared.counts.Tally.{Tally}
+use Rattle.replay_sheets.specs.declared.replay.Stand.{Stand}
+use Rattle.replay_sheets.specs.declared.sheets.Asked.{Asked}
+use Rattle.replay_sheets.specs.declared.sheets.Stored.{Stored}
+use Rattle.replay_sheets.specs.Counts.{nothingYet, met, compared}
+use Rattle.replay_sheets.specs.Runs.{dueIn, AgreesIn}
+use Rattle.replay_sheets.specs.Sheets.{countIn, askedAt, sheetOf, answerOf, storedOf}
+
+-- a sheet in one kind, if it is due
+pub data InKind (kind : ℕ) (sheet : List ℕ) (A : Asked) (S : Stored) (cells covered marks : List ℕ) (longs : ℕ) (t r : Tally) : Type 0 where
+  not-due : dueIn kind S ≡ false → r ≡ t → InKind kind sheet A S cells covered marks longs t r
+  is-due : dueIn kind S ≡ true → (agreed : Bool) → AgreesIn kind sheet A S cells covered marks longs agreed → r ≡ compared t kind agreed
+      → InKind kind sheet A S cells covered marks longs t r
+
+-- one sheet more, in each of the five
+abbrev pub InKinds : List ℕ → Asked → Stored → (cells covered marks : List ℕ) → ℕ → Tally → Tally → Type 0
+InKinds sheet A S cells covered marks longs t r = Turns (λ kind. InKind kind sheet A S cells covered marks longs) (met t (S .number)) 5 r
+
+-- the record that stands there, and where the next one does
+pub record Next (F : List ℕ) (longs : ℕ) (s r : Stand) : Type 0 where
+  pub passed : r .at ≡ answerOf F (s .at) .end
+  pub replayed :
+      InKinds (sheetOf F (s .at)) (askedAt F (s .at)) (storedOf F (s .at)) (answerOf F (s .at) .cells) (answerOf F (s .at) .covered)
+      (answerOf F (s .at) .marks) longs (s .tally) (r .tally)
+
+-- no record yet: the first begins behind the head's eight bytes
+abbrev pub noneYet : List ℕ → Stand
+noneYet F = record { at = past F 0 8; tally = nothingYet }
+
+-- as many as the file says
+abbrev pub Replayed : List ℕ → ℕ → Stand → Type 0
+Replayed F longs r = Turns (λ _. Next F longs) (noneYet F) (countIn F) r
+
+-- the file ends where the last record does, and within the million bytes of its buffer
+unfoldable pub endsThere : ℕ → ℕ → Bool
+endsThere at bytes = either (eqb bytes 1000000) false (eqb at bytes)

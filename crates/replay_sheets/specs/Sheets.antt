@@ -1,0 +1,152 @@
+-- What a file of stored sheets says: a head, and records that stand behind one another, each a sheet with its answer. Every number is read at its
+-- place, and past the file's end everything is 0. `set` leaves a list as it is that lacks the place.
+use mathlib.Core.Path.{_≡_}
+use mathlib.Core.Bool.{Bool}
+use mathlib.Core.List.{List}
+use Prim.Native.Nat.{ℕ, zero, suc, _+_, _*_, _-_, min}
+use lib.Dec.{eqb, leb}
+use lib.ListN.{take, drop, set, replicate}
+use Rattle.basics.specs.Tests.{either}
+use Rattle.branches.specs.declared.BranchLengths.{BranchLengths}
+use Rattle.stored.specs.Places.{past, byteAt, cellAt, wordAt}
+use Rattle.replay_sheets.specs.declared.sheets.Asked.{Asked}
+use Rattle.replay_sheets.specs.declared.sheets.Part.{Part}
+use Rattle.replay_sheets.specs.declared.sheets.Stored.{Stored}
+use Rattle.replay_sheets.specs.Verdicts.{noLengths}
+
+-- ---- the head, and what a record begins with
+
+-- how many sheets there are: none, unless the file begins with its letters, DRT1
+unfoldable pub countIn : List ℕ → ℕ
+countIn F = either (eqb (wordAt F 0) 0x44525431) (wordAt F 4) 0
+
+-- the lengths that a sheet comes with
+unfoldable pub askedAt : List ℕ → ℕ → Asked
+askedAt F at = record { places = wordAt F at; branch = wordAt F (past F at 4); lent = wordAt F (past F at 8) }
+
+abbrev pub partOf : ℕ → ℕ → ℕ → Part
+partOf from length end = record { from = from; end = end; whole = leb length (end - from) }
+
+-- where the sheet's bytes stand, and whether the file holds all of them
+unfoldable pub sheetAt : List ℕ → ℕ → Part
+sheetAt F at = partOf (past F at 16) (wordAt F (past F at 12)) (past F (past F at 16) (wordAt F (past F at 12)))
+
+-- ---- cells that stand behind one another
+
+abbrev pub cellFrom : List ℕ → ℕ → ℕ → ℕ
+cellFrom F from k = cellAt F (past F from (k * 2))
+
+-- marks on the first n of them
+unfoldable pub marksOf : List ℕ → ℕ → ℕ → List ℕ → List ℕ
+marksOf F from zero marks = marks
+marksOf F from (suc n) marks = set (marksOf F from n marks) (cellFrom F from n) 1
+
+-- the first n of them, in a buffer from its place `start` on
+unfoldable pub cellsOf : List ℕ → ℕ → ℕ → ℕ → List ℕ → List ℕ
+cellsOf F from start zero cells = cells
+cellsOf F from start (suc n) cells = set (cellsOf F from start n cells) (start + n) (cellFrom F from n)
+
+-- ---- a tree's branches, which stand behind one another, each a length and as many cells
+
+-- where the k-th stands, and its cells
+unfoldable pub branchAt : List ℕ → ℕ → ℕ → ℕ
+branchAt F at zero = at
+branchAt F at (suc k) = past F (past F (branchAt F at k) 4) (wordAt F (branchAt F at k) * 2)
+
+abbrev pub lengthAt : List ℕ → ℕ → ℕ → ℕ
+lengthAt F at k = wordAt F (branchAt F at k)
+
+abbrev pub branchCells : List ℕ → ℕ → ℕ → ℕ
+branchCells F at k = past F (branchAt F at k) 4
+
+-- how many cells the first k have together, and how many each has
+unfoldable pub totalTo : List ℕ → ℕ → ℕ → ℕ
+totalTo F at zero = 0
+totalTo F at (suc k) = totalTo F at k + lengthAt F at k
+
+unfoldable pub eachTo : List ℕ → ℕ → ℕ → List ℕ
+eachTo F at zero = replicate 16 0
+eachTo F at (suc k) = set (eachTo F at k) k (lengthAt F at k)
+
+-- their cells, behind one another, and marks on them
+unfoldable pub cellsTo : List ℕ → ℕ → ℕ → List ℕ → List ℕ
+cellsTo F at zero cells = cells
+cellsTo F at (suc k) cells = cellsOf F (branchCells F at k) (totalTo F at k) (lengthAt F at k) (cellsTo F at k cells)
+
+unfoldable pub coveredTo : List ℕ → ℕ → ℕ → List ℕ → List ℕ
+coveredTo F at zero covered = covered
+coveredTo F at (suc k) covered = marksOf F (branchCells F at k) (lengthAt F at k) (coveredTo F at k covered)
+
+-- the first k of them, read: their cells and the marks, the length of each, how many cells they have, and where they end
+pub record Branched (F : List ℕ) (at : ℕ) (cells₀ covered₀ : List ℕ) (k : ℕ) (cells covered each : List ℕ) (total end : ℕ) : Type 0 where
+  pub cells-put : cells ≡ cellsTo F at k cells₀
+  pub cells-marked : covered ≡ coveredTo F at k covered₀
+  pub each-is : each ≡ eachTo F at k
+  pub total-is : total ≡ totalTo F at k
+  pub end-is : end ≡ branchAt F at k
+
+-- ---- an answer
+
+-- what an answer says, where its record ends, and what it leaves: a tree's cells, marks on them, and marks on the repeaters
+pub record Left : Type 0 where
+  pub stored : Stored
+  pub end : ℕ
+  pub cells : List ℕ
+  pub covered : List ℕ
+  pub marks : List ℕ
+
+abbrev pub left : Stored → ℕ → List ℕ → List ℕ → List ℕ → Left
+left stored end cells covered marks = record { stored = stored; end = end; cells = cells; covered = covered; marks = marks }
+
+abbrev pub refusalOf : ℕ → ℕ → Stored
+refusalOf number detail = record { number = number; detail = detail; lengths = noLengths; total = 0; occupied = 0; repeaters = 0 }
+
+abbrev pub treeOf : ℕ → BranchLengths → ℕ → ℕ → ℕ → Stored
+treeOf detail lengths total occupied repeaters =
+    record { number = 0; detail = detail; lengths = lengths; total = total; occupied = occupied; repeaters = repeaters }
+
+-- a tree has sixteen branches at most
+abbrev pub branchesAt : List ℕ → ℕ → ℕ
+branchesAt F at = min (byteAt F (past F at 5)) 16
+
+-- behind the branches: how many cells are occupied, how many repeaters there are, and their cells
+abbrev pub branchesEnd : List ℕ → ℕ → ℕ
+branchesEnd F at = branchAt F (past F at 6) (branchesAt F at)
+
+abbrev pub repeatersAt : List ℕ → ℕ → ℕ
+repeatersAt F at = wordAt F (past F (branchesEnd F at) 4)
+
+unfoldable pub treeAt : List ℕ → ℕ → (cells covered marks : List ℕ) → Left
+treeAt F at cells covered marks =
+    left
+    (treeOf (wordAt F (past F at 1)) (record { count = byteAt F (past F at 5); each = eachTo F (past F at 6) (branchesAt F at) })
+    (totalTo F (past F at 6) (branchesAt F at)) (wordAt F (branchesEnd F at)) (repeatersAt F at))
+    (past F (past F (branchesEnd F at) 8) (repeatersAt F at * 2))
+    (cellsTo F (past F at 6) (branchesAt F at) cells)
+    (coveredTo F (past F at 6) (branchesAt F at) covered)
+    (marksOf F (past F (branchesEnd F at) 8) (repeatersAt F at) marks)
+
+-- a number that is 0 for a tree, a detail, and a tree
+unfoldable pub answerAt : List ℕ → ℕ → (cells covered marks : List ℕ) → Left
+answerAt F at cells covered marks =
+    either (eqb (byteAt F at) 0)
+    (treeAt F at cells covered marks)
+    (left (refusalOf (byteAt F at) (wordAt F (past F at 1))) (past F at 5) cells covered marks)
+
+-- ---- a record: its sheet, and what its answer leaves in memory that was zero
+
+abbrev pub sheetOf : List ℕ → ℕ → List ℕ
+sheetOf F at = take (sheetAt F at .end - sheetAt F at .from) (drop (sheetAt F at .from) F)
+
+unfoldable pub zeros : List ℕ
+zeros = replicate 16600 0
+
+abbrev pub answerOf : List ℕ → ℕ → Left
+answerOf F at = answerAt F (sheetAt F at .end) zeros zeros zeros
+
+-- no answer has the number 16: it stands for the number where the file ends within the sheet
+abbrev pub knownIf : Bool → Stored → Stored
+knownIf whole stored = either whole stored (refusalOf 16 0)
+
+abbrev pub storedOf : List ℕ → ℕ → Stored
+storedOf F at = knownIf (sheetAt F at .whole) (answerOf F at .stored)

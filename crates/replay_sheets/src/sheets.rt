@@ -1,0 +1,260 @@
+// A file of stored sheets, as bytes: big-endian records, each a sheet with its answer, as the oracle's README lays them out. Past the
+// file's end everything reads as 0.
+use branches::BranchLengths;
+use stored::places::byte_at;
+use stored::places::cell_at;
+use stored::places::past;
+use stored::places::size_at;
+use stored::places::word_at;
+ghost use mathlib.Core.Path.{_≡_};
+ghost use Prim.Native.Nat.{_+_, _≤_, _<_, min};
+ghost use lib.ListN.{set};
+ghost use Rattle.replay_sheets.specs.Sheets.{countIn, askedAt, sheetAt, marksOf, cellsOf, Branched, left, refusalOf, treeAt, answerAt, knownIf};
+ghost use Rattle.replay_sheets.specs.Verdicts.{noLengths};
+
+// The file's letters, DRT1.
+const LETTERS: u32 = 0x44525431;
+
+// Stands for the number where the file ends within a sheet: no answer has it.
+const NOT_READ: u32 = 16;
+
+// The lengths that a sheet comes with: the queue's places, the cells of the branch buffer, and the length of each other buffer.
+pub struct Asked {
+    pub places: u32,
+    pub branch: usize,
+    pub lent: usize,
+}
+
+// Where a sheet's bytes stand, and whether the file holds all of them.
+pub struct Part {
+    pub from: usize,
+    pub end: usize,
+    pub whole: bool,
+}
+
+// A stored answer: its number, 0 for a tree, and its detail; the branches' lengths, and how many cells they have together; how many
+// cells are occupied, and how many repeaters there are.
+pub struct Stored {
+    pub number: u32,
+    pub detail: usize,
+    pub lengths: BranchLengths,
+    pub total: usize,
+    pub occupied: usize,
+    pub repeaters: usize,
+}
+
+// A stored answer, and where its record ends.
+pub struct Answered {
+    pub stored: Stored,
+    pub end: usize,
+}
+
+// A tree's branches: the length of each, how many cells they have together, and where they end.
+struct Branches {
+    each: [usize; 16],
+    total: usize,
+    end: usize,
+}
+
+// How many sheets the file says that it holds: none, unless it begins with its letters.
+pub fn count_in(file: &[u8]) -> u32
+    ensures { λ r. ⌜ r ≡ countIn (now (file .entry)) ⌝ }
+{
+    if word_at(file, 0) == LETTERS {
+        return word_at(file, 4);
+    }
+    0
+}
+
+pub fn asked_at(file: &[u8], at: usize) -> Asked
+    ensures { λ r. ⌜ r ≡ askedAt (now (file .entry)) at ⌝ }
+{
+    Asked {
+        places: word_at(file, at),
+        branch: size_at(file, past(file, at, 4)),
+        lent: size_at(file, past(file, at, 8)),
+    }
+}
+
+pub fn sheet_at(file: &[u8], at: usize) -> Part
+    ensures { λ r. ⌜ r ≡ sheetAt (now (file .entry)) at ⌝ }
+{
+    let length = size_at(file, past(file, at, 12));
+    let from = past(file, at, 16);
+    let end = past(file, from, length);
+    Part {
+        from,
+        end,
+        whole: length <= end - from,
+    }
+}
+
+// Marks a cell, if there is a place for it.
+fn mark(marks: &mut [u8], cell: usize)
+    ensures { λ _. ⌜ now (marks .exit) ≡ set (now (marks .entry)) cell 1 ⌝ }
+{
+    if cell < marks.len() {
+        marks[cell] = 1;
+    }
+}
+
+// Writes a cell, if there is a place for it.
+fn put(cells: &mut [u32], place: usize, cell: u32)
+    ensures { λ _. ⌜ now (cells .exit) ≡ set (now (cells .entry)) place cell ⌝ }
+{
+    if place < cells.len() {
+        cells[place] = cell;
+    }
+}
+
+// Marks so many cells that stand behind one another.
+fn mark_cells(file: &[u8], from: usize, count: usize, marks: &mut [u8])
+    requires { ⌜ count < 4294967296 ⌝ }
+    ensures { λ _. ⌜ now (marks .exit) ≡ marksOf (now (file .entry)) from count (now (marks .entry)) ⌝ }
+{
+    let mut k: usize = 0;
+    while k < count {
+        mark(marks, cell_at(file, past(file, from, k * 2)) as usize);
+        k += 1;
+    }
+}
+
+// Writes them from a place on.
+fn put_cells(file: &[u8], from: usize, count: usize, start: usize, cells: &mut [u32])
+    requires { ⌜ (count < 4294967296) × (start ≤ 68719476736) ⌝ }
+    ensures { λ _. ⌜ now (cells .exit) ≡ cellsOf (now (file .entry)) from start count (now (cells .entry)) ⌝ }
+{
+    let mut k: usize = 0;
+    while k < count {
+        put(cells, start + k, cell_at(file, past(file, from, k * 2)));
+        k += 1;
+    }
+}
+
+// The branches that stand from a place on: their cells are written one behind the other, and marked.
+fn branches_at(
+    file: &[u8],
+    at: usize,
+    count: usize,
+    cells: &mut [u32],
+    covered: &mut [u8],
+) -> Branches
+    requires { ⌜ count ≤ 16 ⌝ }
+    ensures { λ r. ⌜ Branched (now (file .entry)) at (now (cells .entry)) (now (covered .entry)) count (now (cells .exit)) (now (covered .exit)) (r .each) (r .total) (r .end) ⌝ }
+{
+    let mut each = [0usize; 16];
+    let mut total: usize = 0;
+    let mut end = at;
+    let mut k: usize = 0;
+    while k < count {
+        let length = size_at(file, end);
+        let from = past(file, end, 4);
+        put_cells(file, from, length, total, cells);
+        mark_cells(file, from, length, covered);
+        each[k] = length;
+        total += length;
+        end = past(file, from, length * 2);
+        k += 1;
+    }
+    Branches { each, total, end }
+}
+
+fn at_most_sixteen(count: u8) -> usize
+    ensures { λ r. ⌜ r ≡ min count 16 ⌝ }
+{
+    if count < 16 { count as usize } else { 16 }
+}
+
+pub fn no_lengths() -> BranchLengths
+    ensures { λ r. ⌜ r ≡ noLengths ⌝ }
+{
+    BranchLengths {
+        count: 0,
+        each: [0; 16],
+    }
+}
+
+fn refusal(number: u32, detail: usize) -> Stored
+    ensures { λ r. ⌜ r ≡ refusalOf number detail ⌝ }
+{
+    Stored {
+        number,
+        detail,
+        lengths: no_lengths(),
+        total: 0,
+        occupied: 0,
+        repeaters: 0,
+    }
+}
+
+// A tree's answer.
+fn tree_at(
+    file: &[u8],
+    at: usize,
+    cells: &mut [u32],
+    covered: &mut [u8],
+    marks: &mut [u8],
+) -> Answered
+    ensures { λ r. ⌜ left (r .stored) (r .end) (now (cells .exit)) (now (covered .exit)) (now (marks .exit)) ≡ treeAt (now (file .entry)) at (now (cells .entry)) (now (covered .entry)) (now (marks .entry)) ⌝ }
+{
+    let detail = size_at(file, past(file, at, 1));
+    let count = byte_at(file, past(file, at, 5));
+    let branches = branches_at(
+        file,
+        past(file, at, 6),
+        at_most_sixteen(count),
+        cells,
+        covered,
+    );
+    let each = branches.each;
+    let behind = branches.end;
+    let occupied = size_at(file, behind);
+    let repeaters = size_at(file, past(file, behind, 4));
+    let from = past(file, behind, 8);
+    mark_cells(file, from, repeaters, marks);
+    Answered {
+        stored: Stored {
+            number: 0,
+            detail,
+            lengths: BranchLengths {
+                count: count as usize,
+                each,
+            },
+            total: branches.total,
+            occupied,
+            repeaters,
+        },
+        end: past(file, from, repeaters * 2),
+    }
+}
+
+// An answer: a tree's cells come in front of `cells`, in sheet order, and are marked in `covered`; its repeaters are marked.
+pub fn answer_at(
+    file: &[u8],
+    at: usize,
+    cells: &mut [u32],
+    covered: &mut [u8],
+    marks: &mut [u8],
+) -> Answered
+    ensures { λ r. ⌜ left (r .stored) (r .end) (now (cells .exit)) (now (covered .exit)) (now (marks .exit)) ≡ answerAt (now (file .entry)) at (now (cells .entry)) (now (covered .entry)) (now (marks .entry)) ⌝ }
+{
+    let number = byte_at(file, at);
+    if number == 0 {
+        return tree_at(file, at, cells, covered, marks);
+    }
+    let detail = size_at(file, past(file, at, 1));
+    Answered {
+        stored: refusal(number as u32, detail),
+        end: past(file, at, 5),
+    }
+}
+
+// The stored answer of a sheet that the file holds whole. One that it doesn't counts as another answer than any.
+pub fn known_if(whole: bool, stored: Stored) -> Stored
+    ensures { λ r. ⌜ r ≡ knownIf whole stored ⌝ }
+{
+    if whole {
+        return stored;
+    }
+    refusal(NOT_READ, 0)
+}

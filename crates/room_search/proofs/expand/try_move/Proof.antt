@@ -1,0 +1,74 @@
+-- `try_move` meets its contract: it is out of the room, or into a cell that can't be entered, or offered.
+use native.Mathlib.Omega.{arith}
+use mathlib.Core.Path.{sym, _∙_}
+use Prim.Native.Nat.{_+_, _-_, _*_}
+use lib.ListN.{getD}
+use Rattle.room_search.specs.TryLaws.{out-below, out-above, landed, placed-small, rise-few, tried-out, tried-shut, tried-offered, price-most}
+use borrow.Author.Needs.{needs}
+use Rattle.room_search.proofs.expand.try_move.Statement.{statement}
+use Rattle.room_search.proofs.expand.try_move.Tie as tie
+
+add-y : tie.Need-add-y
+add-y c = let s = c .before .before .before .before .before .before in let a = s .args in let p = s .pre .0 in let q = s .pre .1 .0 in let w = placed-small (a .room) (p .good) (a .beside) (q .there) in record { fits = omega (arith, w .y-small, s .pre .1 .1) }
+
+returns : tie.Need-returns
+returns c = let s = c .before .before .before .before .before .before .before in let a = s .args in let p = s .pre .0 in let q = s .pre .1 .0 in tried-out (a .room) (a .config) (a .classes .now) (a .goal) (a .from) (a .cost) (a .known .now) (a .previous .now) (a .queue .now) (a .line) (p .ready) (a .m) (out-below (a .room) (p .good) (a .from) (a .beside) (a .m) (p .from-placed) q (c .if1 .taken))
+
+returns-2 : tie.Need-returns-2
+returns-2 c = let s = c .before .before .before .before .before .before .before .before .before in let a = s .args in let p = s .pre .0 in let q = s .pre .1 .0 in tried-out (a .room) (a .config) (a .classes .now) (a .goal) (a .from) (a .cost) (a .known .now) (a .previous .now) (a .queue .now) (a .line) (p .ready) (a .m) (out-above (a .room) (p .good) (a .from) (a .beside) (a .m) (p .from-placed) q (c .if2 .taken))
+
+mul-cell : tie.Need-mul-cell
+mul-cell c = let s = c .before .before .before .before .before .before .before .before .before .before .before in let a = s .args in let p = s .pre .0 in let q = s .pre .1 .0 in record { fits = omega (arith, rise-few (a .room) (p .good) (a .m .y) (s .pre .1 .1)) }
+
+add-cell : tie.Need-add-cell
+add-cell c = let s = c .before .before .before .before .before .before .before .before .before .before .before .before in let a = s .args in let p = s .pre .0 in let q = s .pre .1 .0 in record { fits = omega (arith, rise-few (a .room) (p .good) (a .m .y) (s .pre .1 .1), q .there .inside, p .good .few) }
+
+sub-cell : tie.Need-sub-cell
+sub-cell c = let s = c .before .before .before .before .before .before .before .before .before .before .before .before .before in let a = s .args in let p = s .pre .0 in let q = s .pre .1 .0 in let L = landed (a .room) (p .good) (a .from) (a .beside) (a .m) (p .from-placed) q (c .before .before .before .before .before .before .if1 .left) (c .before .before .before .before .if2 .left) in L .enough
+
+shared-slice-read-class : tie.Need-shared-slice-read-class
+shared-slice-read-class c = let s = c .before .before .before .before .before .before .before .before .before .before .before .before .before .before in let a = s .args in let p = s .pre .0 in let q = s .pre .1 .0 in let L = landed (a .room) (p .good) (a .from) (a .beside) (a .m) (p .from-placed) q (c .before .before .before .before .before .before .before .if1 .left) (c .before .before .before .before .before .if2 .left) in omega (arith, L .inside, p .classes-length)
+
+returns-3 : tie.Need-returns-3
+returns-3 c = let s = c .before .before .before .before .before .before .before .before .before .before .before .before .before .before .before in let a = s .args in let p = s .pre .0 in let q = s .pre .1 .0 in let L = landed (a .room) (p .good) (a .from) (a .beside) (a .m) (p .from-placed) q (c .before .before .before .before .before .before .before .before .if1 .left) (c .before .before .before .before .before .before .if2 .left) in tried-shut (a .room) (a .config) (a .classes .now) (a .goal) (a .from) (a .cost) (a .known .now) (a .previous .now) (a .queue .now) (a .line) (p .ready) (a .m) _ (L .leads) (c .if3 .taken)
+
+price-requires : tie.Need-price-requires
+price-requires c κs = search needs
+
+add-offer : tie.Need-add-offer
+add-offer c = let s = c .before .before .before .before .before .before .before .before .before .before .before .before .before .before .before .before .before .before .before in let a = s .args in let p = s .pre .0 in let q = s .pre .1 .0 in record { fits = omega (arith, c .price .ensures, price-most (a .config) (a .m) (getD (a .classes .now) (a .beside .cell + a .m .y * a .room .deep - a .room .deep) 0) (p .fair), p .cost-most) }
+
+offer-requires : tie.Need-offer-requires
+offer-requires c κs = let s = c .before .before .before .before .before .before .before .before .before .before .before .before .before .before .before .before .before .before .before in let a = s .args in let p = s .pre .0 in let q = s .pre .1 .0 in let L = landed (a .room) (p .good) (a .from) (a .beside) (a .m) (p .from-placed) q (c .before .before .before .before .before .before .before .before .before .before .before .before .if1 .left) (c .before .before .before .before .before .before .before .before .before .before .if2 .left) in let most = price-most (a .config) (a .m) (getD (a .classes .now) (a .beside .cell + a .m .y * a .room .deep - a .room .deep) 0) (p .fair) in ((omega (arith, L .inside, p .known-length), p .previous-length ∙ sym (p .known-length), omega (arith, p .known-length, p .good .few)), ((omega (arith, p .from-placed .inside, p .good .few), omega (arith, c .price .ensures, p .cost-most), omega (arith, p .serial-most)), (p .ready, (L .small, placed-small (a .room) (p .good) (a .goal) (p .goal-placed)))))
+
+same-length : tie.Need-same-length
+same-length c = search needs
+
+same-length-2 : tie.Need-same-length-2
+same-length-2 c = search needs
+
+same-length-3 : tie.Need-same-length-3
+same-length-3 c = search needs
+
+returns-4 : tie.Need-returns-4
+returns-4 c = let s = c .before .before .before .before .before .before .before .before .before .before .before .before .before .before .before .before .before .before .before .before .before .before .before .before .before .before in let a = s .args in let p = s .pre .0 in let q = s .pre .1 .0 in let L = landed (a .room) (p .good) (a .from) (a .beside) (a .m) (p .from-placed) q (c .before .before .before .before .before .before .before .before .before .before .before .before .before .before .before .before .before .before .before .if1 .left) (c .before .before .before .before .before .before .before .before .before .before .before .before .before .before .before .before .before .if2 .left) in tried-offered (a .room) (a .config) (a .classes .now) (a .goal) (a .from) (a .cost) (a .known .now) (a .previous .now) (a .queue .now) (a .line) (p .ready) (a .m) _ _ (L .leads) (c .before .before .before .before .before .before .before .before .before .before .before .if3 .left) (p .goal-placed) (L .place) _ _ _ _ (rw (c .before .before .before .before .before .before .before .price .ensures) at (c .before .before .before .before .before .before .offer .ensures))
+
+pub try-move-spec : {M : Type 1} → statement M
+try-move-spec =
+    tie.close
+    (tie.spec
+    add-y
+    returns
+    returns-2
+    mul-cell
+    add-cell
+    sub-cell
+    shared-slice-read-class
+    returns-3
+    price-requires
+    add-offer
+    offer-requires
+    same-length
+    same-length-2
+    same-length-3
+    returns-4)

@@ -1,0 +1,16 @@
+pub mod Routing
+pub mod Lawful
+pub mod GraphLaws
+pub mod Held
+pub mod HeldLaws
+pub mod Steps
+pub mod OfferLaws
+pub mod TryLaws
+pub mod AlongLaws
+pub mod Turns
+pub mod TurnLaws
+pub mod RunLaws
+pub mod Classes
+pub mod ClassLaws
+pub mod Traces
+pub mod SameGraph

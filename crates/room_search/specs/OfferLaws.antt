@@ -1,0 +1,57 @@
+-- The three outcomes of one offer, as the code meets them: not cheaper, no place left, pushed.
+use mathlib.Core.Path.{_≡_, refl, sym, ap}
+use mathlib.Core.Logic.{_⊎_, inl, inr, _≢_}
+use mathlib.Core.Bool.{true}
+use mathlib.Core.List.{List}
+use Prim.Native.Nat.{ℕ, _+_, _/_, _^_, _≤_, _<_}
+use native.Mathlib.Numerals.{add-one}
+use native.Mathlib.Omega.{arith}
+use lib.ListN.{length, getD, set}
+use Rattle.best_first.specs.Search
+use Rattle.best_first.specs.Search.{cheaper, push}
+use Rattle.best_first.specs.Equations.{is-cheaper, no-cheaper}
+use Rattle.best_first.specs.Loops.{trying-skip, trying-push, trying-full}
+use Rattle.queue.specs.Queue.{Pushed}
+use Rattle.room_search.specs.declared.Line.{Line}
+use Rattle.room_search.specs.declared.Step.the-variants.{On, Full}
+use Rattle.room_search.specs.Held.{packed, held}
+use Rattle.room_search.specs.HeldLaws.{pushed-entries, length-entries}
+use Rattle.room_search.specs.Steps.{placesOf, Ready, Offered}
+
+module _ (u v c estimate : ℕ) (known previous queue : List ℕ) (line : Line) (R : Ready queue line) where
+  -- its known cost is no higher
+  pub offer-kept : getD known v 0 ≢ 0 → getD known v 0 ≤ c + 1 → Offered u v c estimate known previous queue line (On line) known previous queue
+  unfolding held
+  offer-kept h k = record {
+    readied = (R, omega arith);
+    goes = λ A m ms e f g q p T. trying-skip (A .sound) T (rw (f, g) (no-cheaper c (getD known v 0) (omega arith) (omega arith)));
+  }
+
+  module _ (lower : (getD known v 0 ≡ 0) ⊎ (c + 1 < getD known v 0)) where
+    is-lower : cheaper c (getD known v 0) ≡ true
+    is-lower = is-cheaper c (getD known v 0) (elim lower [ inl e ↦ inl e | inr h ↦ inr (omega arith) ])
+
+    -- a push is due and the waiting entries fill the queue
+    pub offer-full : placesOf queue ≤ line .waiting → Offered u v c estimate known previous queue line Full known previous queue
+    unfolding held
+    offer-full h = record {
+      readied = tt;
+      goes = λ A m ms e f g q p T. trying-full (A .sound) T (rw (f, g) is-lower) (omega (arith, p, length-entries queue (line .waiting)));
+    }
+
+    -- the push
+    pub offer-pushed : (queue′ : List ℕ) → line .waiting < placesOf queue → line .serial + 1 < 2 ^ 32 → v < 2 ^ 64 → length queue′ ≡ length queue
+        → Pushed queue (line .waiting) (packed (c + estimate) (line .serial + 1) v) queue′
+        → Offered u v c estimate known previous queue line (On (record { waiting = line .waiting + 1; serial = line .serial + 1 })) (set known v (c + 1)) (set previous v (u + 1)) queue′
+    unfolding held push
+    offer-pushed queue′ r s w l P = record {
+      readied = (record { heap = rw (add-one (line .waiting)) (P .order); room = omega (arith, ap (λ (n : ℕ). n / 2) l) }, omega arith);
+      goes = λ A m ms e f g q p T.
+          trying-push (A .sound) T (rw (f, g) is-lower) (omega (arith, p, length-entries queue (line .waiting))) _ (record {
+            known = rw (f, g, add-one);
+            previous = rw (f, e, add-one);
+            waiting = rw (f, g, q, add-one, ← add-one (line .serial)) (pushed-entries queue (line .waiting) (c + estimate) (line .serial + 1) v queue′ s w P);
+            serial = sym (add-one (line .serial));
+            expanded = refl;
+          });
+    }

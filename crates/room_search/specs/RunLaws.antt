@@ -1,0 +1,132 @@
+-- The takings one after another: the invariant of the search's loop, its beginning and its ends.
+use mathlib.Core.Path.{_≡_, refl, sym, ap, _∙_}
+use mathlib.Core.List.{List, [], _∷_}
+use Prim.Native.Nat.{ℕ, _+_, _-_, _*_, _/_, _≤_, _<_, _^_}
+use native.Mathlib.Nat.{mul-le-mul}
+use native.Mathlib.Omega.{arith}
+use lib.ListN.{length, getD, set}
+use Rattle.room.specs.declared.Room.{Room}
+use Rattle.room.specs.declared.RouterConfig.{RouterConfig}
+use Rattle.room.specs.Room.{Good, volume, distance}
+use Rattle.room.specs.Units.{Fair}
+use Rattle.best_first.specs.Search.{Graph, no-route, outset, best-first}
+use Rattle.best_first.specs.Entries.{Same}
+use Rattle.best_first.specs.Statements.{Bounded}
+use Rattle.best_first.specs.Loops.{Going, going-outset, going-alike, going-bounded, going-none}
+use Rattle.queue.specs.Queue.{entry, Pushed}
+use Rattle.queue.specs.BagLaws.{bag-zero}
+use Rattle.room_search.specs.declared.Line.{Line}
+use Rattle.room_search.specs.declared.Spot.{Spot}
+use Rattle.room_search.specs.declared.Outcome.{Outcome}
+use Rattle.room_search.specs.declared.Turn.the-variants.{GoesOn, Ended}
+use Rattle.room_search.specs.Routing.{graphOf}
+use Rattle.room_search.specs.Held.{entriesIn, held}
+use Rattle.room_search.specs.HeldLaws.{pushed-entries}
+use Rattle.room_search.specs.GraphLaws.{dearest, sound}
+use Rattle.room_search.specs.Steps.{maxKnown, estimateOf, placesOf, Ready, Placed}
+use Rattle.room_search.specs.Turns.{graphIn, Takeable, Told, Turned, Fresh}
+
+-- what a search is over, and stays over
+pub record Arena (R : Room) (C : RouterConfig) (classes : List ℕ) (start : ℕ) (goal : Spot) : Type 0 where
+  pub good : Good R
+  pub fair : Fair C
+  pub classes-length : length classes ≡ volume R
+  pub start-in : start < volume R
+  pub goal-placed : Placed R goal
+
+pub arena : {R : Room} {C : RouterConfig} {classes known previous queue : List ℕ} {start goal : Spot} → Fresh R C classes known previous queue start goal
+    → Arena R C classes (start .cell) goal
+arena F = record {
+  good = F .good;
+  fair = F .fair;
+  classes-length = F .classes-length;
+  start-in = F .start-placed .inside;
+  goal-placed = F .goal-placed;
+}
+
+-- the search from the outset comes to the same as from here; of the queue as it was at first only the length counts
+pub record Running (R : Room) (C : RouterConfig) (classes queue₀ : List ℕ) (start : ℕ) (goal : Spot) (known previous queue : List ℕ) (line : Line)
+    (expanded : ℕ) : Type 0 where
+  pub going : Going (graphIn R C classes start (goal .cell) queue₀) (C .limit .0) (best-first (graphIn R C classes start (goal .cell) queue₀) (C .limit .0))
+      (held known previous queue line expanded)
+  pub ready : Ready queue line
+  pub kept : length queue ≡ length queue₀
+
+-- the start is known at cost 0 and waits
+pub running-outset : {R : Room} {C : RouterConfig} {classes known previous queue₀ : List ℕ} {start goal : Spot} → Fresh R C classes known previous queue₀ start goal
+    → (queue : List ℕ) (rank : ℕ) → length queue ≡ length queue₀ → rank ≡ estimateOf (start .at) (goal .at) * 2 ^ 32
+    → Pushed queue₀ 0 (rank * 2 ^ 64 + start .cell) queue
+    → Running R C classes queue (start .cell) goal (set known (start .cell) 1) previous queue (record { waiting = 1; serial = 0 }) 0
+unfolding graphOf outset held distance entriesIn
+running-outset {R} {C} {classes} {known} {previous} {queue₀} {start} {goal} F queue rank same e P = record {
+  going = going-alike (going-outset (graphIn R C classes (start .cell) (goal .cell) queue) (C .limit .0) some) (record {
+    known = ap (λ (l : List ℕ). set l (start .cell) 1) (sym (F .known-zero));
+    previous = sym (F .previous-zero);
+    waiting = rw (← F .start-placed .is, ← F .goal-placed .is) first;
+    serial = refl;
+    expanded = refl;
+  });
+  ready = record { heap = P .order; room = some };
+  kept = refl;
+}
+  where
+    some : 1 ≤ placesOf queue
+    some = omega (arith, F .places-some, ap (λ (n : ℕ). n / 2) same)
+
+    first : Same (record { key = estimateOf (start .at) (goal .at); serial = 0; cell = start .cell } ∷ []) (entriesIn queue 1)
+    first =
+        let k : rank ≡ estimateOf (start .at) (goal .at) * 2 ^ 32 + 0 = omega arith in
+        rw bag-zero at (pushed-entries queue₀ 0 (estimateOf (start .at) (goal .at)) 0 (start .cell) queue (omega arith)
+        (omega (arith, F .start-placed .inside, F .good .few)) (rw k at P))
+
+module _ {R : Room} {C : RouterConfig} {classes queue₀ : List ℕ} {start : ℕ} {goal : Spot} (A : Arena R C classes start goal)
+    {known previous queue : List ℕ} {line : Line} {expanded : ℕ} (I : Running R C classes queue₀ start goal known previous queue line expanded) where
+  abbrev G : Graph
+  G = graphIn R C classes start (goal .cell) queue₀
+
+  bounds : Bounded G 12 (dearest C) (held known previous queue line expanded)
+  bounds = going-bounded (sound R C (λ v. getD classes v 0) start (goal .cell) (placesOf queue₀) (A .start-in) (A .goal-placed .inside)) (I .going)
+
+  dear : dearest C ≤ 200000
+  unfolding dearest
+  dear = omega (arith, A .fair .horizontal-most, A .fair .stair-most, A .fair .support-most)
+
+  known-most : (volume R - 1) * dearest C ≤ maxKnown
+  known-most = let v : volume R - 1 ≤ 16383 = omega (arith, A .good .few) in mul-le-mul v dear
+
+  pub running-within : expanded ≤ C .limit .0
+  unfolding held
+  running-within = I .going .within
+
+  -- the next entry can be taken
+  pub running-takeable : 0 < line .waiting → Takeable R C classes known previous queue line goal
+  unfolding held graphOf
+  running-takeable some = record {
+    good = A .good;
+    fair = A .fair;
+    classes-length = A .classes-length;
+    known-length = bounds .known-length;
+    previous-length = bounds .previous-length;
+    goal-placed = A .goal-placed;
+    some = some;
+    ready = I .ready;
+    cells = λ e i. (bounds .cell-in e i, bounds .cell-known e i);
+    costs = λ v. omega (arith, bounds .cost v, known-most);
+    serial-most = omega (arith, bounds .serial, running-within, A .fair .limit-most);
+  }
+
+  module _ {known′ previous′ queue′ : List ℕ} where
+    pub running-on : {next : Line} → length queue′ ≡ length queue → Turned R C classes known previous queue line expanded goal (GoesOn next) known′ previous′ queue′
+        → Running R C classes queue₀ start goal known′ previous′ queue′ next (expanded + 1)
+    running-on same T =
+        let W = T .goes start (best-first G (C .limit .0)) (A .start-in) (rw (I .kept) (I .going)) in
+        record { going = rw (I .kept) at (W .0); ready = W .1; kept = same ∙ I .kept }
+
+    pub running-ended : {o : Outcome} → Turned R C classes known previous queue line expanded goal (Ended o) known′ previous′ queue′
+        → Told G (best-first G (C .limit .0)) known′ previous′ o
+    running-ended T = rw (I .kept) at (T .goes start (best-first G (C .limit .0)) (A .start-in) (rw (I .kept) (I .going)))
+
+  -- nothing waits any more
+  pub running-none : line .waiting ≡ 0 → best-first G (C .limit .0) ≡ no-route expanded
+  unfolding held entriesIn
+  running-none e = going-none (I .going) (rw (e, bag-zero))

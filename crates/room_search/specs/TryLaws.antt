@@ -1,0 +1,218 @@
+-- One move tried, as the code meets it: out of the room, into a cell that can't be entered, or offered; and moves tried one after another.
+use mathlib.Core.Path.{_≡_, refl, sym, ap, _∙_}
+use mathlib.Core.Logic.{_≢_}
+use mathlib.Core.Bool.{Bool, true, false, _&&_}
+use mathlib.Core.List.{List, [], _∷_, _++_, append-assoc}
+use Prim.Native.Nat.{ℕ, suc, _+_, _-_, _*_, _≤_, _<_}
+use native.Mathlib.Nat.{mul-le-mul, add-mul, suc-mul, add-zero}
+use native.Mathlib.Omega.{arith}
+use lib.Dec.{leb, eqb}
+use lib.ListN.{getD, length-append}
+use borrow.Author.Tests.{eq-eqb, ne-eqb, lt-leb}
+use Rattle.room.specs.declared.Room.{Room}
+use Rattle.room.specs.declared.Pos.{Pos}
+use Rattle.room.specs.declared.Move.{Move}
+use Rattle.room.specs.declared.RouterConfig.{RouterConfig}
+use Rattle.room.specs.declared.Neighbour.the-variants.{Inside, Outside}
+use Rattle.room.specs.Room.{Good, Within, Moved, at, volume, posOf, cellOf, between, stays, neighbour, distance}
+use Rattle.room.specs.RoomLaws.{cell-pos, pos-cell, pos-in, cell-in}
+use Rattle.room.specs.MoveLaws.{leads-to, not-stays}
+use Rattle.basics.specs.Tests.{ask}
+use Rattle.room.specs.Units.{Fair}
+use Rattle.best_first.specs.Search
+use Rattle.best_first.specs.Search.{Graph}
+use Rattle.room_search.specs.declared.Line.{Line}
+use Rattle.room_search.specs.declared.Spot.{Spot}
+use Rattle.room_search.specs.declared.Step.{Step}
+use Rattle.room_search.specs.declared.Step.the-variants.{On, Full}
+use Rattle.room_search.specs.Routing.{total, priceOf, movesBy, graphOf}
+use Rattle.room_search.specs.Steps.{Small, estimateOf, Ready, Readied, Placed, Offered, Setting, setting, dueOf, Tried, Aside}
+
+-- ---- what one move adds to the moves due
+
+module _ (R : Room) (C : RouterConfig) (class : ℕ → ℕ) (u : ℕ) (m : Move) (ms : List Move) where
+  moves-out : neighbour R u m ≡ Outside → movesBy R C class u (m ∷ ms) ≡ movesBy R C class u ms
+  unfolding movesBy
+  moves-out e = rw e
+
+  moves-shut : (v : ℕ) → neighbour R u m ≡ Inside v → class v ≡ 0 → movesBy R C class u (m ∷ ms) ≡ movesBy R C class u ms
+  unfolding movesBy
+  moves-shut v e z = rw (e, eq-eqb (class v) 0 z)
+
+  moves-in : (v : ℕ) → neighbour R u m ≡ Inside v → class v ≢ 0
+      → movesBy R C class u (m ∷ ms) ≡ record { to = v; cost = total (priceOf C m (class v)) } ∷ movesBy R C class u ms
+  unfolding movesBy
+  moves-in v e z = rw (e, ne-eqb (class v) 0 z)
+
+-- ---- where the move leads
+
+pub and-false : (a b : Bool) → b ≡ false → a && b ≡ false
+and-false true b e = e
+and-false false b e = refl
+
+module _ (R : Room) (G : Good R) (from beside : Spot) (m : Move) (P : Placed R from) (B : Aside R from beside m) where
+  out-high : between 1 (beside .at .y + m .y) (R .high) ≡ false → neighbour R (from .cell) m ≡ Outside
+  unfolding stays
+  out-high e =
+      let y : between 1 (posOf R (from .cell) .y + m .y) (R .high) ≡ false = rw (← P .is, ← B .level) e in
+      let p = posOf R (from .cell) in
+      not-stays R (from .cell) m (and-false (between 1 (p .x + m .x) (R .wide)) (between 1 (p .y + m .y) (R .high) && between 1 (p .z + m .z) (R .deep)) (rw y))
+
+  pub out-below : beside .at .y + m .y < 1 → neighbour R (from .cell) m ≡ Outside
+  unfolding between
+  out-below h = out-high (rw (lt-leb 1 (beside .at .y + m .y) h))
+
+  pub out-above : R .high < beside .at .y + m .y → neighbour R (from .cell) m ≡ Outside
+  unfolding between
+  out-above h = out-high (and-false (leb 1 (beside .at .y + m .y)) _ (lt-leb (beside .at .y + m .y) (R .high) h))
+
+  module _ (low : 1 ≤ beside .at .y + m .y) (high : beside .at .y + m .y ≤ R .high) where
+    landing : Pos
+    landing = at (beside .at .x) (beside .at .y + m .y - 1) (beside .at .z)
+
+    beside-in : Within R (beside .at)
+    beside-in = rw (B .there .is) (pos-in R G (beside .cell) (B .there .inside))
+
+    landing-in : Within R landing
+    unfolding landing
+    landing-in = record { x-in = beside-in .x-in; y-in = lower low high; z-in = beside-in .z-in }
+      where
+        lower : {a side : ℕ} → 1 ≤ a → a ≤ side → a - 1 < side
+        lower h k = omega arith
+
+    landing-moved : Moved (posOf R (from .cell)) m landing
+    unfolding landing
+    landing-moved = rw (← P .is) (record { x-by = B .x-by; y-by = level (m .y) (B .level) low; z-by = B .z-by })
+      where
+        level : {a b : ℕ} (c : ℕ) → a ≡ b → 1 ≤ a + c → a + c - 1 + 1 ≡ b + c
+        level c e h = omega arith
+
+    row-down : (a b k d : ℕ) → 1 ≤ b + k → (a + (b + k - 1)) * d + d ≡ (a + b) * d + k * d
+    row-down a b k d h =
+        let e : suc (a + (b + k - 1)) ≡ a + b + k = omega arith in
+        sym (suc-mul (a + (b + k - 1)) d) ∙ ap (λ (n : ℕ). n * d) e ∙ add-mul (a + b) k d
+
+    landing-cell : cellOf R landing + R .deep ≡ beside .cell + m .y * R .deep
+    unfolding landing cellOf
+    landing-cell =
+        let c : beside .cell ≡ cellOf R (beside .at) = sym (cell-pos R (beside .cell)) ∙ ap (cellOf R) (sym (B .there .is)) in
+        omega (arith, c, row-down (beside .at .x * R .high) (beside .at .y) (m .y) (R .deep) low)
+
+    lands : neighbour R (from .cell) m ≡ Inside (cellOf R landing)
+    lands = leads-to R (from .cell) m landing landing-moved landing-in
+
+    -- the number that the code computes is that of the cell that the move leads to
+    pub record Landing (cell : ℕ) : Type 0 where
+      pub enough : R .deep ≤ beside .cell + m .y * R .deep
+      pub inside : cell < volume R
+      pub leads : neighbour R (from .cell) m ≡ Inside cell
+      pub place : at (beside .at .x) (beside .at .y + m .y - 1) (beside .at .z) ≡ posOf R cell
+      pub small : Small (at (beside .at .x) (beside .at .y + m .y - 1) (beside .at .z))
+
+    pub landed : Landing (beside .cell + m .y * R .deep - R .deep)
+    unfolding landing
+    landed =
+        let w = landing-in in
+        let e : cellOf R landing ≡ beside .cell + m .y * R .deep - R .deep = omega (arith, landing-cell) in
+        record {
+          enough = omega (arith, landing-cell);
+          inside = rw e at (cell-in R landing w);
+          leads = rw e at lands;
+          place = sym (ap (posOf R) (sym e) ∙ pos-cell R landing w);
+          small = record { x-small = less (w .x-in) (G .x-most); y-small = less (w .y-in) (G .y-most); z-small = less (w .z-in) (G .z-most) };
+        }
+      where
+        less : {a b c : ℕ} → a < b → b ≤ c → a < c
+        less h k = omega arith
+
+-- ---- numbers on the way
+
+module _ (R : Room) (G : Good R) (s : Spot) (P : Placed R s) where
+  pub placed-small : Small (s .at)
+  placed-small =
+      let w : Within R (s .at) = rw (P .is) (pos-in R G (s .cell) (P .inside)) in
+      record { x-small = omega (arith, w .x-in, G .x-most); y-small = omega (arith, w .y-in, G .y-most); z-small = omega (arith, w .z-in, G .z-most) }
+
+pub rise-few : (R : Room) → Good R → (k : ℕ) → k ≤ 2 → k * R .deep ≤ 128
+rise-few R G k h = mul-le-mul h (G .z-most)
+
+-- ---- one move
+
+module _ (R : Room) (C : RouterConfig) (classes : List ℕ) (goal : Spot) (from : Spot) (cost : ℕ) (known previous queue : List ℕ) (line : Line)
+    (ready : Ready queue line) (m : Move) where
+  abbrev S : Setting
+  S = setting R C classes goal queue from cost
+
+  pub tried-out : neighbour R (from .cell) m ≡ Outside → Tried S (m ∷ []) known previous queue line (On line) known previous queue
+  tried-out e = record { readied = (ready, omega arith); goes = λ A F ms T. rw (moves-out R C (λ v. getD classes v 0) (from .cell) m ms e) at T }
+
+  pub tried-shut : (v : ℕ) → neighbour R (from .cell) m ≡ Inside v → getD classes v 0 ≡ 0
+      → Tried S (m ∷ []) known previous queue line (On line) known previous queue
+  tried-shut v e z = record { readied = (ready, omega arith); goes = λ A F ms T. rw (moves-shut R C (λ v. getD classes v 0) (from .cell) m ms v e z) at T }
+
+  pub tried-offered : (v : ℕ) (p : Pos) → neighbour R (from .cell) m ≡ Inside v → getD classes v 0 ≢ 0 → Placed R goal → p ≡ posOf R v
+      → (r : Step) (known′ previous′ queue′ : List ℕ)
+      → Offered (from .cell) v (cost + total (priceOf C m (getD classes v 0))) (estimateOf p (goal .at)) known previous queue line r known′ previous′ queue′
+      → Tried S (m ∷ []) known previous queue line r known′ previous′ queue′
+  unfolding graphOf distance
+  tried-offered v p e z P q r known′ previous′ queue′ O = record {
+    readied = O .readied;
+    goes = λ A F ms T.
+        O .goes A (record { to = v; cost = total (priceOf C m (getD classes v 0)) }) (dueOf S ms) (F .cell-is) refl
+        (ap (λ (d : ℕ). d + total (priceOf C m (getD classes v 0))) (F .cost-is))
+        (ap (λ (g : Graph). g .estimate v) (F .graph-is) ∙ rw (q, P .is) refl)
+        (ap (λ (g : Graph). g .places) (F .graph-is))
+        (rw (moves-in R C (λ v. getD classes v 0) (from .cell) m ms v e z) at T);
+  }
+
+-- ---- several moves
+
+readied-more : (queue : List ℕ) (a b : ℕ) (r : Step) → a ≤ b → Readied queue a r → Readied queue b r
+readied-more queue a b (On l) h d = (d .0, omega (arith, d .1))
+readied-more queue a b Full h d = tt
+
+module _ {S : Setting} {known previous queue : List ℕ} {line : Line} where
+  pub tried-none : Ready queue line → Tried S [] known previous queue line (On line) known previous queue
+  tried-none ready = record { readied = (ready, omega arith); goes = λ A F ms T. T }
+
+  module _ {a : List Move} {known′ previous′ queue′ : List ℕ} (b : List Move) where
+    -- all went on, and then some more were tried
+    pub tried-then : {l : Line} → Tried S a known previous queue line (On l) known′ previous′ queue′ → {r : Step} {known″ previous″ queue″ : List ℕ}
+        → Tried S b known′ previous′ queue′ l r known″ previous″ queue″ → Tried S (a ++ b) known previous queue line r known″ previous″ queue″
+    tried-then {l} T {r} U = record {
+      readied = readied-more _ _ _ r (omega (arith, T .readied .1, length-append a b)) (U .readied);
+      goes = λ A F ms D. U .goes A F ms (T .goes A F (b ++ ms) (rw (append-assoc a b ms) at D));
+    }
+
+    -- the queue was full: what was still to be tried changes nothing
+    pub tried-full : Tried S a known previous queue line Full known′ previous′ queue′ → Tried S (a ++ b) known previous queue line Full known′ previous′ queue′
+    tried-full T = record { readied = tt; goes = λ A F ms D. T .goes A F (b ++ ms) (rw (append-assoc a b ms) at D) }
+
+-- ---- the price, as the code adds it up
+
+module _ (C : RouterConfig) (m : Move) (class : ℕ) where
+  pub price-flat : m .y ≡ 1 → C .horizontal .0 ≡ priceOf C m class .step
+  unfolding priceOf
+  price-flat e = rw (eq-eqb (m .y) 1 e)
+
+  pub price-stair : m .y ≢ 1 → C .stair .0 ≡ priceOf C m class .step
+  unfolding priceOf
+  price-stair e = rw (ne-eqb (m .y) 1 e)
+
+  pub price-laid : (step : ℕ) → class ≡ 2 → step ≡ priceOf C m class .step → step + C .support .0 ≡ total (priceOf C m class)
+  unfolding priceOf
+  price-laid step e f = rw (f, eq-eqb class 2 e)
+
+  pub price-bare : (step : ℕ) → class ≢ 2 → step ≡ priceOf C m class .step → step ≡ total (priceOf C m class)
+  unfolding priceOf
+  price-bare step e f = rw (ne-eqb class 2 e, add-zero) f
+
+  pub price-most : Fair C → total (priceOf C m class) ≤ 200000
+  unfolding priceOf
+  price-most F = omega (arith, step-most, support-most)
+    where
+      step-most : priceOf C m class .step ≤ 100000
+      step-most = ask (eqb (m .y) 1) (λ t. rw t (F .horizontal-most)) (λ f. rw f (F .stair-most))
+
+      support-most : priceOf C m class .support ≤ 100000
+      support-most = ask (eqb class 2) (λ t. rw t (F .support-most)) (λ f. rw f (omega arith))

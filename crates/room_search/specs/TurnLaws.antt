@@ -1,0 +1,134 @@
+-- One taking, as the code meets it: the goal, the node limit passed, the queue full, or the search goes on.
+use mathlib.Core.Path.{_≡_, sym, ap, _∙_}
+use mathlib.Core.Logic.{_≢_}
+use mathlib.Core.List.{List, [], _++_, append-nil}
+use Prim.Native.Nat.{ℕ, suc, _+_, _-_, _/_, _≤_, _<_, _^_}
+use native.Mathlib.Numerals.{add-one, sub-one}
+use native.Mathlib.Omega.{arith}
+use lib.ListN.{length, getD}
+use Rattle.room.specs.declared.Room.{Room}
+use Rattle.room.specs.declared.RouterConfig.{RouterConfig}
+use Rattle.room.specs.Room.{volume, moves}
+use Rattle.best_first.specs.Search.{Graph, Answer, State, full, counted}
+use Rattle.best_first.specs.Search as search
+use Rattle.best_first.specs.Entries.{Popped, popped-taking}
+use Rattle.best_first.specs.Statements.{cost-of}
+use Rattle.best_first.specs.Loops.{Going, going-bounded, going-goal, going-limit, going-full, going-try, going-on}
+use Rattle.queue.specs.Queue.{Taken}
+use Rattle.room_search.specs.declared.Line.{Line}
+use Rattle.room_search.specs.declared.Spot.{Spot}
+use Rattle.room_search.specs.declared.Step.the-variants.{On, Full}
+use Rattle.room_search.specs.declared.Outcome.the-variants.{Arrived, LimitPassed, QueueFull}
+use Rattle.room_search.specs.declared.Turn.the-variants.{GoesOn, Ended}
+use Rattle.room_search.specs.Routing.{movesBy, graphOf}
+use Rattle.room_search.specs.Held.{entriesIn, held}
+use Rattle.room_search.specs.HeldLaws.{takenEntry, taken-entries}
+use Rattle.room_search.specs.GraphLaws.{dearest, sound}
+use Rattle.room_search.specs.Steps.{placesOf, Placed, Able, Attempt, Stage, Fitting, Tried, setting}
+use Rattle.room_search.specs.Turns.{graphIn, Takeable, Turned}
+
+module _ (R : Room) (C : RouterConfig) (classes known previous queue : List ℕ) (line : Line) (expanded : ℕ) (goal : Spot)
+    (T : Takeable R C classes known previous queue line goal) (cell : ℕ) (queue′ : List ℕ) (c : cell < 2 ^ 64) (K : Taken queue (line .waiting) cell queue′)
+    (same : length queue′ ≡ length queue) where
+  popped : Popped (entriesIn queue (line .waiting)) (takenEntry queue cell) (entriesIn queue′ (line .waiting - 1))
+  popped = taken-entries queue (line .waiting) cell queue′ c K
+
+  taken-in : (cell < volume R) × (0 < getD known cell 0)
+  unfolding takenEntry
+  taken-in = T .cells (takenEntry queue cell) (popped-taking popped .from)
+
+  pub cell-in : cell < volume R
+  cell-in = taken-in .0
+
+  pub cell-known : 1 ≤ getD known cell 0
+  cell-known = taken-in .1
+
+  abbrev pub rest : Line
+  rest = record { waiting = line .waiting - 1; serial = line .serial }
+
+  -- the cell's moves can be tried
+  pub able : (from : Spot) → from .cell ≡ cell → Placed R from → Able 12 R C classes goal from (getD known cell 0 - 1) known previous queue′ rest
+  able from e P = record {
+    good = T .good;
+    fair = T .fair;
+    classes-length = T .classes-length;
+    known-length = T .known-length;
+    previous-length = T .previous-length;
+    goal-placed = T .goal-placed;
+    from-placed = P;
+    cost-most = omega (arith, T .costs cell);
+    serial-most = T .serial-most;
+    ready = record { heap = K .order; room = omega (arith, T .ready .room, ap (λ (n : ℕ). n / 2) same) };
+  }
+
+  pub turn-goal : cell ≡ goal .cell → Turned R C classes known previous queue line expanded goal (Ended (Arrived (record { 0 = expanded }))) known previous queue′
+  unfolding held graphOf takenEntry
+  turn-goal e = record {
+    goes = λ start answer s I. record {
+      is = going-goal I popped e;
+      linked = going-bounded (sound R C (λ v. getD classes v 0) start (goal .cell) (placesOf queue) s (T .goal-placed .inside)) I .previous-in;
+      reached = rw (← e) cell-known;
+    };
+  }
+
+  module _ (away : cell ≢ goal .cell) where
+    pub turn-limit : C .limit .0 ≤ expanded
+        → Turned R C classes known previous queue line expanded goal (Ended (LimitPassed (record { 0 = expanded + 1 }))) known previous queue′
+    unfolding held graphOf takenEntry
+    turn-limit h = record { goes = λ start answer s I. going-limit I popped away h ∙ ap search.limit-passed (sym (add-one expanded)) }
+
+    module _ (more : expanded < C .limit .0) (from : Spot) (here : from .cell ≡ cell) where
+      -- the search that tries the moves of the cell taken
+      module _ (start : ℕ) (answer : Answer) (s : start < volume R)
+          (I : Going (graphIn R C classes start (goal .cell) queue) (C .limit .0) answer (held known previous queue line expanded)) where
+        abbrev G : Graph
+        G = graphIn R C classes start (goal .cell) queue
+
+        abbrev now : State
+        now = held known previous queue line expanded
+
+        attempt : Attempt
+        attempt = record {
+          graph = G;
+          degree = 12;
+          dearest = dearest C;
+          sound = sound R C (λ v. getD classes v 0) start (goal .cell) (placesOf queue) s (T .goal-placed .inside);
+          cell = cell;
+          cost = cost-of now cell;
+          outcome = search.expand G cell (cost-of now cell) (G .moves cell) (counted now (entriesIn queue′ (line .waiting - 1)));
+          expanded = suc expanded;
+        }
+
+        fitting : Fitting (setting R C classes goal queue′ from (getD known cell 0 - 1)) attempt
+        unfolding attempt held
+        fitting = record {
+          start = start;
+          graph-is = ap (λ (p : ℕ). graphOf R C (λ v. getD classes v 0) start (goal .cell) p) (ap (λ (n : ℕ). n / 2) (sym same));
+          cell-is = sym here;
+          cost-is = sym (sub-one (getD known cell 0));
+        }
+
+        stage : Stage attempt (movesBy R C (λ v. getD classes v 0) (from .cell) (moves ++ [])) known previous queue′ rest
+        unfolding attempt held graphOf takenEntry
+        stage = rw (append-nil, here) (going-try I popped away more (attempt .sound))
+
+      module _ {known′ previous′ queue″ : List ℕ} where
+        pub turn-full : Tried (setting R C classes goal queue′ from (getD known cell 0 - 1)) moves known previous queue′ rest Full known′ previous′ queue″
+            → Turned R C classes known previous queue line expanded goal (Ended (QueueFull (record { 0 = expanded + 1 }))) known′ previous′ queue″
+        unfolding attempt held graphOf takenEntry
+        turn-full U = record {
+          goes = λ start answer s I.
+              going-full I popped away more (U .goes (attempt start answer s I) (fitting start answer s I) [] (stage start answer s I))
+              ∙ ap search.queue-full (sym (add-one expanded));
+        }
+
+        pub turn-on : (next : Line) → Tried (setting R C classes goal queue′ from (getD known cell 0 - 1)) moves known previous queue′ rest (On next) known′ previous′ queue″
+            → Turned R C classes known previous queue line expanded goal (GoesOn next) known′ previous′ queue″
+        unfolding attempt held graphOf takenEntry movesBy
+        turn-on next U = record {
+          goes = λ start answer s I. (
+            rw add-one (going-on I popped away more (attempt start answer s I .sound)
+                (U .goes (attempt start answer s I) (fitting start answer s I) [] (stage start answer s I))),
+            U .readied .0,
+          );
+        }

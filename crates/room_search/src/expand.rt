@@ -1,0 +1,293 @@
+// The moves of one cell: each neighbour that can be entered is offered at its cost.
+ghost use mathlib.Core.Path.{_≡_};
+ghost use Prim.Native.Nat.{_+_, _*_, _≤_, _<_, _^_};
+ghost use lib.ListN.{length};
+ghost use mathlib.Core.List.{[], _∷_};
+ghost use Rattle.room.specs.Room.{moves};
+ghost use Rattle.room.specs.Units.{Fair};
+ghost use Rattle.room_search.specs.Routing.{total, priceOf};
+ghost use Rattle.room_search.specs.Steps.{estimateOf, maxKnown, Small, Ready, Offered, Able, Aside, setting, Tried, column};
+use crate::Line;
+use crate::Spot;
+use crate::Step;
+use room::Move;
+use room::Pos;
+use room::Room;
+use room::RouterConfig;
+
+fn wide(x: u32) -> u64
+    ensures { λ r. ⌜ r ≡ x ⌝ }
+{
+    x as u64
+}
+
+// Ten times the distance of two positions, of which each part is below 64.
+pub fn estimate(p: Pos, q: Pos) -> u64
+    requires { ⌜ Small p ⌝ }
+    requires { ⌜ Small q ⌝ }
+    ensures { λ r. ⌜ r ≡ estimateOf p q ⌝ }
+{
+    let distance = room::apart_by(p.x, q.x) + room::apart_by(p.y, q.y) + room::apart_by(p.z, q.z);
+    10 * (distance as u64)
+}
+
+// Offers a cell at a cost, by way of `from`: it is pushed where that is lower than its known cost.
+fn offer(
+    known: &mut [u32],
+    previous: &mut [u32],
+    queue: &mut [u64],
+    line: Line,
+    from: usize,
+    cell: usize,
+    cost: u32,
+    at: Pos,
+    goal: Pos,
+) -> Step
+    requires { ⌜ (cell < length (now known)) × (length (now previous) ≡ length (now known)) × (length (now known) ≤ 16384) ⌝ }
+    requires { ⌜ (from < 16384) × (cost ≤ maxKnown + 200000) × (line .serial + 1 < 2 ^ 32) ⌝ }
+    requires { ⌜ Ready (now queue) line ⌝ }
+    requires { ⌜ Small at ⌝ }
+    requires { ⌜ Small goal ⌝ }
+    ensures { λ r. ⌜ Offered from cell cost (estimateOf at goal) (now (known .entry)) (now (previous .entry)) (now (queue .entry)) line r (now (known .exit)) (now (previous .exit)) (now (queue .exit)) ⌝ }
+{
+    let old = known[cell];
+    if old != 0 {
+        if old <= cost + 1 {
+            return Step::On(line);
+        }
+    }
+    let waiting = line.waiting;
+    if queue.len() / 2 <= waiting {
+        return Step::Full;
+    }
+    let serial = line.serial + 1;
+    let key = wide(cost) + estimate(at, goal);
+    known[cell] = cost + 1;
+    previous[cell] = (from + 1) as u32;
+    queue::push(queue, waiting, key * 4294967296 + serial, cell as u64);
+    Step::On(Line {
+        waiting: waiting + 1,
+        serial: serial,
+    })
+}
+
+// What the step of a move costs: flat, or a stair.
+fn step_cost(config: RouterConfig, m: Move) -> u32
+    ensures { λ r. ⌜ r ≡ priceOf config m 0 .step ⌝ }
+{
+    if m.y == 1 {
+        config.horizontal.0
+    } else {
+        config.stair.0
+    }
+}
+
+// What entering a cell of that class costs: the step, and a new support where there is none.
+fn price(config: RouterConfig, m: Move, class: u8) -> u32
+    requires { ⌜ Fair config ⌝ }
+    ensures { λ r. ⌜ r ≡ total (priceOf config m class) ⌝ }
+{
+    let step = step_cost(config, m);
+    if class == 2 {
+        step + config.support.0
+    } else {
+        step
+    }
+}
+
+// Tries the move m, which goes aside to `beside` and from there up or down.
+fn try_move(
+    room: Room,
+    config: RouterConfig,
+    classes: &[u8],
+    known: &mut [u32],
+    previous: &mut [u32],
+    queue: &mut [u64],
+    line: Line,
+    from: Spot,
+    cost: u32,
+    beside: Spot,
+    goal: Spot,
+    m: Move,
+) -> Step
+    requires { ⌜ Able 1 room config (now classes) goal from cost (now known) (now previous) (now queue) line ⌝ }
+    requires { ⌜ Aside room from beside m ⌝ }
+    requires { ⌜ m .y ≤ 2 ⌝ }
+    ensures { λ r. ⌜ Tried (setting room config (now (classes .entry)) goal (now (queue .entry)) from cost) (m ∷ []) (now (known .entry)) (now (previous .entry)) (now (queue .entry)) line r (now (known .exit)) (now (previous .exit)) (now (queue .exit)) ⌝ }
+{
+    let y = beside.at.y + m.y;
+    if y < 1 {
+        return Step::On(line);
+    }
+    if room.high < y {
+        return Step::On(line);
+    }
+    let cell = beside.cell + m.y * room.deep - room.deep;
+    let class = classes[cell];
+    if class == 0 {
+        return Step::On(line);
+    }
+    let at = Pos {
+        x: beside.at.x,
+        y: y - 1,
+        z: beside.at.z,
+    };
+    offer(
+        known,
+        previous,
+        queue,
+        line,
+        from.cell,
+        cell,
+        cost + price(config, m, class),
+        at,
+        goal.at,
+    )
+}
+
+// Tries the three moves that go aside to `beside`: down, level, up.
+fn try_beside(
+    room: Room,
+    config: RouterConfig,
+    classes: &[u8],
+    known: &mut [u32],
+    previous: &mut [u32],
+    queue: &mut [u64],
+    line: Line,
+    from: Spot,
+    cost: u32,
+    beside: Spot,
+    goal: Spot,
+    m: Move,
+) -> Step
+    requires { ⌜ Able 3 room config (now classes) goal from cost (now known) (now previous) (now queue) line ⌝ }
+    requires { ⌜ Aside room from beside m ⌝ }
+    ensures { λ r. ⌜ Tried (setting room config (now (classes .entry)) goal (now (queue .entry)) from cost) (column m) (now (known .entry)) (now (previous .entry)) (now (queue .entry)) line r (now (known .exit)) (now (previous .exit)) (now (queue .exit)) ⌝ }
+{
+    let mut now_at = line;
+    let mut y: usize = 0;
+    while y < 3 {
+        let rising = Move {
+            x: m.x,
+            y: y,
+            z: m.z,
+        };
+        let Step::On(next) = try_move(
+            room,
+            config,
+            classes,
+            known,
+            previous,
+            queue,
+            now_at,
+            from,
+            cost,
+            beside,
+            goal,
+            rising,
+        ) else {
+            return Step::Full;
+        };
+        now_at = next;
+        y += 1;
+    }
+    Step::On(now_at)
+}
+
+// Tries the three moves that go aside as m does, where that stays in the room.
+fn try_column(
+    room: Room,
+    config: RouterConfig,
+    classes: &[u8],
+    known: &mut [u32],
+    previous: &mut [u32],
+    queue: &mut [u64],
+    line: Line,
+    from: Spot,
+    cost: u32,
+    goal: Spot,
+    m: Move,
+) -> Step
+    requires { ⌜ Able 3 room config (now classes) goal from cost (now known) (now previous) (now queue) line ⌝ }
+    requires { ⌜ (m .x ≤ 2) × (m .z ≤ 2) ⌝ }
+    ensures { λ r. ⌜ Tried (setting room config (now (classes .entry)) goal (now (queue .entry)) from cost) (column m) (now (known .entry)) (now (previous .entry)) (now (queue .entry)) line r (now (known .exit)) (now (previous .exit)) (now (queue .exit)) ⌝ }
+{
+    let x = from.at.x + m.x;
+    if x < 1 {
+        return Step::On(line);
+    }
+    if room.wide < x {
+        return Step::On(line);
+    }
+    let z = from.at.z + m.z;
+    if z < 1 {
+        return Step::On(line);
+    }
+    if room.deep < z {
+        return Step::On(line);
+    }
+    let at = Pos {
+        x: x - 1,
+        y: from.at.y,
+        z: z - 1,
+    };
+    let beside = Spot {
+        cell: room.cell(at),
+        at: at,
+    };
+    try_beside(
+        room,
+        config,
+        classes,
+        known,
+        previous,
+        queue,
+        line,
+        from,
+        cost,
+        beside,
+        goal,
+        m,
+    )
+}
+
+// Tries the twelve moves of a cell in their order, a column at a time.
+pub fn expand(
+    room: Room,
+    config: RouterConfig,
+    classes: &[u8],
+    known: &mut [u32],
+    previous: &mut [u32],
+    queue: &mut [u64],
+    line: Line,
+    from: Spot,
+    cost: u32,
+    goal: Spot,
+) -> Step
+    requires { ⌜ Able 12 room config (now classes) goal from cost (now known) (now previous) (now queue) line ⌝ }
+    ensures { λ r. ⌜ Tried (setting room config (now (classes .entry)) goal (now (queue .entry)) from cost) moves (now (known .entry)) (now (previous .entry)) (now (queue .entry)) line r (now (known .exit)) (now (previous .exit)) (now (queue .exit)) ⌝ }
+{
+    let mut now_at = line;
+    let mut side: usize = 0;
+    while side < 4 {
+        let m = Room::move_at(side * 3);
+        let Step::On(next) = try_column(
+            room,
+            config,
+            classes,
+            known,
+            previous,
+            queue,
+            now_at,
+            from,
+            cost,
+            goal,
+            m,
+        ) else {
+            return Step::Full;
+        };
+        now_at = next;
+        side += 1;
+    }
+    Step::On(now_at)
+}

@@ -1,0 +1,46 @@
+// The search over a room: what it takes to enter each cell, the moves tried from a cell, the takings one after another, and the
+// path by predecessors.
+mod classes; // classes.rt: which cells can be entered, and at which price
+mod expand; // expand.rt: the moves of a cell, each offered to the queue
+mod search; // search.rt: the takings
+mod trace; // trace.rt: the path
+
+pub use classes::class_for;
+pub use classes::fill_classes;
+pub use classes::make_end;
+pub use classes::routeable_kind;
+pub use search::run;
+pub use trace::trace_into;
+pub use trace::trace_length;
+
+// How many entries wait, and the last serial given.
+pub struct Line {
+    pub waiting: usize,
+    pub serial: u64,
+}
+
+// What trying a cell's moves comes to: the search goes on, or a push found the queue full.
+pub enum Step {
+    On(Line),
+    Full,
+}
+
+// A cell and its position.
+pub struct Spot {
+    pub cell: usize,
+    pub at: room::Pos,
+}
+
+// How a search has ended, with the expanded count.
+pub enum Outcome {
+    Arrived(room::Nodes),
+    NoRoute(room::Nodes),
+    LimitPassed(room::Nodes),
+    QueueFull(room::Nodes),
+}
+
+// What one taking comes to.
+pub enum Turn {
+    GoesOn(Line),
+    Ended(Outcome),
+}

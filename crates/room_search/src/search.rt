@@ -1,0 +1,115 @@
+// The takings of one search, until the goal is taken, nothing waits, or a limit is met.
+ghost use Prim.Native.Nat.{_+_, _≤_, _<_};
+ghost use Rattle.room_search.specs.Turns.{Fresh, Ran, Takeable, Turned};
+use crate::Line;
+use crate::Outcome;
+use crate::Spot;
+use crate::Step;
+use crate::Turn;
+use crate::expand::estimate;
+use crate::expand::expand;
+use room::Nodes;
+use room::Room;
+use room::RouterConfig;
+
+// Takes the least entry and, unless its cell is the goal or the node limit is passed, tries the cell's moves.
+fn take_turn(
+    room: Room,
+    config: RouterConfig,
+    classes: &[u8],
+    known: &mut [u32],
+    previous: &mut [u32],
+    queue: &mut [u64],
+    line: Line,
+    expanded: u32,
+    goal: Spot,
+) -> Turn
+    requires { ⌜ Takeable room config (now classes) (now known) (now previous) (now queue) line goal ⌝ }
+    requires { ⌜ expanded ≤ config .limit .0 ⌝ }
+    ensures { λ r. ⌜ Turned room config (now (classes .entry)) (now (known .entry)) (now (previous .entry)) (now (queue .entry)) line expanded goal r (now (known .exit)) (now (previous .exit)) (now (queue .exit)) ⌝ }
+{
+    let waiting = line.waiting;
+    let cell = queue::take(queue, waiting) as usize;
+    if cell == goal.cell {
+        return Turn::Ended(Outcome::Arrived(Nodes(expanded)));
+    }
+    if config.limit.0 <= expanded {
+        return Turn::Ended(Outcome::LimitPassed(Nodes(expanded + 1)));
+    }
+    let rest = Line {
+        waiting: waiting - 1,
+        serial: line.serial,
+    };
+    let from = Spot {
+        cell: cell,
+        at: room.pos(cell),
+    };
+    let cost = known[cell] - 1;
+    let Step::On(next) = expand(
+        room,
+        config,
+        classes,
+        known,
+        previous,
+        queue,
+        rest,
+        from,
+        cost,
+        goal,
+    ) else {
+        return Turn::Ended(Outcome::QueueFull(Nodes(expanded + 1)));
+    };
+    Turn::GoesOn(next)
+}
+
+// One whole search over fresh memory: the start is known at cost 0 and waits, and entries are taken until it ends.
+pub fn run(
+    room: Room,
+    config: RouterConfig,
+    classes: &[u8],
+    known: &mut [u32],
+    previous: &mut [u32],
+    queue: &mut [u64],
+    start: Spot,
+    goal: Spot,
+) -> Outcome
+    requires { ⌜ Fresh room config (now classes) (now known) (now previous) (now queue) start goal ⌝ }
+    ensures { λ r. ⌜ Ran room config (now (classes .entry)) (now (queue .entry)) start goal r (now (known .exit)) (now (previous .exit)) ⌝ }
+{
+    let first = start.cell;
+    known[first] = 1;
+    queue::push(
+        queue,
+        0,
+        estimate(start.at, goal.at) * 4294967296,
+        first as u64,
+    );
+    let mut line = Line {
+        waiting: 1,
+        serial: 0,
+    };
+    let mut expanded: u32 = 0;
+    while 0 < line.waiting {
+        let turn = take_turn(
+            room,
+            config,
+            classes,
+            known,
+            previous,
+            queue,
+            line,
+            expanded,
+            goal,
+        );
+        match turn {
+            Turn::GoesOn(next) => {
+                line = next;
+                expanded += 1;
+            }
+            Turn::Ended(outcome) => {
+                return outcome;
+            }
+        }
+    }
+    Outcome::NoRoute(Nodes(expanded))
+}

@@ -1,0 +1,60 @@
+-- `cells_hold` meets its contract: the law of the testing loop, over the cells of a file.
+use Prim.Native.Nat.{_-_}
+use lib.ListN.{length}
+use Rattle.stored.specs.Memory.{isDue, holds}
+use Rattle.stored.specs.MemoryLaws.{Passed, passed-none, passed-next, passed-failed, passed-all, is-due, not-due}
+use Rattle.stored.specs.Places.{cellsFrom}
+use borrow.Author.Needs.{needs}
+use Rattle.stored.proofs.memory.cells_hold.Statement.{statement}
+use Rattle.stored.proofs.memory.cells_hold.Tie as tie
+
+abbrev Inv-loop : tie.InvT-loop
+Inv-loop kept file at count s cell₀ cell = Passed (isDue kept (cellsFrom file at count)) s cell
+
+abbrev μ-loop : tie.MeasureT-loop
+μ-loop kept file at count s cell₀ cell = length s - cell
+
+loop-holds : tie.Need-loop-holds Inv-loop μ-loop
+loop-holds c = passed-none
+
+mul-if1 : tie.Need-mul-if1 Inv-loop μ-loop
+mul-if1 c = search needs
+
+shared-slice-read-if1 : tie.Need-shared-slice-read-if1 Inv-loop μ-loop
+shared-slice-read-if1 c = search needs
+
+cell-due-requires : tie.Need-cell-due-requires Inv-loop μ-loop
+cell-due-requires c κs = search needs
+
+returns : tie.Need-returns Inv-loop μ-loop
+unfolding holds
+returns c = passed-failed (c .before .before .before .before .loop .inv) (c .before .before .before .loop-test .taken) (not-due (c .before .cell-due .ensures) (c .if1 .taken))
+
+add-cell : tie.Need-add-cell Inv-loop μ-loop
+add-cell c = search needs
+
+loop-less : tie.Need-loop-less Inv-loop μ-loop
+loop-less c = search needs
+
+loop-again : tie.Need-loop-again Inv-loop μ-loop
+loop-again c = passed-next (c .before .before .before .before .loop .inv) (c .before .before .before .loop-test .taken) (is-due (c .before .cell-due .ensures) (c .if1 .left))
+
+returns-2 : tie.Need-returns-2 Inv-loop μ-loop
+unfolding holds
+returns-2 c = passed-all (c .before .loop .inv) (c .loop-test .left)
+
+pub cells-hold-spec : {M : Type 1} → statement M
+cells-hold-spec =
+    tie.close
+    (tie.spec
+    Inv-loop
+    μ-loop
+    loop-holds
+    mul-if1
+    shared-slice-read-if1
+    cell-due-requires
+    returns
+    add-cell
+    loop-less
+    loop-again
+    returns-2)

@@ -1,0 +1,5 @@
+pub mod Places
+pub mod PlaceLaws
+pub mod Memory
+pub mod MemoryLaws
+pub mod Runs

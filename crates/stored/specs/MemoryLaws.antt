@@ -1,0 +1,88 @@
+-- Laws of what lent memory holds.
+use mathlib.Core.Path.{_≡_, refl, sym, ap, _∙_}
+use mathlib.Core.Bool.{Bool, true, false, _&&_}
+use mathlib.Core.List.{List, [], _∷_}
+use Prim.Native.Nat.{ℕ, zero, suc, _+_, _≤_, _<_}
+use native.Mathlib.Nat.{le-of-suc-le-suc, not-suc-le-zero}
+use native.Mathlib.Numerals.{add-one}
+use native.Mathlib.Omega.{arith}
+use lib.Dec.{eqb}
+use lib.ListN.{length, getD, set, drop, drop-of-length-le, length-set}
+use lib.Seq.{drop-cons, getD-set-same, getD-set-other}
+use borrow.Author.Tests.{eqb-true, eq-eqb, ne-eqb}
+use Rattle.basics.specs.Tests.{ask, and-left, and-right}
+use Rattle.stored.specs.Memory.{rubbish, Rubbish, allFrom, dueAt, isDue, holds}
+
+-- ---- filling with rubbish: the first i numbers are rubbish
+
+pub record Spoiled (s₀ : List ℕ) (i : ℕ) (s : List ℕ) : Type 0 where
+  pub kept : length s ≡ length s₀
+  pub front : (j : ℕ) → j < i → getD s j 0 ≡ rubbish j
+
+module _ {s₀ : List ℕ} where
+  pub spoiled-none : Spoiled s₀ 0 s₀
+  spoiled-none = record { kept = refl; front = λ j h. absurd (not-suc-le-zero h) }
+
+  module _ {i : ℕ} {s : List ℕ} (S : Spoiled s₀ i s) where
+    pub spoiled-next : {x : ℕ} → i < length s → x ≡ rubbish i → Spoiled s₀ (i + 1) (set s i x)
+    spoiled-next {x} h e = record {
+      kept = length-set s i x ∙ S .kept;
+      front = λ j l. ask (eqb j i)
+          (λ t. let q = eqb-true j i t in rw q (getD-set-same s i x 0 h ∙ e))
+          (λ f. let n : j ≡ i → ⊥ = λ q. absurd (differ f (eq-eqb j i q)) in
+          getD-set-other s i j x 0 n ∙ S .front j (omega (arith, n)));
+    }
+      where
+        differ : {b : Bool} → b ≡ false → b ≡ true → ⊥
+        differ p q = let z : _≡_ {A = ℕ} 0 1 = cc in omega arith
+
+    pub spoiled-all : length s ≤ i → Rubbish s
+    spoiled-all h = λ j l. S .front j (omega arith)
+
+-- ---- a test of each place: those before the i-th have passed
+
+pub record Passed (p : ℕ → ℕ → Bool) (l : List ℕ) (i : ℕ) : Type 0 where
+  pub rest : allFrom p i (drop i l) ≡ allFrom p 0 l
+
+all-from : (p : ℕ → ℕ → Bool) (l : List ℕ) (i : ℕ) → i < length l → allFrom p i (drop i l) ≡ (p i (getD l i 0) && allFrom p (i + 1) (drop (i + 1) l))
+all-from p l i h = rw add-one (ap (allFrom p i) (drop-cons l i 0 h))
+
+module _ {p : ℕ → ℕ → Bool} {l : List ℕ} where
+  pub passed-none : Passed p l 0
+  passed-none = record { rest = refl }
+
+  module _ {i : ℕ} (P : Passed p l i) where
+    pub passed-next : i < length l → p i (getD l i 0) ≡ true → Passed p l (i + 1)
+    passed-next h e = record { rest = rw (all-from p l i h, e) at (P .rest) }
+
+    pub passed-failed : i < length l → p i (getD l i 0) ≡ false → false ≡ allFrom p 0 l
+    passed-failed h e = rw (all-from p l i h, e) at (P .rest)
+
+    pub passed-all : length l ≤ i → true ≡ allFrom p 0 l
+    passed-all h = rw (drop-of-length-le l h) at (P .rest)
+
+-- what is found, beside what is due
+pub is-due : {x y d : ℕ} → y ≡ d → x ≡ y → eqb x d ≡ true
+is-due {x} {d = d} e f = eq-eqb x d (f ∙ e)
+
+pub not-due : {x y d : ℕ} → y ≡ d → (x ≡ y → ⊥) → eqb x d ≡ false
+not-due {x} {d = d} e n = ne-eqb x d (λ f. n (f ∙ sym e))
+
+-- ---- what the tests say
+
+pub all-at : (p : ℕ → ℕ → Bool) (i : ℕ) (l : List ℕ) → allFrom p i l ≡ true → (k : ℕ) → k < length l → p (i + k) (getD l k 0) ≡ true
+all-at p i [] e k h = absurd (not-suc-le-zero h)
+all-at p i (x ∷ xs) e zero h = let z : i + 0 ≡ i = omega arith in rw z (and-left (p i x) (allFrom p (suc i) xs) e)
+all-at p i (x ∷ xs) e (suc k) h =
+    let z : i + suc k ≡ suc i + k = omega arith in
+    rw z (all-at p (suc i) xs (and-right (p i x) (allFrom p (suc i) xs) e) k (le-of-suc-le-suc h))
+
+-- nothing was touched
+pub holds-kept : (expected s : List ℕ) → holds true expected s ≡ true → Rubbish s
+unfolding holds dueAt
+holds-kept expected s e = λ k h. let z : 0 + k ≡ k = omega arith in eqb-true (getD s k 0) (rubbish k) (rw z at (all-at (isDue true expected) 0 s e k h))
+
+-- all that is expected, and zeros behind it
+pub holds-expected : (expected s : List ℕ) → holds false expected s ≡ true → (k : ℕ) → k < length s → getD s k 0 ≡ getD expected k 0
+unfolding holds dueAt
+holds-expected expected s e k h = let z : 0 + k ≡ k = omega arith in eqb-true (getD s k 0) (getD expected k 0) (rw z at (all-at (isDue false expected) 0 s e k h))

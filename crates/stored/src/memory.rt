@@ -1,0 +1,167 @@
+// Lent memory: filled with rubbish before a run, and looked through to its very end behind it.
+ghost use mathlib.Core.Path.{_≡_};
+ghost use mathlib.Core.Bool.{false};
+ghost use mathlib.Core.List.{[]};
+ghost use Prim.Native.Nat.{_<_};
+ghost use Rattle.stored.specs.Memory.{rubbish, Rubbish, dueAt, holds, coversAt, covers};
+ghost use Rattle.stored.specs.Places.{cellsFrom};
+use crate::places::cell_at;
+use crate::places::past;
+
+// The rubbish at a place: a small number, which could pass for a cell, a cost or an entry, and is never 0 nor a mark.
+fn rubbish(i: usize) -> u8
+    ensures { λ r. ⌜ (r ≡ rubbish i) × (r < 256) ⌝ }
+{
+    (i % 251 + 2) as u8
+}
+
+pub fn spoil_bytes(s: &mut [u8])
+    ensures { λ _. ⌜ Rubbish (now (s .exit)) ⌝ }
+{
+    let mut i: usize = 0;
+    while i < s.len() {
+        s[i] = rubbish(i);
+        i += 1;
+    }
+}
+
+pub fn spoil_words(s: &mut [u32])
+    ensures { λ _. ⌜ Rubbish (now (s .exit)) ⌝ }
+{
+    let mut i: usize = 0;
+    while i < s.len() {
+        s[i] = rubbish(i) as u32;
+        i += 1;
+    }
+}
+
+pub fn spoil_longs(s: &mut [u64])
+    ensures { λ _. ⌜ Rubbish (now (s .exit)) ⌝ }
+{
+    let mut i: usize = 0;
+    while i < s.len() {
+        s[i] = rubbish(i) as u64;
+        i += 1;
+    }
+}
+
+// What is due at a place: the rubbish, where it is to be kept; else what is expected there, and 0 behind that.
+fn byte_due(kept: bool, expected: &[u8], i: usize) -> u8
+    ensures { λ r. ⌜ r ≡ dueAt kept (now (expected .entry)) i ⌝ }
+{
+    if kept {
+        return rubbish(i);
+    }
+    if i < expected.len() {
+        return expected[i];
+    }
+    0
+}
+
+fn word_due(kept: bool, expected: &[u32], i: usize) -> u32
+    ensures { λ r. ⌜ r ≡ dueAt kept (now (expected .entry)) i ⌝ }
+{
+    if kept {
+        return rubbish(i) as u32;
+    }
+    if i < expected.len() {
+        return expected[i];
+    }
+    0
+}
+
+// The same where cells of a stored file are expected, so many from a place on.
+fn cell_due(kept: bool, file: &[u8], at: usize, count: u32, i: usize) -> u32
+    ensures { λ r. ⌜ r ≡ dueAt kept (cellsFrom (now (file .entry)) at count) i ⌝ }
+{
+    if kept {
+        return rubbish(i) as u32;
+    }
+    if i < count as usize {
+        return cell_at(file, past(file, at, i * 2));
+    }
+    0
+}
+
+fn long_due(kept: bool, i: usize) -> u64
+    ensures { λ r. ⌜ r ≡ dueAt kept [] i ⌝ }
+{
+    if kept { rubbish(i) as u64 } else { 0 }
+}
+
+pub fn bytes_hold(kept: bool, expected: &[u8], s: &[u8]) -> bool
+    ensures { λ r. ⌜ r ≡ holds kept (now (expected .entry)) (now (s .entry)) ⌝ }
+{
+    let mut i: usize = 0;
+    while i < s.len() {
+        if s[i] != byte_due(kept, expected, i) {
+            return false;
+        }
+        i += 1;
+    }
+    true
+}
+
+pub fn words_hold(kept: bool, expected: &[u32], s: &[u32]) -> bool
+    ensures { λ r. ⌜ r ≡ holds kept (now (expected .entry)) (now (s .entry)) ⌝ }
+{
+    let mut word: usize = 0;
+    while word < s.len() {
+        if s[word] != word_due(kept, expected, word) {
+            return false;
+        }
+        word += 1;
+    }
+    true
+}
+
+pub fn cells_hold(kept: bool, file: &[u8], at: usize, count: u32, s: &[u32]) -> bool
+    ensures { λ r. ⌜ r ≡ holds kept (cellsFrom (now (file .entry)) at count) (now (s .entry)) ⌝ }
+{
+    let mut cell: usize = 0;
+    while cell < s.len() {
+        if s[cell] != cell_due(kept, file, at, count, cell) {
+            return false;
+        }
+        cell += 1;
+    }
+    true
+}
+
+// The same of longs, of which none but zeros are ever expected.
+pub fn longs_hold(kept: bool, s: &[u64]) -> bool
+    ensures { λ r. ⌜ r ≡ holds kept [] (now (s .entry)) ⌝ }
+{
+    let mut i: usize = 0;
+    while i < s.len() {
+        if s[i] != long_due(kept, i) {
+            return false;
+        }
+        i += 1;
+    }
+    true
+}
+
+// Whether a byte is a mark or 0, and a mark where one is expected.
+fn covers_at(expected: &[u8], i: usize, byte: u8) -> bool
+    ensures { λ r. ⌜ r ≡ coversAt (now (expected .entry)) i byte ⌝ }
+{
+    if 1 < byte {
+        return false;
+    }
+    byte_due(false, expected, i) <= byte
+}
+
+// Whether all are marks or 0, marks wherever one is expected.
+pub fn covers(expected: &[u8], s: &[u8]) -> bool
+    ensures { λ r. ⌜ r ≡ covers (now (expected .entry)) (now (s .entry)) ⌝ }
+{
+    let mut i: usize = 0;
+    while i < s.len() {
+        if !covers_at(expected, i, s[i]) {
+            return false;
+        }
+        i += 1;
+    }
+    true
+}
