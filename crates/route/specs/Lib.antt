@@ -7,3 +7,4 @@ pub mod BranchLineLaws
 pub mod Printed
 pub mod CountLaws
 pub mod PrintedLaws
+pub mod NumberLaws

@@ -1,0 +1,109 @@
+-- Which numbers can't come in this program: 6, since its own memory suffices for every room that it takes.
+use mathlib.Core.Path.{_≡_, sym, ap, _∙_}
+use mathlib.Core.Bool.{Bool, true, false}
+use mathlib.Core.List.{List}
+use Prim.Native.Nat.{ℕ, zero, suc, _+_, _≤_, _<_}
+use native.Mathlib.Omega.{arith}
+use borrow.Author.Tests.{le-leb}
+use Rattle.basics.specs.Tests.{either, ask, never}
+use Rattle.net_tree.specs.declared.Lengths.{Lengths}
+use Rattle.outset.specs.declared.Outset.{Outset}
+use Rattle.room.specs.declared.Neighbour.{Neighbour}
+use Rattle.turns.specs.Turns.{sinkAt, far}
+use Rattle.branches.specs.Branches.{branchOf}
+use Rattle.room.specs.declared.Room.{Room}
+use Rattle.room.specs.declared.Neighbour.the-variants.{Inside, Outside}
+use Rattle.room.specs.Room.{volume}
+use Rattle.job_sheet.specs.declared.Verdict.{Verdict}
+use Rattle.job_sheet.specs.declared.Verdict.the-variants.{Good, Sheet, Sides, Config, Position, Code}
+use Rattle.job_sheet.specs.Sheet.{numberOf, Contents}
+use Rattle.blocks.specs.declared.Placement.{Placement}
+use Rattle.ends.specs.declared.Fault.{Fault}
+use Rattle.outset.specs.SetOut.{numberBy, ready}
+use Rattle.goals.specs.Goals.{Trial, found, failed, full, routeToTree}
+use Rattle.multinet.specs.Tree.{Plot, Tree, Growth, grown, stopped, fitsIn, afterSink, growSink, growOn, growFrom, growthOf, tapAt, siteOf, withBranch, planted}
+use Rattle.net_tree.specs.Answers.{buffersGood, Outcome, routed, refused, outcomeOf, jobOutcome, unread, unlent, set-out, plotFor}
+use Rattle.route.specs.Printed.{maxCells, programLengths, ComesHere, over, not-over}
+
+-- the number of an outcome, 0 for a tree
+abbrev pub numberIn : Outcome → ℕ
+numberIn (routed branches occupied repeaters) = 0
+numberIn (refused number detail) = number
+
+-- ---- a sheet that is refused has one of 1 to 5
+
+refused-low : (v : Verdict) → numberOf v ≡ 6 → ⊥
+refused-low Good e = omega arith
+refused-low Sheet e = omega arith
+refused-low Sides e = omega arith
+refused-low Config e = omega arith
+refused-low Position e = omega arith
+refused-low Code e = omega arith
+
+-- ---- this program's memory suffices
+
+lent-enough : (R : Room) → volume R ≤ maxCells → buffersGood R programLengths ≡ true
+unfolding buffersGood
+lent-enough R h = rw (le-leb (volume R) maxCells h)
+
+-- ---- a job that is set out has one of 7 to 9, or of 13 to 15
+
+set-out-high : (p : Placement) (f : Fault) → numberBy p f ≡ 6 → ⊥
+set-out-high (Placement.RepeatAt cell) f e = omega arith
+set-out-high Placement.Placed Fault.Good e = omega arith
+set-out-high Placement.Placed (Fault.NoFacing place) e = omega arith
+set-out-high Placement.Placed (Fault.Outside place) e = omega arith
+
+-- a growth that stops has a number above 12
+abbrev StopsHigh : Growth → Type 0
+StopsHigh (grown T) = Unit {0}
+StopsHigh (stopped number detail) = 12 < number
+
+after-high : (P : Plot) (k : ℕ) (T : Tree) (t : Trial) → StopsHigh (afterSink P k T t)
+unfolding afterSink
+after-high P k T (found path cost) = by-fit (fitsIn P T (branchOf (tapAt P k) path))
+  where
+    by-fit : (b : Bool) → StopsHigh (either b (grown (withBranch (P .room) k (branchOf (tapAt P k) path) T)) (stopped 15 (k + 1)))
+    by-fit true = tt
+    by-fit false = omega arith
+after-high P k T failed = omega arith
+after-high P k T (full x) = omega arith
+
+sink-high : (P : Plot) (k : Neighbour) (T : Tree) → StopsHigh (growSink P k T)
+unfolding growSink
+sink-high P (Inside k) T = after-high P k T (routeToTree (siteOf P T) (tapAt P k .approach) (T .blocked))
+sink-high P Outside T = tt
+
+on-high : (rest : Tree → Growth) → ((T : Tree) → StopsHigh (rest T)) → (g : Growth) → StopsHigh g → StopsHigh (growOn rest g)
+on-high rest h (grown T) s = h T
+on-high rest h (stopped number detail) s = s
+
+growth-high : (n : ℕ) (P : Plot) (turn : ℕ) (T : Tree) → StopsHigh (growFrom n P turn T)
+unfolding growFrom
+growth-high zero P turn T = tt
+growth-high (suc n) P turn T =
+    let k = sinkAt (far (P .room) (P .source) (P .taps .taps)) (P .taps .count) turn in
+    on-high (growFrom n P (turn + 1)) (growth-high n P (turn + 1)) (growSink P k T) (sink-high P k T)
+
+outcome-high : (P : Plot) (g : Growth) → StopsHigh g → numberIn (outcomeOf P g) ≡ 6 → ⊥
+outcome-high P (grown T) s e = omega arith
+outcome-high P (stopped number detail) s e = omega arith
+
+job-high : (J : Contents) (L : Lengths) (O : Outset) (kinds blocked : List ℕ) → numberIn (jobOutcome J L O kinds blocked) ≡ 6 → ⊥
+unfolding jobOutcome growthOf
+job-high J L O kinds blocked e =
+    let P = plotFor J L O kinds in
+    ask (ready O)
+    (λ t. outcome-high P (growthOf P blocked) (growth-high (P .taps .count) P 0 (planted P blocked)) (rw t at e))
+    (λ f. set-out-high (O .placement) (O .ends .fault) (rw f at e))
+
+-- ---- so it never says 6
+
+pub no-six : {sheet : List ℕ} {o : Outcome} → ComesHere sheet o → numberIn o ≡ 6 → ⊥
+no-six (over J m h e) n = let k : _≡_ {A = ℕ} 2 6 = sym (ap numberIn e) ∙ n in omega (arith, k)
+no-six (not-over small (unread r p f e)) n = refused-low (r .verdict) (sym (ap numberIn e) ∙ n)
+no-six (not-over small (unlent J m g b e)) n = never (clash (sym b ∙ lent-enough (J .room) (small J m)))
+  where
+    clash : false ≡ true → _≡_ {A = ℕ} 0 1
+    clash c = cc
+no-six (not-over small (set-out J m g b O kinds nodes blocked s e)) n = job-high J programLengths O kinds blocked (sym (ap numberIn e) ∙ n)
