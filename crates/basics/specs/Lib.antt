@@ -2,3 +2,4 @@ pub mod Tests
 pub mod Lists
 pub mod Zeros
 pub mod Promises
+pub mod Copies

@@ -9,6 +9,10 @@ abbrev pub either {ℓ} : {X : Type ℓ} → Bool → X → X → X
 either true x y = x
 either false x y = y
 
+pub either-true : (b : Bool) → either b true true ≡ true
+either-true true = refl
+either-true false = refl
+
 -- a test is passed or not, with the fact
 pub ask {ℓ} : {X : Type ℓ} (b : Bool) → (b ≡ true → X) → (b ≡ false → X) → X
 ask true f g = f refl

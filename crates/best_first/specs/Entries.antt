@@ -8,7 +8,7 @@ use native.Mathlib.Omega.{arith}
 use lib.ListN.{length}
 use lib.Dec.{ltb, eqb}
 use borrow.Author.Tests.{ltb-true, ltb-false, eqb-true, eqb-false, eq-eqb}
-use Rattle.basics.specs.Tests.{and-left, and-right, ask}
+use Rattle.basics.specs.Tests.{and-left, and-right, ask, never}
 use Rattle.basics.specs.Lists.{In}
 use Rattle.best_first.specs.Search.{Entry, least, sooner}
 use Rattle.best_first.specs.Statements.{bit, Taking}
@@ -25,7 +25,7 @@ late-key a b (by-serial e h) = omega arith
 not-sooner-late : (a b : Entry) → sooner a b ≡ false → Late a b
 unfolding sooner
 not-sooner-late a b h =
-    ask (ltb (a .key) (b .key)) (λ t. let z : _≡_ {A = ℕ} 0 1 = cc in absurd (omega arith))
+    ask (ltb (a .key) (b .key)) (λ t. never (cc))
     (λ f. ask (eqb (a .key) (b .key)) (λ t. by-serial (eqb-true _ _ t) (ltb-false (a .serial) (b .serial) (rw (f, t) at h)))
     (λ g. by-key (omega (arith, ltb-false (a .key) (b .key) f, eqb-false (a .key) (b .key) g))))
 
@@ -34,7 +34,7 @@ unfolding sooner
 sooner-late x e h =
     ask (ltb (x .key) (e .key)) (λ t. by-key (ltb-true _ _ t))
     (λ f. ask (eqb (x .key) (e .key)) (λ t. by-serial (sym (eqb-true _ _ t)) (omega (arith, ltb-true (x .serial) (e .serial) (rw (f, t) at h))))
-    (λ g. let z : _≡_ {A = ℕ} 0 1 = cc in absurd (omega arith)))
+    (λ g. never (cc)))
 
 late-trans : (a b c : Entry) → Late a b → Late b c → Late a c
 late-trans a b c (by-key h) (by-key k) = by-key (omega arith)

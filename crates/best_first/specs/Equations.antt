@@ -8,7 +8,7 @@ use native.Mathlib.Omega.{arith}
 use lib.ListN.{length, getD, set}
 use lib.Dec.{eqb}
 use borrow.Author.Tests.{ltb-true, ltb-false, lt-ltb, le-ltb, eqb-true, eqb-false, eq-eqb, ne-eqb}
-use Rattle.basics.specs.Tests.{ask}
+use Rattle.basics.specs.Tests.{ask, never}
 use Rattle.best_first.specs.Search.{Graph, Move, Entry, State, Taken, Pushed, full, on, offer, expand, push, cheaper, trace, least, Answer, no-route, limit-passed, queue-full, ends, expands, arrived, counted, turn, run}
 use Rattle.best_first.specs.Statements.{Taking, stored, cost-of}
 use Rattle.best_first.specs.Entries.{taking}
@@ -28,7 +28,7 @@ cheaper-true c zero e = inl refl
 cheaper-true c (suc k) e = inr (suc-le-suc (ltb-true c k e))
 
 pub cheaper-false : (c k : ℕ) → cheaper c k ≡ false → (0 < k) × (k ≤ suc c)
-cheaper-false c zero e = let z : _≡_ {A = ℕ} 0 1 = cc in omega arith
+cheaper-false c zero e = never (cc)
 cheaper-false c (suc k) e = omega (arith, ltb-false c k e)
 
 pub is-cheaper : (c k : ℕ) → Gain (suc c) k → cheaper c k ≡ true
@@ -89,12 +89,12 @@ module _ (G : Graph) (u d : ℕ) (ns : List Move) where
     where
       go : (x : Pushed) → offer G u (m .to) (d + m .cost) s ≡ x → ((t : State) → expand G u d ms t ≡ on r → expand G u d (ms ++ ns) t ≡ expand G u d ns r)
           → expand G u d (m ∷ ms ++ ns) s ≡ expand G u d ns r
-      go full f ih = let q = expand-stop G u d m ms s f in let z : _≡_ {A = ℕ} 0 1 = cc in absurd (omega arith)
+      go full f ih = let q = expand-stop G u d m ms s f in never (cc)
       go (on t) f ih = expand-on G u d m (ms ++ ns) s t f ∙ ih t (let q = expand-on G u d m ms s t f in cc)
 
   pub expand-first-part : (ms : List Move) (s : State) → expand G u d ms s ≡ full → expand G u d (ms ++ ns) s ≡ full
   unfolding expand
-  expand-first-part [] s e = let z : _≡_ {A = ℕ} 0 1 = cc in absurd (omega arith)
+  expand-first-part [] s e = never (cc)
   expand-first-part (m ∷ ms) s e = go _ refl (λ t. expand-first-part ms t)
     where
       go : (x : Pushed) → offer G u (m .to) (d + m .cost) s ≡ x → ((t : State) → expand G u d ms t ≡ full → expand G u d (ms ++ ns) t ≡ full)

@@ -4,6 +4,7 @@ use mathlib.Core.List.{List, [], _∷_}
 use Prim.Native.Nat.{ℕ, suc, _+_, _≤_, _<_}
 use native.Mathlib.Omega.{arith}
 use lib.ListN.{length, getD, set, replicate}
+use Rattle.basics.specs.Tests.{never}
 use Rattle.best_first.specs.Search.{Graph, Move, Entry, State, Taken, full, push, counted, outset, Answer, queue-full, best-first}
 use Rattle.best_first.specs.Ways.{Sound, Consistent}
 use Rattle.best_first.specs.Statements.{Taking, stored, pushes, Reached, expanded-of}
@@ -133,9 +134,9 @@ module _ {G : Graph} {degree dearest : ℕ} (S : Sound G degree dearest) (K : Co
 
     frugal-by : {n : ℕ} {a : Answer} {l : List ℕ} → Ending G n a l → Frugal G N a
     unfolding paced
-    frugal-by (empty R q) = record { expanded = omega (arith, few R); spare = λ x e. let z : _≡_ {A = ℕ} 0 1 = cc in absurd (omega arith) }
-    frugal-by (arrives t R k q) = record { expanded = omega (arith, few R); spare = λ x e. let z : _≡_ {A = ℕ} 0 1 = cc in absurd (omega arith) }
-    frugal-by (passes t R k q p) = record { expanded = omega (arith, few R, k .len); spare = λ x e. let z : _≡_ {A = ℕ} 0 1 = cc in absurd (omega arith) }
+    frugal-by (empty R q) = record { expanded = omega (arith, few R); spare = λ x e. never (cc) }
+    frugal-by (arrives t R k q) = record { expanded = omega (arith, few R); spare = λ x e. never (cc) }
+    frugal-by (passes t R k q p) = record { expanded = omega (arith, few R, k .len); spare = λ x e. never (cc) }
     frugal-by (fills t R k q p) =
         let F = rw p at (after-taking S paced (holds S paced R) k q) in
         record { expanded = omega (arith, few R, k .len); spare = λ x e. omega (arith, F .many, full-holds (λ l. length l ≤ N) less bound F) }

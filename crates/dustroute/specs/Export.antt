@@ -14,7 +14,7 @@ use Rattle.routing.specs.declared.Answer.{Answer}
 use Rattle.routing.specs.declared.Answer.the-variants.{Routed, Refused, NotRouteable, NoRoute, LimitPassed, QueueFull}
 use Rattle.routing.specs.declared.Refusal.{Refusal}
 use Rattle.routing.specs.declared.Refusal.the-variants.{Sides, Config, Buffer}
-use Rattle.routing.specs.Answers.{Input, answerOf, numberOf, detailOf, cellsFor, touches}
+use Rattle.routing.specs.Answers.{Input, answerOf, numberOf, detailOf, cellsFor}
 
 abbrev pub roomOf : ℕ → ℕ → ℕ → Room
 roomOf wide high deep = record { wide = wide; high = high; deep = deep }
@@ -50,9 +50,9 @@ valuesOf a = detailOf a ∷ routeValues a
 -- them.
 pub record Exported (I : Input) (path known previous classes queue values : List ℕ) (r : ℕ) (path′ known′ previous′ classes′ queue′ values′ : List ℕ) : Type 0 where
   pub number : r ≡ numberOf (exported I values)
-  pub path-is : path′ ≡ outputAfter (touches (exported I values)) (cellsFor (exported I values) I) path
-  pub known-is : known′ ≡ workAfter (touches (exported I values)) known
-  pub previous-is : previous′ ≡ workAfter (touches (exported I values)) previous
-  pub classes-is : classes′ ≡ workAfter (touches (exported I values)) classes
-  pub queue-is : queue′ ≡ workAfter (touches (exported I values)) queue
-  pub values-is : values′ ≡ outputAfter (touches (exported I values)) (valuesOf (exported I values)) values
+  pub path-is : path′ ≡ outputAfter (numberOf (exported I values)) (cellsFor (exported I values) I) path
+  pub known-is : known′ ≡ workAfter (numberOf (exported I values)) known
+  pub previous-is : previous′ ≡ workAfter (numberOf (exported I values)) previous
+  pub classes-is : classes′ ≡ workAfter (numberOf (exported I values)) classes
+  pub queue-is : queue′ ≡ workAfter (numberOf (exported I values)) queue
+  pub values-is : values′ ≡ outputAfter (numberOf (exported I values)) (valuesOf (exported I values)) values

@@ -8,7 +8,8 @@ use borrow.Author.Tests.{le-leb, lt-leb}
 use Rattle.basics.specs.Promises.{Determines}
 use Rattle.lent.specs.Lent.{outputAfter}
 use Rattle.routing.specs.declared.Answer.{Answer}
-use Rattle.routing.specs.Answers.{Input, numberOf, refusalNumber, Promise, touches}
+use Rattle.routing.specs.Answers.{Input, numberOf, refusalNumber, Promise}
+use Rattle.routing.specs.PromiseLaws.{untouched}
 use Rattle.dustroute.specs.Export.{shortRefusal, exported, valuesOf, Exported}
 
 -- four values written to a cleared buffer
@@ -27,19 +28,20 @@ module _ {I : Input} {path known previous classes queue values : List ℕ} where
   unfolding exported
   exported-short h =
       let e = lt-leb 4 (length values) h in
+      let u = untouched (shortRefusal (I .room) (I .config)) in
       record {
         number = rw e;
-        path-is = rw e;
-        known-is = rw e;
-        previous-is = rw e;
-        classes-is = rw e;
-        queue-is = rw e;
-        values-is = rw e;
+        path-is = rw (e, u);
+        known-is = rw (e, u);
+        previous-is = rw (e, u);
+        classes-is = rw (e, u);
+        queue-is = rw (e, u);
+        values-is = rw (e, u);
       }
 
   -- the search's answer, told
   pub exported-told : {a : Answer} {r : ℕ} {path′ known′ previous′ classes′ queue′ values′ : List ℕ} → 4 ≤ length values
-      → Promise I path known previous classes queue a path′ known′ previous′ classes′ queue′ → r ≡ numberOf a → values′ ≡ outputAfter (touches a) (valuesOf a) values
+      → Promise I path known previous classes queue a path′ known′ previous′ classes′ queue′ → r ≡ numberOf a → values′ ≡ outputAfter (numberOf a) (valuesOf a) values
       → Exported I path known previous classes queue values r path′ known′ previous′ classes′ queue′ values′
   unfolding exported
   exported-told h P n v =

@@ -1,10 +1,8 @@
 -- What `dustroute_tree` returns, and what every lent buffer then holds: the answer of `route_net_tree` as numbers. A sheet and the lengths of the
 -- lent buffers determine all of it.
 use mathlib.Core.Path.{_≡_}
-use mathlib.Core.Bool.{Bool, true}
 use mathlib.Core.List.{List, _∷_}
 use Prim.Native.Nat.{ℕ, _+_, _≤_, _<_}
-use lib.Dec.{ltb}
 use lib.ListN.{length}
 use Rattle.basics.specs.Tests.{either}
 use Rattle.lent.specs.Lent.{outputAfter}
@@ -46,12 +44,8 @@ abbrev pub treeValues : Answer → List ℕ
 treeValues a = detailBy (a .ended) ∷ a .lengths .count ∷ occupiedBy (a .ended) ∷ repeatersBy (a .ended) ∷ a .lengths .each
 
 -- "Numbers 1 to 6 touch nothing", the values included; any other number writes the values and zeros behind them
-abbrev pub touchesBy : Ended → Bool
-touchesBy (Routed occupied repeaters) = true
-touchesBy (Refused number detail) = ltb 6 number
-
 abbrev pub valuesAfter : Answer → List ℕ → List ℕ
-valuesAfter a values = outputAfter (touchesBy (a .ended)) (treeValues a) values
+valuesAfter a values = outputAfter (numberTold a) (treeValues a) values
 
 -- ---- too few values
 

@@ -2,56 +2,25 @@
 use mathlib.Core.Path.{_≡_, refl, sym, ap, _∙_}
 use mathlib.Core.Bool.{false}
 use mathlib.Core.List.{List, [], _∷_, _++_, append-nil}
-use Prim.Native.Nat.{ℕ, zero, suc, _+_, _-_, _≤_, _<_}
-use native.Mathlib.Numerals.{add-one}
+use Prim.Native.Nat.{ℕ, suc, _+_, _-_, _≤_, _<_}
 use native.Mathlib.Omega.{arith}
 use borrow.Rule.Slice.PartMut.{putMid, midOf}
-use lib.ListN.{length, getD, take, drop, set, replicate, length-set}
-use Rattle.basics.specs.Tests.{either}
+use lib.ListN.{length, drop, replicate}
+use lib.Seq.{take-length}
+use Rattle.basics.specs.Tests.{either, ask}
 use Rattle.basics.specs.Zeros.{drop-zeros}
 use Rattle.basics.specs.Promises.{Determines}
+use Rattle.lent.specs.Lent.{touches}
 use Rattle.job_sheet.specs.declared.Verdict.{Verdict}
 use Rattle.job_sheet.specs.declared.Verdict.the-variants as verdict
 use Rattle.job_sheet.specs.Sheet.{isGood, numberOf}
 use Rattle.job_sheet.specs.Theorems.{coincide as one-reading}
 use Rattle.net_tree.specs.declared.Answer.{Answer}
 use Rattle.net_tree.specs.declared.Lengths.{Lengths}
-use Rattle.net_tree.specs.Answers.{Lent, Outcome, refused, answerOf, touches, lentAfter, Promise}
+use Rattle.net_tree.specs.Answers.{Lent, Outcome, refused, answerOf, lentAfter, Promise}
 use Rattle.net_tree.specs.PromiseLaws.{comes-one}
+use Rattle.net_tree.specs.LentLaws.{small}
 use Rattle.dustroute.specs.TreeExport.{valueCount, numberTold, valuesAfter, ShortNumber, TreeComes, short, told, TreeExported}
-
--- ---- the first i numbers of a list, written to the front of a slice
-
-pub record Copied (from s₀ : List ℕ) (i : ℕ) (s : List ℕ) : Type 0 where
-  pub is : s ≡ take i from ++ drop i s₀
-  pub within : i ≤ length from
-  pub kept : length s ≡ length s₀
-
-step : (i : ℕ) (from s₀ : List ℕ) → i < length from → i < length s₀
-    → set (take i from ++ drop i s₀) i (getD from i 0) ≡ take (suc i) from ++ drop (suc i) s₀
-step i [] s₀ h k = absurd (omega arith)
-step i (x ∷ from) [] h k = absurd (omega arith)
-step zero (x ∷ from) (y ∷ s) h k = refl
-step (suc i) (x ∷ from) (y ∷ s) h k = ap (λ (l : List ℕ). x ∷ l) (step i from s (omega arith) (omega arith))
-
-take-all : (l : List ℕ) → take (length l) l ≡ l
-take-all [] = refl
-take-all (x ∷ l) = ap (λ (r : List ℕ). x ∷ r) (take-all l)
-
-module _ {from s₀ : List ℕ} where
-  pub copied-none : Copied from s₀ 0 s₀
-  copied-none = record { is = refl; within = omega arith; kept = refl }
-
-  module _ {i : ℕ} {s : List ℕ} (C : Copied from s₀ i s) where
-    pub copied-next : i < length from → length from ≤ length s₀ → Copied from s₀ (i + 1) (set s i (getD from i 0))
-    copied-next h k = record {
-      is = ap (λ (l : List ℕ). set l i (getD from i 0)) (C .is) ∙ rw add-one (step i from s₀ h (omega arith));
-      within = omega arith;
-      kept = length-set s i (getD from i 0) ∙ C .kept;
-    }
-
-    pub copied-all : length from ≤ i → s ≡ from ++ drop (length from) s₀
-    copied-all h = let e : i ≡ length from = omega (arith, C .within) in C .is ∙ rw (e, take-all)
 
 -- ---- four values over a cleared buffer, and the lengths written to the part behind them
 
@@ -66,23 +35,18 @@ lengths-behind a b c d n each e f =
     let zeros : List ℕ = replicate (n - 4) 0 in
     let k : suc (suc (suc (suc (length zeros)))) - 4 ≡ length zeros = omega arith in
     let m : n - 4 - length each ≡ n - suc (suc (suc (suc (length each)))) = omega arith in
-    rw (f, e, k, take-all, drop-all, append-nil, drop-zeros, m)
+    rw (f, e, k, take-length, drop-all, append-nil, drop-zeros, m)
 
 -- ---- the promise by its cases
 
-small : (v : Verdict) (number : ℕ) → number ≡ either (isGood v) 6 (numberOf v) → touches (refused number 0) ≡ false
-small verdict.Good n e = rw e refl
-small verdict.Sheet n e = rw e refl
-small verdict.Sides n e = rw e refl
-small verdict.Config n e = rw e refl
-small verdict.Position n e = rw e refl
-small verdict.Code n e = rw e refl
+short-small : (v : Verdict) (number : ℕ) → number ≡ either (isGood v) 6 (numberOf v) → touches number ≡ false
+short-small v number e = ask (isGood v) (λ t. rw (e, t)) (λ f. rw (e, f) (small v f))
 
 module _ {sheet : List ℕ} {B : Lent} {values : List ℕ} where
   -- too few values: nothing is touched
   pub tree-short : {r : ℕ} → length values < valueCount → ShortNumber sheet r → TreeExported sheet B values r B values
   tree-short {r = r} h n =
-      let e = small (n .reading .verdict) r (n .number-is) in
+      let e = short-small (n .reading .verdict) r (n .number-is) in
       record {
         outcome = refused r 0;
         comes = short h r n refl;

@@ -8,7 +8,7 @@ ghost use mathlib.Core.List.{[], _∷_, _++_};
 ghost use Prim.Native.Nat.{_-_, _≤_};
 ghost use lib.ListN.{length, replicate};
 ghost use Rattle.lent.specs.Lent.{outputAfter};
-ghost use Rattle.routing.specs.Answers.{numberOf, input, lengthsOf, touches};
+ghost use Rattle.routing.specs.Answers.{numberOf, input, lengthsOf};
 ghost use Rattle.dustroute.specs.Export.{roomOf, configOf, shortRefusal, valuesOf, Exported};
 use room::Cost;
 use room::Nodes;
@@ -46,7 +46,7 @@ fn write_four(values: &mut [u64], detail: u64, second: u64, third: u64, fourth: 
 fn tell(answer: Answer, values: &mut [u64]) -> u32
     requires { ⌜ 4 ≤ length (now values) ⌝ }
     ensures { λ r. ⌜ r ≡ numberOf answer ⌝ }
-    ensures { λ _. ⌜ now (values .exit) ≡ outputAfter (touches answer) (valuesOf answer) (now (values .entry)) ⌝ }
+    ensures { λ _. ⌜ now (values .exit) ≡ outputAfter (numberOf answer) (valuesOf answer) (now (values .entry)) ⌝ }
 {
     match answer {
         Answer::Routed(route) => {

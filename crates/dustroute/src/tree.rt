@@ -76,7 +76,7 @@ fn tell_tree(answer: Answer, values: &mut [u64]) -> u32
             0
         }
         Ended::Refused { number, detail } => {
-            if 6 < number {
+            if lent::touches(number) {
                 write_values(values, detail, 0, 0, answer.lengths);
             }
             number

@@ -1,13 +1,13 @@
 -- Laws of goals: how the class bytes get a goal and lose it again, which of two trials is kept, and that a full queue ends it all.
-use mathlib.Core.Path.{_≡_, refl, ap, _∙_}
+use mathlib.Core.Path.{_≡_, refl, _∙_}
 use mathlib.Core.Logic.{_≢_}
 use mathlib.Core.Bool.{true, false}
-use mathlib.Core.List.{List, [], _∷_, _++_}
+use mathlib.Core.List.{List, [], _++_}
 use Prim.Native.Nat.{ℕ, zero, suc, _+_, _≤_, _<_}
 use native.Mathlib.Decide.{ℕ-discrete}
 use native.Mathlib.Numerals.{add-one}
 use native.Mathlib.Omega.{arith}
-use lib.ListN.{length, getD, set, take, drop, length-set, length-append}
+use lib.ListN.{length, getD, take, drop, length-append}
 use lib.Seq.{take-at, length-take-le}
 use borrow.Author.Tests.{eq-eqb, ne-eqb}
 use Rattle.basics.specs.Tests.{never}
@@ -45,34 +45,6 @@ module _ {S : Site} {blocked classes known previous path : List ℕ} {start : �
       says-one (S .room) (S .kinds) blocked start start _ classes
       (refreshed-says (S .room) (A .grounds .good) goal (S .kinds) blocked start goal blocked start start (goal-left (S .kinds) blocked start goal) (A .grounds .kinds-long) classes′ says h)
       (A .says)
-
--- ---- the loop that copies a path
-
--- the first i cells are copied
-pub record Copied (from to₀ : List ℕ) (count i : ℕ) (to : List ℕ) : Type 0 where
-  pub within : i ≤ count
-  pub is : to ≡ take i from ++ drop i to₀
-  pub kept : length to ≡ length to₀
-
-copy-one : (i : ℕ) (from to₀ : List ℕ) → i < length from → i < length to₀ → set (take i from ++ drop i to₀) i (getD from i 0) ≡ take (suc i) from ++ drop (suc i) to₀
-copy-one i [] to₀ h k = absurd (omega arith)
-copy-one i (x ∷ from) [] h k = absurd (omega arith)
-copy-one zero (x ∷ from) (y ∷ to₀) h k = refl
-copy-one (suc i) (x ∷ from) (y ∷ to₀) h k = ap (λ (l : List ℕ). x ∷ l) (copy-one i from to₀ (omega arith) (omega arith))
-
-module _ (from to₀ : List ℕ) (count : ℕ) (h : count ≤ length from) (k : count ≤ length to₀) where
-  pub copied-none : Copied from to₀ count 0 to₀
-  copied-none = record { within = omega arith; is = refl; kept = refl }
-
-  pub copied-next : {i : ℕ} {to : List ℕ} → Copied from to₀ count i to → i < count → Copied from to₀ count (i + 1) (set to i (getD from i 0))
-  copied-next {i} {to} C l = record {
-    within = omega arith;
-    is = ap (λ (s : List ℕ). set s i (getD from i 0)) (C .is) ∙ rw add-one (copy-one i from to₀ (omega arith) (omega arith));
-    kept = length-set to i (getD from i 0) ∙ C .kept;
-  }
-
-  pub copied-all : {i : ℕ} {to : List ℕ} → Copied from to₀ count i to → count ≤ i → to ≡ take count from ++ drop count to₀
-  copied-all {i} C l = let e : i ≡ count = omega (arith, C .within) in rw e at (C .is)
 
 -- ---- the cheaper one
 

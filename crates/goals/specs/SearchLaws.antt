@@ -8,7 +8,7 @@ use lib.Dec.{eqb}
 use lib.ListN.{length, getD, drop, replicate, length-append}
 use lib.Seq.{take-at}
 use borrow.Author.Tests.{eq-eqb}
-use Rattle.basics.specs.Tests.{either, never, and-left, and-right}
+use Rattle.basics.specs.Tests.{either, never, and-left, and-right, either-true}
 use Rattle.room.specs.declared.Room.{Room}
 use Rattle.room.specs.declared.RouterConfig.{RouterConfig}
 use Rattle.room.specs.declared.Pos.{Pos}
@@ -73,10 +73,6 @@ module _ {size goal : ℕ} {known previous : List ℕ} where
     shown-full x = record { shows = λ G answer s g e. rw e (record { is = refl; fits = omega arith }) }
 
 -- ---- the ends
-
-either-true : (b : Bool) → either b true true ≡ true
-either-true true = refl
-either-true false = refl
 
 module _ (R : Room) (C : RouterConfig) (kinds blocked : List ℕ) (start goal places : ℕ) (long : length kinds ≡ volume R) where
   abbrev T : Task

@@ -64,6 +64,9 @@ sound sheet r (nothing no-meaning e) g =
     let z : Sheet ≡ Good = sym (ap (λ x. x .verdict) e) ∙ g in
     never (cc)
 
+pub accepted-by : {sheet : List ℕ} {r : Reading} → Read sheet r → isGood (r .verdict) ≡ true → Accepted sheet (r .job)
+accepted-by {sheet = sheet} {r = r} read t = sound sheet r read (good-is (r .verdict) t)
+
 verdict-is : (J : Contents) → answer J .verdict ≡ judged J
 verdict-is J = ask (isGood (judged J)) (λ t. rw t (sym (good-is (judged J) t))) (λ f. rw f)
 

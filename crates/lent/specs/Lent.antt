@@ -1,10 +1,15 @@
 -- "1 to 6 touch nothing. 7 to 15 leave every lent writable buffer zero. A success writes the answer, zeros behind it, and zeroes work memory."
 use mathlib.Core.Path.{_≡_}
-use mathlib.Core.Bool.{Bool}
+use mathlib.Core.Bool.{Bool, true}
 use mathlib.Core.List.{List, _++_}
 use Prim.Native.Nat.{ℕ, _-_}
+use lib.Dec.{eqb, ltb}
 use lib.ListN.{length, replicate}
 use Rattle.basics.specs.Tests.{either}
+
+-- "Numbers 1 to 6 touch nothing"; a success has number 0
+abbrev pub touches : ℕ → Bool
+touches number = either (eqb number 0) true (ltb 6 number)
 
 -- all zero, to its very end
 abbrev pub Emptied : List ℕ → List ℕ → Type 0
@@ -14,10 +19,10 @@ Emptied before after = after ≡ replicate (length before) 0
 abbrev pub filled : List ℕ → List ℕ → List ℕ
 filled cells buffer = cells ++ replicate (length buffer - length cells) 0
 
--- an output buffer afterwards, whether or not the call touches memory
-abbrev pub outputAfter : Bool → List ℕ → List ℕ → List ℕ
-outputAfter touched cells buffer = either touched (filled cells buffer) buffer
+-- an output buffer after a call that gave this number, and these cells
+abbrev pub outputAfter : ℕ → List ℕ → List ℕ → List ℕ
+outputAfter number cells buffer = either (touches number) (filled cells buffer) buffer
 
 -- a buffer of work memory afterwards
-abbrev pub workAfter : Bool → List ℕ → List ℕ
-workAfter touched buffer = either touched (replicate (length buffer) 0) buffer
+abbrev pub workAfter : ℕ → List ℕ → List ℕ
+workAfter number buffer = either (touches number) (replicate (length buffer) 0) buffer

@@ -1,6 +1,17 @@
-// Lent memory: cleared to its very end, at each width in use.
+// Lent memory: whether a number touches it; cleared to its very end, at each width in use.
 ghost use mathlib.Core.Path.{_≡_};
 ghost use lib.ListN.{length, replicate};
+ghost use Rattle.lent.specs.Lent.{touches};
+
+// "Numbers 1 to 6 touch nothing"; a success has number 0.
+pub fn touches(number: u32) -> bool
+    ensures { λ r. ⌜ r ≡ touches number ⌝ }
+{
+    if number == 0 {
+        return true;
+    }
+    6 < number
+}
 
 pub fn clear_bytes(s: &mut [u8])
     ensures { λ _. ⌜ now (s .exit) ≡ replicate (length (now (s .entry))) 0 ⌝ }

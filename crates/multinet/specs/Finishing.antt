@@ -10,7 +10,7 @@ use Rattle.routing_resources.specs.Marks.{markedBy, noMarks}
 use Rattle.routing_resources.specs.Resources.{AllCells}
 use Rattle.job_sheet.specs.Sheet.{joined, maxSinks}
 use Rattle.ends.specs.declared.Taps.{Taps}
-use Rattle.ends.specs.Ends.{noTap, tapsIn}
+use Rattle.ends.specs.Ends.{tapsIn}
 use Rattle.ends.specs.EndLaws.{NetIn}
 use Rattle.geometry.specs.Geometry.{standsIn}
 use Rattle.branches.specs.declared.BranchLengths.{BranchLengths}
@@ -19,13 +19,11 @@ use Rattle.repeaters.specs.Repeaters.{repeaterMarks}
 use Rattle.multinet.specs.Tree.{endMarks}
 use Rattle.multinet.specs.StepLaws.{Steps}
 
--- the ends are cells of the marks
+-- the net's ends are in a room that has these marks, one a cell
 pub record EndsIn (source : ℕ) (k : Taps) (marks : List ℕ) : Type 0 where
-  pub source-in : source < length marks
-  pub few : k .count ≤ maxSinks
-  pub whole : length (k .taps) ≡ maxSinks
-  pub terminal-in : (i : ℕ) → i < k .count → getD (k .taps) i noTap .terminal < length marks
-  pub approach-in : (i : ℕ) → i < k .count → getD (k .taps) i noTap .approach < length marks
+  pub room : Room
+  pub net : NetIn room source k
+  pub long : length marks ≡ volume room
 
 -- the buffer has these branches in sheet order
 pub record Holds (R : Room) (L : BranchLengths) (branches : List ℕ) (bs : List (List ℕ)) : Type 0 where

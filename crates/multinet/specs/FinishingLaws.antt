@@ -16,7 +16,7 @@ use Rattle.routing_resources.specs.Resources.{AllCells}
 use Rattle.job_sheet.specs.Sheet.{joined}
 use Rattle.ends.specs.declared.Tap.{Tap}
 use Rattle.ends.specs.declared.Taps.{Taps}
-use Rattle.ends.specs.Ends.{tapsIn}
+use Rattle.ends.specs.Ends.{noTap, tapsIn}
 use Rattle.geometry.specs.Geometry.{standsIn}
 use Rattle.branches.specs.declared.BranchLengths.{BranchLengths}
 use Rattle.branches.specs.Branches.{total, CellsBelow, lengthsIn}
@@ -36,7 +36,13 @@ end-marked m t e a b = b ∙ rw (a, e) (with-or 1 (eqb (t .terminal)) (eqb (t .a
 
 module _ {source : ℕ} {k : Taps} {marks : List ℕ} (E : EndsIn source k marks) where
   pub ends-long : length (tapsIn k) ≡ k .count
-  ends-long = taps-counted k (E .few) (E .whole)
+  ends-long = taps-counted k (E .net .few) (E .net .whole)
+
+  pub source-there : source < length marks
+  source-there = rw (E .long) (E .net .source-in)
+
+  pub tap-there : (i : ℕ) → i < k .count → (getD (k .taps) i noTap .terminal < length marks) × (getD (k .taps) i noTap .approach < length marks)
+  tap-there i h = (rw (E .long) (E .net .terminal-in i h), rw (E .long) (E .net .approach-in i h))
 
   pub ends-marked : {marks′ marks″ : List ℕ} → marks′ ≡ markedBy (eqb source) marks → marks″ ≡ markedBy (λ v. any (endAt v) (tapsIn k)) marks′
       → marks″ ≡ markedBy (isEnd source k) marks
@@ -104,15 +110,7 @@ module _ {R : Room} {source : ℕ} {k : Taps} {L : BranchLengths} {branches occu
       rw (u, used-part (F .holds), e, none-long occupied (F .occupied-clear)) (all-below R (F .bs) (λ i h. F .cells-in i (omega (arith, F .holds .count-is))))
 
   pub ends-in : EndsIn source k forbidden
-  ends-in =
-      let n = none-long forbidden (F .forbidden-clear) in
-      record {
-        source-in = rw n (F .net .source-in);
-        few = F .net .few;
-        whole = F .net .whole;
-        terminal-in = λ i h. rw n (F .net .terminal-in i h);
-        approach-in = λ i h. rw n (F .net .approach-in i h);
-      }
+  ends-in = record { room = R; net = F .net; long = none-long forbidden (F .forbidden-clear) }
 
   pub placeable : {forbidden′ : List ℕ} → forbidden′ ≡ markedBy (isEnd source k) forbidden → repeating.Placeable R source k L branches forbidden′ repeaters links parents line
   placeable f = record {

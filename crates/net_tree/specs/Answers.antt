@@ -4,7 +4,7 @@ use mathlib.Core.Path.{_≡_}
 use mathlib.Core.Bool.{Bool, true, false, _&&_}
 use mathlib.Core.List.{List, [], _∷_, _++_, map}
 use Prim.Native.Nat.{ℕ, _-_, _/_}
-use lib.Dec.{leb, ltb}
+use lib.Dec.{leb}
 use lib.ListN.{length, replicate}
 use Rattle.basics.specs.Tests.{either}
 use Rattle.basics.specs.Lists.{every}
@@ -106,12 +106,12 @@ abbrev pub answerOf : Outcome → Answer
 answerOf (routed bs occupied repeaters) = record { ended = Routed (markedCount occupied) (markedCount repeaters); lengths = branchLengths bs }
 answerOf (refused number detail) = record { ended = Refused number detail; lengths = branchLengths [] }
 
--- ---- the lent buffers
+-- its number, 0 for a tree
+abbrev pub numberFor : Outcome → ℕ
+numberFor (routed bs occupied repeaters) = 0
+numberFor (refused number detail) = number
 
--- "Numbers 1 to 6 touch nothing"
-abbrev pub touches : Outcome → Bool
-touches (routed bs occupied repeaters) = true
-touches (refused number detail) = ltb 6 number
+-- ---- the lent buffers
 
 abbrev pub branchCells : Outcome → List ℕ
 branchCells (routed bs occupied repeaters) = joined bs
@@ -127,18 +127,18 @@ repeaterMarks (refused number detail) = []
 
 abbrev pub lentAfter : Outcome → Lent → Lent
 lentAfter o B = record {
-  branches = outputAfter (touches o) (branchCells o) (B .branches);
-  occupied = outputAfter (touches o) (occupiedMarks o) (B .occupied);
-  repeaters = outputAfter (touches o) (repeaterMarks o) (B .repeaters);
-  kinds = workAfter (touches o) (B .kinds);
-  blocked = workAfter (touches o) (B .blocked);
-  classes = workAfter (touches o) (B .classes);
-  joinable = workAfter (touches o) (B .joinable);
-  known = workAfter (touches o) (B .known);
-  previous = workAfter (touches o) (B .previous);
-  path = workAfter (touches o) (B .path);
-  best = workAfter (touches o) (B .best);
-  queue = workAfter (touches o) (B .queue);
+  branches = outputAfter (numberFor o) (branchCells o) (B .branches);
+  occupied = outputAfter (numberFor o) (occupiedMarks o) (B .occupied);
+  repeaters = outputAfter (numberFor o) (repeaterMarks o) (B .repeaters);
+  kinds = workAfter (numberFor o) (B .kinds);
+  blocked = workAfter (numberFor o) (B .blocked);
+  classes = workAfter (numberFor o) (B .classes);
+  joinable = workAfter (numberFor o) (B .joinable);
+  known = workAfter (numberFor o) (B .known);
+  previous = workAfter (numberFor o) (B .previous);
+  path = workAfter (numberFor o) (B .path);
+  best = workAfter (numberFor o) (B .best);
+  queue = workAfter (numberFor o) (B .queue);
 }
 
 -- the promise of `route_net_tree`

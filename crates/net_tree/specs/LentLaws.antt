@@ -5,10 +5,10 @@ use mathlib.Core.List.{List, [], _++_}
 use Prim.Native.Nat.{ℕ, _+_, _-_, _≤_, _<_}
 use native.Mathlib.Omega.{arith}
 use lib.ListN.{length, drop, replicate, length-append, length-drop, length-replicate}
-use borrow.Author.Tests.{lt-ltb}
+use borrow.Author.Tests.{lt-ltb, ne-eqb}
 use Rattle.basics.specs.Tests.{never}
 use Rattle.basics.specs.Zeros.{drop-zeros}
-use Rattle.lent.specs.Lent.{filled, outputAfter, workAfter, Emptied}
+use Rattle.lent.specs.Lent.{touches, filled, outputAfter, workAfter, Emptied}
 use Rattle.room.specs.Room.{volume}
 use Rattle.job_sheet.specs.declared.Job.{Job}
 use Rattle.job_sheet.specs.declared.Reading.{Reading}
@@ -16,13 +16,16 @@ use Rattle.job_sheet.specs.declared.Verdict.{Verdict}
 use Rattle.job_sheet.specs.declared.Verdict.the-variants as verdict
 use Rattle.job_sheet.specs.Sheet.{Read, isGood, numberOf, joined}
 use Rattle.job_sheet.specs.Accepted.{Accepted}
-use Rattle.job_sheet.specs.Theorems.{sound, usable}
+use Rattle.job_sheet.specs.Theorems.{usable}
 use Rattle.net_tree.specs.declared.Answer.{Answer}
-use Rattle.net_tree.specs.Answers.{Lent, lent, lengthsOf, buffersGood, Outcome, routed, refused, jobOutcome, Comes, unread, unlent, set-out, answerOf, touches, branchCells, occupiedMarks, repeaterMarks, lentAfter, Promise}
+use Rattle.net_tree.specs.Answers.{Lent, lent, lengthsOf, buffersGood, Outcome, routed, refused, jobOutcome, Comes, unread, unlent, set-out, answerOf, numberFor, branchCells, occupiedMarks, repeaterMarks, lentAfter, Promise}
 use Rattle.net_tree.specs.Entry.{Written, Lendable, Cleared, FrontRouted, settledBy}
 use Rattle.net_tree.specs.EntryLaws.{enough}
 
 -- ---- cleared outputs
+
+high : {number : ℕ} → 6 < number → touches number ≡ true
+high {number} h = rw (ne-eqb number 0 (omega arith), lt-ltb 6 number h)
 
 emptied-long : (before : List ℕ) {after : List ℕ} → Emptied before after → length after ≡ length before
 emptied-long before e = ap length e ∙ length-replicate {A = ℕ} (length before) 0
@@ -73,9 +76,9 @@ module _ {sheet : List ℕ} {job : Job} {B : Lent} (A : Lendable sheet job B) {b
         (J .outset) (J .kinds) (J .nodes) (J .blocked) (J .is-set told (A .accepted .means))
         (J .comes told (A .accepted .means) ∙ ap (λ L. jobOutcome told L (J .outset) (J .kinds) (J .blocked)) same-lengths)
 
-    touched : (o : Outcome) → Written o branches branches′ (F .occupied-front) (F .repeaters-front) → touches o ≡ true
+    touched : (o : Outcome) → Written o branches branches′ (F .occupied-front) (F .repeaters-front) → touches (numberFor o) ≡ true
     touched (routed bs marks repeating) w = refl
-    touched (refused number detail) w = lt-ltb 6 number w
+    touched (refused number detail) w = high w
 
     -- marks in front of a cleared buffer
     marks-behind : (before : List ℕ) {zeros : List ℕ} (marks : List ℕ) {after : List ℕ} → Emptied before zeros → volume (job .room) ≤ length before
@@ -88,17 +91,17 @@ module _ {sheet : List ℕ} {job : Job} {B : Lent} (A : Lendable sheet job B) {b
 
     -- a refusal leaves zeros
     refused-after : {number : ℕ} → 6 < number → (buffer mid : List ℕ) {zeros : List ℕ} → length mid ≡ length zeros → Emptied buffer zeros
-        → replicate (length mid) 0 ≡ outputAfter (touches (refused number 0)) [] buffer
+        → replicate (length mid) 0 ≡ outputAfter number [] buffer
     refused-after {number = number} h buffer mid k e =
         let z : length buffer - 0 ≡ length mid = omega (arith, k, emptied-long buffer e) in
-        rw (lt-ltb 6 number h) (ap (λ n. replicate n 0) (sym z))
+        rw (high h) (ap (λ n. replicate n 0) (sym z))
 
     module _ {branches″ occupied″ repeaters″ : List ℕ}
         (sb : branches″ ≡ settledBy (r .ended) branches′) (so : occupied″ ≡ settledBy (r .ended) occupied′) (sr : repeaters″ ≡ settledBy (r .ended) repeaters′) where
       pub record Outputs (o : Outcome) : Type 0 where
-        branches-are : branches″ ≡ outputAfter (touches o) (branchCells o) (B .branches)
-        occupied-are : occupied″ ≡ outputAfter (touches o) (occupiedMarks o) (B .occupied)
-        repeaters-are : repeaters″ ≡ outputAfter (touches o) (repeaterMarks o) (B .repeaters)
+        branches-are : branches″ ≡ outputAfter (numberFor o) (branchCells o) (B .branches)
+        occupied-are : occupied″ ≡ outputAfter (numberFor o) (occupiedMarks o) (B .occupied)
+        repeaters-are : repeaters″ ≡ outputAfter (numberFor o) (repeaterMarks o) (B .repeaters)
 
       outputs : (o : Outcome) → r ≡ answerOf o → Written o branches branches′ (F .occupied-front) (F .repeaters-front) → Outputs o
       outputs (routed bs marks repeating) a w = record {
@@ -116,7 +119,7 @@ module _ {sheet : List ℕ} {job : Job} {B : Lent} (A : Lendable sheet job B) {b
         repeaters-are = sr ∙ ap (λ x. settledBy (x .ended) repeaters′) a ∙ refused-after w (B .repeaters) repeaters′ kr er;
       }
 
-      work-after : (buffer mid : List ℕ) {final : List ℕ} → length mid ≡ length buffer → Emptied mid final → final ≡ workAfter (touches job-outcome) buffer
+      work-after : (buffer mid : List ℕ) {final : List ℕ} → length mid ≡ length buffer → Emptied mid final → final ≡ workAfter (numberFor job-outcome) buffer
       work-after buffer mid k e = e ∙ rw (touched job-outcome (F .is-routed .outputs)) (ap (λ n. replicate n 0) k)
 
       -- work memory that keeps its lengths, and is cleared
@@ -151,11 +154,11 @@ module _ {sheet : List ℕ} {job : Job} {B : Lent} (A : Lendable sheet job B) {b
 
 -- ---- refused before anything is touched
 
-small-stays : (B : Lent) (o : Outcome) → touches o ≡ false → B ≡ lentAfter o B
+small-stays : (B : Lent) (o : Outcome) → touches (numberFor o) ≡ false → B ≡ lentAfter o B
 small-stays B o e = rw e refl
 
-small : (v : Verdict) → isGood v ≡ false → touches (refused (numberOf v) 0) ≡ false
-small verdict.Good e = refl
+pub small : (v : Verdict) → isGood v ≡ false → touches (numberOf v) ≡ false
+small verdict.Good e = never (cc)
 small verdict.Sheet e = refl
 small verdict.Sides e = refl
 small verdict.Config e = refl
@@ -170,17 +173,6 @@ promise-unread {B = B} {reading = reading} p f a = record {
   answer = a;
   lent-is = small-stays B (refused (numberOf (reading .verdict)) 0) (small (reading .verdict) f);
 }
-
-good-verdict : (v : Verdict) → isGood v ≡ true → v ≡ verdict.Good
-good-verdict verdict.Good e = refl
-good-verdict verdict.Sheet e = never (cc)
-good-verdict verdict.Sides e = never (cc)
-good-verdict verdict.Config e = never (cc)
-good-verdict verdict.Position e = never (cc)
-good-verdict verdict.Code e = never (cc)
-
-pub accepted-by : {sheet : List ℕ} {reading : Reading} → Read sheet reading → isGood (reading .verdict) ≡ true → Accepted sheet (reading .job)
-accepted-by {sheet = sheet} {reading = reading} p t = sound sheet reading p (good-verdict (reading .verdict) t)
 
 -- number 6
 pub promise-unlent : {sheet : List ℕ} {B : Lent} {job : Job} → Accepted sheet job → buffersGood (job .room) (lengthsOf B) ≡ false → {r : Answer} → r ≡ answerOf (refused 6 0) → Promise sheet B r B

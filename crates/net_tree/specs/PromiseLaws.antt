@@ -17,7 +17,7 @@ use Rattle.net_tree.specs.declared.Answer.{Answer}
 use Rattle.net_tree.specs.Answers.{Lent, Outcome, jobOutcome, Comes, unread, unlent, set-out, answerOf, lentAfter, Promise}
 
 -- a sheet that is accepted is not refused by its reading
-read-good : {sheet : List ℕ} {r : Reading} {J : Contents} → Read sheet r → Means sheet J → judged J ≡ verdict.Good → isGood (r .verdict) ≡ true
+pub read-good : {sheet : List ℕ} {r : Reading} {J : Contents} → Read sheet r → Means sheet J → judged J ≡ verdict.Good → isGood (r .verdict) ≡ true
 read-good {sheet = sheet} {r = r} {J = J} p m g = rw (answers-meaning sheet J r m p, g)
 
 clash : {X : Type 0} → false ≡ true → X

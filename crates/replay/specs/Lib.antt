@@ -4,3 +4,4 @@ pub mod Verdicts
 pub mod VerdictLaws
 pub mod Runs
 pub mod RunLaws
+pub mod PromiseLaws

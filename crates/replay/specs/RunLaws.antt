@@ -6,13 +6,13 @@ use Prim.Native.Nat.{ℕ, suc, _+_, _*_, _-_, _≤_, _<_}
 use native.Mathlib.Omega.{arith}
 use Rattle.replay.specs.declared.searches.Stored.{Stored}
 use borrow.Author.Tests.{not-true, not-false}
-use Rattle.stored.specs.Runs.{isSame, longerBy, queueMore, sumOf}
+use Rattle.stored.specs.Runs.{isSame, longerBy, queueMore, sumOf, Narrowed}
 use Rattle.replay.specs.declared.compare.Lent.{Lent}
 use Rattle.stored.specs.declared.runs.Verdict.{Verdict}
 use Rattle.stored.specs.declared.runs.Gap.{Gap}
 use Rattle.replay.specs.Searches.{storedAt}
 use Rattle.replay.specs.Verdicts.{RanIn}
-use Rattle.replay.specs.Runs.{lent, storedLengths, cellsMore, longerLengths, SameTwice, Narrowed, isNarrowed}
+use Rattle.replay.specs.Runs.{lent, storedLengths, cellsMore, longerLengths, SameTwice, RanWith, isNarrowed}
 use Rattle.replay.specs.Runs.{tally, ReplayedOne, differs, twice-alone, narrowed, oneMore, numberedFrom}
 
 pub lent-by : {cells cells′ queue queue′ : ℕ} → cells ≡ cells′ → queue ≡ queue′ → lent cells queue ≡ lent cells′ queue′
@@ -42,7 +42,7 @@ module _ {file : List ℕ} {longs : ℕ} {S : Stored} where
       pub one-twice : not m ≡ true → ReplayedOne file longs S (tally 2 true)
       one-twice l = let t = not-false b n in twice-alone (rw t at T) (sym e ∙ not-true m l) refl
 
-      pub one-narrowed : not m ≡ false → {left : ℕ} → left ≡ longs → {G : Gap} → Narrowed file left S G → {runs : ℕ} → runs ≡ sumOf 2 (G .runs)
+      pub one-narrowed : not m ≡ false → {left : ℕ} → left ≡ longs → {G : Gap} → Narrowed (RanWith file left S) (S .places) G → {runs : ℕ} → runs ≡ sumOf 2 (G .runs)
           → ReplayedOne file longs S (tally runs (G .agreed))
       one-narrowed l e′ {G} N {runs} s = let t = not-false b n in narrowed (rw t at T) (sym e ∙ not-false m l) G (rw e′ at N) runs s refl
 

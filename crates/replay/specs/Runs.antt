@@ -6,7 +6,7 @@ use mathlib.Core.List.{List}
 use Prim.Native.Nat.{ℕ, zero, suc, _*_, _-_}
 use lib.Dec.{eqb, ltb}
 use Rattle.basics.specs.Tests.{either}
-use Rattle.stored.specs.Runs.{Turns, isOpen, isSame, longerBy, middleOf, narrowedBy, queueMore, sumOf, wholeGap}
+use Rattle.stored.specs.Runs.{Turns, isSame, longerBy, queueMore, sumOf, Narrowed}
 use Rattle.replay.specs.declared.searches.Stored.{Stored}
 use Rattle.stored.specs.declared.runs.Verdict.{Verdict}
 use Rattle.replay.specs.declared.compare.Lent.{Lent}
@@ -43,15 +43,9 @@ pub record SameTwice (file : List ℕ) (longs : ℕ) (S : Stored) (r : Bool) : T
 
 -- ---- the least queue
 
--- a gap that is open is halved by a run half way; any other stays
-pub data Halved (file : List ℕ) (longs : ℕ) (S : Stored) (G r : Gap) : Type 0 where
-  stays : isOpen G ≡ false → r ≡ G → Halved file longs S G r
-  halves : isOpen G ≡ true → (places : ℕ) → places ≡ middleOf (G .full) (G .enough) → (queue : ℕ) → queue ≡ places * 2
-      → (v : Verdict) → RanIn file longs S (lent (S .lent) queue) v → r ≡ narrowedBy G places v → Halved file longs S G r
-
--- halved 32 times: a count of places has 32 bits
-pub record Narrowed (file : List ℕ) (longs : ℕ) (S : Stored) (r : Gap) : Type 0 where
-  pub halvings : Turns (λ _. Halved file longs S) (wholeGap (S .places)) 32 r
+-- a run with a queue of so many numbers
+abbrev pub RanWith : List ℕ → ℕ → Stored → ℕ → Verdict → Type 0
+RanWith file longs S queue v = RanIn file longs S (lent (S .lent) queue) v
 
 -- small rooms whose search came to an end of its own: a route, no route, or the node limit passed
 unfoldable pub isNarrowed : Stored → Bool
@@ -65,7 +59,7 @@ tally runs agreed = record { runs = runs; agreed = agreed }
 pub data ReplayedOne (file : List ℕ) (longs : ℕ) (S : Stored) (r : Tally) : Type 0 where
   differs : SameTwice file longs S false → r ≡ tally 0 false → ReplayedOne file longs S r
   twice-alone : SameTwice file longs S true → isNarrowed S ≡ false → r ≡ tally 2 true → ReplayedOne file longs S r
-  narrowed : SameTwice file longs S true → isNarrowed S ≡ true → (G : Gap) → Narrowed file longs S G → (runs : ℕ) → runs ≡ sumOf 2 (G .runs)
+  narrowed : SameTwice file longs S true → isNarrowed S ≡ true → (G : Gap) → Narrowed (RanWith file longs S) (S .places) G → (runs : ℕ) → runs ≡ sumOf 2 (G .runs)
       → r ≡ tally runs (G .agreed) → ReplayedOne file longs S r
 
 -- ---- the file

@@ -1,11 +1,12 @@
 -- When a search's answer, and all lent memory behind it, are as stored. Definitions alone; their laws are in VerdictLaws.
 use mathlib.Core.Path.{_≡_}
-use mathlib.Core.Bool.{Bool, true, false, _&&_}
+use mathlib.Core.Bool.{Bool, true, false, _&&_, not}
 use mathlib.Core.List.{List, []}
 use Prim.Native.Nat.{ℕ}
 use lib.Dec.{eqb, leb}
 use Rattle.basics.specs.Tests.{either}
-use Rattle.stored.specs.Runs.{fullIf, sameIf, touchesNothing}
+use Rattle.lent.specs.Lent.{touches}
+use Rattle.stored.specs.Runs.{fullIf, sameIf}
 use Rattle.routing.specs.declared.Answer.{Answer}
 use Rattle.routing.specs.declared.Answer.the-variants.{Routed, Refused, NotRouteable, NoRoute, LimitPassed, QueueFull}
 use Rattle.routing.specs.declared.Route.{Route}
@@ -69,7 +70,7 @@ memoryHolds kept cells M = holds kept cells (M .path) && workHolds kept (M .know
 unfoldable pub verdictOf : Told → List ℕ → Answer → Memory → Verdict
 verdictOf T cells a M =
     either (sameAnswer a T)
-    (sameIf (memoryHolds (touchesNothing (T .number)) cells M))
+    (sameIf (memoryHolds (not (touches (T .number))) cells M))
     (either (fullEarly a T) (fullIf (memoryHolds false [] M)) Other)
 
 -- ---- a run

@@ -14,7 +14,6 @@ use stored::memory::spoil_longs;
 use stored::memory::spoil_words;
 use stored::memory::words_hold;
 use stored::runs::Verdict;
-use stored::runs::touches_nothing;
 ghost use mathlib.Core.Path.{_≡_};
 ghost use lib.ListN.{length};
 ghost use Rattle.stored.specs.Runs.{fullIf, sameIf};
@@ -150,7 +149,7 @@ fn judge(
 {
     let at = told.cells;
     if same_answer(answer, told) {
-        let kept = touches_nothing(told.number);
+        let kept = !lent::touches(told.number);
         let count = told.length;
         return same_if(memory_holds(kept, file, at, count, path, known, previous, classes, queue));
     }

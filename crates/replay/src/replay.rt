@@ -16,8 +16,9 @@ use stored::runs::queue_more;
 use stored::runs::twice;
 ghost use mathlib.Core.Path.{_≡_};
 ghost use lib.ListN.{length};
+ghost use Rattle.stored.specs.Runs.{Halved, Narrowed};
 ghost use Rattle.replay.specs.Runs.{storedLengths, cellsMore, longerLengths, SameTwice};
-ghost use Rattle.replay.specs.Runs.{Halved, Narrowed, isNarrowed, ReplayedOne, oneFurther, Next, Replayed, oneMore, numbered};
+ghost use Rattle.replay.specs.Runs.{RanWith, isNarrowed, ReplayedOne, oneFurther, Next, Replayed, oneMore, numbered};
 
 struct Tally {
     runs: u32,
@@ -74,7 +75,7 @@ fn same_twice(file: &[u8], stored: Stored, queue: &mut [u64]) -> bool
 
 // Halves the gap: half way the answer is the stored one, or the queue is full. A gap of one place stays.
 fn narrow_once(file: &[u8], stored: Stored, gap: Gap, queue: &mut [u64]) -> Gap
-    ensures { λ r. ⌜ Halved (now (file .entry)) (length (now (queue .entry))) stored gap r ⌝ }
+    ensures { λ r. ⌜ Halved (RanWith (now (file .entry)) (length (now (queue .entry))) stored) gap r ⌝ }
 {
     if !is_open(gap) {
         return gap;
@@ -91,7 +92,7 @@ fn narrow_once(file: &[u8], stored: Stored, gap: Gap, queue: &mut [u64]) -> Gap
 // Looks for the least queue that gives the stored answer: with one place less the queue is full. A count of places has 32
 // bits, so that 32 turns close the gap.
 fn narrow(file: &[u8], stored: Stored, queue: &mut [u64]) -> Gap
-    ensures { λ r. ⌜ Narrowed (now (file .entry)) (length (now (queue .entry))) stored r ⌝ }
+    ensures { λ r. ⌜ Narrowed (RanWith (now (file .entry)) (length (now (queue .entry))) stored) (stored .places) r ⌝ }
 {
     let mut gap = Gap {
         full: 0,

@@ -8,3 +8,4 @@ pub mod SheetLaws
 pub mod Sheets
 pub mod VerdictLaws
 pub mod Verdicts
+pub mod PromiseLaws

@@ -5,7 +5,7 @@ use mathlib.Core.List.{List}
 use Prim.Native.Nat.{ℕ, _*_, _-_}
 use lib.Dec.{eqb, ltb, leb}
 use Rattle.basics.specs.Tests.{either}
-use Rattle.stored.specs.Runs.{Turns, isOpen, isSame, longerBy, middleOf, narrowedBy, queueMore, wholeGap}
+use Rattle.stored.specs.Runs.{isSame, longerBy, queueMore, Narrowed}
 use Rattle.room.specs.Room.{volume}
 use Rattle.job_sheet.specs.declared.Job.{Job}
 use Rattle.job_sheet.specs.declared.Reading.{Reading}
@@ -27,7 +27,7 @@ lesserOf a b = either (ltb a b) a b
 
 -- V, or the stored length where that is shorter, and the node limit
 pub data SizeOf (sheet : List ℕ) (lent : ℕ) (r : Size) : Type 0 where
-  refused : (reading : Reading) → Read sheet reading → isGood (reading .verdict) ≡ false → r .cells ≡ lent → SizeOf sheet lent r
+  refused : (reading : Reading) → Read sheet reading → isGood (reading .verdict) ≡ false → r .cells ≡ lent → r .limit ≡ 0 → SizeOf sheet lent r
   accepted : (job : Job) → Accepted sheet job → r .cells ≡ lesserOf lent (volume (job .room)) → r .limit ≡ job .config .limit .0 → SizeOf sheet lent r
 
 -- ---- lengths
@@ -67,17 +67,15 @@ dueIn kind S = either (leb kind 1) true (either (eqb (S .total) 0) false true)
 
 -- ---- the least queue
 
--- a gap that is open is halved by a run half way; any other stays
-pub data Halved (sheet : List ℕ) (A : Asked) (Z : Size) (S : Stored) (cells covered marks : List ℕ) (longs : ℕ) (G r : Gap) : Type 0 where
-  stays : isOpen G ≡ false → r ≡ G → Halved sheet A Z S cells covered marks longs G r
-  halves : isOpen G ≡ true → (places : ℕ) → places ≡ middleOf (G .full) (G .enough) → (queue : ℕ) → queue ≡ places * 2
-      → (v : Verdict) → Ran sheet (lens (Z .cells) (A .branch) queue) S (record { number = 13; most = Z .limit }) cells covered marks longs v
-      → r ≡ narrowedBy G places v → Halved sheet A Z S cells covered marks longs G r
+-- a run with a queue of so many numbers; where that is too short, a detail up to the node limit
+abbrev pub RanWith : List ℕ → Asked → Size → Stored → (cells covered marks : List ℕ) → ℕ → ℕ → Verdict → Type 0
+RanWith sheet A Z S cells covered marks longs queue v =
+    Ran sheet (lens (Z .cells) (A .branch) queue) S (record { number = 13; most = Z .limit }) cells covered marks longs v
 
--- as often as a count of places has bits: every run gives the stored answer, or the number of a queue that is full
+-- every run gives the stored answer, or the number of a queue that is full
 pub record Narrows (sheet : List ℕ) (A : Asked) (Z : Size) (S : Stored) (cells covered marks : List ℕ) (longs : ℕ) (r : Bool) : Type 0 where
   pub gap : Gap
-  pub halved : Turns (λ _. Halved sheet A Z S cells covered marks longs) (wholeGap (A .places)) 32 gap
+  pub narrowed : Narrowed (RanWith sheet A Z S cells covered marks longs) (A .places) gap
   pub says : r ≡ gap .agreed
 
 -- the least queue is looked for; or a run at the lengths of its kind comes to what it must

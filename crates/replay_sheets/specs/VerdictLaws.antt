@@ -9,7 +9,7 @@ use lib.Dec.{eqb, leb}
 use lib.ListN.{length, getD, take, drop, length-take}
 use lib.Seq.{length-take-le, getD-take, take-at}
 use borrow.Author.Tests.{not-true, not-false, eqb-true, leb-true, eq-eqb, ne-eqb}
-use Rattle.basics.specs.Tests.{ask, and-left, and-right, and-both}
+use Rattle.basics.specs.Tests.{ask, and-left, and-right, and-both, never}
 use Rattle.net_tree.specs.declared.Lengths.{Lengths}
 use Rattle.net_tree.specs.Answers.{Lent, lent, lengthsOf}
 use Rattle.stored.specs.Memory.{Rubbish}
@@ -52,7 +52,7 @@ module _ (a b : List ℕ) where
       last false = refl
 
       apart : eqb k n ≡ false → k ≡ n → ⊥
-      apart f e = let t = eq-eqb k n e in let z : _≡_ {A = ℕ} 0 1 = cc in omega arith
+      apart f e = let t = eq-eqb k n e in never (cc)
 
       later : sameBelow n a b ≡ false → sameBelow (suc n) a b ≡ false
       later g = rw g (last (eqb (getD a n 0) (getD b n 0)))

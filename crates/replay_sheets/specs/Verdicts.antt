@@ -1,12 +1,13 @@
 -- When an answer, and all lent memory behind it, are as stored. Definitions alone; their laws are in VerdictLaws.
 use mathlib.Core.Path.{_≡_}
-use mathlib.Core.Bool.{Bool, true, false, _&&_}
+use mathlib.Core.Bool.{Bool, true, false, _&&_, not}
 use mathlib.Core.List.{List, []}
 use Prim.Native.Nat.{ℕ, zero, suc}
 use lib.Dec.{eqb, leb}
 use lib.ListN.{length, getD, replicate}
 use Rattle.basics.specs.Tests.{either}
-use Rattle.stored.specs.Runs.{fullIf, sameIf, touchesNothing}
+use Rattle.lent.specs.Lent.{touches}
+use Rattle.stored.specs.Runs.{fullIf, sameIf}
 use Rattle.branches.specs.declared.BranchLengths.{BranchLengths}
 use Rattle.branches.specs.Branches.{markedCount}
 use Rattle.net_tree.specs.declared.Lengths.{Lengths}
@@ -88,7 +89,7 @@ memoryHolds kept count cells covered marks B =
 unfoldable pub verdictOf : Stored → Shortage → (cells covered marks : List ℕ) → Answer → Lent → Verdict
 verdictOf S F cells covered marks a B =
     either (sameAnswer a S)
-    (sameIf (memoryHolds (touchesNothing (S .number)) (S .occupied) cells covered marks B))
+    (sameIf (memoryHolds (not (touches (S .number))) (S .occupied) cells covered marks B))
     (either (shortAnswer a F) (fullIf (memoryHolds false 0 [] [] [] B)) Other)
 
 -- ---- a run

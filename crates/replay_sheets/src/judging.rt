@@ -10,7 +10,6 @@ use stored::memory::covers;
 use stored::memory::longs_hold;
 use stored::memory::words_hold;
 use stored::runs::Verdict;
-use stored::runs::touches_nothing;
 ghost use mathlib.Core.Path.{_≡_};
 ghost use Rattle.stored.specs.Runs.{fullIf, sameIf};
 ghost use Rattle.net_tree.specs.Answers.{lent};
@@ -300,7 +299,7 @@ pub fn judge(
     ensures { λ r. ⌜ r ≡ verdictOf stored shortage (now (cells .entry)) (now (covered .entry)) (now (marks .entry)) answer (lent (now (branches .entry)) (now (occupied .entry)) (now (repeaters .entry)) (now (kinds .entry)) (now (blocked .entry)) (now (classes .entry)) (now (joinable .entry)) (now (known .entry)) (now (previous .entry)) (now (path .entry)) (now (best .entry)) (now (queue .entry))) ⌝ }
 {
     if same_answer(answer, stored) {
-        let kept = touches_nothing(stored.number);
+        let kept = !lent::touches(stored.number);
         return same_if(memory_holds(
             kept,
             stored.occupied,

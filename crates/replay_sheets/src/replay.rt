@@ -28,8 +28,8 @@ ghost use Prim.Native.Nat.{_-_};
 ghost use lib.Dec.{eqb};
 ghost use lib.ListN.{length};
 ghost use Rattle.basics.specs.Tests.{either};
-ghost use Rattle.stored.specs.Runs.{longerBy};
-ghost use Rattle.replay_sheets.specs.Runs.{lesserOf, SizeOf, longerLens, branchOf, lensOf, isFull, agreesIn, dueIn, Halved, Narrows, AgreesIn};
+ghost use Rattle.stored.specs.Runs.{longerBy, Halved};
+ghost use Rattle.replay_sheets.specs.Runs.{lesserOf, SizeOf, longerLens, branchOf, lensOf, isFull, agreesIn, dueIn, RanWith, Narrows, AgreesIn};
 ghost use Rattle.replay_sheets.specs.Replays.{InKind, InKinds, Next, Replayed};
 
 // The kinds of comparison: buffers of exactly V cells, longer ones, a branch buffer exactly full, one that is one cell short, and
@@ -183,7 +183,7 @@ fn narrow_once(
     marks: &[u8],
     queue: &mut [u64],
 ) -> Gap
-    ensures { λ r. ⌜ Halved (now (sheet .entry)) asked size stored (now (cells .entry)) (now (covered .entry)) (now (marks .entry)) (length (now (queue .entry))) gap r ⌝ }
+    ensures { λ r. ⌜ Halved (RanWith (now (sheet .entry)) asked size stored (now (cells .entry)) (now (covered .entry)) (now (marks .entry)) (length (now (queue .entry)))) gap r ⌝ }
 {
     if !is_open(gap) {
         return gap;

@@ -13,7 +13,7 @@ use Rattle.room.specs.declared.RouterConfig.{RouterConfig}
 use Rattle.room.specs.declared.Neighbour.the-variants.{Outside}
 use Rattle.room.specs.Room.{Good, Within, at, by, moves, cellOf, posOf, between, stays, neighbour}
 use Rattle.room.specs.RoomLaws.{cell-in, pos-cell, pos-in}
-use Rattle.room.specs.MoveLaws.{not-stays}
+use Rattle.room.specs.MoveLaws.{not-stays, one-less, one-less-in}
 use Rattle.room_search.specs.declared.Line.{Line}
 use Rattle.room_search.specs.declared.Spot.{Spot}
 use Rattle.room_search.specs.declared.Step.the-variants.{On, Full}
@@ -134,22 +134,16 @@ module _ (R : Room) (G : Good R) (from : Spot) (P : Placed R from) (m : Move) (x
   pub beside-within : Within R (at (from .at .x + m .x - 1) (from .at .y) (from .at .z + m .z - 1))
   beside-within =
       let w : Within R (from .at) = rw (P .is) (pos-in R G (from .cell) (P .inside)) in
-      record { x-in = lower x-low x-high; y-in = w .y-in; z-in = lower z-low z-high }
-    where
-      lower : {a side : ℕ} → 1 ≤ a → a ≤ side → a - 1 < side
-      lower h k = omega arith
+      record { x-in = one-less-in x-low x-high; y-in = w .y-in; z-in = one-less-in z-low z-high }
 
   pub beside-aside : (cell : ℕ) → cell ≡ cellOf R (at (from .at .x + m .x - 1) (from .at .y) (from .at .z + m .z - 1))
       → Aside R from (record { cell = cell; at = at (from .at .x + m .x - 1) (from .at .y) (from .at .z + m .z - 1) }) m
   beside-aside cell e = record {
     there = record { inside = rw e (cell-in R _ beside-within); is = sym (ap (posOf R) e ∙ pos-cell R _ beside-within) };
-    x-by = back x-low;
+    x-by = one-less x-low;
     level = refl;
-    z-by = back z-low;
+    z-by = one-less z-low;
   }
-    where
-      back : {a : ℕ} → 1 ≤ a → a - 1 + 1 ≡ a
-      back h = omega arith
 
 -- ---- the four columns are the twelve moves
 

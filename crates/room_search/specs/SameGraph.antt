@@ -1,7 +1,7 @@
 -- Class bytes that say what it takes to enter each cell make the task's own graph.
 use mathlib.Core.Path.{_≡_, refl, _∙_, fun-ext}
 use mathlib.Core.Logic.{_≢_}
-use mathlib.Core.Bool.{Bool, true, false}
+use mathlib.Core.Bool.{true}
 use mathlib.Core.List.{List, [], _∷_, _++_}
 use Prim.Native.Nat.{ℕ, _*_, _<_}
 use native.Mathlib.Decide.{ℕ-discrete}
@@ -10,7 +10,7 @@ use lib.Dec.{eqb}
 use lib.ListN.{length, getD, length-set}
 use lib.Seq.{getD-set-same, getD-set-other}
 use borrow.Author.Tests.{eq-eqb, ne-eqb}
-use Rattle.basics.specs.Tests.{either}
+use Rattle.basics.specs.Tests.{either-true}
 use Rattle.room.specs.declared.Room.{Room}
 use Rattle.room.specs.declared.Move.{Move}
 use Rattle.room.specs.declared.RouterConfig.{RouterConfig}
@@ -57,14 +57,10 @@ module _ (T : Task) (classes : List ℕ) (P : Plain (T .room) (T .kinds) classes
   pub made-entering : (v : ℕ) → v < volume (T .room) → getD made v 0 ≡ entering T v
   made-entering v h = go (ℕ-discrete v (T .goal)) (ℕ-discrete v (T .start))
     where
-      end : (b : Bool) → either b true true ≡ true
-      end true = refl
-      end false = refl
-
       go : Dec (v ≡ T .goal) → Dec (v ≡ T .start) → getD made v 0 ≡ entering T v
       go (yes e) d =
           rw e (getD-set-same (withEnd (T .room) (T .kinds) (T .start) classes) (T .goal) (classAt true (T .room) (T .kinds) (T .goal)) 0 (rw length-set (omega (arith, P .long)))
-          ∙ rw (eq-eqb (T .goal) (T .goal) refl, end (eqb (T .goal) (T .start))))
+          ∙ rw (eq-eqb (T .goal) (T .goal) refl, either-true (eqb (T .goal) (T .start))))
       go (no n) d = other v h n d
 
   pub made-graph : graphOf (T .room) (T .config) (λ v. getD made v 0) (T .start) (T .goal) (T .places) ≡ graph T

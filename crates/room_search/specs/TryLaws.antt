@@ -16,7 +16,7 @@ use Rattle.room.specs.declared.RouterConfig.{RouterConfig}
 use Rattle.room.specs.declared.Neighbour.the-variants.{Inside, Outside}
 use Rattle.room.specs.Room.{Good, Within, Moved, at, volume, posOf, cellOf, between, stays, neighbour, distance}
 use Rattle.room.specs.RoomLaws.{cell-pos, pos-cell, pos-in, cell-in}
-use Rattle.room.specs.MoveLaws.{leads-to, not-stays}
+use Rattle.room.specs.MoveLaws.{leads-to, not-stays, one-less-in}
 use Rattle.basics.specs.Tests.{ask}
 use Rattle.room.specs.Units.{Fair}
 use Rattle.best_first.specs.Search
@@ -75,10 +75,7 @@ module _ (R : Room) (G : Good R) (from beside : Spot) (m : Move) (P : Placed R f
 
     landing-in : Within R landing
     unfolding landing
-    landing-in = record { x-in = beside-in .x-in; y-in = lower low high; z-in = beside-in .z-in }
-      where
-        lower : {a side : ℕ} → 1 ≤ a → a ≤ side → a - 1 < side
-        lower h k = omega arith
+    landing-in = record { x-in = beside-in .x-in; y-in = one-less-in low high; z-in = beside-in .z-in }
 
     landing-moved : Moved (posOf R (from .cell)) m landing
     unfolding landing

@@ -1,7 +1,7 @@
 -- What `astar_route` answers, and what every lent buffer then holds, as "Numbers that come back" has it for a search. Each input determines all of
 -- it.
 use mathlib.Core.Path.{_≡_}
-use mathlib.Core.Bool.{Bool, true, false, _&&_}
+use mathlib.Core.Bool.{Bool, _&&_}
 use mathlib.Core.List.{List, []}
 use Prim.Native.Nat.{ℕ, _-_, _/_}
 use lib.Dec.{leb, ltb, eqb}
@@ -117,15 +117,6 @@ expandedOf (QueueFull x) = 0
 
 -- ---- the lent buffers
 
--- "Numbers 1 to 6 touch nothing"
-abbrev pub touches : Answer → Bool
-touches (Routed r) = true
-touches (Refused why) = false
-touches (NotRouteable cell) = true
-touches (NoRoute x) = true
-touches (LimitPassed x) = true
-touches (QueueFull x) = true
-
 -- the route's cells, none where there is no route
 abbrev pub cellsOf : search.Answer → List ℕ
 cellsOf (search.route path cost x) = path
@@ -144,11 +135,11 @@ cellsFor (QueueFull x) I = []
 -- the promise of `astar_route`
 pub record Promise (I : Input) (path known previous classes queue : List ℕ) (r : Answer) (path′ known′ previous′ classes′ queue′ : List ℕ) : Type 0 where
   pub answer : r ≡ answerOf I
-  pub path-is : path′ ≡ outputAfter (touches (answerOf I)) (cellsFor (answerOf I) I) path
-  pub known-is : known′ ≡ workAfter (touches (answerOf I)) known
-  pub previous-is : previous′ ≡ workAfter (touches (answerOf I)) previous
-  pub classes-is : classes′ ≡ workAfter (touches (answerOf I)) classes
-  pub queue-is : queue′ ≡ workAfter (touches (answerOf I)) queue
+  pub path-is : path′ ≡ outputAfter (numberOf (answerOf I)) (cellsFor (answerOf I) I) path
+  pub known-is : known′ ≡ workAfter (numberOf (answerOf I)) known
+  pub previous-is : previous′ ≡ workAfter (numberOf (answerOf I)) previous
+  pub classes-is : classes′ ≡ workAfter (numberOf (answerOf I)) classes
+  pub queue-is : queue′ ≡ workAfter (numberOf (answerOf I)) queue
 
 abbrev pub lengthsOf : List ℕ → List ℕ → List ℕ → List ℕ → List ℕ → Lengths
 lengthsOf path known previous classes queue = record {

@@ -1,17 +1,16 @@
 -- The promise of the public search, by its cases; and that it determines everything.
 use mathlib.Core.Path.{_≡_, refl, sym, ap, _∙_}
-use mathlib.Core.Bool.{Bool, true, false, _&&_}
+use mathlib.Core.Bool.{true, false, _&&_}
 use mathlib.Core.List.{List}
 use Prim.Native.Nat.{ℕ, _-_, _/_}
 use native.Mathlib.Nat.{sub-zero}
-use native.Mathlib.Omega.{arith}
 use lib.Dec.{leb, ltb, eqb}
 use lib.ListN.{length, getD}
 use borrow.Author.Tests.{leb-true, ltb-true, eqb-true, eq-eqb}
-use Rattle.basics.specs.Tests.{either, ask, and-left, and-right}
+use Rattle.basics.specs.Tests.{ask, and-left, and-right, never, either-true}
 use Rattle.basics.specs.Lists.{every}
 use Rattle.basics.specs.Promises.{Determines}
-use Rattle.lent.specs.Lent.{Emptied}
+use Rattle.lent.specs.Lent.{touches, Emptied}
 use Rattle.room.specs.declared.Room.{Room}
 use Rattle.room.specs.declared.RouterConfig.{RouterConfig}
 use Rattle.room.specs.Room.{sidesGood, volume}
@@ -27,16 +26,13 @@ use Rattle.routing.specs.declared.Ends.the-variants.{Good as EndsGood, B
 use Rattle.routing.specs.declared.Answer.{Answer}
 use Rattle.routing.specs.declared.Answer.the-variants.{Refused, NotRouteable}
 use Rattle.room_search.specs.Routing.{routeableKind, routeable, searched}
-use Rattle.routing.specs.Answers.{Input, taskOf, buffersGood, endsInside, judged, answered, fitAnswer, answerOf, touches, cellsOf, cellsFor, Promise, input, lengthsOf}
+use Rattle.routing.specs.Answers.{Input, taskOf, buffersGood, endsInside, judged, answered, fitAnswer, answerOf, refusalNumber, numberOf, cellsOf, cellsFor, Promise, input, lengthsOf}
 use Rattle.routing.specs.Entry.{endsOf, Roomy, Fitted, searchTask}
 
 -- ---- an input that is judged fit
 
 differ : {X : Type 0} (why : Refusal) → Unfit why ≡ Fit → X
-differ why e = let z : _≡_ {A = ℕ} 0 1 = cc in absurd (omega-none z)
-  where
-    omega-none : _≡_ {A = ℕ} 0 1 → ⊥
-    omega-none z = omega arith
+differ why e = never (cc)
 
 record Passed (R : Room) (C : RouterConfig) (kinds : List ℕ) (start goal : ℕ) (L : Lengths) : Type 0 where
   sides : sidesGood R ≡ true
@@ -86,13 +82,20 @@ module _ {R : Room} {C : RouterConfig} {kinds : List ℕ} {start goal : ℕ} {L 
 -- ---- the cases
 
 other-end : {cell : ℕ} → EndsGood ≡ EndsBad cell → ⊥
-other-end e = let z : _≡_ {A = ℕ} 0 1 = cc in omega arith
+other-end e = never (cc)
 
-touched : (a : search.Answer) → touches (answered a) ≡ true
+touched : (a : search.Answer) → touches (numberOf (answered a)) ≡ true
 touched (search.route p c x) = refl
 touched (search.no-route x) = refl
 touched (search.limit-passed x) = refl
 touched (search.queue-full x) = refl
+
+pub untouched : (why : Refusal) → touches (refusalNumber why) ≡ false
+untouched Sides = refl
+untouched Config = refl
+untouched Position = refl
+untouched Code = refl
+untouched Buffer = refl
 
 module _ (R : Room) (C : RouterConfig) (kinds : List ℕ) (start goal : ℕ) (path known previous classes queue : List ℕ) where
   abbrev I : Input
@@ -104,11 +107,11 @@ module _ (R : Room) (C : RouterConfig) (kinds : List ℕ) (start goal : ℕ) (pa
   unfolding answerOf
   promise-unfit why e = record {
     answer = rw e;
-    path-is = rw e;
-    known-is = rw e;
-    previous-is = rw e;
-    classes-is = rw e;
-    queue-is = rw e;
+    path-is = rw (e, untouched why);
+    known-is = rw (e, untouched why);
+    previous-is = rw (e, untouched why);
+    classes-is = rw (e, untouched why);
+    queue-is = rw (e, untouched why);
   }
 
   module _ (fit : judged I ≡ Fit) where
@@ -118,11 +121,7 @@ module _ (R : Room) (C : RouterConfig) (kinds : List ℕ) (start goal : ℕ) (pa
 
     goal-is : routeable (taskOf I) goal ≡ routeableKind true (getD kinds goal air)
     unfolding routeable
-    goal-is = rw (eq-eqb goal goal refl, end (eqb goal start))
-      where
-        end : (b : Bool) → either b true true ≡ true
-        end true = refl
-        end false = refl
+    goal-is = rw (eq-eqb goal goal refl, either-true (eqb goal start))
 
     -- number 10
     pub promise-end : (cell : ℕ) {path′ known′ previous′ classes′ queue′ : List ℕ} → EndsBad cell ≡ endsOf kinds start goal → Emptied path path′ → Emptied known known′ → Emptied previous previous′

@@ -3,3 +3,4 @@ pub mod PlaceLaws
 pub mod Memory
 pub mod MemoryLaws
 pub mod Runs
+pub mod RunLaws

@@ -8,9 +8,9 @@ use native.Mathlib.Numerals.{add-one}
 use native.Mathlib.Omega.{arith}
 use lib.Dec.{eqb}
 use lib.ListN.{length, getD, set, drop, drop-of-length-le, length-set}
-use lib.Seq.{drop-cons, getD-set-same, getD-set-other}
+use lib.Seq.{ext-getD, drop-cons, getD-set-same, getD-set-other}
 use borrow.Author.Tests.{eqb-true, eq-eqb, ne-eqb}
-use Rattle.basics.specs.Tests.{ask, and-left, and-right}
+use Rattle.basics.specs.Tests.{ask, and-left, and-right, never}
 use Rattle.stored.specs.Memory.{rubbish, Rubbish, allFrom, dueAt, isDue, holds}
 
 -- ---- filling with rubbish: the first i numbers are rubbish
@@ -34,10 +34,14 @@ module _ {s₀ : List ℕ} where
     }
       where
         differ : {b : Bool} → b ≡ false → b ≡ true → ⊥
-        differ p q = let z : _≡_ {A = ℕ} 0 1 = cc in omega arith
+        differ p q = never (cc)
 
     pub spoiled-all : length s ≤ i → Rubbish s
     spoiled-all h = λ j l. S .front j (omega arith)
+
+-- rubbish is determined by its length
+pub rubbish-one : (s t : List ℕ) → length s ≡ length t → Rubbish s → Rubbish t → s ≡ t
+rubbish-one s t e p q = ext-getD 0 s t e (λ i h. p i h ∙ sym (q i (omega (arith, e))))
 
 -- ---- a test of each place: those before the i-th have passed
 

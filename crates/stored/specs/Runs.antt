@@ -1,7 +1,7 @@
 -- What every stored case is put to, a search or a sheet: the verdict on a run, longer buffers, the least queue, and turns one after another.
 use mathlib.Core.Path.{_≡_}
 use mathlib.Core.Bool.{Bool, true, false, _&&_, not}
-use Prim.Native.Nat.{ℕ, suc, _+_, _-_, _/_}
+use Prim.Native.Nat.{ℕ, suc, _+_, _*_, _-_, _/_}
 use lib.Dec.{eqb, ltb, leb}
 use Rattle.basics.specs.Tests.{either}
 use Rattle.stored.specs.declared.runs.Verdict.{Verdict}
@@ -23,10 +23,6 @@ abbrev pub fullIf : Bool → Verdict
 fullIf true = Full
 fullIf false = Other
 
--- "Numbers 1 to 6 touch nothing"
-unfoldable pub touchesNothing : ℕ → Bool
-touchesNothing number = either (eqb number 0) false (leb number 6)
-
 -- ---- lengths
 
 unfoldable pub longerBy : ℕ → ℕ → ℕ
@@ -39,6 +35,13 @@ queueMore number = either (eqb number 6) 1 (either (eqb number 13) 1 51)
 -- a sum of counts, which stay far below a million
 unfoldable pub sumOf : ℕ → ℕ → ℕ
 sumOf count more = either (ltb 1000000 count) count (either (ltb 1000000 more) count (count + more))
+
+-- ---- turns
+
+-- what so many turns lead to, where turn k follows from the one before it by a relation
+pub data Turns {X : Type 0} (next : ℕ → X → X → Type 0) (start : X) : ℕ → X → Type 0 where
+  none : {r : X} → r ≡ start → Turns next start 0 r
+  one-more : {k : ℕ} {x r : X} → Turns next start k x → next k x r → Turns next start (suc k) r
 
 -- ---- the least queue
 
@@ -59,9 +62,12 @@ narrowedBy G places Same = record { full = G .full; enough = places; runs = sumO
 narrowedBy G places Full = record { full = places; enough = G .enough; runs = sumOf (G .runs) 1; agreed = true }
 narrowedBy G places Other = record { full = G .full; enough = G .enough; runs = G .runs; agreed = false }
 
--- ---- turns
+-- a gap that is open is halved by a run half way, a place of whose queue takes two numbers; any other stays
+pub data Halved (ran : ℕ → Verdict → Type 0) (G r : Gap) : Type 0 where
+  stays : isOpen G ≡ false → r ≡ G → Halved ran G r
+  halves : isOpen G ≡ true → (places : ℕ) → places ≡ middleOf (G .full) (G .enough) → (queue : ℕ) → queue ≡ places * 2
+      → (v : Verdict) → ran queue v → r ≡ narrowedBy G places v → Halved ran G r
 
--- what so many turns lead to, where turn k follows from the one before it by a relation
-pub data Turns {X : Type 0} (next : ℕ → X → X → Type 0) (start : X) : ℕ → X → Type 0 where
-  none : {r : X} → r ≡ start → Turns next start 0 r
-  one-more : {k : ℕ} {x r : X} → Turns next start k x → next k x r → Turns next start (suc k) r
+-- halved 32 times: a count of places has 32 bits
+pub record Narrowed (ran : ℕ → Verdict → Type 0) (places : ℕ) (r : Gap) : Type 0 where
+  pub halvings : Turns (λ _. Halved ran) (wholeGap places) 32 r

@@ -1,7 +1,7 @@
 // What every stored case is put to: the verdict on a run, longer buffers, and the least queue that gives the stored answer.
 ghost use mathlib.Core.Path.{_≡_};
 ghost use Prim.Native.Nat.{_*_};
-ghost use Rattle.stored.specs.Runs.{isSame, touchesNothing, longerBy, queueMore, sumOf, middleOf, isOpen, narrowedBy};
+ghost use Rattle.stored.specs.Runs.{isSame, longerBy, queueMore, sumOf, middleOf, isOpen, narrowedBy};
 
 // All as stored; or the number that a buffer gives that is too short, and everything is zero; or something else.
 pub enum Verdict {
@@ -27,16 +27,6 @@ pub fn is_same(verdict: Verdict) -> bool
         Verdict::Full => false,
         Verdict::Other => false,
     }
-}
-
-// "Numbers 1 to 6 touch nothing".
-pub fn touches_nothing(number: u32) -> bool
-    ensures { λ r. ⌜ r ≡ touchesNothing number ⌝ }
-{
-    if number == 0 {
-        return false;
-    }
-    number <= 6
 }
 
 // A cell of a path takes two bytes in the file, and a place of the queue two numbers.

@@ -1,6 +1,7 @@
 -- `tell` meets its contract: each answer has its number and its values.
 use mathlib.Core.Path.{refl}
 use borrow.Author.Needs.{needs}
+use Rattle.routing.specs.PromiseLaws.{untouched}
 use Rattle.dustroute.proofs.tell.Statement.{statement}
 use Rattle.dustroute.proofs.tell.Tie as tie
 
@@ -62,7 +63,7 @@ returns : tie.Need-returns
 returns c = rw (c .before .before .before .before .before .before .before .answer .given .1) (refl, c .before .before .write-four .ensures)
 
 returns-2 : tie.Need-returns-2
-returns-2 c = search needs
+returns-2 c = rw (c .before .before .answer2 .given .1, untouched (c .before .before .answer2 .given .0 .0)) (c .refusal-number .ensures, refl)
 
 same-length-2 : tie.Need-same-length-2
 same-length-2 c = search needs

@@ -1,12 +1,14 @@
 -- `write_lengths` meets its contract: each turn copies one length.
-use mathlib.Core.Path.{_≡_, sym, _∙_}
-use mathlib.Core.List.{map}
-use Prim.Native.Nat.{_-_}
+use mathlib.Core.Path.{_≡_, sym, _∙_, ap}
+use mathlib.Core.List.{map, List, _++_}
+use Prim.Native.Nat.{ℕ, _-_, _≤_}
 use native.Mathlib.Omega.{arith}
-use lib.ListN.{length, length-map}
+use lib.ListN.{length, length-map, drop}
+use lib.Seq.{take-length}
 use Rattle.branches.specs.declared.BranchLengths.{BranchLengths}
-use Rattle.dustroute.specs.TreeLaws.{Copied, copied-none, copied-next, copied-all}
+use Rattle.basics.specs.Copies.{Copied, copied-none, copied-next, copied-all}
 use borrow.Author.Needs.{needs}
+use Rattle.job_sheet.specs.Sheet.{maxSinks}
 use Rattle.dustroute.proofs.tree.write_lengths.Statement.{statement}
 use Rattle.dustroute.proofs.tree.write_lengths.Tie as tie
 
@@ -14,14 +16,20 @@ use Rattle.dustroute.proofs.tree.write_lengths.Tie as tie
 each-whole : (L : BranchLengths) → length (map (λ v. v) (L .each)) ≡ 16 → length (L .each) ≡ 16
 each-whole L e = sym (length-map (L .each) (λ v. v)) ∙ e
 
+-- all sixteen are copied
+each-copied : {each out₀ out : List ℕ} {i : ℕ} → length each ≡ 16 → 16 ≤ length out₀ → Copied each out₀ 16 i out → 16 ≤ i → out ≡ each ++ drop (length each) out₀
+each-copied {each} {out₀} e h C l = copied-all each out₀ 16 (omega (arith, e)) h C l ∙ rw e (ap (λ s. s ++ drop 16 out₀) (rw e at (take-length each)))
+
 abbrev Inv-loop : tie.InvT-loop
-Inv-loop out₀ lengths sink₀ out sink = Copied (lengths .each) out₀ sink out
+Inv-loop out₀ lengths sink₀ out sink = Copied (lengths .each) out₀ maxSinks sink out
 
 abbrev μ-loop : tie.MeasureT-loop
 μ-loop out₀ lengths sink₀ out sink = 16 - sink
 
 loop-holds : tie.Need-loop-holds Inv-loop μ-loop
-loop-holds c = copied-none
+loop-holds c =
+    let whole = each-whole (c .args .t1) (c .good .0 .1 .1 .1 .0 .1 .0 .1) in
+    copied-none _ _ _ (omega (arith, whole)) (c .pre)
 
 mul-out : tie.Need-mul-out Inv-loop μ-loop
 mul-out c = search needs
@@ -44,7 +52,7 @@ loop-less c = search needs
 loop-again : tie.Need-loop-again Inv-loop μ-loop
 loop-again c =
     let whole = each-whole (c .before .before .before .args .t1) (c .before .before .before .good .0 .1 .1 .1 .0 .1 .0 .1) in
-    copied-next (c .before .before .loop .inv) (omega (arith, whole, c .before .loop-test .taken)) (omega (arith, whole, c .before .before .before .pre))
+    copied-next _ _ _ (omega (arith, whole)) (c .before .before .before .pre) (c .before .before .loop .inv) (c .before .loop-test .taken)
 
 same-length : tie.Need-same-length Inv-loop μ-loop
 same-length c = c .before .loop .inv .kept
@@ -52,7 +60,7 @@ same-length c = c .before .loop .inv .kept
 returns : tie.Need-returns Inv-loop μ-loop
 returns c =
     let whole = each-whole (c .before .before .args .t1) (c .before .before .good .0 .1 .1 .1 .0 .1 .0 .1) in
-    copied-all (c .before .loop .inv) (omega (arith, whole, c .loop-test .left))
+    each-copied whole (c .before .before .pre) (c .before .loop .inv) (c .loop-test .left)
 
 pub write-lengths-spec : {M : Type 1} → statement M
 write-lengths-spec =

@@ -1,7 +1,7 @@
 -- `copy_cells` meets its contract: the law of the copying loop.
 use borrow.Author.Needs.{needs}
 use Prim.Native.Nat.{_-_}
-use Rattle.goals.specs.GoalLaws.{Copied, copied-none, copied-next, copied-all}
+use Rattle.basics.specs.Copies.{Copied, copied-none, copied-next, copied-all}
 use Rattle.goals.proofs.cheapest.copy_cells.Statement.{statement}
 use Rattle.goals.proofs.cheapest.copy_cells.Tie as tie
 

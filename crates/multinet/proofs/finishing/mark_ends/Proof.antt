@@ -7,7 +7,7 @@ use Rattle.routing_resources.specs.MarkLaws.{Turn, first-turn}
 use Rattle.ends.specs.Ends.{noTap, tapsIn}
 use Rattle.outset.specs.OutsetLaws.{restOf, turn-on, turn-done}
 use Rattle.multinet.specs.Tree.{endAt}
-use Rattle.multinet.specs.FinishingLaws.{ends-marked, ends-long}
+use Rattle.multinet.specs.FinishingLaws.{ends-marked, ends-long, source-there, tap-there}
 use Rattle.multinet.proofs.finishing.mark_ends.Statement.{statement}
 use Rattle.multinet.proofs.finishing.mark_ends.Tie as tie
 
@@ -18,22 +18,22 @@ abbrev μ-loop : tie.MeasureT-loop
 μ-loop source marks₀ taps i₀ marks i = taps .count - i
 
 mark-requires : tie.Need-mark-requires Inv-loop μ-loop
-mark-requires c κs = c .before .before .pre .source-in
+mark-requires c κs = source-there (c .before .before .pre)
 
 loop-holds : tie.Need-loop-holds Inv-loop μ-loop
 loop-holds c = (omega arith, first-turn _ _ _)
 
 mul-mark-end : tie.Need-mul-mark-end Inv-loop μ-loop
-mul-mark-end c = omega (arith, c .before .loop-test .taken, c .before .before .before .before .before .before .before .before .pre .few)
+mul-mark-end c = omega (arith, c .before .loop-test .taken, c .before .before .before .before .before .before .before .before .pre .net .few)
 
 element-copy-out-mark-end : tie.Need-element-copy-out-mark-end Inv-loop μ-loop
-element-copy-out-mark-end c = omega (arith, c .before .loop-test .taken, c .before .before .before .before .before .before .before .before .pre .few)
+element-copy-out-mark-end c = omega (arith, c .before .loop-test .taken, c .before .before .before .before .before .before .before .before .pre .net .few)
 
 mark-end-requires : tie.Need-mark-end-requires Inv-loop μ-loop
-mark-end-requires c κs = (rw (c .before .before .before .loop .inv .1 .long, c .before .before .before .before .before .before .mark .kept .0) (c .before .before .before .before .before .before .before .before .before .pre .terminal-in _ (c .before .before .loop-test .taken)), rw (c .before .before .before .loop .inv .1 .long, c .before .before .before .before .before .before .mark .kept .0) (c .before .before .before .before .before .before .before .before .before .pre .approach-in _ (c .before .before .loop-test .taken)))
+mark-end-requires c κs = rw (c .before .before .before .loop .inv .1 .long, c .before .before .before .before .before .before .mark .kept .0) (tap-there (c .before .before .before .before .before .before .before .before .before .pre) _ (c .before .before .loop-test .taken))
 
 add-i : tie.Need-add-i Inv-loop μ-loop
-add-i c = omega (arith, c .before .before .before .before .before .loop-test .taken, c .before .before .before .before .before .before .before .before .before .before .before .before .pre .few)
+add-i c = omega (arith, c .before .before .before .before .before .loop-test .taken, c .before .before .before .before .before .before .before .before .before .before .before .before .pre .net .few)
 
 loop-less : tie.Need-loop-less Inv-loop μ-loop
 loop-less c = omega (arith, c .before .before .before .before .before .loop-test .taken)

@@ -2,7 +2,8 @@
 use mathlib.Core.Path.{refl, sym, _∙_}
 use borrow.Author.Tests.{not-true, not-false}
 use Rattle.outset.specs.SetOutLaws.{good-room}
-use Rattle.net_tree.specs.LentLaws.{promise-unread, accepted-by, promise-unlent}
+use Rattle.job_sheet.specs.Theorems.{accepted-by}
+use Rattle.net_tree.specs.LentLaws.{promise-unread, promise-unlent}
 use borrow.Author.Needs.{needs}
 use Rattle.net_tree.proofs.entry.route_net_tree.Statement.{statement}
 use Rattle.net_tree.proofs.entry.route_net_tree.Tie as tie

@@ -10,8 +10,8 @@ use Rattle.replay.proofs.compare.judge.Tie as tie
 same-answer-requires : tie.Need-same-answer-requires
 same-answer-requires c κs = search needs
 
-touches-nothing-requires : tie.Need-touches-nothing-requires
-touches-nothing-requires c κs = search needs
+touches-requires : tie.Need-touches-requires
+touches-requires c κs = search needs
 
 memory-holds-requires : tie.Need-memory-holds-requires
 memory-holds-requires c κs = search needs
@@ -21,7 +21,7 @@ same-if-requires c κs = search needs
 
 returns : tie.Need-returns
 unfolding verdictOf
-returns c = rw (sym (c .before .before .before .before .same-answer .ensures) ∙ (c .before .before .before .if1 .taken), ← (c .before .before .touches-nothing .ensures), ← (c .before .memory-holds .ensures)) (c .same-if .ensures)
+returns c = rw (sym (c .before .before .before .before .same-answer .ensures) ∙ (c .before .before .before .if1 .taken), ← (c .before .before .touches .ensures), ← (c .before .memory-holds .ensures)) (c .same-if .ensures)
 
 full-early-requires : tie.Need-full-early-requires
 full-early-requires c κs = search needs
@@ -45,7 +45,7 @@ judge-spec =
     tie.close
     (tie.spec
     same-answer-requires
-    touches-nothing-requires
+    touches-requires
     memory-holds-requires
     same-if-requires
     returns

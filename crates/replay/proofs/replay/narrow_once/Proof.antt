@@ -1,6 +1,6 @@
 -- `narrow_once` meets its contract: the gap stays, or a run half way narrows it.
 use mathlib.Core.Path.{refl}
-use Rattle.replay.specs.Runs.{stays, halves}
+use Rattle.stored.specs.Runs.{stays, halves}
 use Rattle.replay.specs.VerdictLaws.{test-fails, test-passes}
 use borrow.Author.Needs.{needs}
 use Rattle.replay.proofs.replay.narrow_once.Statement.{statement}

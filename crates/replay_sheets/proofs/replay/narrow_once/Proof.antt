@@ -1,7 +1,7 @@
 -- `narrow_once` meets its contract: the gap stays, or a run half way narrows it.
 use mathlib.Core.Path.{refl, sym, _∙_}
 use borrow.Author.Tests.{not-true, not-false}
-use Rattle.replay_sheets.specs.Runs.{stays, halves}
+use Rattle.stored.specs.Runs.{stays, halves}
 use borrow.Author.Needs.{needs}
 use Rattle.replay_sheets.proofs.replay.narrow_once.Statement.{statement}
 use Rattle.replay_sheets.proofs.replay.narrow_once.Tie as tie

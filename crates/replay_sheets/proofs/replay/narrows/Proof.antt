@@ -4,15 +4,14 @@ use Prim.Native.Nat.{_-_, _≤_}
 use native.Mathlib.Numerals.{add-one}
 use native.Mathlib.Omega.{arith}
 use lib.ListN.{length}
-use Rattle.replay_sheets.specs.RunLaws.{halved-long}
 use borrow.Author.Needs.{needs}
-use Rattle.replay_sheets.specs.Runs.{Halved}
-use Rattle.stored.specs.Runs.{Turns, none, one-more}
+use Rattle.replay_sheets.specs.Runs.{RanWith}
+use Rattle.stored.specs.Runs.{Turns, none, one-more, Halved}
 use Rattle.replay_sheets.proofs.replay.narrows.Statement.{statement}
 use Rattle.replay_sheets.proofs.replay.narrows.Tie as tie
 
 abbrev Inv-loop : tie.InvT-loop
-Inv-loop sheet asked size stored cells covered marks queue₀ gap₀ turns₀ queue gap turns = (length queue ≡ length queue₀) × (turns ≤ 32) × Turns (λ _. Halved sheet asked size stored cells covered marks (length queue₀)) gap₀ turns gap
+Inv-loop sheet asked size stored cells covered marks queue₀ gap₀ turns₀ queue gap turns = (length queue ≡ length queue₀) × (turns ≤ 32) × Turns (λ _. Halved (RanWith sheet asked size stored cells covered marks (length queue₀))) gap₀ turns gap
 
 abbrev μ-loop : tie.MeasureT-loop
 μ-loop sheet asked size stored cells covered marks queue₀ gap₀ turns₀ queue gap turns = 32 - turns
@@ -30,13 +29,13 @@ loop-less : tie.Need-loop-less Inv-loop μ-loop
 loop-less c = search needs
 
 loop-again : tie.Need-loop-again Inv-loop μ-loop
-loop-again c = (search needs, search needs, rw add-one (one-more (c .before .before .before .before .before .loop .inv .2) (halved-long (c .before .before .before .before .before .loop .inv .0) (c .before .before .narrow-once .ensures))))
+loop-again c = (search needs, search needs, rw add-one (one-more (c .before .before .before .before .before .loop .inv .2) (rw (c .before .before .before .before .before .loop .inv .0) at (c .before .before .narrow-once .ensures))))
 
 same-length : tie.Need-same-length Inv-loop μ-loop
 same-length c = search needs
 
 returns : tie.Need-returns Inv-loop μ-loop
-returns c = let e : c .before .loop .turns ≡ 32 = omega arith in record { gap = _; halved = rw e at (c .before .loop .inv .2); says = refl }
+returns c = let e : c .before .loop .turns ≡ 32 = omega arith in record { gap = _; narrowed = record { halvings = rw e at (c .before .loop .inv .2) }; says = refl }
 
 pub narrows-spec : {M : Type 1} → statement M
 narrows-spec =

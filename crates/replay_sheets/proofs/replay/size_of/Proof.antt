@@ -1,8 +1,8 @@
 -- `size_of` meets its contract: a sheet that is refused, or one that is accepted.
 use mathlib.Core.Path.{refl, sym, ap, _∙_}
 use borrow.Author.Tests.{not-true, not-false}
+use Rattle.job_sheet.specs.Theorems.{accepted-by, usable}
 use Rattle.replay_sheets.specs.Runs.{lesserOf, refused, accepted}
-use Rattle.replay_sheets.specs.RunLaws.{read-good, good-room}
 use borrow.Author.Needs.{needs}
 use Rattle.replay_sheets.proofs.replay.size_of.Statement.{statement}
 use Rattle.replay_sheets.proofs.replay.size_of.Tie as tie
@@ -14,10 +14,10 @@ is-good-requires : tie.Need-is-good-requires
 is-good-requires c κs = search needs
 
 returns : tie.Need-returns
-returns c = refused _ (c .before .before .read-sheet .ensures) (sym (c .before .is-good .ensures) ∙ not-true _ (c .if1 .taken)) refl
+returns c = refused _ (c .before .before .read-sheet .ensures) (sym (c .before .is-good .ensures) ∙ not-true _ (c .if1 .taken)) refl refl
 
 volume-requires : tie.Need-volume-requires
-volume-requires c κs = good-room (read-good (c .before .before .before .read-sheet .ensures) (sym (c .before .before .is-good .ensures) ∙ not-false _ (c .before .if1 .left)))
+volume-requires c κs = usable _ _ (accepted-by (c .before .before .before .read-sheet .ensures) (sym (c .before .before .is-good .ensures) ∙ not-false _ (c .before .if1 .left))) .room-good
 
 lesser-requires : tie.Need-lesser-requires
 lesser-requires c κs = search needs
@@ -26,7 +26,7 @@ cast-t10 : tie.Need-cast-t10
 cast-t10 c = search needs
 
 returns-2 : tie.Need-returns-2
-returns-2 c = accepted _ (read-good (c .before .before .before .before .before .before .read-sheet .ensures) (sym (c .before .before .before .before .before .is-good .ensures) ∙ not-false _ (c .before .before .before .before .if1 .left))) (c .before .lesser .ensures ∙ ap (lesserOf (c .before .before .before .before .before .before .before .before .args .lent)) (c .before .before .volume .ensures)) refl
+returns-2 c = accepted _ (accepted-by (c .before .before .before .before .before .before .read-sheet .ensures) (sym (c .before .before .before .before .before .is-good .ensures) ∙ not-false _ (c .before .before .before .before .if1 .left))) (c .before .lesser .ensures ∙ ap (lesserOf (c .before .before .before .before .before .before .before .before .args .lent)) (c .before .before .volume .ensures)) refl
 
 pub size-of-spec : {M : Type 1} → statement M
 size-of-spec =
