@@ -57,7 +57,7 @@ write-four-requires-5 : tie.Need-write-four-requires-5
 write-four-requires-5 c κs = search needs
 
 same-length : tie.Need-same-length
-same-length c = search needs
+same-length c = c .before .before .write-four .kept .0
 
 returns : tie.Need-returns
 returns c = rw (c .before .before .before .before .before .before .before .answer .given .1) (refl, c .before .before .write-four .ensures)
@@ -66,25 +66,25 @@ returns-2 : tie.Need-returns-2
 returns-2 c = rw (c .before .before .answer2 .given .1, untouched (c .before .before .answer2 .given .0 .0)) (c .refusal-number .ensures, refl)
 
 same-length-2 : tie.Need-same-length-2
-same-length-2 c = search needs
+same-length-2 c = c .before .before .write-four2 .kept .0
 
 returns-3 : tie.Need-returns-3
 returns-3 c = rw (c .before .before .before .before .before .answer3 .given .1) (refl, c .before .before .write-four2 .ensures)
 
 same-length-3 : tie.Need-same-length-3
-same-length-3 c = search needs
+same-length-3 c = c .before .before .write-four3 .kept .0
 
 returns-4 : tie.Need-returns-4
 returns-4 c = rw (c .before .before .before .before .before .before .answer4 .given .1) (refl, c .before .before .write-four3 .ensures)
 
 same-length-4 : tie.Need-same-length-4
-same-length-4 c = search needs
+same-length-4 c = c .before .before .write-four4 .kept .0
 
 returns-5 : tie.Need-returns-5
 returns-5 c = rw (c .before .before .before .before .before .before .answer5 .given .1) (refl, c .before .before .write-four4 .ensures)
 
 same-length-5 : tie.Need-same-length-5
-same-length-5 c = search needs
+same-length-5 c = c .before .before .write-four5 .kept .0
 
 returns-6 : tie.Need-returns-6
 returns-6 c = rw (c .before .before .before .before .before .before .answer6 .given .1) (refl, c .before .before .write-four5 .ensures)

@@ -18,7 +18,7 @@ electrical-keepout-for-wire-requires : tie.Need-electrical-keepout-for-wire-requ
 electrical-keepout-for-wire-requires c κs = (c .before .before .before .before .before .before .before .pre .0 .good, (rw (c .before .before .before .cell .ensures) (cell-in _ _ (c .before .before .before .before .before .before .before .pre .1 .within)), c .before .before .before .before .before .before .before .pre .0 .long))
 
 same-length : tie.Need-same-length
-same-length c = search needs
+same-length c = c .before .before .electrical-keepout-for-wire .kept .1 .0
 
 returns : tie.Need-returns
 returns c = source-powers _ _ _ _ (c .before .before .before .before .before .before .before .before .before .before .args .block) (c .before .before .before .before .before .before .cell .ensures) (sym (c .before .before .before .before .before .powers .ensures) ∙ c .before .before .before .before .if1 .taken) (c .before .before .electrical-keepout-for-wire .ensures)
@@ -30,7 +30,7 @@ output-keepout-requires : tie.Need-output-keepout-requires
 output-keepout-requires c κs = record { sized = c .before .before .before .before .before .before .before .before .before .before .pre .0; output-in = λ v e. ahead-in _ _ _ v (sym (c .before .ahead .ensures) ∙ e) }
 
 same-length-2 : tie.Need-same-length-2
-same-length-2 c = search needs
+same-length-2 c = c .before .before .output-keepout .kept .1 .1 .1 .1 .1 .0
 
 returns-2 : tie.Need-returns-2
 returns-2 c = source-output _ _ _ _ (c .before .before .before .before .before .before .before .before .before .before .before .before .before .args .block) (sym (c .before .before .before .before .before .before .before .before .powers .ensures) ∙ c .before .before .before .before .before .before .before .if1 .left) (c .before .before .before .before .before .before .before .before .before .cell .ensures) (eq-eqb _ _ (c .before .before .before .before .before .if2 .taken)) (c .before .before .before .before .ahead .ensures) (c .before .before .output-keepout .ensures)

@@ -20,13 +20,13 @@ write-values-requires-2 : tie.Need-write-values-requires-2
 write-values-requires-2 c κs = search needs
 
 same-length : tie.Need-same-length
-same-length c = search needs
+same-length c = c .before .before .write-values .kept .0
 
 returns : tie.Need-returns
 returns c = rw (c .before .before .before .before .before .ended .given .1) (refl, c .before .before .write-values .ensures)
 
 same-length-2 : tie.Need-same-length-2
-same-length-2 c = search needs
+same-length-2 c = c .before .before .write-values2 .kept .0
 
 returns-2 : tie.Need-returns-2
 returns-2 c = rw (c .before .before .before .before .before .before .before .ended2 .given .1, sym (c .before .before .before .before .before .touches .ensures) ∙ c .before .before .before .before .if1 .taken) (refl, c .before .before .write-values2 .ensures)

@@ -1,4 +1,5 @@
 -- `search_classes` meets its contract: memory is cleared, and the search runs over the class bytes.
+use mathlib.Core.Path.{_∙_}
 use Rattle.goals.specs.SearchLaws.{searchable-fresh}
 use borrow.Author.Needs.{needs}
 use Rattle.goals.proofs.search.search_classes.Statement.{statement}
@@ -24,13 +25,13 @@ run-requires c κs =
     searchable-fresh pre _ _ _ _ (clear-words .ensures) (clear-words2 .ensures) (c .before .before .before .before .pos .ensures) (c .before .before .before .pos2 .ensures)
 
 same-length : tie.Need-same-length
-same-length c = search needs
+same-length c = c .before .before .before .before .before .before .run .kept .1 .1 .1 .0 ∙ c .before .before .before .before .before .before .before .before .before .before .before .before .before .before .before .before .before .before .clear-words .kept .0
 
 same-length-2 : tie.Need-same-length-2
-same-length-2 c = search needs
+same-length-2 c = c .before .before .before .before .before .before .run .kept .1 .1 .1 .1 .0 ∙ c .before .before .before .before .before .before .before .before .before .before .before .before .before .before .clear-words2 .kept .0
 
 same-length-3 : tie.Need-same-length-3
-same-length-3 c = search needs
+same-length-3 c = c .before .before .before .before .before .before .run .kept .1 .1 .1 .1 .1 .0
 
 returns : tie.Need-returns
 returns c =

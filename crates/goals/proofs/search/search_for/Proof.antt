@@ -26,16 +26,16 @@ tried-of-requires c κs =
     ((rw (pre .1 .0) (pre .0 .goal-in), rw (pre .1 .0) (pre .0 .good .few), known ∙ sym (pre .1 .0), previous ∙ sym (pre .1 .0), pre .1 .1 ∙ sym (pre .1 .0)), ran-showable _ _ _ previous (search-classes .ensures))
 
 same-length : tie.Need-same-length
-same-length c = search needs
+same-length c = c .before .before .before .before .before .before .before .before .before .before .before .before .search-classes .kept .1 .1 .1 .0
 
 same-length-2 : tie.Need-same-length-2
-same-length-2 c = search needs
+same-length-2 c = c .before .before .before .before .before .before .before .before .before .before .before .before .search-classes .kept .1 .1 .1 .1 .0
 
 same-length-3 : tie.Need-same-length-3
-same-length-3 c = search needs
+same-length-3 c = c .before .before .tried-of .kept .1 .1 .1 .1 .1 .0
 
 same-length-4 : tie.Need-same-length-4
-same-length-4 c = search needs
+same-length-4 c = c .before .before .before .before .before .before .before .before .before .before .before .before .search-classes .kept .1 .1 .1 .1 .1 .0
 
 returns-2 : tie.Need-returns-2
 returns-2 c =

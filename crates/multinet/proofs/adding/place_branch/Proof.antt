@@ -30,13 +30,13 @@ add-branch-requires : tie.Need-add-branch-requires
 add-branch-requires c κs = addable (c .before .before .before .before .before .before .before .before .before .before .before .pre) (c .before .before .before .joined-length2 .ensures) (c .before .before .before .before .before .before .joined-length .ensures) (c .before .before .before .before .before .branch-length .ensures ∙ sym (branch-long (c .before .before .before .before .before .before .before .before .before .before .before .args .tap) (c .before .before .before .before .before .before .before .before .before .before .before .args .path .now))) (c .before .before .before .before .if1 .left)
 
 same-length : tie.Need-same-length
-same-length c = search needs
+same-length c = c .before .before .before .before .before .before .add-branch .kept .1 .1 .1 .1 .1 .1 .0
 
 same-length-2 : tie.Need-same-length-2
-same-length-2 c = search needs
+same-length-2 c = c .before .before .before .before .before .before .add-branch .kept .1 .1 .1 .1 .1 .1 .1 .0
 
 same-length-3 : tie.Need-same-length-3
-same-length-3 c = search needs
+same-length-3 c = c .before .before .before .before .before .before .add-branch .kept .1 .1 .1 .1 .1 .1 .1 .1 .0
 
 returns-2 : tie.Need-returns-2
 returns-2 c = branch-placed (c .before .before .before .before .before .before .before .before .before .before .before .before .before .before .before .before .before .before .pre) (c .before .before .before .before .before .before .before .before .before .before .joined-length2 .ensures) (c .before .before .before .before .before .before .before .before .before .before .before .before .before .joined-length .ensures) (c .before .before .before .before .before .before .before .before .before .before .before .before .branch-length .ensures ∙ sym (branch-long (c .before .before .before .before .before .before .before .before .before .before .before .before .before .before .before .before .before .before .args .tap) (c .before .before .before .before .before .before .before .before .before .before .before .before .before .before .before .before .before .before .args .path .now))) (c .before .before .before .before .before .before .before .before .before .before .before .if1 .left) (c .before .before .before .before .before .before .add-branch .ensures)

@@ -42,13 +42,13 @@ offer-requires : tie.Need-offer-requires
 offer-requires c κs = let s = c .before .before .before .before .before .before .before .before .before .before .before .before .before .before .before .before .before .before .before in let a = s .args in let p = s .pre .0 in let q = s .pre .1 .0 in let L = landed (a .room) (p .good) (a .from) (a .beside) (a .m) (p .from-placed) q (c .before .before .before .before .before .before .before .before .before .before .before .before .if1 .left) (c .before .before .before .before .before .before .before .before .before .before .if2 .left) in let most = price-most (a .config) (a .m) (getD (a .classes .now) (a .beside .cell + a .m .y * a .room .deep - a .room .deep) 0) (p .fair) in ((omega (arith, L .inside, p .known-length), p .previous-length ∙ sym (p .known-length), omega (arith, p .known-length, p .good .few)), ((omega (arith, p .from-placed .inside, p .good .few), omega (arith, c .price .ensures, p .cost-most), omega (arith, p .serial-most)), (p .ready, (L .small, placed-small (a .room) (p .good) (a .goal) (p .goal-placed)))))
 
 same-length : tie.Need-same-length
-same-length c = search needs
+same-length c = c .before .before .before .before .before .before .offer .kept .0
 
 same-length-2 : tie.Need-same-length-2
-same-length-2 c = search needs
+same-length-2 c = c .before .before .before .before .before .before .offer .kept .1 .0
 
 same-length-3 : tie.Need-same-length-3
-same-length-3 c = search needs
+same-length-3 c = c .before .before .before .before .before .before .offer .kept .1 .1 .0
 
 returns-4 : tie.Need-returns-4
 returns-4 c = let s = c .before .before .before .before .before .before .before .before .before .before .before .before .before .before .before .before .before .before .before .before .before .before .before .before .before .before in let a = s .args in let p = s .pre .0 in let q = s .pre .1 .0 in let L = landed (a .room) (p .good) (a .from) (a .beside) (a .m) (p .from-placed) q (c .before .before .before .before .before .before .before .before .before .before .before .before .before .before .before .before .before .before .before .if1 .left) (c .before .before .before .before .before .before .before .before .before .before .before .before .before .before .before .before .before .if2 .left) in tried-offered (a .room) (a .config) (a .classes .now) (a .goal) (a .from) (a .cost) (a .known .now) (a .previous .now) (a .queue .now) (a .line) (p .ready) (a .m) _ _ (L .leads) (c .before .before .before .before .before .before .before .before .before .before .before .if3 .left) (p .goal-placed) (L .place) _ _ _ _ (rw (c .before .before .before .before .before .before .before .price .ensures) at (c .before .before .before .before .before .before .offer .ensures))

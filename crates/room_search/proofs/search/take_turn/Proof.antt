@@ -1,6 +1,6 @@
 -- `take_turn` meets its contract: each return is one outcome of a taking.
 use native.Mathlib.Omega.{arith}
-use mathlib.Core.Path.{refl}
+use mathlib.Core.Path.{refl, _∙_}
 use Rattle.room_search.specs.TurnLaws.{cell-in, cell-known, able, turn-goal, turn-limit, turn-full, turn-on}
 use borrow.Author.Needs.{needs}
 use Rattle.room_search.proofs.search.take_turn.Statement.{statement}
@@ -10,7 +10,7 @@ take-requires : tie.Need-take-requires
 take-requires c κs = search needs
 
 same-length : tie.Need-same-length
-same-length c = search needs
+same-length c = c .before .before .before .before .take .kept .0
 
 returns : tie.Need-returns
 returns c = let s = c .before .before .before .before .before .before .before .before .before .before in let a = s .args in let p = s .pre .0 in turn-goal (a .room) (a .config) (a .classes .now) (a .known .now) (a .previous .now) (a .queue .now) (a .line) (a .expanded) (a .goal) p _ _ (omega (arith, c .before .before .before .before .take .ok)) (c .before .before .before .before .take .ensures) (c .before .before .before .before .take .kept .0) (c .if1 .taken)
@@ -19,7 +19,7 @@ add-t22 : tie.Need-add-t22
 add-t22 c = search needs
 
 same-length-2 : tie.Need-same-length-2
-same-length-2 c = search needs
+same-length-2 c = c .before .before .before .before .before .before .take .kept .0
 
 returns-2 : tie.Need-returns-2
 returns-2 c = let s = c .before .before .before .before .before .before .before .before .before .before .before .before in let a = s .args in let p = s .pre .0 in turn-limit (a .room) (a .config) (a .classes .now) (a .known .now) (a .previous .now) (a .queue .now) (a .line) (a .expanded) (a .goal) p _ _ (omega (arith, c .before .before .before .before .before .before .take .ok)) (c .before .before .before .before .before .before .take .ensures) (c .before .before .before .before .before .before .take .kept .0) (c .before .before .if1 .left) (c .if2 .taken)
@@ -52,25 +52,25 @@ add-t36 : tie.Need-add-t36
 add-t36 c = search needs
 
 same-length-3 : tie.Need-same-length-3
-same-length-3 c = search needs
+same-length-3 c = c .before .before .before .before .before .before .before .before .expand .kept .1 .1 .1 .0
 
 same-length-4 : tie.Need-same-length-4
-same-length-4 c = search needs
+same-length-4 c = c .before .before .before .before .before .before .before .before .expand .kept .1 .1 .1 .1 .0
 
 same-length-5 : tie.Need-same-length-5
-same-length-5 c = search needs
+same-length-5 c = c .before .before .before .before .before .before .before .before .expand .kept .1 .1 .1 .1 .1 .0 ∙ c .before .before .before .before .before .before .before .before .before .before .before .before .before .before .before .before .before .before .before .before .take .kept .0
 
 returns-3 : tie.Need-returns-3
 returns-3 c = let s = c .before .before .before .before .before .before .before .before .before .before .before .before .before .before .before .before .before .before .before .before .before .before .before .before .before .before in let a = s .args in let p = s .pre .0 in turn-full (a .room) (a .config) (a .classes .now) (a .known .now) (a .previous .now) (a .queue .now) (a .line) (a .expanded) (a .goal) p _ _ (omega (arith, c .before .before .before .before .before .before .before .before .before .before .before .before .before .before .before .before .before .before .before .before .take .ok)) (c .before .before .before .before .before .before .before .before .before .before .before .before .before .before .before .before .before .before .before .before .take .ensures) (c .before .before .before .before .before .before .before .before .before .before .before .before .before .before .before .before .before .before .before .before .take .kept .0) (c .before .before .before .before .before .before .before .before .before .before .before .before .before .before .before .before .if1 .left) (c .before .before .before .before .before .before .before .before .before .before .before .before .before .before .if2 .left) (record { cell = c .before .before .before .before .before .before .before .before .before .before .before .before .before .before .before .before .before .before .before .before .take .result; at = c .before .before .before .before .before .before .before .before .before .before .before .before .before .pos .result }) refl (rw (c .enum-told .given .1) at (c .before .before .before .before .before .before .before .before .expand .ensures))
 
 same-length-6 : tie.Need-same-length-6
-same-length-6 c = search needs
+same-length-6 c = c .before .before .before .before .before .before .before .before .before .expand .kept .1 .1 .1 .0
 
 same-length-7 : tie.Need-same-length-7
-same-length-7 c = search needs
+same-length-7 c = c .before .before .before .before .before .before .before .before .before .expand .kept .1 .1 .1 .1 .0
 
 same-length-8 : tie.Need-same-length-8
-same-length-8 c = search needs
+same-length-8 c = c .before .before .before .before .before .before .before .before .before .expand .kept .1 .1 .1 .1 .1 .0 ∙ c .before .before .before .before .before .before .before .before .before .before .before .before .before .before .before .before .before .before .before .before .before .take .kept .0
 
 returns-4 : tie.Need-returns-4
 returns-4 c = let s = c .before .before .before .before .before .before .before .before .before .before .before .before .before .before .before .before .before .before .before .before .before .before .before .before .before .before .before in let a = s .args in let p = s .pre .0 in turn-on (a .room) (a .config) (a .classes .now) (a .known .now) (a .previous .now) (a .queue .now) (a .line) (a .expanded) (a .goal) p _ _ (omega (arith, c .before .before .before .before .before .before .before .before .before .before .before .before .before .before .before .before .before .before .before .before .before .take .ok)) (c .before .before .before .before .before .before .before .before .before .before .before .before .before .before .before .before .before .before .before .before .before .take .ensures) (c .before .before .before .before .before .before .before .before .before .before .before .before .before .before .before .before .before .before .before .before .before .take .kept .0) (c .before .before .before .before .before .before .before .before .before .before .before .before .before .before .before .before .before .if1 .left) (c .before .before .before .before .before .before .before .before .before .before .before .before .before .before .before .if2 .left) (record { cell = c .before .before .before .before .before .before .before .before .before .before .before .before .before .before .before .before .before .before .before .before .before .take .result; at = c .before .before .before .before .before .before .before .before .before .before .before .before .before .before .pos .result }) refl _ (rw (c .before .next .given .1) at (c .before .before .before .before .before .before .before .before .before .expand .ensures))
