@@ -93,9 +93,6 @@ module _ {G : Graph} {closed ages : List ℕ} {u d : ℕ} {m : Move} {ms : List 
     u-not-w : u ≢ m .to
     u-not-w = not-itself S (B .linked) u m law u-known _ is-x gain
 
-    at : (v : ℕ) → After (s .known) (m .to) (suc (d + m .cost)) v
-    at v = after (s .known) (m .to) (suc (d + m .cost)) v w-in
-
     mark : (v : ℕ) → After closed (m .to) 0 v
     mark v = after closed (m .to) 0 v (omega (arith, w-in, B .linked .known-length, B .closed-length))
 
@@ -124,7 +121,7 @@ module _ {G : Graph} {closed ages : List ℕ} {u d : ℕ} {m : Move} {ms : List 
       goal-open = goal-open (mark (G .goal));
       closed-known = λ v c. let k = still-closed v c in low v (B .closed-known v (k .1)) .0;
       loose = λ v n c i. let k = still-closed v c in loose v n (k .0) (B .loose v n (k .1) i);
-      waits = λ v p o. waits v p o (at v) (mark v);
+      waits = λ v p o. waits v p o (after _ _ _ v w-in) (mark v);
       fair = fair;
     }
       where

@@ -14,7 +14,7 @@ use Rattle.best_first.specs.Ways.{Sound}
 use Rattle.best_first.specs.Statements.{Taking, stored, cost-of, Reached, at-outset, then, Bounded}
 use Rattle.best_first.specs.Lists.{After, hit, miss, after, in-reach, marked, marked-le, marked-none, marked-new, marked-old}
 use Rattle.best_first.specs.Entries.{same-sym, same-in}
-use Rattle.best_first.specs.Equations.{offered, Gain}
+use Rattle.best_first.specs.Equations.{offered, Gain, no-gain}
 use Rattle.best_first.specs.Reached.{through}
 use Rattle.best_first.specs.Orders.{Alike}
 
@@ -160,11 +160,7 @@ module _ {G : Graph} {degree dearest : ℕ} (S : Sound G degree dearest) where
 
           -- its own moves never make u cheaper
           now : After (s .known) (m .to) (suc (d + m .cost)) u → getD (offered s d m) u 0 ≡ suc d
-          now (hit e q) = absurd (same gain)
-            where
-              same : Gain (suc (d + m .cost)) (stored s (m .to)) → ⊥
-              same (inl z) = omega (arith, A .now, ap (stored s) e)
-              same (inr l) = omega (arith, A .now, ap (stored s) e)
+          now (hit e q) = absurd (no-gain gain (omega (arith, A .now, ap (stored s) e)) (omega (arith, A .now, ap (stored s) e)))
           now (miss n q) = q ∙ A .now
 
   -- ---- a taking

@@ -40,6 +40,11 @@ pub no-cheaper : (c k : ℕ) → 0 < k → k ≤ suc c → cheaper c k ≡ false
 no-cheaper c zero p q = absurd (omega arith)
 no-cheaper c (suc k) p q = le-ltb c k (omega arith)
 
+-- what is noted and not above x is no gain
+pub no-gain : {x k : ℕ} → Gain x k → 0 < k → k ≤ x → ⊥
+no-gain (inl e) p q = omega arith
+no-gain (inr h) p q = omega arith
+
 -- ---- one offer
 
 module _ (G : Graph) (u v c : ℕ) (s : State) where

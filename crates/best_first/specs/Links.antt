@@ -12,7 +12,7 @@ use Rattle.basics.specs.Zeros.{zeros}
 use Rattle.best_first.specs.Search.{Graph, Move}
 use Rattle.best_first.specs.Ways.{Sound}
 use Rattle.best_first.specs.Lists.{After, hit, miss, after}
-use Rattle.best_first.specs.Equations.{Gain}
+use Rattle.best_first.specs.Equations.{Gain, no-gain}
 
 pub record Origin (G : Graph) (previous : List ℕ) (v : ℕ) : Type 0 where
   pub is-start : v ≡ G .start
@@ -55,21 +55,14 @@ module _ {G : Graph} {degree dearest : ℕ} (S : Sound G degree dearest) {ages k
   to-in = omega (arith, S .inside u m lawful, L .known-length)
 
   pub not-start : m .to ≢ G .start
-  not-start e = go gain
-    where
-      one : getD known (m .to) 0 ≡ 1
-      one = ap (λ (v : ℕ). getD known v 0) e ∙ L .start-known
-
-      go : Gain x (getD known (m .to) 0) → ⊥
-      go (inl z) = omega (arith, one)
-      go (inr l) = omega (arith, one)
+  not-start e =
+      let one : getD known (m .to) 0 ≡ 1 = ap (λ (v : ℕ). getD known v 0) e ∙ L .start-known in
+      no-gain gain (omega (arith, one)) (omega (arith, one))
 
   pub not-itself : u ≢ m .to
-  not-itself e = go gain
-    where
-      go : Gain x (getD known (m .to) 0) → ⊥
-      go (inl z) = omega (arith, ap (λ (v : ℕ). getD known v 0) e)
-      go (inr l) = omega (arith, ap (λ (v : ℕ). getD known v 0) e)
+  not-itself e =
+      let same : getD known u 0 ≡ getD known (m .to) 0 = ap (λ (v : ℕ). getD known v 0) e in
+      no-gain gain (omega (arith, same)) (omega (arith, same))
 
   link-on : (v : ℕ) → After known (m .to) x v → 0 < getD (set known (m .to) x) v 0
       → Origin G (set previous (m .to) (suc u)) v ⊎ Link G (set ages (m .to) (suc serial)) (set known (m .to) x) (set previous (m .to) (suc u)) v

@@ -16,7 +16,7 @@ use Rattle.best_first.specs.Search.{Graph, Move, State, Taken, push, out
 use Rattle.best_first.specs.Ways.{Sound}
 use Rattle.best_first.specs.Statements.{Taking, stored, Reached, Lawful}
 use Rattle.best_first.specs.Lists.{After, hit, miss}
-use Rattle.best_first.specs.Equations.{Gain, offered}
+use Rattle.best_first.specs.Equations.{Gain, no-gain, offered}
 use Rattle.best_first.specs.Links.{Linked, Link, Origin, start-alone}
 use Rattle.best_first.specs.Base.{Base, Mid, still-closed, same, now-known, all-loose, taken-fresh, mark-taken}
 use Rattle.best_first.specs.Induction.{Invariant, Holds, holds}
@@ -154,14 +154,9 @@ module _ {G : Graph} {degree dearest : ℕ} (S : Sound G degree dearest) {closed
 
   -- w is not before u: no cell before u is dearer than u
   free : Up (s .previous) (m .to) u → ⊥
-  free up = go gain
-    where
-      f : (0 < stored s (m .to)) × (stored s (m .to) ≤ stored s u)
-      f = up-falls (M .base .linked) up (omega (arith, M .now))
-
-      go : Gain (suc (d + m .cost)) (stored s (m .to)) → ⊥
-      go (inl z) = omega (arith, f)
-      go (inr l) = omega (arith, f, M .now)
+  free up =
+      let f : (0 < stored s (m .to)) × (stored s (m .to) ≤ stored s u) = up-falls (M .base .linked) up (omega (arith, M .now)) in
+      no-gain gain (f .0) (omega (arith, f, M .now))
 
   w-in : m .to < length (s .previous)
   w-in = omega (arith, S .inside u m lawful, M .base .linked .previous-length)

@@ -157,8 +157,8 @@ pub record NetIn (R : Room) (source : ℕ) (k : Taps) : Type 0 where
   pub approach-in : (i : ℕ) → i < k .count → getD (k .taps) i noTap .approach < volume R
 
 -- the taps in use are as many as are counted
-pub taps-counted : (k : Taps) → k .count ≤ maxSinks → length (k .taps) ≡ maxSinks → length (tapsIn k) ≡ k .count
-taps-counted k few whole = length-take-le (k .count) (k .taps) (omega (arith, few, whole))
+pub taps-long : {R : Room} {source : ℕ} {k : Taps} → NetIn R source k → length (tapsIn k) ≡ k .count
+taps-long {k = k} N = length-take-le (k .count) (k .taps) (omega (arith, N .few, N .whole))
 
 pub tap-is : (k : Taps) (i : ℕ) → i < k .count → getD (k .taps) i noTap ≡ getD (tapsIn k) i noTap
 tap-is k i h = sym (getD-take (k .count) (k .taps) i noTap h)

@@ -29,8 +29,8 @@ use Rattle.blocked_world.specs.RefreshLaws.{mark-put, refreshed-says}
 use Rattle.goals.specs.declared.Tried.{Tried}
 use Rattle.goals.specs.declared.Tried.the-variants.{Found, Failed, Full}
 use Rattle.goals.specs.declared.Attempt.the-variants.{Ended, Conflict}
-use Rattle.goals.specs.Goals.{Site, Trial, found, failed, searchedFor, atConflict, afterSearch, attempts, endsGoal}
-use Rattle.goals.specs.Trials.{Tells, siteOf, Searchable, Able, attemptThen, Repeats, Attempted}
+use Rattle.goals.specs.Goals.{Site, Trial, found, failed, searchedFor, atConflict, afterSearch, attemptThen, attempts, endsGoal}
+use Rattle.goals.specs.Trials.{Tells, siteOf, Searchable, Able, Repeats, Attempted}
 use Rattle.goals.specs.PathLaws.{found-by, found-cells, conflict-in}
 
 pub tells-failed : (cells : List ℕ) → Tells failed Failed cells
@@ -144,46 +144,54 @@ module _ (S : Site) (blocked : List ℕ) (start goal left : ℕ) (some : left �
   pub attempts-ended : {cells : List ℕ} {r : Tried} → Attempted S blocked start goal cells (Ended r) → Tells (attempts left S start goal blocked) r cells
   attempts-ended once = rw attempts-one (once .comes (attempts (left - 1) S start goal))
 
-  pub attempts-repeat : {v : ℕ} {cells : List ℕ} {r : Tried} {S′ : Site} {blocked′ : List ℕ} → Repeats S blocked start goal v → S′ ≡ S → blocked′ ≡ markedBy (eqb v) blocked
-      → Tells (attempts (left - 1) S′ start goal blocked′) r cells → Tells (attempts left S start goal blocked) r cells
-  attempts-repeat {v} once s b t = rw (attempts-one, once .is (attempts (left - 1) S start goal), ← s, ← b) t
+  pub attempts-repeat : {v : ℕ} {cells : List ℕ} {r : Tried} {S′ : Site} → Repeats S blocked start goal v → S′ ≡ S
+      → Tells (attempts (left - 1) S′ start goal (markedBy (eqb v) blocked)) r cells → Tells (attempts left S start goal blocked) r cells
+  attempts-repeat once s t = rw (attempts-one, once .is (attempts (left - 1) S start goal), ← s) t
 
--- with the conflict blocked, marks and room still fit together, and the next attempt can be made
-pub able-marked : {S : Site} {blocked classes known previous path : List ℕ} {start goal : ℕ} → Able S blocked classes known previous path start goal
-    → (v : ℕ) {blocked′ : List ℕ} → blocked′ ≡ markedBy (eqb v) blocked → Fitting (S .room) (S .kinds) blocked′
-able-marked {S} {blocked} A v b = record {
-  good = A .grounds .good;
-  kinds-long = A .grounds .kinds-long;
-  blocked-long = ap length b ∙ with-length 1 (eqb v) blocked ∙ A .grounds .blocked-long;
-}
-
-pub able-next : {S S′ : Site} {blocked blocked′ classes classes′ known known′ previous previous′ path path′ : List ℕ} {start goal : ℕ} (v : ℕ)
-    → Able S blocked classes known previous path start goal → S′ ≡ S → blocked′ ≡ markedBy (eqb v) blocked → Says (S .room) (S .kinds) blocked′ start goal classes′
-    → length known′ ≡ length known → length previous′ ≡ length previous → length path′ ≡ length path
-    → Able S′ blocked′ classes′ known′ previous′ path′ start goal
-able-next {S} {S′} {blocked} {blocked′} {classes} {classes′} {known} {known′} {previous} {previous′} {path} {path′} {start} {goal} v A s b says k p q = rw s (record {
-  grounds = record {
-    good = A .grounds .good;
-    fair = A .grounds .fair;
-    kinds-long = A .grounds .kinds-long;
-    joinable-long = A .grounds .joinable-long;
-    joinable-marks = A .grounds .joinable-marks;
-    alone = A .grounds .alone;
-    blocked-long = able-marked A v b .blocked-long;
-    blocked-marks = rw b (marks-with 1 (omega arith) (eqb v) blocked (A .grounds .blocked-marks));
-    start-in = A .grounds .start-in;
-    places-some = A .grounds .places-some;
-  };
+-- the same room and marks, and memory as long as it was
+pub able-kept : {S S′ : Site} {blocked classes known known′ previous previous′ path path′ : List ℕ} {start goal : ℕ} → Able S blocked classes known previous path start goal → S′ ≡ S
+    → length known′ ≡ length known → length previous′ ≡ length previous → length path′ ≡ length path → Able S′ blocked classes known′ previous′ path′ start goal
+able-kept A s k p q = rw s (record {
+  grounds = A .grounds;
   memory = record { known-long = k ∙ A .memory .known-long; previous-long = p ∙ A .memory .previous-long; path-long = q ∙ A .memory .path-long };
   goal-in = A .goal-in;
-  says = says;
+  says = A .says;
 })
 
--- behind them, marks and classes are as they were
-module _ {S : Site} {blocked classes known previous path : List ℕ} {start goal v : ℕ} (A : Able S blocked classes known previous path start goal) (once : Repeats S blocked start goal v)
-    {blocked′ : List ℕ} (b : blocked′ ≡ unmarkedBy (eqb v) (markedBy (eqb v) blocked)) where
-  pub blocked-back : blocked′ ≡ blocked
-  blocked-back = b ∙ put-back blocked v (A .grounds .blocked-marks) (once .free)
+-- a cell v that is not blocked
+module _ {S : Site} {blocked classes known previous path : List ℕ} {start goal : ℕ} (A : Able S blocked classes known previous path start goal) (v : ℕ) {blocked′ : List ℕ} where
+  -- once it is blocked, marks and room still fit together, and the next attempt can be made
+  module _ (b : blocked′ ≡ markedBy (eqb v) blocked) where
+    pub able-marked : Fitting (S .room) (S .kinds) blocked′
+    able-marked = record {
+      good = A .grounds .good;
+      kinds-long = A .grounds .kinds-long;
+      blocked-long = ap length b ∙ with-length 1 (eqb v) blocked ∙ A .grounds .blocked-long;
+    }
 
-  pub classes-back : {classes′ : List ℕ} → Says (S .room) (S .kinds) blocked′ start goal classes′ → classes′ ≡ classes
-  classes-back {classes′} says = says-one (S .room) (S .kinds) blocked start goal classes′ classes (rw blocked-back at says) (A .says)
+    pub able-next : {classes′ : List ℕ} → Says (S .room) (S .kinds) blocked′ start goal classes′ → Able S blocked′ classes′ known previous path start goal
+    able-next says = record {
+      grounds = record {
+        good = A .grounds .good;
+        fair = A .grounds .fair;
+        kinds-long = A .grounds .kinds-long;
+        joinable-long = A .grounds .joinable-long;
+        joinable-marks = A .grounds .joinable-marks;
+        alone = A .grounds .alone;
+        blocked-long = able-marked .blocked-long;
+        blocked-marks = rw b (marks-with 1 (omega arith) (eqb v) blocked (A .grounds .blocked-marks));
+        start-in = A .grounds .start-in;
+        places-some = A .grounds .places-some;
+      };
+      memory = A .memory;
+      goal-in = A .goal-in;
+      says = says;
+    }
+
+  -- once it is not blocked any more, marks and classes are as they were
+  module _ (free : isMarked blocked v ≡ false) (b : blocked′ ≡ unmarkedBy (eqb v) (markedBy (eqb v) blocked)) where
+    pub blocked-back : blocked′ ≡ blocked
+    blocked-back = b ∙ put-back blocked v (A .grounds .blocked-marks) free
+
+    pub classes-back : {classes′ : List ℕ} → Says (S .room) (S .kinds) blocked′ start goal classes′ → classes′ ≡ classes
+    classes-back {classes′} says = says-one (S .room) (S .kinds) blocked start goal classes′ classes (rw blocked-back at says) (A .says)

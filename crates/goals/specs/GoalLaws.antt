@@ -20,9 +20,9 @@ use Rattle.blocked_world.specs.SeenLaws.{says-one}
 use Rattle.blocked_world.specs.RefreshLaws.{same-back, goal-left, refreshed-says}
 use Rattle.goals.specs.declared.Tried.{Tried}
 use Rattle.goals.specs.declared.Tried.the-variants.{Found, Failed, Full}
-use Rattle.goals.specs.Goals.{Site, full, maxAttempts, attempts, cheaper, triedGoal, bestBelow, routeToTree}
-use Rattle.goals.specs.Trials.{Tells, siteOf, Able, GoesOn, beaten, KeepsCheaper}
-use Rattle.goals.specs.AttemptLaws.{tells-failed, site-same}
+use Rattle.goals.specs.Goals.{Site, full, maxAttempts, attempts, beats, cheaper, triedGoal, bestBelow, routeToTree}
+use Rattle.goals.specs.Trials.{told, Tells, siteOf, Able, GoesOn, KeepsCheaper}
+use Rattle.goals.specs.AttemptLaws.{tells-failed, site-same, able-kept}
 
 -- ---- a goal's class bytes
 
@@ -65,14 +65,14 @@ module _ {path best : List ℕ} where
 
   module _ (n : ℕ) (cost : Cost) where
     -- its route is not cheaper
-    pub keeps-old : (kept : Tried) → GoesOn kept → beaten kept (cost .0) ≡ false → KeepsCheaper kept (Found n cost) path best kept best
+    pub keeps-old : (kept : Tried) → GoesOn kept → beats (cost .0) (told kept []) ≡ false → KeepsCheaper kept (Found n cost) path best kept best
     unfolding cheaper
     keeps-old (Found m other) on b = record { keeps = λ earlier later E L. rw (← E .is, ← L .is, b) (record { is = refl; fits = E .fits }) }
     keeps-old Failed on b = never (cc)
     keeps-old (Full y) on b = absurd on
 
     -- its route is cheaper, and is copied
-    pub keeps-new : (kept : Tried) → GoesOn kept → beaten kept (cost .0) ≡ true → n ≤ length path → {best′ : List ℕ} → best′ ≡ take n path ++ drop n best
+    pub keeps-new : (kept : Tried) → GoesOn kept → beats (cost .0) (told kept []) ≡ true → n ≤ length path → {best′ : List ℕ} → best′ ≡ take n path ++ drop n best
         → KeepsCheaper kept (Found n cost) path best (Found n cost) best′
     unfolding cheaper
     keeps-new kept on b h {best′} e = go kept on b
@@ -83,7 +83,7 @@ module _ {path best : List ℕ} where
         room : n ≤ length best′
         room = rw (e, length-append (take n path) (drop n best), length-take-le n path h) (omega arith)
 
-        go : (kept : Tried) → GoesOn kept → beaten kept (cost .0) ≡ true → KeepsCheaper kept (Found n cost) path best (Found n cost) best′
+        go : (kept : Tried) → GoesOn kept → beats (cost .0) (told kept []) ≡ true → KeepsCheaper kept (Found n cost) path best (Found n cost) best′
         go (Found m other) on b = record { keeps = λ earlier later E L. rw (← E .is, ← L .is, b) (record { is = rw front; fits = room }) }
         go Failed on b = record { keeps = λ earlier later E L. rw (← E .is, ← L .is) (record { is = rw front; fits = room }) }
         go (Full y) on b = absurd on
@@ -164,12 +164,7 @@ module _ (R : Room) (C : RouterConfig) (kinds : List ℕ) {start goal : ℕ} {ke
 
   pub going-able : Able (siteOf R C kinds joinable₀ queue₀) blocked₀ classes₀ known₀ previous₀ path₀ start start
       → Able (siteOf R C kinds joinable queue) blocked classes known previous path start start
-  going-able A = rw (same, G .blocked-is, G .classes-is) (record {
-    grounds = A .grounds;
-    memory = record { known-long = G .known-long ∙ A .memory .known-long; previous-long = G .previous-long ∙ A .memory .previous-long; path-long = G .path-long ∙ A .memory .path-long };
-    goal-in = A .goal-in;
-    says = A .says;
-  })
+  going-able A = rw (G .blocked-is, G .classes-is) (able-kept A same (G .known-long) (G .previous-long) (G .path-long))
 
   pub going-tells : Tells (bestBelow goal (siteOf R C kinds joinable queue) start blocked) kept best
   going-tells = rw (same, G .blocked-is) (G .tells)

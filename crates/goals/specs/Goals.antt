@@ -1,6 +1,6 @@
 -- One sink's goals, as "The tree of one net" of the requirement has them: the search for one goal, its attempts, and the cheapest of all goals.
 -- Definitions alone; their laws are in the files named Laws.
-use mathlib.Core.Bool.{_||_, Bool}
+use mathlib.Core.Bool.{_||_, Bool, true, false}
 use mathlib.Core.List.{List}
 use Prim.Native.Nat.{ℕ, zero, suc}
 use lib.Dec.{ltb, eqb}
@@ -60,17 +60,27 @@ afterSearch S blocked start goal again (found path cost) =
 afterSearch S blocked start goal again failed = failed
 afterSearch S blocked start goal again (full x) = full x
 
+-- one attempt, with what the attempts after it come to
+abbrev pub attemptThen : Site → List ℕ → ℕ → ℕ → (List ℕ → Trial) → Trial
+attemptThen S blocked start goal again =
+    afterSearch S blocked start goal again (searchedFor (seenTask (S .room) (S .config) (S .kinds) blocked start goal (S .places)))
+
 -- so many attempts for one goal, from these blocked cells on
 unfoldable pub attempts : ℕ → Site → ℕ → ℕ → List ℕ → Trial
 attempts zero S start goal blocked = failed
-attempts (suc n) S start goal blocked =
-    afterSearch S blocked start goal (attempts n S start goal) (searchedFor (seenTask (S .room) (S .config) (S .kinds) blocked start goal (S .places)))
+attempts (suc n) S start goal blocked = attemptThen S blocked start goal (attempts n S start goal)
 
--- "The first strictly cheapest route is kept". A goal whose queue is full ends it all
+-- "The first strictly cheapest route is kept": a route of this cost takes the place of what is kept
+abbrev pub beats : ℕ → Trial → Bool
+beats cost (found path kept) = ltb cost kept
+beats cost failed = true
+beats cost (full x) = false
+
+-- of what is kept and what a later goal came to. A goal whose queue is full ends it all
 unfoldable pub cheaper : Trial → Trial → Trial
 cheaper (full x) later = full x
 cheaper failed later = later
-cheaper (found path cost) (found path′ cost′) = either (ltb cost′ cost) (found path′ cost′) (found path cost)
+cheaper (found path cost) (found path′ cost′) = either (beats cost′ (found path cost)) (found path′ cost′) (found path cost)
 cheaper (found path cost) failed = found path cost
 cheaper (found path cost) (full x) = full x
 

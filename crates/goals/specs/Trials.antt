@@ -3,7 +3,7 @@ use mathlib.Core.Path.{_≡_}
 use mathlib.Core.Bool.{Bool, true, false, _&&_}
 use mathlib.Core.List.{List}
 use Prim.Native.Nat.{ℕ, _≤_, _<_}
-use lib.Dec.{eqb, ltb}
+use lib.Dec.{eqb}
 use lib.ListN.{length, getD, take}
 use Rattle.room.specs.declared.Room.{Room}
 use Rattle.room.specs.declared.RouterConfig.{RouterConfig}
@@ -22,7 +22,7 @@ use Rattle.goals.specs.declared.Tried.{Tried}
 use Rattle.goals.specs.declared.Tried.the-variants.{Found, Failed, Full}
 use Rattle.goals.specs.declared.Attempt.{Attempt}
 use Rattle.goals.specs.declared.Attempt.the-variants.{Ended, Conflict}
-use Rattle.goals.specs.Goals.{Site, Trial, found, failed, full, trialOf, searchedFor, afterSearch, cheaper}
+use Rattle.goals.specs.Goals.{Site, Trial, found, failed, full, trialOf, searchedFor, attemptThen, cheaper}
 
 -- what an answer says, with the buffer that has the path's cells in front
 abbrev pub told : Tried → List ℕ → Trial
@@ -100,11 +100,6 @@ pub record Able (S : Site) (blocked classes known previous path : List ℕ) (sta
   pub goal-in : goal < volume (S .room)
   pub says : Says (S .room) (S .kinds) blocked start goal classes
 
--- one attempt, with what the attempts after it come to
-abbrev pub attemptThen : Site → List ℕ → ℕ → ℕ → (List ℕ → Trial) → Trial
-attemptThen S blocked start goal again =
-    afterSearch S blocked start goal again (searchedFor (seenTask (S .room) (S .config) (S .kinds) blocked start goal (S .places)))
-
 -- "any other is blocked for this goal and the search repeats"
 pub record Repeats (S : Site) (blocked : List ℕ) (start goal v : ℕ) : Type 0 where
   pub inside : v < volume (S .room)
@@ -126,12 +121,6 @@ abbrev pub GoesOn : Tried → Type 0
 GoesOn (Found n cost) = Unit {0}
 GoesOn Failed = Unit {0}
 GoesOn (Full x) = ⊥
-
--- "The first strictly cheapest route is kept": a route of this cost takes the place of what is kept
-abbrev pub beaten : Tried → ℕ → Bool
-beaten (Found n other) cost = ltb cost (other .0)
-beaten Failed cost = true
-beaten (Full x) cost = false
 
 -- of what is kept, with its path in `best`, and what a later goal came to, with its path in `path`, the cheaper one, with its path in `best`
 pub record KeepsCheaper (kept tried : Tried) (path best : List ℕ) (r : Tried) (best′ : List ℕ) : Type 0 where

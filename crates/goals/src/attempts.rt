@@ -1,10 +1,11 @@
 // The attempts for one goal.
 ghost use mathlib.Core.Path.{_≡_};
+ghost use mathlib.Core.Bool.{false};
 ghost use Prim.Native.Nat.{_<_};
 ghost use lib.Dec.{eqb};
 ghost use lib.ListN.{length};
 ghost use Rattle.room.specs.Room.{volume};
-ghost use Rattle.routing_resources.specs.Marks.{withByte};
+ghost use Rattle.routing_resources.specs.Marks.{withByte, isMarked, markedBy};
 ghost use Rattle.blocked_world.specs.BlockedWorld.{Fitting, Says};
 ghost use Rattle.goals.specs.Goals.{attempts, endsGoal};
 ghost use Rattle.goals.specs.Trials.{Tells, siteOf, Able, Attempted};
@@ -94,8 +95,7 @@ fn set_blocked(
     blocked_world::refresh(room, kinds, blocked, start, goal, classes, cell);
 }
 
-// So many attempts for one goal. A conflict is blocked for the attempts after it, and not blocked any more behind them:
-// marks and classes are as they were when this returns.
+// So many attempts for one goal. Marks and classes are as they were when this returns.
 pub fn attempt_goal(
     room: Room,
     config: RouterConfig,
@@ -134,43 +134,81 @@ pub fn attempt_goal(
     );
     match once {
         Attempt::Ended(tried) => tried,
-        Attempt::Conflict(cell) => {
-            set_blocked(
-                room,
-                kinds,
-                blocked,
-                classes,
-                start,
-                goal,
-                cell,
-                routing_resources::MARKED,
-            );
-            let tried = attempt_goal(
-                room,
-                config,
-                kinds,
-                joinable,
-                blocked,
-                classes,
-                known,
-                previous,
-                path,
-                queue,
-                start,
-                goal,
-                left - 1,
-            );
-            set_blocked(
-                room,
-                kinds,
-                blocked,
-                classes,
-                start,
-                goal,
-                cell,
-                routing_resources::UNMARKED,
-            );
-            tried
-        }
+        Attempt::Conflict(cell) => attempt_again(
+            room,
+            config,
+            kinds,
+            joinable,
+            blocked,
+            classes,
+            known,
+            previous,
+            path,
+            queue,
+            start,
+            goal,
+            cell,
+            left - 1,
+        ),
     }
+}
+
+// The attempts after a conflict, so many: it is blocked for them, and not blocked any more behind them.
+fn attempt_again(
+    room: Room,
+    config: RouterConfig,
+    kinds: &[u8],
+    joinable: &mut [u8],
+    blocked: &mut [u8],
+    classes: &mut [u8],
+    known: &mut [u32],
+    previous: &mut [u32],
+    path: &mut [u32],
+    queue: &mut [u64],
+    start: usize,
+    goal: usize,
+    cell: usize,
+    left: usize,
+) -> Tried
+    requires { ⌜ Able (siteOf room config (now kinds) (now joinable) (now queue)) (now blocked) (now classes) (now known) (now previous) (now path) start goal ⌝ }
+    requires { ⌜ (cell < volume room) × (isMarked (now blocked) cell ≡ false) ⌝ }
+    ensures { λ r. ⌜ Tells (attempts left (siteOf room config (now (kinds .entry)) (now (joinable .entry)) (now (queue .entry))) start goal (markedBy (eqb cell) (now (blocked .entry)))) r (now (path .exit)) ⌝ }
+    ensures { λ _. ⌜ (now (joinable .exit) ≡ now (joinable .entry)) × (now (blocked .exit) ≡ now (blocked .entry)) × (now (classes .exit) ≡ now (classes .entry)) ⌝ }
+{
+    set_blocked(
+        room,
+        kinds,
+        blocked,
+        classes,
+        start,
+        goal,
+        cell,
+        routing_resources::MARKED,
+    );
+    let tried = attempt_goal(
+        room,
+        config,
+        kinds,
+        joinable,
+        blocked,
+        classes,
+        known,
+        previous,
+        path,
+        queue,
+        start,
+        goal,
+        left,
+    );
+    set_blocked(
+        room,
+        kinds,
+        blocked,
+        classes,
+        start,
+        goal,
+        cell,
+        routing_resources::UNMARKED,
+    );
+    tried
 }

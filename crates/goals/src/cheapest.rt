@@ -1,15 +1,16 @@
 // Of the goals' routes the first strictly cheapest is kept.
 ghost use mathlib.Core.Path.{_≡_};
-ghost use mathlib.Core.List.{_++_};
+ghost use mathlib.Core.List.{[], _++_};
 ghost use Prim.Native.Nat.{_≤_};
 ghost use lib.ListN.{length, take, drop};
-ghost use Rattle.goals.specs.Trials.{cellsOf, GoesOn, beaten, KeepsCheaper};
+ghost use Rattle.goals.specs.Goals.{beats};
+ghost use Rattle.goals.specs.Trials.{told, cellsOf, GoesOn, KeepsCheaper};
 use crate::Tried;
 use room::Cost;
 
-// Whether a route of this cost takes the place of what is kept.
+// Whether a route of this cost takes the place of what is kept, whatever its cells are.
 fn beats(kept: Tried, cost: Cost) -> bool
-    ensures { λ r. ⌜ r ≡ beaten kept (cost .0) ⌝ }
+    ensures { λ r. ⌜ r ≡ beats (cost .0) (told kept []) ⌝ }
 {
     match kept {
         Tried::Found {

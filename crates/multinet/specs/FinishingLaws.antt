@@ -7,7 +7,6 @@ use lib.Dec.{eqb}
 use lib.ListN.{length, getD, take, drop, length-map, length-replicate, take-append-drop}
 use lib.Seq.{take-at, drop-at, getD-take, length-take-le, ext-getD, take-length}
 use Rattle.basics.specs.Lists.{any}
-use Rattle.ends.specs.EndLaws.{taps-counted}
 use Rattle.room.specs.declared.Room.{Room}
 use Rattle.room.specs.Room.{volume}
 use Rattle.routing_resources.specs.Marks.{markedBy, noMarks}
@@ -35,9 +34,6 @@ pub end-marked : {marks marks′ marks″ : List ℕ} (m : List ℕ) (t : Tap) �
 end-marked m t e a b = b ∙ rw (a, e) (with-or 1 (eqb (t .terminal)) (eqb (t .approach)) m)
 
 module _ {source : ℕ} {k : Taps} {marks : List ℕ} (E : EndsIn source k marks) where
-  pub ends-long : length (tapsIn k) ≡ k .count
-  ends-long = taps-counted k (E .net .few) (E .net .whole)
-
   pub source-there : source < length marks
   source-there = rw (E .long) (E .net .source-in)
 

@@ -26,7 +26,7 @@ use Rattle.job_sheet.specs.RecordLaws.{many-long}
 use Rattle.ends.specs.declared.Tap.{Tap}
 use Rattle.ends.specs.declared.Taps.{Taps}
 use Rattle.ends.specs.Ends.{tapsIn}
-use Rattle.ends.specs.EndLaws.{NetIn, taps-counted}
+use Rattle.ends.specs.EndLaws.{NetIn}
 use Rattle.outset.specs.Outset.{standsAt, nearConductor, blockedBy, powers, solidOf, outputKeepout, sourceKeepout, atOrBeneath, tapCell, ownCell, blockedAtOutset}
 
 -- ---- what the functions ask
@@ -117,15 +117,10 @@ module _ (R : Room) (marks : List ℕ) {marks′ marks″ : List ℕ} where
       → marks″ ≡ unmarkedBy (λ v. tapCell R v t) marks
   out-tap t m n = n ∙ rw m (with-or 0 (λ v. atOrBeneath R v (t .terminal)) (λ v. atOrBeneath R v (t .approach)) marks)
 
-module _ {R : Room} {source : ℕ} {k : Taps} (N : NetIn R source k) where
-  pub taps-long : length (tapsIn k) ≡ k .count
-  taps-long = taps-counted k (N .few) (N .whole)
-
-  pub out-ends : (marks : List ℕ) {marks′ marks″ : List ℕ} → marks′ ≡ unmarkedBy (λ v. atOrBeneath R v source) marks
-      → marks″ ≡ unmarkedBy (λ v. any (tapCell R v) (tapsIn k)) marks′
+  pub out-ends : (source : ℕ) (k : Taps) → marks′ ≡ unmarkedBy (λ v. atOrBeneath R v source) marks → marks″ ≡ unmarkedBy (λ v. any (tapCell R v) (tapsIn k)) marks′
       → marks″ ≡ unmarkedBy (ownCell R source k) marks
   unfolding ownCell
-  out-ends marks m n = n ∙ rw m (with-or 0 (λ v. atOrBeneath R v source) (λ v. any (tapCell R v) (tapsIn k)) marks)
+  out-ends source k m n = n ∙ rw m (with-or 0 (λ v. atOrBeneath R v source) (λ v. any (tapCell R v) (tapsIn k)) marks)
 
 -- what is said of a sheet's contents, by its parts
 said-by : (kinds nodes : List ℕ) (source : ℕ) (k : Taps) (J : Contents) (R : Room) (cs ls ts rs : List Pos) (bs : List Block)

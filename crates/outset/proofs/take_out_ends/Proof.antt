@@ -2,11 +2,11 @@
 use mathlib.Core.Path.{_∙_}
 use Prim.Native.Nat.{_≤_, _-_}
 use native.Mathlib.Omega.{arith}
-use Rattle.ends.specs.EndLaws.{tap-is}
+use Rattle.ends.specs.EndLaws.{taps-long, tap-is}
 use Rattle.routing_resources.specs.MarkLaws.{Turn, first-turn}
 use Rattle.ends.specs.Ends.{noTap, tapsIn}
 use Rattle.outset.specs.Outset.{tapCell}
-use Rattle.outset.specs.OutsetLaws.{restOf, turn-on, turn-done, out-ends, taps-long}
+use Rattle.outset.specs.OutsetLaws.{restOf, turn-on, turn-done, out-ends}
 use Rattle.outset.proofs.take_out_ends.Statement.{statement}
 use Rattle.outset.proofs.take_out_ends.Tie as tie
 
@@ -44,7 +44,7 @@ same-length : tie.Need-same-length Inv-loop μ-loop
 same-length c = c .before .loop .inv .1 .long ∙ c .before .before .before .before .take-out .kept .1 .0
 
 returns : tie.Need-returns Inv-loop μ-loop
-returns c = out-ends (c .before .before .before .before .before .before .before .pre .1 .0) _ (c .before .before .before .before .take-out .ensures) (turn-done (tapCell _) _ (c .before .loop .inv .1) (rw (taps-long (c .before .before .before .before .before .before .before .pre .1 .0)) (c .loop-test .left)))
+returns c = out-ends _ _ _ _ (c .before .before .before .before .take-out .ensures) (turn-done (tapCell _) _ (c .before .loop .inv .1) (rw (taps-long (c .before .before .before .before .before .before .before .pre .1 .0)) (c .loop-test .left)))
 
 pub take-out-ends-spec : {M : Type 1} → statement M
 take-out-ends-spec =

@@ -2,12 +2,12 @@
 use mathlib.Core.Path.{_∙_}
 use Prim.Native.Nat.{_≤_, _-_}
 use native.Mathlib.Omega.{arith}
-use Rattle.ends.specs.EndLaws.{tap-is}
+use Rattle.ends.specs.EndLaws.{taps-long, tap-is}
 use Rattle.routing_resources.specs.MarkLaws.{Turn, first-turn}
 use Rattle.ends.specs.Ends.{noTap, tapsIn}
 use Rattle.outset.specs.OutsetLaws.{restOf, turn-on, turn-done}
 use Rattle.multinet.specs.Tree.{endAt}
-use Rattle.multinet.specs.FinishingLaws.{ends-marked, ends-long, source-there, tap-there}
+use Rattle.multinet.specs.FinishingLaws.{ends-marked, source-there, tap-there}
 use Rattle.multinet.proofs.finishing.mark_ends.Statement.{statement}
 use Rattle.multinet.proofs.finishing.mark_ends.Tie as tie
 
@@ -39,13 +39,13 @@ loop-less : tie.Need-loop-less Inv-loop μ-loop
 loop-less c = omega (arith, c .before .before .before .before .before .loop-test .taken)
 
 loop-again : tie.Need-loop-again Inv-loop μ-loop
-loop-again c = (omega (arith, c .before .before .before .before .before .loop-test .taken), turn-on endAt _ (c .before .before .before .before .before .before .loop .inv .1) noTap _ (tap-is _ _ (c .before .before .before .before .before .loop-test .taken)) (rw (ends-long (c .before .before .before .before .before .before .before .before .before .before .before .before .pre)) (c .before .before .before .before .before .loop-test .taken)) (c .before .before .mark-end .ensures))
+loop-again c = (omega (arith, c .before .before .before .before .before .loop-test .taken), turn-on endAt _ (c .before .before .before .before .before .before .loop .inv .1) noTap _ (tap-is _ _ (c .before .before .before .before .before .loop-test .taken)) (rw (taps-long (c .before .before .before .before .before .before .before .before .before .before .before .before .pre .net)) (c .before .before .before .before .before .loop-test .taken)) (c .before .before .mark-end .ensures))
 
 same-length : tie.Need-same-length Inv-loop μ-loop
 same-length c = c .before .loop .inv .1 .long ∙ c .before .before .before .before .mark .kept .0
 
 returns : tie.Need-returns Inv-loop μ-loop
-returns c = ends-marked (c .before .before .before .before .before .before .before .pre) (c .before .before .before .before .mark .ensures) (turn-done endAt _ (c .before .loop .inv .1) (rw (ends-long (c .before .before .before .before .before .before .before .pre)) (c .loop-test .left)))
+returns c = ends-marked (c .before .before .before .before .before .before .before .pre) (c .before .before .before .before .mark .ensures) (turn-done endAt _ (c .before .loop .inv .1) (rw (taps-long (c .before .before .before .before .before .before .before .pre .net)) (c .loop-test .left)))
 
 pub mark-ends-spec : {M : Type 1} → statement M
 mark-ends-spec =
