@@ -1,4 +1,4 @@
--- Membership in a list, tests over a list, and a rule that one computed test shows of every member.
+-- Membership in a list, tests over a list, a rule that one computed test shows of every member, and a list from one of its members on.
 use mathlib.Core.Path.{_≡_, refl, ap}
 use mathlib.Core.Logic.{_⊎_, inl, inr}
 use mathlib.Core.Bool.{Bool, true, false, _&&_, _||_}
@@ -6,9 +6,12 @@ use mathlib.Core.List.{List, [], _∷_, _++_, map}
 use Prim.Native.Nat.{ℕ, zero, suc, _+_, _≤_, _<_}
 use native.Mathlib.Numerals.{add-one}
 use native.Mathlib.Nat.{le-of-suc-le-suc, not-suc-le-zero}
+use native.Mathlib.Omega.{arith}
+use lib.Dec.{eqb}
 use lib.ListN.{length, getD, drop, drop-of-length-le}
 use lib.Seq.{drop-cons}
-use Rattle.basics.specs.Tests.{and-left, and-right, and-both}
+use borrow.Author.Tests.{eqb-true, eqb-false}
+use Rattle.basics.specs.Tests.{ask, and-left, and-right, and-both}
 
 -- x stands in the list
 abbrev pub In : {X : Type 0} → X → List X → Type 0
@@ -31,6 +34,18 @@ every-in p [] e x i = absurd i
 every-in p (y ∷ ys) e x (inl q) = rw q (and-left (p y) (every p ys) e)
 every-in p (y ∷ ys) e x (inr i) = every-in p ys (and-right (p y) (every p ys) e) x i
 
+-- one computed test shows a rule of every number below n
+unfoldable pub allBelow : (ℕ → Bool) → ℕ → Bool
+allBelow p zero = true
+allBelow p (suc n) = p n && allBelow p n
+
+pub below-all : (p : ℕ → Bool) (n : ℕ) → allBelow p n ≡ true → (k : ℕ) → k < n → p k ≡ true
+unfolding allBelow
+below-all p zero e k h = absurd (not-suc-le-zero h)
+below-all p (suc n) e k h =
+    ask (eqb k n) (λ t. rw (eqb-true k n t) (and-left (p n) (allBelow p n) e))
+    (λ f. below-all p n (and-right (p n) (allBelow p n) e) k (omega (arith, eqb-false k n f)))
+
 pub every-all : {X : Type 0} (p : X → Bool) → ((x : X) → p x ≡ true) → (xs : List X) → every p xs ≡ true
 every-all p f [] = refl
 every-all p f (x ∷ xs) = and-both (f x) (every-all p f xs)
@@ -47,10 +62,14 @@ pub every-map : {X Y : Type 0} (p : Y → Bool) (f : X → Y) (xs : List X) → 
 every-map p f [] = refl
 every-map p f (x ∷ xs) = rw (every-map p f xs)
 
+-- a list from the i-th member on
+pub drop-next : {X : Type 0} (l : List X) (i : ℕ) (d : X) → i < length l → drop i l ≡ getD l i d ∷ drop (i + 1) l
+drop-next l i d h = rw add-one (drop-cons l i d h)
+
 -- the members of a list of numbers tested one by one, from the i-th on
 module _ (p : ℕ → Bool) (l : List ℕ) (i : ℕ) where
   every-from : i < length l → every p (drop i l) ≡ (p (getD l i 0) && every p (drop (i + 1) l))
-  every-from h = rw add-one (ap (every p) (drop-cons l i 0 h))
+  every-from h = ap (every p) (drop-next l i 0 h)
 
   pub every-passed : i < length l → p (getD l i 0) ≡ true → every p (drop (i + 1) l) ≡ every p (drop i l)
   every-passed h e = rw (every-from h, e)

@@ -1,10 +1,10 @@
 -- Lists of zeros: cleared memory.
-use mathlib.Core.Path.{_≡_, refl, ap}
-use mathlib.Core.List.{_∷_}
+use mathlib.Core.Path.{_≡_, refl, ap, _∙_}
+use mathlib.Core.List.{List, _∷_}
 use Prim.Native.Nat.{ℕ, zero, suc, _-_, _≤_}
 use native.Mathlib.Nat.{sub-zero, zero-sub, suc-sub-suc}
 use native.Mathlib.Omega.{arith}
-use lib.ListN.{getD, take, drop, replicate}
+use lib.ListN.{length, getD, take, drop, replicate, length-replicate}
 
 -- an element of n zeros, in reach or not
 pub zeros : (n i : ℕ) → getD {A = ℕ} (replicate n 0) i 0 ≡ 0
@@ -21,3 +21,7 @@ pub drop-zeros : (n m : ℕ) → drop {A = ℕ} n (replicate m 0) ≡ replicate 
 drop-zeros zero m = rw sub-zero
 drop-zeros (suc n) zero = rw zero-sub
 drop-zeros (suc n) (suc m) = rw suc-sub-suc (drop-zeros n m)
+
+-- so many zeros
+pub zeros-long : {l : List ℕ} {n : ℕ} → l ≡ replicate n 0 → length l ≡ n
+zeros-long {n = n} e = ap length e ∙ length-replicate {A = ℕ} n 0

@@ -1,1 +1,1 @@
-// Laws that every layer cites, on tests, lists and tables: definitions and proofs alone, no code. See specs/.
+// Laws that the layers above cite, on tests, lists, zeros, promises and copying: definitions and proofs alone, no code. See specs/.

@@ -11,7 +11,7 @@ use Rattle.basics.specs.Lists.{In}
 use Rattle.basics.specs.Zeros.{zeros}
 use Rattle.best_first.specs.Search.{Graph, Move, Entry, State, Taken, on, push, counted, outset, expand}
 use Rattle.best_first.specs.Ways.{Sound}
-use Rattle.best_first.specs.Statements.{Taking, stored, cost-of, entered}
+use Rattle.best_first.specs.Statements.{Taking, stored, costOf, outcome, entered, enteredBy}
 use Rattle.best_first.specs.Lists.{After, hit, miss, after, in-reach}
 use Rattle.best_first.specs.Equations.{no-cheaper, expand-none, expand-skip, Gain, offered}
 use Rattle.best_first.specs.Links.{Linked, lowered, to-in, not-itself, push-linked, start-alone, outset-linked}
@@ -56,6 +56,10 @@ module _ {G : Graph} {closed ages : List ℕ} {u d : ℕ} {m : Move} {ms : List 
   B : Base G closed ages u (m ∷ ms) s
   B = N .base
 
+  -- the move that is tried is one of u's
+  pub due-lawful : In m (G .moves u)
+  due-lawful = N .lawful m (inl refl)
+
   skip-base : (0 < stored s (m .to)) × (stored s (m .to) ≤ suc (d + m .cost)) → Base G closed ages u ms s
   skip-base f = record {
     linked = B .linked;
@@ -78,9 +82,6 @@ module _ {G : Graph} {closed ages : List ℕ} {u d : ℕ} {m : Move} {ms : List 
   -- ---- a move that does: the cell entered is pushed, and is open
 
   module _ {degree dearest : ℕ} (S : Sound G degree dearest) (gain : Gain (suc (d + m .cost)) (stored s (m .to))) where
-    law : In m (G .moves u)
-    law = N .lawful m (inl refl)
-
     u-known : 0 < stored s u
     u-known = omega (arith, N .now)
 
@@ -88,10 +89,10 @@ module _ {G : Graph} {closed ages : List ℕ} {u d : ℕ} {m : Move} {ms : List 
     is-x = omega (arith, N .now)
 
     w-in : m .to < length (s .known)
-    w-in = to-in S (B .linked) u m law u-known _ is-x gain
+    w-in = to-in S (B .linked) u m due-lawful u-known _ is-x gain
 
     u-not-w : u ≢ m .to
-    u-not-w = not-itself S (B .linked) u m law u-known _ is-x gain
+    u-not-w = not-itself S (B .linked) u m due-lawful u-known _ is-x gain
 
     mark : (v : ℕ) → After closed (m .to) 0 v
     mark v = after closed (m .to) 0 v (omega (arith, w-in, B .linked .known-length, B .closed-length))
@@ -116,7 +117,7 @@ module _ {G : Graph} {closed ages : List ℕ} {u d : ℕ} {m : Move} {ms : List 
     push-base : Base G (set closed (m .to) 0) (set ages (m .to) (suc (s .serial))) u ms (push G u (m .to) (d + m .cost) s)
     unfolding push
     push-base = record {
-      linked = push-linked S (B .linked) u m law u-known (suc (d + m .cost)) is-x gain;
+      linked = push-linked S (B .linked) u m due-lawful u-known (suc (d + m .cost)) is-x gain;
       closed-length = simp length-set (B .closed-length);
       goal-open = goal-open (mark (G .goal));
       closed-known = λ v c. let k = still-closed v c in low v (B .closed-known v (k .1)) .0;
@@ -159,13 +160,31 @@ module _ {G : Graph} {closed ages : List ℕ} {u d : ℕ} {m : Move} {ms : List 
       lawful = λ n i. N .lawful n (inr i);
     }
 
+-- ---- moves of u, whose cost is d, that offer no lower cost push nothing
+
+module _ (G : Graph) (u d : ℕ) where
+  expand-loose : (ms : List Move) (s : State) → stored s u ≡ suc d → ((m : Move) → In m ms → Loose (s .known) u m) → expand G u d ms s ≡ on s
+  expand-loose [] s e all = expand-none G u d s
+  expand-loose (m ∷ ms) s e all =
+      let l = all m (inl refl) in
+      expand-skip G u d m ms s (no-cheaper _ _ (l .there) (omega (arith, l .cheap))) ∙ expand-loose ms s e (λ n i. all n (inr i))
+
+  entered-loose : (ms : List Move) (l : List ℕ) (s : State) → stored s u ≡ suc d → ((m : Move) → In m ms → Loose (s .known) u m) → entered G u d ms s l ≡ l
+  unfolding entered
+  entered-loose [] l s e all = refl
+  entered-loose (m ∷ ms) l s e all =
+      let k = all m (inl refl) in
+      rw (no-cheaper (d + m .cost) (stored s (m .to)) (k .there) (omega (arith, k .cheap)), entered) (entered-loose ms l s e (λ n i. all n (inr i)))
+
 -- ---- a taking
 
-module _ {G : Graph} {closed ages : List ℕ} {w : ℕ} {s : State} {t : Taken} (B : Base G closed ages w [] s) (k : Taking (s .waiting) t) where
-  pub all-loose : (v : ℕ) (m : Move) → 0 < getD closed v 0 → In m (G .moves v) → Loose (s .known) v m
-  all-loose v m c i = elim (B .loose v m c i) [ inl l ↦ l | inr r ↦ absurd (r .1) ]
+-- nothing is due, so all moves of a closed cell were tried at its cost
+pub all-loose : {G : Graph} {closed ages : List ℕ} {w : ℕ} {s : State} → Base G closed ages w [] s → (v : ℕ) (m : Move) → 0 < getD closed v 0 → In m (G .moves v)
+    → Loose (s .known) v m
+all-loose B v m c i = elim (B .loose v m c i) [ inl l ↦ l | inr r ↦ absurd (r .1) ]
 
-  pub taken-known : stored s (t .next .cell) ≡ suc (cost-of s (t .next .cell))
+module _ {G : Graph} {closed ages : List ℕ} {w : ℕ} {s : State} {t : Taken} (B : Base G closed ages w [] s) (k : Taking (s .waiting) t) where
+  pub taken-known : stored s (t .next .cell) ≡ suc (costOf s (t .next .cell))
   taken-known = sym (suc-pred-eq-of-pos (B .fair (t .next) (k .from) .reached))
 
   -- the entry taken of an open cell is that of its known cost: an older one has a higher key
@@ -182,22 +201,30 @@ module _ {G : Graph} {closed ages : List ℕ} {w : ℕ} {s : State} {t : Taken} 
       go (inl e) = absurd (n (sym (W .at) ∙ ap (λ (x : Entry). x .cell) e))
       go (inr i) = record { entry = W .entry; there = i; at = W .at; fresh = W .fresh }
 
-  -- a closed cell: nothing is due
-  pub again-base : 0 < getD closed (t .next .cell) 0 → Base G closed ages w [] (counted s (t .left))
-  again-base c = record {
-    linked = B .linked;
-    closed-length = B .closed-length;
-    goal-open = B .goal-open;
-    closed-known = B .closed-known;
-    loose = B .loose;
-    waits = λ v p o. left-waits v (λ e. omega (arith, ap (λ (n : ℕ). getD closed n 0) e)) (B .waits v p o);
-    fair = λ e i. B .fair e (k .left-in e i);
-  }
+  -- a closed cell: nothing is due, and nothing is pushed
+  module _ (c : 0 < getD closed (t .next .cell) 0) where
+    pub again-base : Base G closed ages w [] (counted s (t .left))
+    again-base = record {
+      linked = B .linked;
+      closed-length = B .closed-length;
+      goal-open = B .goal-open;
+      closed-known = B .closed-known;
+      loose = B .loose;
+      waits = λ v p o. left-waits v (λ e. omega (arith, ap (λ (n : ℕ). getD closed n 0) e)) (B .waits v p o);
+      fair = λ e i. B .fair e (k .left-in e i);
+    }
+
+    pub again-outcome : outcome G s (t .next) (t .left) ≡ on (counted s (t .left))
+    again-outcome = expand-loose G _ _ (G .moves (t .next .cell)) (counted s (t .left)) taken-known (λ m i. all-loose B (t .next .cell) m c i)
+
+    pub again-entered : (l : List ℕ) → enteredBy G s (t .next) (t .left) l ≡ l
+    again-entered l = entered-loose G _ _ (G .moves (t .next .cell)) l (counted s (t .left)) taken-known (λ m i. all-loose B (t .next .cell) m c i)
+
+  pub taken-in : t .next .cell < G .size
+  taken-in = omega (arith, in-reach (s .known) (t .next .cell) (B .fair (t .next) (k .from) .reached), B .linked .known-length)
 
   pub mark-taken : (v : ℕ) → After closed (t .next .cell) 1 v
-  mark-taken v =
-      let h = in-reach (s .known) (t .next .cell) (B .fair (t .next) (k .from) .reached) in
-      after closed (t .next .cell) 1 v (omega (arith, B .linked .known-length, B .closed-length))
+  mark-taken v = after closed (t .next .cell) 1 v (omega (arith, taken-in, B .closed-length))
 
   -- an open one: it is closed, and its moves are due
   module _ (away : t .next .cell ≢ G .goal) where
@@ -219,18 +246,14 @@ module _ {G : Graph} {closed ages : List ℕ} {w : ℕ} {s : State} {t : Taken} 
         loose : (v : ℕ) (m : Move) → 0 < getD (set closed (t .next .cell) 1) v 0 → In m (G .moves v) → After closed (t .next .cell) 1 v
             → Loose (s .known) v m ⊎ ((v ≡ t .next .cell) × In m (G .moves (t .next .cell)))
         loose v m c i (hit e q) = inr (e, rw e at i)
-        loose v m c i (miss n q) = inl (all-loose v m (omega arith) i)
+        loose v m c i (miss n q) = inl (all-loose B v m (omega arith) i)
 
         waits : (v : ℕ) → 0 < stored s v → getD (set closed (t .next .cell) 1) v 0 ≡ 0 → After closed (t .next .cell) 1 v → Waits G (s .known) (t .left) v
         waits v p o (hit e q) = absurd (omega arith)
         waits v p o (miss n q) = left-waits v n (B .waits v p (omega arith))
 
-    pub anew-mid : Mid G (set closed (t .next .cell) 1) ages (t .next .cell) (cost-of s (t .next .cell)) (G .moves (t .next .cell)) (counted s (t .left))
-    anew-mid = record { base = anew-base; now = taken-known; done = go (mark-taken (t .next .cell)); lawful = λ m i. i }
-      where
-        go : After closed (t .next .cell) 1 (t .next .cell) → 0 < getD (set closed (t .next .cell) 1) (t .next .cell) 0
-        go (hit e q) = omega arith
-        go (miss n q) = absurd (n refl)
+    pub anew-mid : Mid G (set closed (t .next .cell) 1) ages (t .next .cell) (costOf s (t .next .cell)) (G .moves (t .next .cell)) (counted s (t .left))
+    anew-mid = record { base = anew-base; now = taken-known; done = omega (arith, getD-set-same closed (t .next .cell) 1 0 (omega (arith, taken-in, B .closed-length))); lawful = λ m i. i }
 
 -- ---- the outset: the start waits
 
@@ -245,19 +268,3 @@ outset-base {G} S = record {
   waits = λ v p o. let a = start-alone S v p in record { entry = _; there = inl refl; at = sym (a .0); fresh = omega (arith, a .1, ap (G .estimate) (a .0)) };
   fair = λ e. elim [ inl p ↦ rw p (record { reached = omega (arith, outset-linked S .start-known); high = omega (arith, outset-linked S .start-known) }) | inr i ↦ absurd i ];
 }
-
--- ---- an old entry, taken again
-
-module _ (G : Graph) (u d : ℕ) where
-  pub expand-loose : (ms : List Move) (s : State) → stored s u ≡ suc d → ((m : Move) → In m ms → Loose (s .known) u m) → expand G u d ms s ≡ on s
-  expand-loose [] s e all = expand-none G u d s
-  expand-loose (m ∷ ms) s e all =
-      let l = all m (inl refl) in
-      expand-skip G u d m ms s (no-cheaper _ _ (l .there) (omega (arith, l .cheap))) ∙ expand-loose ms s e (λ n i. all n (inr i))
-
-  pub entered-loose : (ms : List Move) (l : List ℕ) (s : State) → stored s u ≡ suc d → ((m : Move) → In m ms → Loose (s .known) u m) → entered G u d ms s l ≡ l
-  unfolding entered
-  entered-loose [] l s e all = refl
-  entered-loose (m ∷ ms) l s e all =
-      let k = all m (inl refl) in
-      rw (no-cheaper (d + m .cost) (stored s (m .to)) (k .there) (omega (arith, k .cheap)), entered) (entered-loose ms l s e (λ n i. all n (inr i)))

@@ -6,24 +6,27 @@ use mathlib.Core.List.{List, [], _∷_}
 use Prim.Native.Nat.{ℕ, suc, _+_, _-_, _*_, _≤_, _<_, zero-le}
 use native.Mathlib.Omega.{arith}
 use native.Mathlib.Nat.{mul-suc, mul-comm, mul-le-mul-left, eq-zero-or-pos, suc-pred-eq-of-pos}
-use lib.ListN.{length, getD, set, replicate, length-set, length-replicate}
+use lib.ListN.{length, getD, set, replicate, length-set}
+use lib.Seq.{getD-set-same}
 use Rattle.basics.specs.Lists.{In}
 use Rattle.basics.specs.Zeros.{zeros}
 use Rattle.best_first.specs.Search.{Graph, Move, Entry, State, Taken, push, counted, outset}
 use Rattle.best_first.specs.Ways.{Sound}
-use Rattle.best_first.specs.Statements.{Taking, stored, cost-of, Reached, at-outset, then, Bounded}
+use Rattle.best_first.specs.Statements.{Taking, stored, costOf, Reached, at-outset, then, Bounded}
 use Rattle.best_first.specs.Lists.{After, hit, miss, after, in-reach, marked, marked-le, marked-none, marked-new, marked-old}
 use Rattle.best_first.specs.Entries.{same-sym, same-in}
 use Rattle.best_first.specs.Equations.{offered, Gain, no-gain}
 use Rattle.best_first.specs.Reached.{through}
 use Rattle.best_first.specs.Orders.{Alike}
+use Rattle.best_first.specs.Links.{lowered, start-placed, start-alone, outset-linked}
 
+-- an entry's cell is known, and its key is in range: a move of the dearest for each known cell but one
 record Fits (G : Graph) (dearest : ℕ) (known : List ℕ) (e : Entry) : Type 0 where
   cell-in : e .cell < G .size
   reached : 0 < getD known (e .cell) 0
   low : e .key + dearest ≤ dearest * marked known + G .estimate (e .cell)
 
--- the same with the cells counted that are known yet, and with the moves `due` still to be tried
+-- as `Bounded` of Statements, but with the cells counted that are known yet, and with the moves `due` still to be tried
 pub record Sane (G : Graph) (degree dearest : ℕ) (due : List Move) (s : State) : Type 0 where
   pub known-length : length (s .known) ≡ G .size
   pub previous-length : length (s .previous) ≡ G .size
@@ -95,11 +98,17 @@ module _ {G : Graph} {degree dearest : ℕ} (S : Sound G degree dearest) where
     }
 
     module _ (gain : Gain (suc (d + m .cost)) (stored s (m .to))) where
+      lawful : In m (G .moves u)
+      lawful = A .lawful m (inl refl)
+
       to-in : m .to < G .size
-      to-in = S .inside u m (A .lawful m (inl refl))
+      to-in = S .inside u m lawful
+
+      to-placed : m .to < length (s .known)
+      to-placed = omega (arith, to-in, A .sane .known-length)
 
       at : (v : ℕ) → After (s .known) (m .to) (suc (d + m .cost)) v
-      at v = after (s .known) (m .to) (suc (d + m .cost)) v (omega (arith, to-in, A .sane .known-length))
+      at v = after (s .known) (m .to) (suc (d + m .cost)) v to-placed
 
       -- a first known cell adds one to the count, and its cost is one move above that of u
       more : (marked (s .known) ≤ marked (offered s d m))
@@ -112,8 +121,8 @@ module _ {G : Graph} {degree dearest : ℕ} (S : Sound G degree dearest) where
           go : Gain (suc (d + m .cost)) (stored s (m .to))
               → (marked (s .known) ≤ marked (offered s d m))
               × (suc (d + m .cost) + dearest ≤ suc (dearest * marked (offered s d m)))
-          go (inl e) = rw (marked-new (s .known) (m .to) (d + m .cost) (omega (arith, to-in, A .sane .known-length)) e, mul-suc)
-              (omega (arith, u-low, A .now, S .dear u m (A .lawful m (inl refl))))
+          go (inl e) = rw (marked-new (s .known) (m .to) (d + m .cost) to-placed e, mul-suc)
+              (omega (arith, u-low, A .now, S .dear u m lawful))
           go (inr l) = rw (marked-old (s .known) (m .to) (d + m .cost) (omega arith)) (omega (arith, A .sane .low (m .to) (omega arith)))
 
       rises : dearest * marked (s .known) ≤ dearest * marked (offered s d m)
@@ -144,19 +153,15 @@ module _ {G : Graph} {degree dearest : ℕ} (S : Sound G degree dearest) where
           previous v (hit e q) = omega (arith, in-reach (s .known) u (omega (arith, A .now)), A .sane .known-length)
           previous v (miss n q) = omega (arith, A .sane .previous-in v)
 
-          live : (v : ℕ) → 0 < stored s v → After (s .known) (m .to) (suc (d + m .cost)) v → 0 < getD (offered s d m) v 0
-          live v p (hit e q) = omega arith
-          live v p (miss n q) = omega arith
-
-          new : After (s .known) (m .to) (suc (d + m .cost)) (m .to) → 0 < getD (offered s d m) (m .to) 0
-          new (hit e q) = omega arith
-          new (miss n q) = absurd (n refl)
-
           fits : (e : Entry) → In e ((push G u (m .to) (d + m .cost) s) .waiting) → Fits G dearest (offered s d m) e
-          fits e (inl p) = rw p (record { cell-in = to-in; reached = new (at (m .to)); low = omega (arith, more) })
+          fits e (inl p) = rw p (record { cell-in = to-in; reached = omega (arith, getD-set-same (s .known) (m .to) (suc (d + m .cost)) 0 to-placed); low = omega (arith, more) })
           fits e (inr i) =
               let o = A .sane .fits e i in
-              record { cell-in = o .cell-in; reached = live (e .cell) (o .reached) (at (e .cell)); low = omega (arith, o .low, rises) }
+              record {
+                cell-in = o .cell-in;
+                reached = lowered (s .known) (m .to) (suc (d + m .cost)) (e .cell) to-placed (omega arith) gain (o .reached) .0;
+                low = omega (arith, o .low, rises);
+              }
 
           -- its own moves never make u cheaper
           now : After (s .known) (m .to) (suc (d + m .cost)) u → getD (offered s d m) u 0 ≡ suc d
@@ -166,7 +171,7 @@ module _ {G : Graph} {degree dearest : ℕ} (S : Sound G degree dearest) where
   -- ---- a taking
 
   pub take-still : {s : State} {t : Taken} → Sane G degree dearest [] s → Taking (s .waiting) t
-      → Still G degree dearest (t .next .cell) (cost-of s (t .next .cell)) (G .moves (t .next .cell)) (counted s (t .left))
+      → Still G degree dearest (t .next .cell) (costOf s (t .next .cell)) (G .moves (t .next .cell)) (counted s (t .left))
   take-still {s} {t} A k = record {
     sane = record {
       known-length = A .known-length;
@@ -184,35 +189,20 @@ module _ {G : Graph} {degree dearest : ℕ} (S : Sound G degree dearest) where
   pub outset-sane : Sane G degree dearest [] (outset G)
   unfolding outset
   outset-sane = record {
-    known-length = simp (length-set, length-replicate);
-    previous-length = simp length-replicate;
-    low = λ v. low v (at v);
+    known-length = outset-linked S .known-length;
+    previous-length = outset-linked S .previous-length;
+    low = λ v p. rw (one, mul-suc) (omega (arith, start-alone S v p));
     previous-in = λ v. omega (arith, zeros (G .size) v);
-    fits = λ e. elim [ inl p ↦ rw p (record { cell-in = S .start-in; reached = live (at (G .start)); low = rw (one, mul-suc) (omega arith) }) | inr i ↦ absurd i ];
+    fits = λ e. elim [ inl p ↦ rw p (record { cell-in = S .start-in; reached = omega (arith, outset-linked S .start-known); low = rw (one, mul-suc) (omega arith) }) | inr i ↦ absurd i ];
     balance = refl;
     serial = zero-le;
   }
     where
-      long : G .start < length {A = ℕ} (replicate (G .size) 0)
-      long = omega (arith, S .start-in, length-replicate {A = ℕ} (G .size) 0)
-
-      at : (v : ℕ) → After (replicate (G .size) 0) (G .start) 1 v
-      at v = after (replicate (G .size) 0) (G .start) 1 v long
-
       one : marked (set (replicate (G .size) 0) (G .start) 1) ≡ 1
-      one = marked-new (replicate (G .size) 0) (G .start) 0 long (zeros (G .size) (G .start)) ∙ ap suc (marked-none (G .size))
-
-      low : (v : ℕ) → After (replicate (G .size) 0) (G .start) 1 v → 0 < getD (set (replicate (G .size) 0) (G .start) 1) v 0
-          → getD (set (replicate (G .size) 0) (G .start) 1) v 0 + dearest ≤ suc (dearest * marked (set (replicate (G .size) 0) (G .start) 1))
-      low v (hit e q) p = rw (one, mul-suc) (omega arith)
-      low v (miss n q) p = absurd (omega (arith, zeros (G .size) v))
-
-      live : After (replicate (G .size) 0) (G .start) 1 (G .start) → 0 < getD (set (replicate (G .size) 0) (G .start) 1) (G .start) 0
-      live (hit e q) = omega arith
-      live (miss n q) = absurd (n refl)
+      one = marked-new (replicate (G .size) 0) (G .start) 0 (start-placed S) (zeros (G .size) (G .start)) ∙ ap suc (marked-none (G .size))
 
   pub sane : {l : List ℕ} {s : State} → Reached G l s → Sane G degree dearest [] s
   sane at-outset = outset-sane
   sane (then {s = s} t R k g e) =
-      (rw e at (through G (t .next .cell) (cost-of s (t .next .cell)) (λ ms l r. Still G degree dearest (t .next .cell) (cost-of s (t .next .cell)) ms r) (λ l. Unit {0})
+      (rw e at (through G (t .next .cell) (costOf s (t .next .cell)) (λ ms l r. Still G degree dearest (t .next .cell) (costOf s (t .next .cell)) ms r) (λ l. Unit {0})
       (λ m ms l r A f. skip-still A) (λ m ms l r A f p. push-still A f) (λ m ms l r A f p. tt) (G .moves (t .next .cell)) [] (counted s (t .left)) (take-still (sane R) k))) .sane

@@ -10,7 +10,7 @@ use lib.ListN.{getD}
 use Rattle.best_first.specs.Search.{Graph, State, Taken}
 use Rattle.best_first.specs.Ways.{Step, Way, Consistent}
 use Rattle.best_first.specs.Statements.{Taking, stored}
-use Rattle.best_first.specs.Base.{Base, taken-fresh}
+use Rattle.best_first.specs.Base.{Base, all-loose, taken-fresh}
 
 -- x is known at no more than a (costs with 1 added)
 record Here (s : State) (x a : ℕ) : Type 0 where
@@ -42,13 +42,9 @@ module _ {G : Graph} (K : Consistent G) {closed ages : List ℕ} {w : ℕ} {s : 
         is-open = o;
         near = omega (arith, h .cheap, K .falls x (st .0) (st .1), st .3, ap (G .estimate) (st .2));
       })
-      go (inr p) = elim (B .loose x (st .0) p (st .1)) [
-        | inl l ↦ inl (record {
-          reached = rw (st .2) at (l .there);
-          cheap = omega (arith, l .cheap, h .cheap, st .3, ap (stored s) (st .2));
-        })
-        | inr r ↦ absurd (r .1)
-      ]
+      go (inr p) =
+          let l = all-loose B x (st .0) p (st .1) in
+          inl (record { reached = rw (st .2) at (l .there); cheap = omega (arith, l .cheap, h .cheap, st .3, ap (stored s) (st .2)) })
 
   all-on : (l : List ℕ) (x t d a : ℕ) → Way G x l t d → Here s x a ⊎ Ahead G closed s x a → Here s t (a + d) ⊎ Ahead G closed s t (a + d)
   all-on [] x t d a W n = rw (W .1, add-zero, ← W .0) n

@@ -1,16 +1,16 @@
 -- The equations of the search, one for each branch of its definitions.
-use mathlib.Core.Path.{_≡_, refl, _∙_}
+use mathlib.Core.Path.{_≡_, refl}
 use mathlib.Core.Logic.{_⊎_, inl, inr, _≢_}
 use mathlib.Core.Bool.{true, false}
-use mathlib.Core.List.{List, [], _∷_, _++_}
+use mathlib.Core.List.{List, [], _∷_}
 use Prim.Native.Nat.{ℕ, zero, suc, _+_, _≤_, _<_, suc-le-suc}
 use native.Mathlib.Omega.{arith}
 use lib.ListN.{length, getD, set}
 use lib.Dec.{eqb}
 use borrow.Author.Tests.{ltb-true, ltb-false, lt-ltb, le-ltb, eqb-true, eqb-false, eq-eqb, ne-eqb}
 use Rattle.basics.specs.Tests.{ask, never}
-use Rattle.best_first.specs.Search.{Graph, Move, Entry, State, Taken, Pushed, full, on, offer, expand, push, cheaper, trace, least, Answer, no-route, limit-passed, queue-full, ends, expands, arrived, counted, turn, run}
-use Rattle.best_first.specs.Statements.{Taking, stored, cost-of}
+use Rattle.best_first.specs.Search.{Graph, Move, Entry, State, Taken, full, on, offer, expand, push, cheaper, trace, least, Answer, no-route, limit-passed, queue-full, ends, expands, arrived, counted, turn, run}
+use Rattle.best_first.specs.Statements.{Taking, stored, costOf}
 use Rattle.best_first.specs.Entries.{taking}
 
 -- the known costs once the move m of a cell of cost d has been taken up
@@ -85,28 +85,6 @@ module _ (G : Graph) (u d : ℕ) (m : Move) (ms : List Move) (s : State) where
   pub expand-full : cheaper (d + m .cost) (stored s (m .to)) ≡ true → G .places ≤ length (s .waiting) → expand G u d (m ∷ ms) s ≡ full
   expand-full e r = expand-stop (offer-full G u _ _ s e r)
 
--- moves in two parts
-module _ (G : Graph) (u d : ℕ) (ns : List Move) where
-  pub expand-both-parts : (ms : List Move) (s r : State) → expand G u d ms s ≡ on r → expand G u d (ms ++ ns) s ≡ expand G u d ns r
-  unfolding expand
-  expand-both-parts [] s r e = let q : s ≡ r = cc in rw q
-  expand-both-parts (m ∷ ms) s r e = go _ refl (λ t. expand-both-parts ms t r)
-    where
-      go : (x : Pushed) → offer G u (m .to) (d + m .cost) s ≡ x → ((t : State) → expand G u d ms t ≡ on r → expand G u d (ms ++ ns) t ≡ expand G u d ns r)
-          → expand G u d (m ∷ ms ++ ns) s ≡ expand G u d ns r
-      go full f ih = let q = expand-stop G u d m ms s f in never (cc)
-      go (on t) f ih = expand-on G u d m (ms ++ ns) s t f ∙ ih t (let q = expand-on G u d m ms s t f in cc)
-
-  pub expand-first-part : (ms : List Move) (s : State) → expand G u d ms s ≡ full → expand G u d (ms ++ ns) s ≡ full
-  unfolding expand
-  expand-first-part [] s e = never (cc)
-  expand-first-part (m ∷ ms) s e = go _ refl (λ t. expand-first-part ms t)
-    where
-      go : (x : Pushed) → offer G u (m .to) (d + m .cost) s ≡ x → ((t : State) → expand G u d ms t ≡ full → expand G u d (ms ++ ns) t ≡ full)
-          → expand G u d (m ∷ ms ++ ns) s ≡ full
-      go full f ih = expand-stop G u d m (ms ++ ns) s f
-      go (on t) f ih = expand-on G u d m (ms ++ ns) s t f ∙ ih t (let q = expand-on G u d m ms s t f in cc)
-
 -- ---- a taking
 
 module _ (G : Graph) (s : State) where
@@ -152,11 +130,11 @@ module _ (G : Graph) (s : State) where
     unfolding run
     run-limit = rw (e, run)
 
-    pub run-full : (b : ℕ) → expand G u (cost-of t u) (G .moves u) t ≡ full → run G (suc b) s ≡ queue-full (t .expanded)
+    pub run-full : (b : ℕ) → expand G u (costOf t u) (G .moves u) t ≡ full → run G (suc b) s ≡ queue-full (t .expanded)
     unfolding run
     run-full b r = rw (e, r, run)
 
-    pub run-on : (b : ℕ) (t′ : State) → expand G u (cost-of t u) (G .moves u) t ≡ on t′ → run G (suc b) s ≡ run G b t′
+    pub run-on : (b : ℕ) (t′ : State) → expand G u (costOf t u) (G .moves u) t ≡ on t′ → run G (suc b) s ≡ run G b t′
     unfolding run
     run-on b t′ r = rw (e, r, run)
 

@@ -130,22 +130,27 @@ module _ {G : Graph} {degree dearest : ℕ} (S : Sound G degree dearest) {ages k
       young v (hit e q) = omega arith
       young v (miss n q) = omega (arith, L .young v)
 
--- only the start is known
-pub start-alone : {G : Graph} {degree dearest : ℕ} → Sound G degree dearest → (v : ℕ) → 0 < getD {A = ℕ} (set (replicate (G .size) 0) (G .start) 1) v 0
-    → (v ≡ G .start) × (getD {A = ℕ} (set (replicate (G .size) 0) (G .start) 1) v 0 ≡ 1)
-start-alone {G} S v p = go (after (replicate (G .size) 0) (G .start) 1 v (omega (arith, S .start-in, length-replicate {A = ℕ} (G .size) 0)))
-  where
-    go : After (replicate (G .size) 0) (G .start) 1 v → (v ≡ G .start) × (getD {A = ℕ} (set (replicate (G .size) 0) (G .start) 1) v 0 ≡ 1)
-    go (hit e q) = (e, q)
-    go (miss n q) = absurd (omega (arith, zeros (G .size) v))
+-- ---- the outset
 
-pub outset-linked : {G : Graph} {degree dearest : ℕ} → Sound G degree dearest
-    → Linked G (replicate (G .size) 0) (set (replicate (G .size) 0) (G .start) 1) (replicate (G .size) 0) 0
-outset-linked {G} S = record {
-  known-length = simp (length-set, length-replicate);
-  previous-length = simp length-replicate;
-  ages-length = simp length-replicate;
-  start-known = getD-set-same (replicate (G .size) 0) (G .start) 1 0 (omega (arith, S .start-in, length-replicate {A = ℕ} (G .size) 0));
-  young = λ v. omega (arith, zeros (G .size) v);
-  link = λ v p. inl (record { is-start = start-alone S v p .0; no-previous = zeros (G .size) v });
-}
+module _ {G : Graph} {degree dearest : ℕ} (S : Sound G degree dearest) where
+  pub start-placed : G .start < length {A = ℕ} (replicate (G .size) 0)
+  start-placed = omega (arith, S .start-in, length-replicate {A = ℕ} (G .size) 0)
+
+  -- only the start is known
+  pub start-alone : (v : ℕ) → 0 < getD {A = ℕ} (set (replicate (G .size) 0) (G .start) 1) v 0
+      → (v ≡ G .start) × (getD {A = ℕ} (set (replicate (G .size) 0) (G .start) 1) v 0 ≡ 1)
+  start-alone v p = go (after (replicate (G .size) 0) (G .start) 1 v start-placed)
+    where
+      go : After (replicate (G .size) 0) (G .start) 1 v → (v ≡ G .start) × (getD {A = ℕ} (set (replicate (G .size) 0) (G .start) 1) v 0 ≡ 1)
+      go (hit e q) = (e, q)
+      go (miss n q) = absurd (omega (arith, zeros (G .size) v))
+
+  pub outset-linked : Linked G (replicate (G .size) 0) (set (replicate (G .size) 0) (G .start) 1) (replicate (G .size) 0) 0
+  outset-linked = record {
+    known-length = simp (length-set, length-replicate);
+    previous-length = simp length-replicate;
+    ages-length = simp length-replicate;
+    start-known = getD-set-same (replicate (G .size) 0) (G .start) 1 0 start-placed;
+    young = λ v. omega (arith, zeros (G .size) v);
+    link = λ v p. inl (record { is-start = start-alone v p .0; no-previous = zeros (G .size) v });
+  }

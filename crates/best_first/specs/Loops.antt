@@ -7,16 +7,14 @@ use mathlib.Core.List.{List, [], _∷_}
 use Prim.Native.Nat.{ℕ, suc, _+_, _-_, _≤_, _<_}
 use native.Mathlib.Omega.{arith}
 use lib.ListN.{length}
-use Rattle.best_first.specs.Search.{Graph, Move, Entry, State, Pushed, full, on, expand, push, cheaper, Answer, no-route, limit-passed, queue-full, arrived, counted, run, outset, best-first}
+use Rattle.best_first.specs.Search.{Graph, Move, Entry, State, Pushed, full, on, expand, push, cheaper, Answer, no-route, limit-passed, queue-full, arrived, counted, run, outset, bestFirst}
 use Rattle.best_first.specs.Ways.{Sound}
-use Rattle.best_first.specs.Statements.{stored, cost-of, Reached, at-outset, then, Bounded, outcome, Shut}
-use Rattle.best_first.specs.Lists.{length-zero}
+use Rattle.best_first.specs.Statements.{stored, costOf, Reached, at-outset, then, Bounded, outcome}
 use Rattle.best_first.specs.Entries.{Popped, popped-same, popped-taking}
 use Rattle.best_first.specs.Equations.{cheaper-true, expand-none, expand-skip, expand-push, expand-full, turn-none, run-ends}
 use Rattle.best_first.specs.Reached.{expanded-stays}
 use Rattle.best_first.specs.Orders.{Apart, Alike, alike-refl, alike-sym, alike-trans, alike-apart, outset-apart, push-apart, Both, expand-both, counted-apart, run-both, pop-goal, pop-limit, pop-full, pop-on}
 use Rattle.best_first.specs.Bounds.{Still, bounded, alike-sane, alike-still, skip-still, push-still, take-still, sane}
-use Rattle.best_first.specs.NoRoute.{empty-shut}
 
 -- ---- the moves of u, whose cost is d: the outcome of all is x, and `due` are still to be tried
 
@@ -83,8 +81,8 @@ pub record Going (G : Graph) (n : ℕ) (R : Answer) (s : State) : Type 0 where
   pub within : s .expanded ≤ n
   pub rest : run G (n - s .expanded) s ≡ R
 
-pub going-outset : (G : Graph) (n : ℕ) → 0 < G .places → Going G n (best-first G n) (outset G)
-unfolding best-first outset
+pub going-outset : (G : Graph) (n : ℕ) → 0 < G .places → Going G n (bestFirst G n) (outset G)
+unfolding bestFirst outset
 going-outset G n h = record {
   pushed = [];
   model = outset G;
@@ -112,10 +110,6 @@ going-alike {G} {n} {R} {s} {t} I L = record {
 pub going-bounded : {G : Graph} {degree dearest n : ℕ} {R : Answer} {s : State} → Sound G degree dearest → Going G n R s → Bounded G degree dearest s
 going-bounded S I = bounded S (alike-sane (I .alike) (sane S (I .reached)))
 
--- nothing waits: the known cells are why there is no route
-pub going-shut : {G : Graph} {degree dearest n : ℕ} {R : Answer} {s : State} → Sound G degree dearest → Going G n R s → s .waiting ≡ [] → Shut G (s .known)
-going-shut {G} S I e = rw (I .alike .known) at (empty-shut S (I .reached) (length-zero (I .model .waiting) (I .alike .waiting .many ∙ ap length e)))
-
 module _ {G : Graph} {n : ℕ} {R : Answer} {s : State} (I : Going G n R s) where
   pub going-none : s .waiting ≡ [] → R ≡ no-route (s .expanded)
   going-none e = sym (I .rest) ∙ run-ends G s _ _ (turn-none G s e)
@@ -137,7 +131,7 @@ module _ {G : Graph} {n : ℕ} {R : Answer} {s : State} (I : Going G n R s) wher
         going-full e = sym (I .rest) ∙ ap (λ (b : ℕ). run G b s) left ∙ pop-full G s r q (I .apart) P away _ e
 
         module _ {degree dearest : ℕ} (S : Sound G degree dearest) where
-          pub going-try : Trying G degree dearest (r .cell) (cost-of s (r .cell)) (outcome G s r q)
+          pub going-try : Trying G degree dearest (r .cell) (costOf s (r .cell)) (outcome G s r q)
               (G .moves (r .cell)) (counted s q)
           going-try =
               let A = counted-apart s r q (I .apart) P in
@@ -149,7 +143,7 @@ module _ {G : Graph} {n : ℕ} {R : Answer} {s : State} (I : Going G n R s) wher
               }
 
           pub going-on : {t : State}
-              → Trying G degree dearest (r .cell) (cost-of s (r .cell)) (outcome G s r q) [] t
+              → Trying G degree dearest (r .cell) (costOf s (r .cell)) (outcome G s r q) [] t
               → Going G n R t
           going-on {t} T =
               let D = trying-done S T in

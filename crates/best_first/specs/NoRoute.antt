@@ -1,17 +1,16 @@
--- At any costs and any estimate: where nothing waits any more no move leaves the known cells, so "no route" is true. And an old entry, taken again,
--- pushes nothing.
+-- At any costs and any estimate: where nothing waits any more no move leaves the known cells, so "no route" is true.
 use mathlib.Core.Path.{_≡_}
-use mathlib.Core.Logic.{_⊎_, inl, inr, _≢_}
+use mathlib.Core.Logic.{_⊎_, inl, inr}
 use mathlib.Core.List.{List, [], _∷_}
-use Prim.Native.Nat.{ℕ, suc, _+_, _<_}
+use Prim.Native.Nat.{ℕ, _<_}
 use native.Mathlib.Omega.{arith}
 use native.Mathlib.Nat.{eq-zero-or-pos}
 use lib.ListN.{getD}
 use Rattle.basics.specs.Lists.{In}
-use Rattle.best_first.specs.Search.{Graph, Move, State, Taken, on, counted}
+use Rattle.best_first.specs.Search.{Graph, Move, State}
 use Rattle.best_first.specs.Ways.{Step, Way, NoWay, Sound}
-use Rattle.best_first.specs.Statements.{Taking, stored, Reached, outcome, Shut}
-use Rattle.best_first.specs.Base.{Waits, all-loose, taken-known, taken-fresh, expand-loose}
+use Rattle.best_first.specs.Statements.{stored, Reached, Shut}
+use Rattle.best_first.specs.Base.{Waits, all-loose}
 use Rattle.best_first.specs.Induction.{Holds, holds, bare}
 
 pub shut-no-way : {G : Graph} {known : List ℕ} → Shut G known → NoWay G
@@ -44,14 +43,4 @@ module _ {G : Graph} {degree dearest : ℕ} (S : Sound G degree dearest) {pushed
 
       leaves : (v : ℕ) (m : Move) → In m (G .moves v) → 0 < stored s v → (getD (H .closed) v 0 ≡ 0) ⊎ (0 < getD (H .closed) v 0) → 0 < stored s (m .to)
       leaves v m i p (inl o) = absurd (none (H .base .waits v p o))
-      leaves v m i p (inr c) = elim (H .base .loose v m c i) [ inl l ↦ l .there | inr r ↦ absurd (r .1) ]
-
-  -- an entry of another cost than its cell has now
-  pub old-loose : {t : Taken} → Taking (s .waiting) t → suc (t .next .key) ≢ stored s (t .next .cell) + G .estimate (t .next .cell)
-      → outcome G s (t .next) (t .left) ≡ on (counted s (t .left))
-  old-loose {t} k old = go (eq-zero-or-pos (getD (H .closed) (t .next .cell) 0))
-    where
-      go : (getD (H .closed) (t .next .cell) 0 ≡ 0) ⊎ (0 < getD (H .closed) (t .next .cell) 0)
-          → outcome G s (t .next) (t .left) ≡ on (counted s (t .left))
-      go (inl o) = absurd (old (taken-fresh (H .base) k o))
-      go (inr c) = expand-loose G _ _ (G .moves (t .next .cell)) (counted s (t .left)) (taken-known (H .base) k) (λ m i. all-loose (H .base) k (t .next .cell) m c i)
+      leaves v m i p (inr c) = all-loose (H .base) v m c i .there

@@ -10,7 +10,7 @@ use borrow.Author.Tests.{ltb-true, ltb-false, eqb-true, eqb-false}
 use Rattle.basics.specs.Tests.{ask}
 use Rattle.basics.specs.Lists.{In}
 use Rattle.best_first.specs.Search.{Graph, Move, Entry, State, Pushed, full, on, offer, expand, push, cheaper, least, Answer, no-route, limit-passed, queue-full, ends, expands, arrived, counted, turn, run, outset}
-use Rattle.best_first.specs.Statements.{stored, cost-of, outcome}
+use Rattle.best_first.specs.Statements.{stored, costOf, outcome}
 use Rattle.best_first.specs.Lists.{length-zero}
 use Rattle.best_first.specs.Entries.{Same, same-refl, same-sym, same-trans, same-in, same-cons, Popped, popped-taking, Distinct, popped-next, popped-left, least-popped}
 use Rattle.best_first.specs.Equations.{offer-skip, offer-push, offer-full, expand-on, expand-stop, turn-none, turn-goal, turn-on, run-ends, run-limit, run-full, run-on}
@@ -189,12 +189,12 @@ run-both G (suc b) s t A L = go (turn-both G s t A L) (λ x y X Y. run-both G b 
   where
     go : Turns G s t → ((x y : State) → Apart x → Alike x y → run G b x ≡ run G b y) → run G (suc b) s ≡ run G (suc b) t
     go (both-end a p q) ih = run-ends G s (suc b) a p ∙ sym (run-ends G t (suc b) a q)
-    go (both-go u s′ t′ p q A′ L′) ih = on-both _ _ refl refl (expand-both G u (cost-of s′ u) (G .moves u) s′ t′ A′ L′)
+    go (both-go u s′ t′ p q A′ L′) ih = on-both _ _ refl refl (expand-both G u (costOf s′ u) (G .moves u) s′ t′ A′ L′)
       where
-        own : (y : Pushed) → expand G u (cost-of s′ u) (G .moves u) t′ ≡ y → expand G u (cost-of t′ u) (G .moves u) t′ ≡ y
+        own : (y : Pushed) → expand G u (costOf s′ u) (G .moves u) t′ ≡ y → expand G u (costOf t′ u) (G .moves u) t′ ≡ y
         own y f = ap (λ (g : List ℕ). expand G u (pred (getD g u 0)) (G .moves u) t′) (sym (L′ .known)) ∙ f
 
-        on-both : (x y : Pushed) → expand G u (cost-of s′ u) (G .moves u) s′ ≡ x → expand G u (cost-of s′ u) (G .moves u) t′ ≡ y
+        on-both : (x y : Pushed) → expand G u (costOf s′ u) (G .moves u) s′ ≡ x → expand G u (costOf s′ u) (G .moves u) t′ ≡ y
             → Both x y → run G (suc b) s ≡ run G (suc b) t
         on-both full full e f z = run-full G s u s′ p b e ∙ ap queue-full (L′ .expanded) ∙ sym (run-full G t u t′ q b (own full f))
         on-both full (on t″) e f z = absurd z

@@ -5,9 +5,9 @@ use Prim.Native.Nat.{ℕ, suc, _+_, _≤_, _<_}
 use native.Mathlib.Omega.{arith}
 use lib.ListN.{length, getD, set, replicate}
 use Rattle.basics.specs.Tests.{never}
-use Rattle.best_first.specs.Search.{Graph, Move, Entry, State, Taken, full, push, counted, outset, Answer, queue-full, best-first}
+use Rattle.best_first.specs.Search.{Graph, Move, Entry, State, Taken, full, push, counted, outset, Answer, queue-full, bestFirst}
 use Rattle.best_first.specs.Ways.{Sound, Consistent}
-use Rattle.best_first.specs.Statements.{Taking, stored, pushes, Reached, expanded-of}
+use Rattle.best_first.specs.Statements.{Taking, stored, pushes, Reached, expandedOf}
 use Rattle.best_first.specs.Equations.{Gain}
 use Rattle.best_first.specs.Reached.{Ending, empty, arrives, passes, fills, ending}
 use Rattle.best_first.specs.Base.{Base, Mid, push-mid, taken-known, taken-fresh}
@@ -56,7 +56,7 @@ record Full {G : Graph} (E : Measure G) (pushed : List ℕ) : Type 0 where
 
 -- what N pushes allow: each entry is taken at most once, the start's besides, and the queue is full only where one more push is due
 pub record Frugal (G : Graph) (N : ℕ) (a : Answer) : Type 0 where
-  pub expanded : expanded-of a ≤ N + 1
+  pub expanded : expandedOf a ≤ N + 1
   pub spare : (x : ℕ) → a ≡ queue-full x → G .places < N
 
 module _ {G : Graph} {degree dearest : ℕ} (S : Sound G degree dearest) (K : Consistent G) (E : Measure G) where
@@ -141,5 +141,5 @@ module _ {G : Graph} {degree dearest : ℕ} (S : Sound G degree dearest) (K : Co
         let F = rw p at (after-taking S paced (holds S paced R) k q) in
         record { expanded = omega (arith, few R, k .len); spare = λ x e. omega (arith, F .many, full-holds (λ l. length l ≤ N) less bound F) }
 
-    pub frugal : (limit : ℕ) → Frugal G N (best-first G limit)
+    pub frugal : (limit : ℕ) → Frugal G N (bestFirst G limit)
     frugal limit = frugal-by (ending G limit)

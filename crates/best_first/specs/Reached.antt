@@ -8,8 +8,8 @@ use lib.ListN.{length}
 use lib.Dec.{ltb}
 use borrow.Author.Tests.{ltb-true, ltb-false}
 use Rattle.basics.specs.Tests.{ask}
-use Rattle.best_first.specs.Search.{Graph, Move, State, Taken, Pushed, full, on, expand, push, cheaper, Answer, no-route, limit-passed, queue-full, arrived, run, outset, best-first}
-use Rattle.best_first.specs.Statements.{Taking, stored, outcome, entered, arrivals-of, Reached, at-outset, then, pushed-by, pushes}
+use Rattle.best_first.specs.Search.{Graph, Move, State, Taken, Pushed, full, on, expand, push, cheaper, Answer, no-route, limit-passed, queue-full, arrived, run, outset, bestFirst}
+use Rattle.best_first.specs.Statements.{Taking, stored, outcome, entered, enteredBy, Reached, at-outset, then, pushedBy, pushes}
 use Rattle.best_first.specs.Equations.{cheaper-true, cheaper-false, expand-skip, expand-push, expand-full, Turned, nothing, goal-taken, goes-on, turned, run-ends, run-limit, run-full, run-on, Gain}
 
 -- how a search ends at node limit n, and the cells that it pushed
@@ -21,7 +21,7 @@ pub data Ending (G : Graph) (n : ℕ) : Answer → List ℕ → Type 0 where
   fills : {l : List ℕ} {s : State} (t : Taken) → Reached G l s → Taking (s .waiting) t → t .next .cell ≢ G .goal
       → outcome G s (t .next) (t .left) ≡ full
       → Ending G n (queue-full (suc (s .expanded)))
-      (arrivals-of G s (t .next) (t .left) l)
+      (enteredBy G s (t .next) (t .left) l)
 
 -- ---- the moves of u, whose cost is d, one by one
 
@@ -57,8 +57,8 @@ expanded-stays G u d ms s r e =
 -- ---- every search ends so
 
 module _ (G : Graph) (n : ℕ) where
-  all-end : (b : ℕ) (l : List ℕ) (s : State) → Reached G l s → s .expanded + b ≡ n → Ending G n (run G b s) (pushed-by G b s l)
-  unfolding pushed-by
+  all-end : (b : ℕ) (l : List ℕ) (s : State) → Reached G l s → s .expanded + b ≡ n → Ending G n (run G b s) (pushedBy G b s l)
+  unfolding pushedBy
   all-end zero l s R e = go (turned G s)
     where
       go : Turned G s → Ending G n (run G zero s) l
@@ -67,18 +67,18 @@ module _ (G : Graph) (n : ℕ) where
       go (goes-on k T q t) = rw (run-limit G s _ _ t) (passes k R T q (omega arith))
   all-end (suc b) l s R e = go (turned G s) (λ l′ s′. all-end b l′ s′)
     where
-      go : Turned G s → ((l′ : List ℕ) (s′ : State) → Reached G l′ s′ → s′ .expanded + b ≡ n → Ending G n (run G b s′) (pushed-by G b s′ l′))
-          → Ending G n (run G (suc b) s) (pushed-by G (suc b) s l)
-      go (nothing q t) ih = rw (run-ends G s (suc b) _ t) (rw (t, pushed-by) (empty R q))
-      go (goal-taken k T q t) ih = rw (run-ends G s (suc b) _ t) (rw (t, pushed-by) (arrives k R T q))
+      go : Turned G s → ((l′ : List ℕ) (s′ : State) → Reached G l′ s′ → s′ .expanded + b ≡ n → Ending G n (run G b s′) (pushedBy G b s′ l′))
+          → Ending G n (run G (suc b) s) (pushedBy G (suc b) s l)
+      go (nothing q t) ih = rw (run-ends G s (suc b) _ t) (rw (t, pushedBy) (empty R q))
+      go (goal-taken k T q t) ih = rw (run-ends G s (suc b) _ t) (rw (t, pushedBy) (arrives k R T q))
       go (goes-on k T q t) ih = out _ refl
         where
           out : (x : Pushed) → outcome G s (k .next) (k .left) ≡ x
-              → Ending G n (run G (suc b) s) (pushed-by G (suc b) s l)
-          out full f = rw (run-full G s _ _ t b f) (rw (t, f, pushed-by) (fills k R T q f))
-          out (on r) f = rw (run-on G s _ _ t b r f) (rw (t, f, pushed-by)
+              → Ending G n (run G (suc b) s) (pushedBy G (suc b) s l)
+          out full f = rw (run-full G s _ _ t b f) (rw (t, f, pushedBy) (fills k R T q f))
+          out (on r) f = rw (run-on G s _ _ t b r f) (rw (t, f, pushedBy)
               (ih _ r (then k R T q f) (omega (arith, expanded-stays G _ _ _ _ r f))))
 
-  pub ending : Ending G n (best-first G n) (pushes G n)
-  unfolding best-first outset
+  pub ending : Ending G n (bestFirst G n) (pushes G n)
+  unfolding bestFirst outset
   ending = all-end n [] (outset G) at-outset (omega arith)

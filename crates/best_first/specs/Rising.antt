@@ -1,5 +1,5 @@
 -- With a consistent estimate the keys taken never fall: a closed cell stays closed, at its cost.
-use mathlib.Core.Path.{_≡_, refl, ap}
+use mathlib.Core.Path.{_≡_, ap}
 use mathlib.Core.Logic.{_⊎_, inl, inr}
 use mathlib.Core.List.{List, [], _∷_}
 use Prim.Native.Nat.{ℕ, suc, _+_, _≤_, _<_, zero-le}
@@ -13,7 +13,7 @@ use Rattle.best_first.specs.Ways.{Sound, Consistent}
 use Rattle.best_first.specs.Statements.{Taking, stored}
 use Rattle.best_first.specs.Lists.{After, hit, miss}
 use Rattle.best_first.specs.Equations.{Gain}
-use Rattle.best_first.specs.Base.{Base, Mid, taken-fresh, mark-taken, still-closed, same}
+use Rattle.best_first.specs.Base.{Base, Mid, due-lawful, taken-fresh, mark-taken, still-closed, same}
 
 -- `top` is the last key taken
 pub record Rising (G : Graph) (closed : List ℕ) (top : ℕ) (s : State) : Type 0 where
@@ -45,11 +45,11 @@ module _ {G : Graph} {closed ages : List ℕ} {u d top : ℕ} {m : Move} {ms : L
       go : (getD closed (m .to) 0 ≡ 0) ⊎ (0 < getD closed (m .to) 0) → Gain (suc (d + m .cost)) (stored s (m .to)) → getD closed (m .to) 0 ≡ 0
       go (inl o) g = o
       go (inr c) (inl z) = absurd (omega (arith, M .base .closed-known (m .to) c))
-      go (inr c) (inr l) = absurd (omega (arith, A .settled (m .to) c, K .falls u m (M .lawful m (inl refl))))
+      go (inr c) (inr l) = absurd (omega (arith, A .settled (m .to) c, K .falls u m (due-lawful M)))
 
   pub push-rising : {degree dearest : ℕ} → Sound G degree dearest → Rising G (set closed (m .to) 0) top (push G u (m .to) (d + m .cost) s)
   unfolding push
   push-rising S = record {
     settled = λ v c. let n = still-closed M S gain v c in omega (arith, same M S gain v (n .0), A .settled v (n .1));
-    late = λ e. elim [ inl p ↦ omega (arith, ap (λ (x : Entry). x .key) p, K .falls u m (M .lawful m (inl refl))) | inr i ↦ A .late e i ];
+    late = λ e. elim [ inl p ↦ omega (arith, ap (λ (x : Entry). x .key) p, K .falls u m (due-lawful M)) | inr i ↦ A .late e i ];
   }

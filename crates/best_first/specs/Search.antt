@@ -112,12 +112,8 @@ counted s w = record { known = s .known; previous = s .previous; waiting = w; se
 abbrev pub takes : Graph → State → Taken → Turn
 takes G s t = either (eqb (t .next .cell) (G .goal)) (ends (arrived G s)) (expands (t .next .cell) (counted s (t .left)))
 
-abbrev pub turnOf : Graph → State → List Entry → Turn
-turnOf G s [] = ends (no-route (s .expanded))
-turnOf G s (e ∷ es) = takes G s (least e es)
-
 unfoldable pub turn : Graph → State → Turn
-turn G s = turnOf G s (s .waiting)
+turn G s = elim (s .waiting) [ [] ↦ ends (no-route (s .expanded)) | e ∷ es ↦ takes G s (least e es) ]
 
 -- b more cells may be expanded; one more than that passes the node limit, before its moves
 unfoldable pub run : Graph → ℕ → State → Answer
@@ -139,5 +135,5 @@ outset G = record {
 }
 
 -- the search at a node limit
-unfoldable pub best-first : Graph → ℕ → Answer
-best-first G limit = run G limit (outset G)
+unfoldable pub bestFirst : Graph → ℕ → Answer
+bestFirst G limit = run G limit (outset G)

@@ -12,13 +12,13 @@ use lib.Dec.{eqb, ltb}
 use borrow.Author.Tests.{eq-eqb, ne-eqb, ltb-true, lt-ltb, le-ltb}
 use Rattle.basics.specs.Tests.{ask}
 use Rattle.basics.specs.Lists.{In}
-use Rattle.best_first.specs.Search.{Graph, Move, Entry, State, push, counted, best-first}
+use Rattle.best_first.specs.Search.{Graph, Move, Entry, State, push, counted, bestFirst}
 use Rattle.best_first.specs.Ways.{Sound, Consistent}
-use Rattle.best_first.specs.Statements.{times, total, stored, pushes, slack, Slacks}
-use Rattle.best_first.specs.Sums.{total-same, total-more, single, single-most, Single, there, elsewhere, at-single}
+use Rattle.best_first.specs.Statements.{times, stored, pushes, slack, Slacks}
+use Rattle.best_first.specs.Sums.{total, total-same, total-more, single, single-most, Single, there, elsewhere, at-single}
 use Rattle.best_first.specs.Equations.{Gain, offered}
 use Rattle.best_first.specs.Links.{not-start}
-use Rattle.best_first.specs.Base.{Mid, same, now-known}
+use Rattle.best_first.specs.Base.{Mid, due-lawful, same, now-known}
 use Rattle.best_first.specs.Paced.{Measure, pushes-hold, Frugal, frugal}
 
 -- how many elements are less than n
@@ -69,7 +69,7 @@ record Last (G : Graph) (k : ℕ) (Z : Slacks G k) (top : ℕ) (pushed : List �
   near : stored s v + G .estimate by ≤ suc top + move .cost
   used : times (eqb v) pushed + slot Z by move ≤ k
 
-record Slotted (G : Graph) (k : ℕ) (Z : Slacks G k) (top : ℕ) (pushed : List ℕ) (s : State) : Type 0 where
+pub record Slotted (G : Graph) (k : ℕ) (Z : Slacks G k) (top : ℕ) (pushed : List ℕ) (s : State) : Type 0 where
   last : (v : ℕ) → (times (eqb v) pushed ≡ 0) ⊎ Last G k Z top pushed s v
   start-never : times (eqb (G .start)) pushed ≡ 0
   whole : length pushed ≤ total (G .size) (λ v. times (eqb v) pushed)
@@ -78,9 +78,6 @@ record Slotted (G : Graph) (k : ℕ) (Z : Slacks G k) (top : ℕ) (pushed : List
 
 module _ {G : Graph} {degree dearest : ℕ} (S : Sound G degree dearest) (K : Consistent G) (k : ℕ) (Z : Slacks G k) {closed ages pushed : List ℕ} {u d top : ℕ} {m : Move} {ms : List Move}
     {s : State} (M : Mid G closed ages u d (m ∷ ms) s) (now : top ≡ d + G .estimate u) (A : Slotted G k Z top pushed s) (gain : Gain (suc (d + m .cost)) (stored s (m .to))) where
-  lawful : In m (G .moves u)
-  lawful = M .lawful m (inl refl)
-
   here : times (eqb (m .to)) (m .to ∷ pushed) ≡ suc (times (eqb (m .to)) pushed)
   unfolding times
   here = rw (eq-eqb (m .to) (m .to) refl) (omega arith)
@@ -92,38 +89,33 @@ module _ {G : Graph} {degree dearest : ℕ} (S : Sound G degree dearest) (K : Co
   -- the slack is less than that of the push before
   lower : (L : Last G k Z top pushed s (m .to)) → slot Z u m < slot Z (L .by) (L .move)
   unfolding slack
-  lower L = slot-order Z u (L .by) m (L .move) lawful (sym (L .leads-to)) (go gain)
-    where
-      go : Gain (suc (d + m .cost)) (stored s (m .to)) → m .cost + G .estimate (m .to) - G .estimate u < L .move .cost + G .estimate (L .move .to) - G .estimate (L .by)
-      go (inl z) = absurd (omega (arith, L .reached))
-      go (inr l) = omega (arith, L .near, ap (G .estimate) (L .leads-to), K .falls u m lawful, K .falls (L .by) (L .move) (L .lawful))
+  lower L = slot-order Z u (L .by) m (L .move) (due-lawful M) (sym (L .leads-to)) (elim gain [
+    | inl z ↦ absurd (omega (arith, L .reached))
+    | inr l ↦ omega (arith, L .near, ap (G .estimate) (L .leads-to), K .falls u m (due-lawful M), K .falls (L .by) (L .move) (L .lawful))
+  ])
 
   new : (times (eqb (m .to)) pushed ≡ 0) ⊎ Last G k Z top pushed s (m .to) → Last G k Z top (m .to ∷ pushed) (push G u (m .to) (d + m .cost) s) (m .to)
   unfolding push
   new c = record {
     by = u;
     move = m;
-    lawful = lawful;
+    lawful = due-lawful M;
     leads-to = refl;
     reached = omega (arith, now-known M S gain);
     near = omega (arith, now-known M S gain);
-    used = used c;
+    used = elim c [ inl z ↦ omega (arith, here, slot-below Z u m (due-lawful M)) | inr L ↦ omega (arith, here, lower L, L .used) ];
   }
-    where
-      used : (times (eqb (m .to)) pushed ≡ 0) ⊎ Last G k Z top pushed s (m .to) → times (eqb (m .to)) (m .to ∷ pushed) + slot Z u m ≤ k
-      used (inl z) = omega (arith, here, slot-below Z u m lawful)
-      used (inr L) = omega (arith, here, lower L, L .used)
 
   push-slotted : Slotted G k Z top (m .to ∷ pushed) (push G u (m .to) (d + m .cost) s)
   unfolding push
   push-slotted = record {
     last = λ v. last v (ℕ-discrete v (m .to)) (A .last v);
     start-never = away (G .start) (λ e. no-start (sym e)) ∙ A .start-never;
-    whole = omega (arith, A .whole, total-more (G .size) (m .to) 1 _ _ (S .inside u m lawful) (λ v _. more v (at-single _ _ v)));
+    whole = omega (arith, A .whole, total-more (G .size) (m .to) 1 _ _ (S .inside u m (due-lawful M)) (λ v _. more v (at-single _ _ v)));
   }
     where
       no-start : m .to ≢ G .start
-      no-start = not-start S (M .base .linked) u m lawful (omega (arith, M .now)) (suc (d + m .cost)) (omega (arith, M .now)) gain
+      no-start = not-start S (M .base .linked) u m (due-lawful M) (omega (arith, M .now)) (suc (d + m .cost)) (omega (arith, M .now)) gain
 
       more : (v : ℕ) → Single (m .to) 1 v → times (eqb v) pushed + single (m .to) 1 v ≤ times (eqb v) (m .to ∷ pushed)
       more v (there e q) = rw (← e) (omega (arith, here, single-most (m .to) 1 (m .to)))
@@ -147,12 +139,13 @@ module _ {G : Graph} {degree dearest : ℕ} (S : Sound G degree dearest) (K : Co
 
 -- ---- the pushes counted
 
+-- a cell is pushed at most k times, and the start never
 module _ {G : Graph} {k : ℕ} {Z : Slacks G k} {top : ℕ} {pushed : List ℕ} {s : State} (A : Slotted G k Z top pushed s) where
-  each : (v : ℕ) → times (eqb v) pushed ≤ k
-  each v = elim (A .last v) [ inl z ↦ omega arith | inr L ↦ omega (arith, L .used) ]
+  pub slot-cell : (v : ℕ) → times (eqb v) pushed ≤ k
+  slot-cell v = elim (A .last v) [ inl z ↦ omega arith | inr L ↦ omega (arith, L .used) ]
 
-  all : G .start < G .size → length pushed ≤ k * (G .size - 1)
-  all h = omega (
+  slot-all : G .start < G .size → length pushed ≤ k * (G .size - 1)
+  slot-all h = omega (
     arith,
     A .whole,
     total-more (G .size) (G .start) k _ (λ v. k) h (λ v _. at v (at-single _ _ v)),
@@ -167,7 +160,7 @@ module _ {G : Graph} {k : ℕ} {Z : Slacks G k} {top : ℕ} {pushed : List ℕ} 
 
       at : (v : ℕ) → Single (G .start) k v → times (eqb v) pushed + single (G .start) k v ≤ k
       at v (there e q) = omega (arith, ap (λ (n : ℕ). times (eqb n) pushed) e, A .start-never)
-      at v (elsewhere n q) = omega (arith, each v)
+      at v (elsewhere n q) = omega (arith, slot-cell v)
 
 -- ---- throughout
 
@@ -200,19 +193,12 @@ module _ {G : Graph} {k : ℕ} (Z : Slacks G k) where
       adds = λ M A now o gain. push-slotted S K k Z M now A gain;
     }
 
-    pub slot-cell : (limit v : ℕ) → times (eqb v) (pushes G limit) ≤ k
-    unfolding slotting times
-    slot-cell limit v = pushes-hold S K slotting (λ l. times (eqb v) l ≤ k) (λ x l h. omega arith) (λ closed due top pushed s o A. each A v) limit
-
-    pub slot-start : (limit : ℕ) → times (eqb (G .start)) (pushes G limit) ≡ 0
-    unfolding slotting times
-    slot-start limit =
-        pushes-hold S K slotting (λ l. times (eqb (G .start)) l ≡ 0) (λ x l h. omega arith) (λ closed due top pushed s o A. A .start-never) limit
-
-    pub slot-all : (limit : ℕ) → length (pushes G limit) ≤ k * (G .size - 1)
+    -- what the slots say of the cells pushed so far, they say of all that are pushed
+    pub slots-hold : (P : List ℕ → Type 0) → ((x : ℕ) (l : List ℕ) → P (x ∷ l) → P l)
+        → ((top : ℕ) (pushed : List ℕ) (s : State) → Slotted G k Z top pushed s → P pushed) → (limit : ℕ) → P (pushes G limit)
     unfolding slotting
-    slot-all limit = pushes-hold S K slotting (λ l. length l ≤ k * (G .size - 1)) (λ x l h. omega arith) (λ closed due top pushed s o A. all A (S .start-in)) limit
+    slots-hold P less bound = pushes-hold S K slotting P less (λ closed due top pushed s o A. bound top pushed s A)
 
-    pub slot-frugal : (limit : ℕ) → Frugal G (k * (G .size - 1)) (best-first G limit)
+    pub slot-frugal : (limit : ℕ) → Frugal G (k * (G .size - 1)) (bestFirst G limit)
     unfolding slotting
-    slot-frugal = frugal S K slotting (k * (G .size - 1)) (λ closed due top pushed s o A. all A (S .start-in))
+    slot-frugal = frugal S K slotting (k * (G .size - 1)) (λ closed due top pushed s o A. slot-all A (S .start-in))

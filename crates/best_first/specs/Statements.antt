@@ -41,11 +41,11 @@ pub data Decided : Answer → Type 0 where
   by-route : (path : List ℕ) (cost x : ℕ) → Decided (route path cost x)
   by-no-route : (x : ℕ) → Decided (no-route x)
 
-abbrev pub expanded-of : Answer → ℕ
-expanded-of (route path cost x) = x
-expanded-of (no-route x) = x
-expanded-of (limit-passed x) = x
-expanded-of (queue-full x) = x
+abbrev pub expandedOf : Answer → ℕ
+expandedOf (route path cost x) = x
+expandedOf (no-route x) = x
+expandedOf (limit-passed x) = x
+expandedOf (queue-full x) = x
 
 -- ---- the states of a search
 
@@ -54,8 +54,8 @@ abbrev pub stored : State → ℕ → ℕ
 stored s v = getD (s .known) v 0
 
 -- the cost at which a known cell is expanded
-abbrev pub cost-of : State → ℕ → ℕ
-cost-of s u = pred (stored s u)
+abbrev pub costOf : State → ℕ → ℕ
+costOf s u = pred (stored s u)
 
 -- an entry of the least key is taken out of a waiting list. This holds of every order in which the list may stand, and says nothing of ties
 pub record Taking (waiting : List Entry) (t : Taken) : Type 0 where
@@ -67,7 +67,7 @@ pub record Taking (waiting : List Entry) (t : Taken) : Type 0 where
 
 -- the entry r has been taken, q is left, and the moves of its cell are tried
 abbrev pub outcome : Graph → State → Entry → List Entry → Pushed
-outcome G s r q = expand G (r .cell) (cost-of s (r .cell)) (G .moves (r .cell)) (counted s q)
+outcome G s r q = expand G (r .cell) (costOf s (r .cell)) (G .moves (r .cell)) (counted s q)
 
 -- the cells that the moves of u push, put before l, the latest first
 unfoldable pub entered : Graph → ℕ → ℕ → List Move → State → List ℕ → List ℕ
@@ -82,15 +82,15 @@ entered G u d (m ∷ ms) s l =
     ]
 
 -- those that the moves of r's cell push
-abbrev pub arrivals-of : Graph → State → Entry → List Entry → List ℕ → List ℕ
-arrivals-of G s r q l = entered G (r .cell) (cost-of s (r .cell)) (G .moves (r .cell)) (counted s q) l
+abbrev pub enteredBy : Graph → State → Entry → List Entry → List ℕ → List ℕ
+enteredBy G s r q l = entered G (r .cell) (costOf s (r .cell)) (G .moves (r .cell)) (counted s q) l
 
 -- a state between two takings, with the cells pushed so far, the latest first. Any entry of the least key may be taken, and those left may stand in
 -- any order: more states than the search reaches, among them those of a search whose queue is a heap
 pub data Reached (G : Graph) : List ℕ → State → Type 0 where
   at-outset : Reached G [] (outset G)
   then : {l : List ℕ} {s r : State} (t : Taken) → Reached G l s → Taking (s .waiting) t → t .next .cell ≢ G .goal → outcome G s (t .next) (t .left) ≡ on r
-      → Reached G (arrivals-of G s (t .next) (t .left) l) r
+      → Reached G (enteredBy G s (t .next) (t .left) l) r
 
 -- the lists have a place for each cell, and every number is in range
 pub record Bounded (G : Graph) (degree dearest : ℕ) (s : State) : Type 0 where
@@ -113,20 +113,20 @@ pub record Shut (G : Graph) (known : List ℕ) : Type 0 where
 -- ---- how often a cell is pushed
 
 -- the cells that a run pushes, put before l
-unfoldable pub pushed-by : Graph → ℕ → State → List ℕ → List ℕ
-pushed-by G zero s l = l
-pushed-by G (suc b) s l =
+unfoldable pub pushedBy : Graph → ℕ → State → List ℕ → List ℕ
+pushedBy G zero s l = l
+pushedBy G (suc b) s l =
     elim (turn G s) [
       | ends a ↦ l
-      | expands u t ↦ elim (expand G u (cost-of t u) (G .moves u) t) [
-        | full ↦ entered G u (cost-of t u) (G .moves u) t l
-        | on r ↦ pushed-by G b r (entered G u (cost-of t u) (G .moves u) t l)
+      | expands u t ↦ elim (expand G u (costOf t u) (G .moves u) t) [
+        | full ↦ entered G u (costOf t u) (G .moves u) t l
+        | on r ↦ pushedBy G b r (entered G u (costOf t u) (G .moves u) t l)
       ]
     ]
 
 -- the cells that the search pushes at a node limit
 abbrev pub pushes : Graph → ℕ → List ℕ
-pushes G limit = pushed-by G limit (outset G) []
+pushes G limit = pushedBy G limit (outset G) []
 
 abbrev pub bit : Bool → ℕ
 bit true = 1
@@ -136,20 +136,6 @@ bit false = 0
 unfoldable pub times : (ℕ → Bool) → List ℕ → ℕ
 times p [] = 0
 times p (x ∷ xs) = bit (p x) + times p xs
-
--- how many of the moves enter a cell that passes a test
-unfoldable pub leads : (ℕ → Bool) → List Move → ℕ
-leads p [] = 0
-leads p (m ∷ ms) = bit (p (m .to)) + leads p ms
-
--- f 0 + .. + f (n - 1)
-unfoldable pub total : ℕ → (ℕ → ℕ) → ℕ
-total zero f = 0
-total (suc n) f = total n f + f n
-
--- how many moves of the graph enter a cell that passes a test
-unfoldable pub arrivals : Graph → (ℕ → Bool) → ℕ
-arrivals G p = total (G .size) (λ u. leads p (G .moves u))
 
 -- by how much a move out of u raises cost and estimate together
 unfoldable pub slack : Graph → ℕ → Move → ℕ

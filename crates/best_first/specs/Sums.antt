@@ -1,14 +1,17 @@
--- Sums over the cells below a number, and how many cells or moves of a list pass a test.
-use mathlib.Core.Path.{_≡_, refl, ap}
+-- Sums over the cells below a number.
+use mathlib.Core.Path.{_≡_, refl}
 use mathlib.Core.Logic.{_≢_}
-use mathlib.Core.Bool.{Bool, true}
 use Prim.Native.Nat.{ℕ, zero, suc, _+_, _*_, _≤_, _<_, zero-le}
 use native.Mathlib.Omega.{arith}
 use native.Mathlib.Nat.{suc-mul, zero-mul}
 use lib.Dec.{eqb}
 use borrow.Author.Tests.{eqb-true, eqb-false}
 use Rattle.basics.specs.Tests.{ask, either}
-use Rattle.best_first.specs.Statements.{bit, total}
+
+-- f 0 + .. + f (n - 1)
+unfoldable pub total : ℕ → (ℕ → ℕ) → ℕ
+total zero f = 0
+total (suc n) f = total n f + f n
 
 pub total-le : (n : ℕ) (f g : ℕ → ℕ) → ((x : ℕ) → x < n → f x ≤ g x) → total n f ≤ total n g
 unfolding total
@@ -57,18 +60,6 @@ total-single v a (suc n) h = go (at-single v a n) (total-single v a n)
     go (there e q) ih = omega (arith, single-past v a n (omega arith))
     go (elsewhere d q) ih = omega (arith, ih (omega arith))
 
--- f is g everywhere below n, and a more at v
+-- g is at least f everywhere below n, and at least a more at v
 pub total-more : (n v a : ℕ) (f g : ℕ → ℕ) → v < n → ((x : ℕ) → x < n → f x + single v a x ≤ g x) → total n f + a ≤ total n g
 total-more n v a f g h k = omega (arith, total-le n (λ x. f x + single v a x) g k, total-add n f (single v a), total-single v a n h)
-
--- a test that at most one number passes
-module _ (p : ℕ → Bool) (only : (a b : ℕ) → p a ≡ true → p b ≡ true → a ≡ b) where
-  none-below : (a n : ℕ) → p a ≡ true → n ≤ a → total n (λ x. bit (p x)) ≡ 0
-  unfolding total
-  none-below a zero t h = refl
-  none-below a (suc n) t h = ask (p n) (λ u. absurd (omega (arith, only a n t u))) (λ f. omega (arith, ap bit f, none-below a n t (omega arith)))
-
-  pub total-one : (n : ℕ) → total n (λ x. bit (p x)) ≤ 1
-  unfolding total
-  total-one zero = zero-le
-  total-one (suc n) = ask (p n) (λ t. omega (arith, ap bit t, none-below n n t (omega arith))) (λ f. omega (arith, ap bit f, total-one n))

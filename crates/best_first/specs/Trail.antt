@@ -14,9 +14,9 @@ use Rattle.basics.specs.Tests.{ask}
 use Rattle.basics.specs.Lists.{In}
 use Rattle.best_first.specs.Search.{Graph, Move, trace}
 use Rattle.best_first.specs.Ways.{Step, Way}
-use Rattle.best_first.specs.Statements.{bit, total, Lawful}
+use Rattle.best_first.specs.Statements.{bit, Lawful}
 use Rattle.best_first.specs.Lists.{in-reach}
-use Rattle.best_first.specs.Sums.{total-le, total-same, total-more, single, Single, there, elsewhere, at-single}
+use Rattle.best_first.specs.Sums.{total, total-le, total-same, total-more, single, Single, there, elsewhere, at-single}
 use Rattle.best_first.specs.Equations.{trace-start, trace-back}
 use Rattle.best_first.specs.Links.{Linked, Link, Origin}
 

@@ -1,7 +1,7 @@
 -- At any costs and any estimate: when the goal is taken, every cell on its way back is closed, so the path's steps add up to its cost.
 -- The cells before others form a tree. Of two open cells the one nearer the start has the lower key; and a closed cell's key is not above both
 -- that of an open cell behind it and that of an open cell elsewhere.
-use mathlib.Core.Path.{_≡_, refl, sym, ap, _∙_}
+use mathlib.Core.Path.{_≡_, sym, ap, _∙_}
 use mathlib.Core.Logic.{_⊎_, inl, inr, _≢_}
 use mathlib.Core.List.{List, [], _∷_}
 use Prim.Native.Nat.{ℕ, suc, pred, _+_, _≤_, _<_, max}
@@ -18,7 +18,7 @@ use Rattle.best_first.specs.Statements.{Taking, stored, Reached, Lawful}
 use Rattle.best_first.specs.Lists.{After, hit, miss}
 use Rattle.best_first.specs.Equations.{Gain, no-gain, offered}
 use Rattle.best_first.specs.Links.{Linked, Link, Origin, start-alone}
-use Rattle.best_first.specs.Base.{Base, Mid, still-closed, same, now-known, all-loose, taken-fresh, mark-taken}
+use Rattle.best_first.specs.Base.{Base, Mid, due-lawful, still-closed, same, now-known, all-loose, taken-fresh, mark-taken}
 use Rattle.best_first.specs.Induction.{Invariant, Holds, holds}
 use Rattle.best_first.specs.Trail.{Up, here, above, goal-trail}
 
@@ -29,15 +29,19 @@ record Open (closed known : List ℕ) (v : ℕ) : Type 0 where
 abbrev key : Graph → List ℕ → ℕ → ℕ
 key G known v = getD known v 0 + G .estimate v
 
+-- of two open cells on one way back, the one nearer the start has the lower key
+abbrev Nearer : Graph → List ℕ → List ℕ → List ℕ → Type 0
+Nearer G closed known previous = (a x : ℕ) → Open closed known a → Open closed known x → a ≢ x → Up previous a x → key G known a < key G known x
+
 record Tree (G : Graph) (closed known previous : List ℕ) : Type 0 where
-  nearer : (a x : ℕ) → Open closed known a → Open closed known x → a ≢ x → Up previous a x → key G known a < key G known x
+  nearer : Nearer G closed known previous
   between : (v x y : ℕ) → 0 < getD closed v 0 → Open closed known x → Open closed known y → Up previous v x → (Up previous v y → ⊥)
       → key G known v ≤ max (key G known x) (key G known y)
 
 -- while the moves of u are tried: u had the least key, so each closed cell is on one side of it
 record Tried (G : Graph) (u : ℕ) (closed known previous : List ℕ) : Type 0 where
   above-closed : (v : ℕ) → Up previous v u → 0 < getD closed v 0
-  nearer : (a x : ℕ) → Open closed known a → Open closed known x → a ≢ x → Up previous a x → key G known a < key G known x
+  nearer : Nearer G closed known previous
   inner : (v x : ℕ) → 0 < getD closed v 0 → (Up previous v u → ⊥) → Open closed known x → Up previous v x → key G known v ≤ key G known x
   outer : (v y : ℕ) → Up previous v u → Open closed known y → (Up previous v y → ⊥) → key G known v ≤ key G known y
 
@@ -105,8 +109,8 @@ module _ {G : Graph} {closed ages : List ℕ} {w : ℕ} {s : State} {t : Taken} 
 -- ---- w is hung under u: w is not before u
 
 module _ (previous : List ℕ) (w u : ℕ) (w-in : w < length previous) (free : Up previous w u → ⊥) where
-  new : getD (set previous w (suc u)) w 0 ≡ suc u
-  new = getD-set-same previous w (suc u) 0 w-in
+  new : {x : ℕ} → x ≡ w → getD (set previous w (suc u)) x 0 ≡ suc u
+  new e = ap (λ (n : ℕ). getD (set previous w (suc u)) n 0) e ∙ getD-set-same previous w (suc u) 0 w-in
 
   old : (x : ℕ) → x ≢ w → getD (set previous w (suc u)) x 0 ≡ getD previous x 0
   old x n = getD-set-other previous w x (suc u) 0 n
@@ -118,7 +122,7 @@ module _ (previous : List ℕ) (w u : ℕ) (w-in : w < length previous) (free : 
     where
       go : Dec (x ≡ w) → Up previous a y ⊎ (Up previous w y × Up (set previous w (suc u)) a u) → Up previous a x ⊎ (Up previous w x × Up (set previous w (suc u)) a u)
       go (yes q) ih =
-          let f : y ≡ u = omega (arith, ap (λ (n : ℕ). getD (set previous w (suc u)) n 0) q, new) in
+          let f : y ≡ u = omega (arith, new q) in
           inr (here q, rw f at up)
       go (no n) (inl r) = inl (above (sym (old x n) ∙ e) r)
       go (no n) (inr r) = inr (above (sym (old x n) ∙ e) (r .0), r .1)
@@ -137,21 +141,18 @@ module _ (previous : List ℕ) (w u : ℕ) (w-in : w < length previous) (free : 
   up-still {a} r (above {x} {y} e up) = go (ℕ-discrete x w) (up-still r up)
     where
       go : Dec (x ≡ w) → Up (set previous w (suc u)) a y → Up (set previous w (suc u)) a x
-      go (yes q) ih = above (ap (λ (n : ℕ). getD (set previous w (suc u)) n 0) q ∙ new) r
+      go (yes q) ih = above (new q) r
       go (no n) ih = above (old x n ∙ e) ih
 
   -- what is before w is w or before u
   up-new : {a x : ℕ} → x ≡ w → a ≢ x → Up (set previous w (suc u)) a x → Up (set previous w (suc u)) a u
   up-new q n (here e) = absurd (n (sym e))
   up-new q n (above {x} {y} e up) =
-      let f : y ≡ u = omega (arith, ap (λ (n : ℕ). getD (set previous w (suc u)) n 0) q, new) in
+      let f : y ≡ u = omega (arith, new q) in
       rw f at up
 
 module _ {G : Graph} {degree dearest : ℕ} (S : Sound G degree dearest) {closed ages : List ℕ} {u d : ℕ} {m : Move} {ms : List Move} {s : State}
     (M : Mid G closed ages u d (m ∷ ms) s) (T : Tried G u closed (s .known) (s .previous)) (gain : Gain (suc (d + m .cost)) (stored s (m .to))) where
-  lawful : In m (G .moves u)
-  lawful = M .lawful m (inl refl)
-
   -- w is not before u: no cell before u is dearer than u
   free : Up (s .previous) (m .to) u → ⊥
   free up =
@@ -159,7 +160,7 @@ module _ {G : Graph} {degree dearest : ℕ} (S : Sound G degree dearest) {closed
       no-gain gain (f .0) (omega (arith, f, M .now))
 
   w-in : m .to < length (s .previous)
-  w-in = omega (arith, S .inside u m lawful, M .base .linked .previous-length)
+  w-in = omega (arith, S .inside u m (due-lawful M), M .base .linked .previous-length)
 
   same-key : (v : ℕ) → v ≢ m .to → key G (offered s d m) v ≡ key G (s .known) v
   same-key v n = ap (λ (k : ℕ). k + G .estimate v) (same M S gain v n)
@@ -192,9 +193,7 @@ module _ {G : Graph} {degree dearest : ℕ} (S : Sound G degree dearest) {closed
       go (inr l) (inl o) = omega (arith, now-known M S gain, T .nearer (m .to) x (record { reached = w-known; unmarked = o }) O (λ e. n (sym e)) up)
       go (inr l) (inr c) = omega (arith, now-known M S gain, T .inner (m .to) x c free O up)
 
-  nearer : (a x : ℕ) → Open (set closed (m .to) 0) (offered s d m) a → Open (set closed (m .to) 0) (offered s d m) x
-      → a ≢ x → Up (set (s .previous) (m .to) (suc u)) a x
-      → key G (offered s d m) a < key G (offered s d m) x
+  nearer : Nearer G (set closed (m .to) 0) (offered s d m) (set (s .previous) (m .to) (suc u))
   nearer a x O P n up = go (ℕ-discrete x (m .to)) (ℕ-discrete a (m .to)) (up-split (s .previous) (m .to) u w-in free up)
     where
       shut : Up (set (s .previous) (m .to) (suc u)) a u → ⊥
@@ -235,7 +234,7 @@ module _ {G : Graph} {degree dearest : ℕ} (S : Sound G degree dearest) {closed
       outer : (v y : ℕ) → Up (set (s .previous) (m .to) (suc u)) v u → Open (set closed (m .to) 0) (offered s d m) y
           → (Up (set (s .previous) (m .to) (suc u)) v y → ⊥) → Dec (y ≡ m .to)
           → key G (offered s d m) v ≤ key G (offered s d m) y
-      outer v y up O f (yes q) = absurd (f (above (ap (λ (n : ℕ). getD (set (s .previous) (m .to) (suc u)) n 0) q ∙ new (s .previous) (m .to) u w-in free) up))
+      outer v y up O f (yes q) = absurd (f (above (new (s .previous) (m .to) u w-in free q) up))
       outer v y up O f (no q) =
           let r = up-same (s .previous) (m .to) u w-in free up in
           omega (
@@ -306,4 +305,4 @@ taken-lawful {G} S {l} {s} {t} R k e =
           H .besides .nearer a (G .goal) O goal-open n up,
           ap (key G (s .known)) e,
         ))
-    tight a up n m i (inr c) = all-loose (H .base) k a m c i .cheap
+    tight a up n m i (inr c) = all-loose (H .base) a m c i .cheap

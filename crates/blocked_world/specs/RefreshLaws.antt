@@ -15,13 +15,13 @@ use Rattle.room.specs.declared.Room.{Room}
 use Rattle.room.specs.declared.Neighbour.{Neighbour}
 use Rattle.room.specs.declared.Neighbour.the-variants.{Inside, Outside}
 use Rattle.room.specs.Room.{Good, volume, beneath, above}
-use Rattle.room.specs.MoveLaws.{beneath-in}
 use Rattle.routing_resources.specs.Marks.{isMarked, withByte}
 use Rattle.routing_resources.specs.MarkLaws.{with-set}
 use Rattle.geometry.specs.RoomPairs.{beneath-above}
 use Rattle.room_search.specs.Routing.{kindAt, anEnd}
 use Rattle.blocked_world.specs.BlockedWorld.{countsAsSolid, seenKind, seenKinds, classSeen, Says, renewed, renewedAt, refreshed, SameBut}
 use Rattle.blocked_world.specs.SeenLaws.{seen-at, renewed-length, renewed-there, renewed-other, renewed-right}
+use Rattle.room.specs.RoomLaws.{beneath-in}
 
 -- ---- settings that differ at one cell
 
@@ -56,9 +56,6 @@ module _ (kinds blocked : List ℕ) (start goal : ℕ) where
   twice : (b : Bool) → either b true b ≡ b
   twice true = refl
   twice false = refl
-
-  no-start : (v : ℕ) → v ≢ start → anEnd start goal v ≡ anEnd goal goal v
-  no-start v n = rw (ne-eqb v start n) (sym (twice (eqb v goal)))
 
   no-goal : (v : ℕ) → v ≢ goal → anEnd start goal v ≡ anEnd start start v
   no-goal v n = rw (ne-eqb v goal n, twice (eqb v start)) (either-false (eqb v start))

@@ -15,16 +15,14 @@ use Rattle.basics.specs.Promises.{Determines}
 use Rattle.room.specs.declared.Room.{Room}
 use Rattle.room.specs.Room.{volume}
 use Rattle.room.specs.RoomLaws.{cell-in}
-use Rattle.room.specs.Units.{air, maxKind}
 use Rattle.job_sheet.specs.declared.Block.{Block}
 use Rattle.job_sheet.specs.declared.Part.{Part}
 use Rattle.job_sheet.specs.Accepted.{SoundBlock, BlockList}
-use Rattle.job_sheet.specs.Places.{noBlock, blockIn, blocksIn}
-use Rattle.job_sheet.specs.RecordLaws.{many-long}
-use Rattle.job_sheet.specs.Sheet.{blockSize}
+use Rattle.job_sheet.specs.Places.{noBlock, blocksIn}
+use Rattle.job_sheet.specs.RecordLaws.{blocks-long}
 use Rattle.blocks.specs.declared.Placement.{Placement}
 use Rattle.blocks.specs.declared.Placement.the-variants.{RepeatAt}
-use Rattle.blocks.specs.Blocks.{blockCell, ofBlock, kindOf, tabulated, kindsOf, cellAt, nodeAt, Repeat, NotAfter, Placing, placed, repeated, BlocksLaid}
+use Rattle.blocks.specs.Blocks.{blockCell, ofBlock, tabulated, cellAt, nodeAt, Repeat, NotAfter, Placing, placed, repeated, BlocksLaid}
 
 -- ---- a table has one entry for each number
 
@@ -102,23 +100,9 @@ module _ {X : Type 0} (f : Block → X) (none : X) (R : Room) (bs : List Block) 
 
 -- ---- blocks of a sound list
 
-pub kinds-long : (R : Room) (bs : List Block) → length (kindsOf R bs) ≡ volume R
-kinds-long R bs = tabulated-long (volume R) (kindOf R bs)
-
 module _ (R : Room) (bs : List Block) (sound : (i : ℕ) → i < length bs → SoundBlock R (getD bs i noBlock)) where
   pub cells-in : (i : ℕ) → i < length bs → cellAt R bs i < volume R
   cells-in i h = cell-in R (getD bs i noBlock .at) (sound i h .within)
-
-  pub kind-known : (v : ℕ) → kindOf R bs v ≤ maxKind
-  kind-known v = go (of-cell (λ b. b .kind) air R bs v)
-    where
-      go : OfCell (λ b. b .kind) air R bs v (kindOf R bs v) → kindOf R bs v ≤ maxKind
-      go (of-record i h c x) = rw x (sound i h .kind-known)
-      go (of-none n x) = rw x (omega arith)
-
-pub list-long : (sheet : List ℕ) (p : Part) → length (blocksIn sheet p) ≡ p .count
-unfolding blocksIn
-list-long sheet p = many-long blockIn blockSize (p .count) _
 
 module _ {sheet : List ℕ} {R : Room} {p : Part} {bs : List Block} (L : BlockList sheet R p bs) where
   -- the list as the contract of `place_blocks` asks for it, and what that contract says of the list
@@ -129,7 +113,7 @@ module _ {sheet : List ℕ} {R : Room} {p : Part} {bs : List Block} (L : BlockLi
   blocks-laid-for O = rw (L .are) at O
 
   pub list-sound : (i : ℕ) → i < length bs → SoundBlock R (getD bs i noBlock)
-  list-sound i h = rw (L .are) at (L .sound i (rw (← list-long sheet p, L .are) h))
+  list-sound i h = rw (L .are) at (L .sound i (rw (← blocks-long sheet p, L .are) h))
 
 -- ---- what laying out comes to is determined
 

@@ -10,6 +10,7 @@ ghost use Rattle.blocks.specs.Laying.{lesser, repeatNumber, Added, Kept}
 use job_sheet::Block;
 use job_sheet::Part;
 use room::Room;
+use room::wide;
 
 // A repeat is kept as one number, node times this plus cell plus 1, so that the least number is that of the least node,
 // then the least cell.
@@ -45,13 +46,6 @@ fn repeat_number(known: usize, node: usize, cell: usize) -> usize
     }
     let higher = if known < node { node } else { known };
     (higher - 1) * PER_NODE + cell + 1
-}
-
-// A number kept in four bytes.
-fn wide(number: u32) -> usize
-    ensures { λ r. ⌜ (r ≡ number) × (r < 2 ^ 32) ⌝ }
-{
-    number as usize
 }
 
 // Adds one block: its kind, the least node of its cell (as one more) and, of all repeats, the least.

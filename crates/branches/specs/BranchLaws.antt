@@ -6,18 +6,17 @@ use Prim.Native.Nat.{ℕ, zero, suc, _+_, _-_, _≤_, _<_}
 use native.Mathlib.Omega.{arith}
 use lib.Dec.{eqb, ltb}
 use lib.ListN.{length, getD, take, drop, set, length-append, length-drop, length-set, replicate, length-replicate, getD-replicate, take-append-drop, List·getD-append}
-use lib.Seq.{take-append-seam, take-append-le, split-at, set-split, take-suc, take-at, drop-at, length-take-le, getD-append-add, getD-set-same, getD-set-other}
+use lib.Seq.{take-append-seam, take-append-le, split-at, set-split, take-suc, take-at, drop-at, take-length, length-take-le, getD-append-add, getD-set-same, getD-set-other}
 use borrow.Author.Tests.{ltb-true, ltb-false, eqb-true, eqb-false}
 use Rattle.basics.specs.Tests.{ask}
 use Rattle.basics.specs.Lists.{In}
-use Rattle.room.specs.declared.Room.{Room}
-use Rattle.room.specs.Room.{volume}
-use Rattle.routing_resources.specs.Resources.{AllCells}
 use Rattle.job_sheet.specs.Sheet.{joined}
 use Rattle.ends.specs.declared.Tap.{Tap}
-use Rattle.branches.specs.Branches.{branchOf, allButLast, inserted, total, CellsBelow, SheetOrder, LengthsOf}
+use Rattle.branches.specs.declared.BranchLengths.{BranchLengths}
+use Rattle.branches.specs.Branches.{branchOf, allButLast, inserted, total, lengthsIn, SheetOrder, LengthsOf}
 use Rattle.branches.specs.LoopLaws.{total-append}
 use Rattle.branches.specs.WriteLaws.{branch-long}
+use Rattle.routing_resources.specs.Marks.{CellsBelow}
 
 -- ---- the cells of a branch
 
@@ -61,15 +60,6 @@ module _ {n : ℕ} where
   but-last-below [] p = p
   but-last-below (last ∷ []) p = below-none
   but-last-below (cell ∷ (next ∷ rest)) p = below-append {xs = cell ∷ []} (below-one cell (p .below 0 (omega arith))) (but-last-below (next ∷ rest) (below-rest p))
-
-pub cells-below : {R : Room} {cells : List ℕ} → AllCells R cells → CellsBelow (volume R) cells
-cells-below all = record { below = all .inside }
-
-pub below-cells : {R : Room} {cells : List ℕ} → CellsBelow (volume R) cells → AllCells R cells
-below-cells p = record { inside = p .below }
-
-pub branch-cells : {R : Room} (t : Tap) (path : List ℕ) → AllCells R path → t .terminal < volume R → AllCells R (branchOf t path)
-branch-cells t path all h = below-cells (branch-below t path (cells-below all) h)
 
 pub branch-some : (t : Tap) (path : List ℕ) → 1 ≤ length path → 1 ≤ length (branchOf t path)
 branch-some t path h = omega (arith, branch-long t path)
@@ -185,6 +175,10 @@ joined-place bs each L (suc k) h =
     let j : joined (take (suc k) bs) ≡ joined (take k bs) ++ (getD bs k [] ++ []) = ap joined b ∙ joined-append (take k bs) (getD bs k [] ∷ []) in
     let l : length (getD bs k [] ++ []) ≡ length (getD bs k []) = ap length (append-nil (getD bs k [])) in
     omega (arith, ap length j, length-append (joined (take k bs)) (getD bs k [] ++ []), L .each-is k h, joined-place bs each L k (omega arith))
+
+-- all branches together
+pub lengths-total : (bs : List (List ℕ)) (L : BranchLengths) → LengthsOf bs (L .each) → length bs ≡ L .count → total (lengthsIn L) ≡ length (joined bs)
+lengths-total bs L H n = rw (← n) (joined-place bs (L .each) H (length bs) (omega arith) ∙ ap (λ l. length (joined l)) (take-length bs))
 
 pub lengths-set : {bs : List (List ℕ)} {each : List ℕ} → LengthsOf bs each → (k : ℕ) → k < length bs → (b : List ℕ) → LengthsOf (set bs k b) (set each k (length b))
 lengths-set {bs = bs} {each = each} L k h b = record {

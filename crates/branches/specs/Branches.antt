@@ -6,6 +6,7 @@ use Prim.Native.Nat.{ℕ, _+_, _-_, _≤_, _<_}
 use lib.Dec.{eqb}
 use lib.ListN.{length, getD, take, drop}
 use Rattle.basics.specs.Tests.{either}
+use Rattle.room.specs.Room.{maxVolume}
 use Rattle.job_sheet.specs.Sheet.{maxSinks, joined}
 use Rattle.ends.specs.declared.Tap.{Tap}
 use Rattle.branches.specs.declared.BranchLengths.{BranchLengths}
@@ -52,13 +53,9 @@ unfoldable pub total : List ℕ → ℕ
 total [] = 0
 total (n ∷ ns) = n + total ns
 
--- each of these is a number below n
-pub record CellsBelow (n : ℕ) (cells : List ℕ) : Type 0 where
-  pub below : (i : ℕ) → i < length cells → getD cells i 0 < n
-
--- a room has at most 16,384 cells, and a branch at most one more
+-- a path has at most the cells of a room, and a branch one more
 abbrev pub longestBranch : ℕ
-longestBranch = 16385
+longestBranch = maxVolume + 1
 
 -- the lengths of the branches, as many as there are
 abbrev pub lengthsIn : BranchLengths → List ℕ

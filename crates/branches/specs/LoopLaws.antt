@@ -7,9 +7,10 @@ use native.Mathlib.Numerals.{add-one}
 use native.Mathlib.Omega.{arith}
 use lib.Dec.{eqb}
 use lib.ListN.{length, getD, take, drop, drop-of-length-le}
-use lib.Seq.{drop-cons, take-suc}
+use lib.Seq.{take-suc}
 use borrow.Author.Tests.{eq-eqb, ne-eqb}
 use Rattle.basics.specs.Tests.{either}
+use Rattle.basics.specs.Lists.{drop-next}
 use Rattle.geometry.specs.Geometry.{standsIn}
 use Rattle.branches.specs.Branches.{markedCount, total}
 
@@ -22,7 +23,7 @@ cellsFrom cells i = standsIn (drop i cells)
 module _ (cells : List ℕ) (i : ℕ) where
   pub cells-next : i < length cells → (v : ℕ) → cellsFrom cells i v ≡ eqb (getD cells i 0) v || cellsFrom cells (i + 1) v
   unfolding standsIn
-  cells-next h v = rw add-one (ap (λ l. standsIn l v) (drop-cons cells i 0 h))
+  cells-next h v = ap (λ l. standsIn l v) (drop-next cells i 0 h)
 
   pub cells-end : length cells ≤ i → (v : ℕ) → cellsFrom cells i v ≡ false
   unfolding standsIn
@@ -42,7 +43,7 @@ counted-none marks = record { so-far = omega arith; few = omega arith; same = om
 module _ {marks : List ℕ} {count i : ℕ} (C : Counted marks count i) where
   one-more : i < length marks → markedCount (drop i marks) ≡ either (eqb (getD marks i 0) 1) 1 0 + markedCount (drop (i + 1) marks)
   unfolding markedCount
-  one-more h = rw add-one (ap markedCount (drop-cons marks i 0 h))
+  one-more h = ap markedCount (drop-next marks i 0 h)
 
   pub counted-marked : i < length marks → getD marks i 0 ≡ 1 → Counted marks (count + 1) (i + 1)
   counted-marked h e =

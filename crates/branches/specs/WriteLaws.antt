@@ -2,11 +2,11 @@
 use mathlib.Core.Path.{_≡_, refl, sym, ap, _∙_}
 use mathlib.Core.List.{List, [], _∷_, _++_, reverse, append-assoc, append-nil, reverse-cons, reverse-append, reverse-reverse}
 use Prim.Native.Nat.{ℕ, suc, _+_, _-_, _≤_, _<_}
-use native.Mathlib.Numerals.{add-one}
 use native.Mathlib.Omega.{arith}
 use lib.ListN.{length, getD, take, drop, set, length-append, length-drop, length-set, length-reverse, drop-of-length-le}
 use lib.Seq.{lt-length-set, drop-cons, drop-length, drop-drop, append-snoc, take-add, take-length, length-take-le, take-at, drop-at, set-at, getD-at}
 use borrow.Author.Tests.{eq-eqb, ne-eqb}
+use Rattle.basics.specs.Lists.{drop-next}
 use Rattle.ends.specs.declared.Tap.{Tap}
 use Rattle.branches.specs.Branches.{terminalAdded, branchOf, branchLength, inserted}
 
@@ -33,7 +33,7 @@ module _ {path start out : List ℕ} {i : ℕ} (fits : length path ≤ length st
       let n : length p ≡ i = length-reverse (drop (length path - i) path) ∙ length-drop (length path - i) path ∙ omega (arith, R .so-far) in
       let more : reverse (drop j path) ≡ p ++ (x ∷ []) =
       ap reverse (drop-cons path j 0 (omega arith) ∙ ap (λ m. x ∷ drop m path) b) ∙ reverse-cons x (drop (length path - i) path) in
-      let rest : drop i start ≡ getD start i 0 ∷ drop (i + 1) start = rw add-one (drop-cons start i 0 (omega arith)) in
+      let rest : drop i start ≡ getD start i 0 ∷ drop (i + 1) start = drop-next start i 0 (omega arith) in
       record {
         so-far = omega arith;
         is =
@@ -233,7 +233,7 @@ rotated cells mid h front back whole halves turned f a b t w =
     let both : turned ≡ reverse x ++ reverse y = t ∙ (λ i. g i ++ (k i ++ z i)) ∙ ap (λ l. reverse x ++ l) (append-nil (reverse y)) in
     w ∙ ap reverse both ∙ reverse-append (reverse x) (reverse y) ∙ (λ i. reverse-reverse y i ++ reverse-reverse x i)
 
-pub moved-before : (p q b t buffer turned : List ℕ) (at m n : ℕ) → length p ≡ at → length q ≡ m → n ≡ m + length b → buffer ≡ p ++ (q ++ (b ++ t))
+moved-before : (p q b t buffer turned : List ℕ) (at m n : ℕ) → length p ≡ at → length q ≡ m → n ≡ m + length b → buffer ≡ p ++ (q ++ (b ++ t))
     → turned ≡ drop m (take n (drop at buffer)) ++ take m (take n (drop at buffer))
     → take at buffer ++ (turned ++ drop n (drop at buffer)) ≡ p ++ (b ++ (q ++ t))
 moved-before p q b t buffer turned at m n lp lq ln e r =
@@ -248,9 +248,6 @@ moved-before p q b t buffer turned at m n lp lq ln e r =
 
 -- the branch is written behind the cells in use, and then moved to its place
 module _ (buffer branch : List ℕ) (at used : ℕ) (h : at ≤ used) (fits : used + length branch ≤ length buffer) where
-  left-whole : take (length buffer - used) (drop used buffer) ≡ drop used buffer
-  left-whole = part-to-end buffer used
-
   module _ (written after : List ℕ) (w : written ≡ branch ++ drop (length branch) (take (length buffer - used) (drop used buffer))) (a : after ≡ take used buffer ++ (written ++ drop (length buffer - used) (drop used buffer))) where
     written-behind : after ≡ take at buffer ++ (take (used - at) (drop at buffer) ++ (branch ++ drop (used + length branch) buffer))
     written-behind =
@@ -258,7 +255,7 @@ module _ (buffer branch : List ℕ) (at used : ℕ) (h : at ≤ used) (fits : us
         let q : List ℕ = take (used - at) (drop at buffer) in
         let s : at + (used - at) ≡ used = omega arith in
         let u : take used buffer ≡ p ++ q = ap (λ n. take n buffer) (sym s) ∙ take-add at (used - at) buffer in
-        let v : written ≡ branch ++ drop (used + length branch) buffer = w ∙ ap (λ l. branch ++ drop (length branch) l) left-whole ∙ ap (λ l. branch ++ l) (drop-drop (length branch) used buffer) in
+        let v : written ≡ branch ++ drop (used + length branch) buffer = w ∙ ap (λ l. branch ++ drop (length branch) l) (part-to-end buffer used) ∙ ap (λ l. branch ++ l) (drop-drop (length branch) used buffer) in
         let z : written ++ drop (length buffer - used) (drop used buffer) ≡ written = ap (λ l. written ++ l) (none-behind buffer used) ∙ append-nil written in
         a ∙ (λ i. u i ++ (z ∙ v) i) ∙ append-assoc p q (branch ++ drop (used + length branch) buffer)
 

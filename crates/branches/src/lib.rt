@@ -1,13 +1,14 @@
 // A sink's branch: written into what is left of the lent branch buffer, put in sheet order, its cells marked.
 use ends::Tap;
+use room::wide;
 ghost use mathlib.Core.Path.{_≡_};
 ghost use mathlib.Core.List.{_++_, reverse};
 ghost use Prim.Native.Nat.{_+_, _≤_, _<_};
 ghost use lib.ListN.{length, take, drop};
 ghost use Rattle.job_sheet.specs.Sheet.{maxSinks};
-ghost use Rattle.routing_resources.specs.Marks.{markedBy};
+ghost use Rattle.routing_resources.specs.Marks.{markedBy, CellsBelow};
 ghost use Rattle.geometry.specs.Geometry.{standsIn};
-ghost use Rattle.branches.specs.Branches.{branchOf, branchLength, inserted, markedCount, total, CellsBelow, Short};
+ghost use Rattle.branches.specs.Branches.{branchOf, branchLength, inserted, markedCount, total, Short};
 
 // How long each sink's branch is, in sheet order, 0 for a sink that has none yet; as one value with the sinks' count.
 pub struct BranchLengths {
@@ -40,7 +41,7 @@ fn write_reversed(path: &[u32], out: &mut [u32])
 }
 
 // Writes one branch to the front of what is left of the branch buffer.
-pub fn write_branch(path: &[u32], tap: Tap, out: &mut [u32])
+fn write_branch(path: &[u32], tap: Tap, out: &mut [u32])
     requires { ⌜ length (branchOf tap (now path)) ≤ length (now out) ⌝ }
     requires { ⌜ tap .terminal < 4294967296 ⌝ }
     ensures { λ _. ⌜ now (out .exit) ≡ branchOf tap (now (path .entry)) ++ drop (length (branchOf tap (now (path .entry)))) (now (out .entry)) ⌝ }
@@ -91,14 +92,7 @@ pub fn insert_branch(branches: &mut [u32], at: usize, used: usize, path: &[u32],
     rotate(&mut branches[at..end], used - at);
 }
 
-// A cell of a branch as an index.
-fn wide(cell: u32) -> usize
-    ensures { λ r. ⌜ r ≡ cell ⌝ }
-{
-    cell as usize
-}
-
-// Marks the cells of a branch, which may hold a cell twice.
+// Marks these cells, among which one may stand twice.
 pub fn mark_cells(marks: &mut [u8], cells: &[u32])
     requires { ⌜ CellsBelow (length (now marks)) (now cells) ⌝ }
     ensures { λ _. ⌜ now (marks .exit) ≡ markedBy (standsIn (now (cells .entry))) (now (marks .entry)) ⌝ }

@@ -14,7 +14,7 @@ use Rattle.room.specs.declared.Room.{Room}
 use Rattle.room.specs.declared.Pos.{Pos}
 use Rattle.room.specs.declared.Move.{Move}
 use Rattle.room.specs.declared.RouterConfig.{RouterConfig}
-use Rattle.room.specs.Room.{Moved, posOf, moves, apart, distance}
+use Rattle.room.specs.Room.{Moved, posOf, moves, apart, distance, flat}
 use Rattle.room.specs.MoveLaws.{Small, small, leads}
 use Rattle.best_first.specs.Search
 use Rattle.best_first.specs.Statements.{slack, Slacks}
@@ -83,7 +83,7 @@ module _ (R : Room) (C : RouterConfig) (class : ℕ → ℕ) (start goal places 
       let q = posOf R v in
       let g = posOf R goal in
       let aside = sideways p m q g s k in
-      ask (eqb (m .y) 1)
+      ask (flat m)
       (λ t. rw t (flat-slack C (laid v) (distance R u goal) (distance R v goal) flat-least
       (as-far (omega (arith, unmoved (p .y) (m .y) (g .y) (q .y) (k .y-by) (omega (arith, eqb-true (m .y) 1 t)))) aside)))
       (λ f. rw f (stair-slack C (laid v) (distance R u goal) (distance R v goal) stair-least aside

@@ -10,7 +10,7 @@ use lib.Dec.{eqb}
 use Rattle.room.specs.Room.{volume}
 use Rattle.best_first.specs.Search.{State, Taken, on, counted, Answer, route, no-route, limit-passed, queue-full}
 use Rattle.best_first.specs.Ways.{Step, Way, Sound, Consistent}
-use Rattle.best_first.specs.Statements.{Honest, Right, Decided, by-route, by-no-route, expanded-of, stored, Taking, outcome, Reached, pushes, times, Slacks}
+use Rattle.best_first.specs.Statements.{Honest, Right, Decided, expandedOf, stored, Taking, outcome, Reached, pushes, times, Slacks}
 use Rattle.best_first.specs.Theorems as any-graph
 use Rattle.routing.specs.declared.Judgement.the-variants.{Fit}
 use Rattle.room_search.specs.Routing.{Task, routeable, entering, graphOf, graph, searched}
@@ -97,12 +97,12 @@ module _ {T : Task} (P : Ready T) where
     pushed-few = any-graph.slacks-cell graph-sound estimate-falls five-slacks (T .config .limit .0)
 
     -- at most 5 cells are expanded for each cell but the start, and the start
-    pub expanded-few : expanded-of (searched T) ≤ 5 * (volume (T .room) - 1) + 1
+    pub expanded-few : expandedOf (searched T) ≤ 5 * (volume (T .room) - 1) + 1
     unfolding searched graphOf
     expanded-few = any-graph.slacks-expanded graph-sound estimate-falls five-slacks (T .config .limit .0)
 
     -- "The search expands at most 12 cells per cell of the room"
-    pub expanded-twelve : expanded-of (searched T) ≤ 12 * volume (T .room)
+    pub expanded-twelve : expandedOf (searched T) ≤ 12 * volume (T .room)
     expanded-twelve = omega (arith, expanded-few, P .start-in)
 
     -- a queue of 5 places for each cell but the start is never full
@@ -112,28 +112,22 @@ module _ {T : Task} (P : Ready T) where
 
     -- and a node limit of as many cells, and the start, is never passed
     pub never-passed : 5 * (volume (T .room) - 1) + 1 ≤ T .config .limit .0 → (x : ℕ) → searched T ≢ limit-passed x
-    never-passed h x e = omega (arith, limit-passed-by-one e, expanded-few, ap expanded-of e)
+    never-passed h x e = omega (arith, limit-passed-by-one e, expanded-few, ap expandedOf e)
 
     -- ---- with a node limit and a queue of 12 for each cell
 
     module _ (A : Ample T) where
       -- a route or "no route" is answered
       pub settled : Decided (searched T)
-      settled = decide (searched T) refl
-        where
-          decide : (a : Answer) → searched T ≡ a → Decided a
-          decide (route path cost x) e = by-route path cost x
-          decide (no-route x) e = by-no-route x
-          decide (limit-passed x) e = absurd (never-passed (omega (arith, A .limit-wide, P .start-in)) x e)
-          decide (queue-full x) e = absurd (never-full (omega (arith, A .queue-wide, P .start-in)) x e)
+      unfolding searched graphOf
+      settled = any-graph.decided graph-sound estimate-falls (T .config .limit .0) (A .limit-wide) (A .queue-wide)
 
       -- "no route" comes exactly when no lawful way exists
       pub no-route-exactly : ((x : ℕ) × (searched T ≡ no-route x)) ↔ NoLawfulWay T
-      no-route-exactly = (λ r. no-route-true (r .1), λ n. due n (searched T) refl settled)
-        where
-          due : NoLawfulWay T → (a : Answer) → searched T ≡ a → Decided a → (x : ℕ) × (searched T ≡ no-route x)
-          due n (route path cost x) e d = absurd (n (route-lawful e .after) (route-lawful e .lawful))
-          due n (no-route x) e d = (x, e)
+      unfolding searched graphOf
+      no-route-exactly =
+          let of-graph = any-graph.no-route-exactly graph-sound estimate-falls (T .config .limit .0) (A .limit-wide) (A .queue-wide) in
+          (λ r. no-route-true (r .1), λ n. of-graph .1 (λ after d w. n after (ways-exactly after d .0 w .0)))
 
 -- ---- the public search, for an input that no number from 2 to 10 refuses
 

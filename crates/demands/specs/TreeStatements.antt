@@ -2,7 +2,7 @@
 -- blocked air counts as Solid, so what is said of one search is said of it.
 use mathlib.Core.Path.{_≡_}
 use mathlib.Core.Logic.{_≢_}
-use mathlib.Core.Bool.{true, _||_}
+use mathlib.Core.Bool.{true}
 use mathlib.Core.List.{List}
 use Prim.Native.Nat.{ℕ, suc, _<_}
 use lib.Dec.{eqb}
@@ -11,15 +11,10 @@ use Rattle.room.specs.Room.{volume}
 use Rattle.room_search.specs.Routing.{Task}
 use Rattle.routing_resources.specs.Marks.{isMarked, markedBy}
 use Rattle.geometry.specs.Geometry.{conflictOf}
-use Rattle.blocked_world.specs.BlockedWorld.{seenTask}
-use Rattle.goals.specs.Goals.{Site, found, failed, full, searchedFor}
+use Rattle.goals.specs.Goals.{Site, found, failed, full, searchedFor, taskSeen, endsGoal}
 use Rattle.branches.specs.Branches.{branchOf}
-use Rattle.multinet.specs.Tree.{Plot, Tree, tapAt, siteOf}
+use Rattle.multinet.specs.Tree.{Plot, Tree, tapAt, siteAt}
 use Rattle.demands.specs.Statements.{Priced, Ample, Lawful, Cheapest, NoLawfulWay}
-
--- the search for one goal with these cells blocked
-abbrev pub taskSeen : Site → List ℕ → ℕ → ℕ → Task
-taskSeen S blocked start goal = seenTask (S .room) (S .config) (S .kinds) blocked start goal (S .places)
 
 -- what one search for a goal says: a lawful route, at those costs a cheapest one; or, with that limit and queue, truly that there is none
 pub record SearchMeans (T : Task) : Type 0 where
@@ -58,7 +53,7 @@ pub data GoalEnds (S : Site) (start goal : ℕ) : ℕ → List ℕ → Type 0 wh
       → GoalEnds S start goal attempts blocked
   conflict-stays : {attempts : ℕ} {blocked : List ℕ} (n : ℕ) (later path : List ℕ) (cost v : ℕ) → Repeats S start goal n blocked later
       → searchedFor (taskSeen S later start goal) ≡ found path cost → conflictOf (S .room) (S .kinds) (S .joinable) path ≡ Inside v
-      → (eqb v start || (eqb v goal || isMarked later v)) ≡ true → GoalEnds S start goal attempts blocked
+      → endsGoal later start goal v ≡ true → GoalEnds S start goal attempts blocked
   attempts-over : {attempts : ℕ} {blocked : List ℕ} (later : List ℕ) → Repeats S start goal attempts blocked later → GoalEnds S start goal attempts blocked
 
 -- a sink's branch in a grown tree: its route to the tree as it was at that sink's turn
@@ -67,4 +62,4 @@ pub record BranchMeans (P : Plot) (k : ℕ) (branch : List ℕ) : Type 0 where
   pub path : List ℕ
   pub cost : ℕ
   pub branch-is : branch ≡ branchOf (tapAt P k) path
-  pub means : RouteMeans (siteOf P before) (tapAt P k .approach) (before .blocked) path cost
+  pub means : RouteMeans (siteAt P (before .joinable)) (tapAt P k .approach) (before .blocked) path cost

@@ -1,9 +1,9 @@
 -- THE THIRD DEMAND IN A TREE: what TreeStatements claims of each search made there, of a sink's route, of number 14 and of every branch.
 use mathlib.Core.Path.{_≡_, refl, sym, _∙_}
 use mathlib.Core.Logic.{_≢_}
-use mathlib.Core.Bool.{true, false, _||_}
+use mathlib.Core.Bool.{true, false}
 use mathlib.Core.List.{List, []}
-use Prim.Native.Nat.{ℕ, zero, suc, _+_, _-_, _*_, _≤_, _<_}
+use Prim.Native.Nat.{ℕ, zero, suc, _+_, _*_, _≤_, _<_}
 use native.Mathlib.Omega.{arith}
 use lib.Dec.{eqb, ltb}
 use lib.ListN.{length, length-set, length-replicate}
@@ -18,18 +18,18 @@ use Rattle.best_first.specs.Statements.{Decided}
 use Rattle.room_search.specs.Routing.{Task, routeable, searched}
 use Rattle.routing_resources.specs.Marks.{isMarked, markedBy}
 use Rattle.geometry.specs.Geometry.{conflictOf}
-use Rattle.goals.specs.Goals.{Site, Trial, found, failed, full, trialOf, searchedFor, atConflict, afterSearch, maxAttempts, attempts, cheaper, triedGoal, bestBelow, routeToTree}
+use Rattle.goals.specs.Goals.{Site, Trial, found, failed, full, trialOf, searchedFor, atConflict, afterSearch, maxAttempts, attempts, cheaper, triedGoal, bestBelow, routeToTree, taskSeen, endsGoal}
 use Rattle.goals.specs.PathLaws.{found-by}
 use Rattle.goals.specs.RouteLaws.{tree-joins}
 use Rattle.turns.specs.Turns.{far}
-use Rattle.turns.specs.TurnLaws.{its-turn, turn-in}
+use Rattle.turns.specs.TurnLaws.{turn-in}
 use Rattle.branches.specs.Branches.{branchOf}
-use Rattle.multinet.specs.Tree.{Plot, Tree, Growth, grown, stopped, tapAt, siteOf, planted, withBranch, fitsIn, afterSink, growSink, growOn, growFrom, growthOf}
+use Rattle.multinet.specs.Tree.{Plot, Tree, Growth, grown, stopped, tapAt, siteAt, sinkNow, planted, withBranch, fitsIn, afterSink, growSink, growOn, growFrom, growthOf}
 use Rattle.multinet.specs.Growing.{Sound, turnIn, branchIn}
-use Rattle.multinet.specs.GrowingLaws.{sinkNow, sink-now}
+use Rattle.multinet.specs.GrowingLaws.{sink-now, other-turn, no-turn}
 use Rattle.demands.specs.Statements.{Ready, Priced, Ample, NoLawfulWay}
 use Rattle.demands.specs.Theorems.{route-lawful, route-cheapest, no-route-true, settled}
-use Rattle.demands.specs.TreeStatements.{taskSeen, SearchMeans, RouteMeans, as-blocked, one-more, GoalEnds, no-way, conflict-stays, attempts-over, BranchMeans}
+use Rattle.demands.specs.TreeStatements.{SearchMeans, RouteMeans, as-blocked, one-more, GoalEnds, no-way, conflict-stays, attempts-over, BranchMeans}
 
 -- ---- one search
 
@@ -134,7 +134,7 @@ module _ (S : Site) (G : Good (S .room)) (start : ℕ) (start-in : start < volum
               → GoalEnds S start goal (suc n) blocked
           at p c w Outside f q later = never (cc)
           at p c w (Inside v) f q later =
-              ask (eqb v start || (eqb v goal || isMarked blocked v))
+              ask (endsGoal blocked start goal v)
               (λ t. conflict-stays 0 blocked p c v as-blocked w f t)
               (λ no. prepend w f (later (markedBy (eqb v) blocked) (rw no at q)))
 
@@ -180,9 +180,6 @@ module _ (P : Plot) (S : Sound P) where
     count-is : length (T .branches) ≡ P .taps .count
     each : (k : ℕ) → k < P .taps .count → turnIn P k < turn → BranchMeans P k (branchIn T k)
 
-  now-is : {turn k : ℕ} → k < P .taps .count → turnIn P k ≡ turn → sinkNow P turn ≡ Inside k
-  now-is {turn} {k} h e = rw (← e) (its-turn (far (P .room) (P .source) (P .taps .taps)) (P .taps .count) k h)
-
   module _ {turn : ℕ} {T : Tree} (M : Meant turn T) where
     with-meant : (j : ℕ) → sinkNow P turn ≡ Inside j → (branch : List ℕ) → BranchMeans P j branch → Meant (turn + 1) (withBranch (P .room) j branch T)
     unfolding withBranch
@@ -193,13 +190,10 @@ module _ (P : Plot) (S : Sound P) where
           (λ f. rw (getD-set-other (T .branches) j k branch [] (eqb-false k j f)) (M .each k h (earlier k h g f)));
     }
       where
-        same : {k : ℕ} → Inside k ≡ Inside j → k ≡ j
-        same q = cc
-
         earlier : (k : ℕ) → k < P .taps .count → turnIn P k < turn + 1 → eqb k j ≡ false → turnIn P k < turn
-        earlier k h g f = let d : turnIn P k ≢ turn = λ q. eqb-false k j f (same (sym (now-is h q) ∙ e)) in omega (arith, g, d)
+        earlier k h g f = let d = other-turn P turn j k e h (eqb-false k j f) in omega (arith, g, d)
 
-    routed-meant : (j : ℕ) → sinkNow P turn ≡ Inside j → (trial : Trial) → routeToTree (siteOf P T) (tapAt P j .approach) (T .blocked) ≡ trial
+    routed-meant : (j : ℕ) → sinkNow P turn ≡ Inside j → (trial : Trial) → routeToTree (siteAt P (T .joinable)) (tapAt P j .approach) (T .blocked) ≡ trial
         → (T′ : Tree) → afterSink P j T trial ≡ grown T′ → Meant (turn + 1) T′
     unfolding afterSink
     routed-meant j e (found path cost) w T′ q = ask (fitsIn P T (branchOf (tapAt P j) path)) (λ t. same (rw t at q)) (λ f. other (rw f at q))
@@ -210,7 +204,7 @@ module _ (P : Plot) (S : Sound P) where
           path = path;
           cost = cost;
           branch-is = refl;
-          means = route-means (siteOf P T) (S .good) (tapAt P j .approach) (S .net .approach-in j (sink-now P turn j e .0)) (T .blocked) path cost w;
+          means = route-means (siteAt P (T .joinable)) (S .good) (tapAt P j .approach) (S .net .approach-in j (sink-now P turn j e .0)) (T .blocked) path cost w;
         }
 
         same : grown (withBranch (P .room) j (branchOf (tapAt P j) path) T) ≡ grown T′ → Meant (turn + 1) T′
@@ -226,14 +220,11 @@ module _ (P : Plot) (S : Sound P) where
     turn-meant T′ q = go (sinkNow P turn) refl q
       where
         go : (s : Neighbour) → sinkNow P turn ≡ s → growSink P s T ≡ grown T′ → Meant (turn + 1) T′
-        go (Inside j) e z = routed-meant j e (routeToTree (siteOf P T) (tapAt P j .approach) (T .blocked)) refl T′ z
+        go (Inside j) e z = routed-meant j e (routeToTree (siteAt P (T .joinable)) (tapAt P j .approach) (T .blocked)) refl T′ z
         go Outside e z = let y : T ≡ T′ = cc in rw (← y) (record { count-is = M .count-is; each = λ k h g. M .each k h (earlier k h g) })
           where
-            none : {k : ℕ} → Inside k ≡ Outside → ⊥
-            none q = never (cc)
-
             earlier : (k : ℕ) → k < P .taps .count → turnIn P k < turn + 1 → turnIn P k < turn
-            earlier k h g = let d : turnIn P k ≢ turn = λ q. none (sym (now-is h q) ∙ e) in omega (arith, g, d)
+            earlier k h g = let d = no-turn P turn k e h in omega (arith, g, d)
 
   all-meant : (n turn : ℕ) (T T′ : Tree) → Meant turn T → growFrom n P turn T ≡ grown T′ → Meant (turn + n) T′
   unfolding growFrom

@@ -12,6 +12,7 @@ use Rattle.room.specs.Room.{sidesGood}
 use Rattle.room.specs.Units.{configGood}
 use Rattle.routing.specs.declared.Answer.{Answer}
 use Rattle.routing.specs.declared.Answer.the-variants.{Routed, Refused, NotRouteable, NoRoute, LimitPassed, QueueFull}
+use Rattle.routing.specs.declared.Route.{Route}
 use Rattle.routing.specs.declared.Refusal.{Refusal}
 use Rattle.routing.specs.declared.Refusal.the-variants.{Sides, Config, Buffer}
 use Rattle.routing.specs.Answers.{Input, answerOf, numberOf, detailOf, cellsFor}
@@ -34,17 +35,21 @@ shortRefusal R C = either (sidesGood R) (either (configGood C) Buffer Config) Si
 unfoldable pub exported : Input → List ℕ → Answer
 exported I values = either (leb 4 (length values)) (answerOf I) (Refused (shortRefusal (I .room) (I .config)))
 
--- the four values: the detail, then a route's length, cost and expanded count, zero where there is no route
-abbrev pub routeValues : Answer → List ℕ
-routeValues (Routed r) = r .length ∷ r .cost .0 ∷ r .expanded .0 ∷ []
-routeValues (Refused why) = 0 ∷ 0 ∷ 0 ∷ []
-routeValues (NotRouteable cell) = 0 ∷ 0 ∷ 0 ∷ []
-routeValues (NoRoute x) = 0 ∷ 0 ∷ 0 ∷ []
-routeValues (LimitPassed x) = 0 ∷ 0 ∷ 0 ∷ []
-routeValues (QueueFull x) = 0 ∷ 0 ∷ 0 ∷ []
+-- the route of an answer, all zero where there is none
+abbrev pub noRoute : Route
+noRoute = record { length = 0; cost = record { 0 = 0 }; expanded = record { 0 = 0 } }
 
+abbrev pub routeOf : Answer → Route
+routeOf (Routed r) = r
+routeOf (Refused why) = noRoute
+routeOf (NotRouteable cell) = noRoute
+routeOf (NoRoute x) = noRoute
+routeOf (LimitPassed x) = noRoute
+routeOf (QueueFull x) = noRoute
+
+-- the four values: the detail, then a route's length, cost and expanded count, zero where there is no route
 abbrev pub valuesOf : Answer → List ℕ
-valuesOf a = detailOf a ∷ routeValues a
+valuesOf a = detailOf a ∷ routeOf a .length ∷ routeOf a .cost .0 ∷ routeOf a .expanded .0 ∷ []
 
 -- The promise of `dustroute_search`. "Numbers 1 to 6 touch nothing", the values included; any other number writes the four values and zeros behind
 -- them.

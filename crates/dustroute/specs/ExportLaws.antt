@@ -1,16 +1,18 @@
 -- The promise of the exported search, by its cases; and that it determines everything.
 use mathlib.Core.Path.{_≡_, sym, _∙_}
+use mathlib.Core.Bool.{true, false}
 use mathlib.Core.List.{List, [], _∷_, _++_}
 use Prim.Native.Nat.{ℕ, zero, suc, _-_, _≤_, _<_}
 use native.Mathlib.Omega.{arith}
 use lib.ListN.{length, set, replicate}
 use borrow.Author.Tests.{le-leb, lt-leb}
 use Rattle.basics.specs.Promises.{Determines}
-use Rattle.lent.specs.Lent.{outputAfter}
+use Rattle.lent.specs.Lent.{touches, outputAfter}
 use Rattle.routing.specs.declared.Answer.{Answer}
-use Rattle.routing.specs.Answers.{Input, numberOf, refusalNumber, Promise}
+use Rattle.routing.specs.declared.Route.{Route}
+use Rattle.routing.specs.Answers.{Input, numberOf, detailOf, refusalNumber, Promise}
 use Rattle.routing.specs.PromiseLaws.{untouched}
-use Rattle.dustroute.specs.Export.{shortRefusal, exported, valuesOf, Exported}
+use Rattle.dustroute.specs.Export.{shortRefusal, exported, routeOf, valuesOf, Exported}
 
 -- four values written to a cleared buffer
 pub four-written : (a b c d n : ℕ) → 4 ≤ n
@@ -20,6 +22,16 @@ four-written a b c d (suc (suc (suc zero))) h = absurd (omega arith)
 four-written a b c d (suc (suc zero)) h = absurd (omega arith)
 four-written a b c d (suc zero) h = absurd (omega arith)
 four-written a b c d zero h = absurd (omega arith)
+
+-- the values of an answer whose number touches memory; the others leave them as they are
+module _ (a : Answer) (values : List ℕ) {number : ℕ} (n : number ≡ numberOf a) where
+  pub values-written : {detail : ℕ} {route : Route} {values′ : List ℕ} → touches number ≡ true → detail ≡ detailOf a → route ≡ routeOf a
+      → values′ ≡ (detail ∷ route .length ∷ route .cost .0 ∷ route .expanded .0 ∷ []) ++ replicate (length values - 4) 0
+      → values′ ≡ outputAfter (numberOf a) (valuesOf a) values
+  values-written t d r w = let e = rw n at t in w ∙ rw (d, r, e)
+
+  pub values-kept : touches number ≡ false → values ≡ outputAfter (numberOf a) (valuesOf a) values
+  values-kept f = let e = rw n at f in rw e
 
 module _ {I : Input} {path known previous classes queue values : List ℕ} where
   -- too few values: nothing is touched

@@ -20,28 +20,28 @@ valueCount = 4 + maxSinks
 
 -- ---- an answer as numbers
 
-abbrev pub numberBy : Ended → ℕ
-numberBy (Routed occupied repeaters) = 0
-numberBy (Refused number detail) = number
+abbrev pub numberEnded : Ended → ℕ
+numberEnded (Routed occupied repeaters) = 0
+numberEnded (Refused number detail) = number
 
-abbrev pub detailBy : Ended → ℕ
-detailBy (Routed occupied repeaters) = 0
-detailBy (Refused number detail) = detail
+abbrev pub detailEnded : Ended → ℕ
+detailEnded (Routed occupied repeaters) = 0
+detailEnded (Refused number detail) = detail
 
-abbrev pub occupiedBy : Ended → ℕ
-occupiedBy (Routed occupied repeaters) = occupied
-occupiedBy (Refused number detail) = 0
+abbrev pub occupiedEnded : Ended → ℕ
+occupiedEnded (Routed occupied repeaters) = occupied
+occupiedEnded (Refused number detail) = 0
 
-abbrev pub repeatersBy : Ended → ℕ
-repeatersBy (Routed occupied repeaters) = repeaters
-repeatersBy (Refused number detail) = 0
+abbrev pub repeatersEnded : Ended → ℕ
+repeatersEnded (Routed occupied repeaters) = repeaters
+repeatersEnded (Refused number detail) = 0
 
 abbrev pub numberTold : Answer → ℕ
-numberTold a = numberBy (a .ended)
+numberTold a = numberEnded (a .ended)
 
 -- the branches' lengths stand in sheet order, zero behind their count; all are zero after a refusal
 abbrev pub treeValues : Answer → List ℕ
-treeValues a = detailBy (a .ended) ∷ a .lengths .count ∷ occupiedBy (a .ended) ∷ repeatersBy (a .ended) ∷ a .lengths .each
+treeValues a = detailEnded (a .ended) ∷ a .lengths .count ∷ occupiedEnded (a .ended) ∷ repeatersEnded (a .ended) ∷ a .lengths .each
 
 -- "Numbers 1 to 6 touch nothing", the values included; any other number writes the values and zeros behind them
 abbrev pub valuesAfter : Answer → List ℕ → List ℕ

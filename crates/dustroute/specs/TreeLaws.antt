@@ -2,17 +2,16 @@
 use mathlib.Core.Path.{_≡_, refl, sym, ap, _∙_}
 use mathlib.Core.Bool.{false}
 use mathlib.Core.List.{List, [], _∷_, _++_, append-nil}
-use Prim.Native.Nat.{ℕ, suc, _+_, _-_, _≤_, _<_}
+use Prim.Native.Nat.{ℕ, suc, _-_, _≤_, _<_}
 use native.Mathlib.Omega.{arith}
 use borrow.Rule.Slice.PartMut.{putMid, midOf}
-use lib.ListN.{length, drop, replicate}
+use lib.ListN.{length, drop, replicate, drop-of-length-le}
 use lib.Seq.{take-length}
 use Rattle.basics.specs.Tests.{either, ask}
 use Rattle.basics.specs.Zeros.{drop-zeros}
 use Rattle.basics.specs.Promises.{Determines}
 use Rattle.lent.specs.Lent.{touches}
 use Rattle.job_sheet.specs.declared.Verdict.{Verdict}
-use Rattle.job_sheet.specs.declared.Verdict.the-variants as verdict
 use Rattle.job_sheet.specs.Sheet.{isGood, numberOf}
 use Rattle.job_sheet.specs.Theorems.{coincide as one-reading}
 use Rattle.net_tree.specs.declared.Answer.{Answer}
@@ -24,18 +23,15 @@ use Rattle.dustroute.specs.TreeExport.{valueCount, numberTold, valuesAft
 
 -- ---- four values over a cleared buffer, and the lengths written to the part behind them
 
-drop-all : (l : List ℕ) → drop (length l) l ≡ []
-drop-all [] = refl
-drop-all (x ∷ l) = drop-all l
-
 pub lengths-behind : (a b c d n : ℕ) (each : List ℕ) {four part : List ℕ} → four ≡ (a ∷ b ∷ c ∷ d ∷ []) ++ replicate (n - 4) 0
     → part ≡ each ++ drop (length each) (midOf 4 (length four - 4) four)
     → putMid 4 (length four - 4) four part ≡ a ∷ b ∷ c ∷ d ∷ (each ++ replicate (n - suc (suc (suc (suc (length each))))) 0)
 lengths-behind a b c d n each e f =
     let zeros : List ℕ = replicate (n - 4) 0 in
+    let at-most : length zeros ≤ length zeros = omega arith in
     let k : suc (suc (suc (suc (length zeros)))) - 4 ≡ length zeros = omega arith in
     let m : n - 4 - length each ≡ n - suc (suc (suc (suc (length each)))) = omega arith in
-    rw (f, e, k, take-length, drop-all, append-nil, drop-zeros, m)
+    rw (f, e, k, take-length, drop-of-length-le zeros at-most, append-nil, drop-zeros, m)
 
 -- ---- the promise by its cases
 

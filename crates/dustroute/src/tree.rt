@@ -19,7 +19,7 @@ const VALUES: usize = 20;
 fn short_number(sheet: &[u8]) -> u32
     ensures { λ r. ⌜ ShortNumber (now (sheet .entry)) r ⌝ }
 {
-    let reading = job_sheet::read_sheet(sheet);
+    let reading = sheet_reader::read_sheet(sheet);
     let verdict = reading.verdict;
     if !verdict.is_good() {
         return verdict.number();

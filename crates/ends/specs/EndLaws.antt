@@ -7,8 +7,8 @@ use native.Mathlib.Numerals.{add-one, unary-clauses}
 use native.Mathlib.Omega.{arith}
 use lib.Dec.{eqb}
 use borrow.Author.Tests.{eq-eqb, ne-eqb, eqb-false}
-use lib.ListN.{length, getD, take, drop, set, replicate, drop-of-length-le, length-map, length-replicate, length-append, List·getD-append}
-use lib.Seq.{drop-cons, getD-take, take-suc, length-take-le, set-at}
+use lib.ListN.{length, getD, take, drop, set, replicate, length-map, length-replicate, length-append, List·getD-append}
+use lib.Seq.{slice-cons, slice-empty, getD-take, take-suc, length-take-le, set-at}
 use Rattle.basics.specs.Tests.{ask, never}
 use Rattle.room.specs.declared.Room.{Room}
 use Rattle.room.specs.Room.{Within, volume}
@@ -25,13 +25,7 @@ use Rattle.ends.specs.declared.Taps.{Taps}
 use Rattle.ends.specs.declared.Fault.{Fault}
 use Rattle.ends.specs.declared.Fault.the-variants.{Good, NoFacing, Outside}
 use Rattle.ends.specs.declared.Ends.{Ends}
-use Rattle.ends.specs.Ends.{sinksIn, sourceAt, sinkAt, dueFor, firstDue, endsAt, noTap, tapOf, tapsOf, tapFrom, alone, terminalIn, faultBy, faultOf, endsOf, tapsIn}
-
--- the sinks are in the room
-pub record SinksWithin (R : Room) (k : Sinks) : Type 0 where
-  pub few : k .count ≤ maxSinks
-  pub whole : length (k .ends) ≡ maxSinks
-  pub within : (i : ℕ) → i < k .count → Within R (getD (k .ends) i noEndpoint .at)
+use Rattle.ends.specs.Ends.{sinksIn, sourceAt, sinkAt, dueFor, firstDue, endsAt, noTap, tapOf, tapsOf, tapFrom, alone, terminalIn, faultBy, faultOf, endsOf, tapsIn, SinksWithin, NetIn}
 
 module _ {R : Room} {k : Sinks} (S : SinksWithin R k) where
   sinks-long : length (sinksIn k) ≡ k .count
@@ -39,12 +33,7 @@ module _ {R : Room} {k : Sinks} (S : SinksWithin R k) where
 
   -- the sinks from the i-th on
   from-sink : (i : ℕ) → i < k .count → drop i (sinksIn k) ≡ getD (k .ends) i noEndpoint ∷ drop (i + 1) (sinksIn k)
-  from-sink i h =
-      drop-cons (sinksIn k) i noEndpoint (omega (arith, sinks-long))
-      ∙ rw (add-one i) (ap (λ e. e ∷ drop (suc i) (sinksIn k)) (getD-take (k .count) (k .ends) i noEndpoint h))
-
-  sinks-end : (i : ℕ) → k .count ≤ i → drop i (sinksIn k) ≡ []
-  sinks-end i h = let e : length (sinksIn k) ≤ i = omega (arith, sinks-long) in drop-of-length-le (sinksIn k) e
+  from-sink i h = rw add-one (slice-cons i (k .count) (k .ends) noEndpoint h (omega (arith, S .few, S .whole)))
 
 -- ---- the first end for which a number is due
 
@@ -69,7 +58,10 @@ module _ (R : Room) (number : ℕ) (source : Endpoint) {k : Sinks} (S : SinksWit
 
     pub due-none : k .count ≤ i → 0 ≡ firstDue number 0 (endsAt R source (sinksIn k))
     unfolding firstDue
-    due-none h = let p = P .same in rw (ne-eqb _ _ n, ← p, sinks-end S i h)
+    due-none h =
+        let p = P .same in
+        let none : drop i (sinksIn k) ≡ [] = let e : i ≡ k .count = omega (arith, P .so-far) in rw e (slice-empty (k .count) (k .ends)) in
+        rw (ne-eqb _ _ n, ← p, none)
 
 pub sink-passed : {R : Room} {number : ℕ} {k : Sinks} → SinksWithin R k → {i : ℕ} → Passed R number k i → i < k .count
     → (dueFor (sinkAt R (getD (k .ends) i noEndpoint)) ≢ number) → Passed R number k (i + 1)
@@ -147,14 +139,6 @@ unfolding endsOf
 ends-is R e es p q r = λ i. record { fault = p i; source = q i; taps = r i }
 
 -- ---- a net whose ends no number refuses
-
--- its cells are in the room
-pub record NetIn (R : Room) (source : ℕ) (k : Taps) : Type 0 where
-  pub source-in : source < volume R
-  pub few : k .count ≤ maxSinks
-  pub whole : length (k .taps) ≡ maxSinks
-  pub terminal-in : (i : ℕ) → i < k .count → getD (k .taps) i noTap .terminal < volume R
-  pub approach-in : (i : ℕ) → i < k .count → getD (k .taps) i noTap .approach < volume R
 
 -- the taps in use are as many as are counted
 pub taps-long : {R : Room} {source : ℕ} {k : Taps} → NetIn R source k → length (tapsIn k) ≡ k .count

@@ -1,19 +1,21 @@
 -- The ends of one net: which of numbers 8 and 9 is due for which of them, and else where its wire begins and ends. Definitions alone; their laws are
 -- in EndLaws.
+use mathlib.Core.Path.{_≡_}
 use mathlib.Core.Bool.{Bool, false}
 use mathlib.Core.List.{List, [], _∷_, _++_, map}
-use Prim.Native.Nat.{ℕ, zero, suc, _+_, _-_}
+use Prim.Native.Nat.{ℕ, zero, suc, _-_, _≤_, _<_}
 use lib.Dec.{eqb}
-use lib.ListN.{length, take, replicate}
+use lib.ListN.{length, getD, take, replicate}
 use Rattle.basics.specs.Tests.{either}
 use Rattle.room.specs.declared.Room.{Room}
+use Rattle.room.specs.Room.{Within, volume}
 use Rattle.room.specs.Units.{wire}
 use Rattle.port_realization.specs.declared.Terminal.{Terminal}
 use Rattle.port_realization.specs.declared.Realized.{Realized}
 use Rattle.port_realization.specs.Ports.{terminalOf, realizedOf}
 use Rattle.job_sheet.specs.declared.Endpoint.{Endpoint}
 use Rattle.job_sheet.specs.declared.Sinks.{Sinks}
-use Rattle.job_sheet.specs.Sheet.{maxSinks}
+use Rattle.job_sheet.specs.Sheet.{maxSinks, noEndpoint}
 use Rattle.ends.specs.declared.Tap.{Tap}
 use Rattle.ends.specs.declared.Taps.{Taps}
 use Rattle.ends.specs.declared.Ends.{Ends}
@@ -86,3 +88,19 @@ faultOf R source sinks = faultBy (firstDue 8 0 (endsAt R source sinks)) (firstDu
 
 unfoldable pub endsOf : Room → Endpoint → List Endpoint → Ends
 endsOf R source sinks = record { fault = faultOf R source sinks; source = terminalIn (sourceAt R source); taps = tapsOf R sinks }
+
+-- ---- what the functions ask
+
+-- the sinks are in the room
+pub record SinksWithin (R : Room) (k : Sinks) : Type 0 where
+  pub few : k .count ≤ maxSinks
+  pub whole : length (k .ends) ≡ maxSinks
+  pub within : (i : ℕ) → i < k .count → Within R (getD (k .ends) i noEndpoint .at)
+
+-- a net whose ends no number refuses: its cells are in the room
+pub record NetIn (R : Room) (source : ℕ) (k : Taps) : Type 0 where
+  pub source-in : source < volume R
+  pub few : k .count ≤ maxSinks
+  pub whole : length (k .taps) ≡ maxSinks
+  pub terminal-in : (i : ℕ) → i < k .count → getD (k .taps) i noTap .terminal < volume R
+  pub approach-in : (i : ℕ) → i < k .count → getD (k .taps) i noTap .approach < volume R

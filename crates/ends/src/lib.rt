@@ -6,8 +6,7 @@ use port_realization::Terminal;
 use room::Room;
 ghost use mathlib.Core.Path.{_≡_};
 ghost use Rattle.room.specs.Room.{Good, Within};
-ghost use Rattle.ends.specs.Ends.{sinksIn, sourceAt, sinkAt, dueFor, firstDue, endsAt, noTap, tapOf, tapsOf, terminalIn, faultOf, endsOf};
-ghost use Rattle.ends.specs.EndLaws.{SinksWithin};
+ghost use Rattle.ends.specs.Ends.{sinksIn, sourceAt, sinkAt, dueFor, firstDue, endsAt, noTap, tapOf, tapsOf, terminalIn, faultOf, endsOf, SinksWithin};
 
 // A sink as the wire meets it: where its branch ends, where its searches start, and whether its port is Wire.
 pub struct Tap {

@@ -1,7 +1,7 @@
 -- What the code walks along the path for: a walk as a loop makes it, bytes replaced, the least upper cell of a pair, conductors told by their bytes.
 use mathlib.Core.Path.{_≡_, refl, sym, ap, _∙_}
 use mathlib.Core.Logic.{_⊎_}
-use mathlib.Core.Bool.{Bool, true, not}
+use mathlib.Core.Bool.{Bool, true, false, not}
 use mathlib.Core.List.{List, [], _∷_}
 use Prim.Native.Nat.{ℕ, _+_, _≤_, _<_}
 use native.Mathlib.Numerals.{add-one}
@@ -14,8 +14,8 @@ use Rattle.basics.specs.Lists.{In}
 use Rattle.room.specs.declared.Room.{Room}
 use Rattle.room.specs.declared.Neighbour.{Neighbour}
 use Rattle.room.specs.declared.Neighbour.the-variants.{Inside, Outside}
-use Rattle.room.specs.Room.{volume, beneath, above}
-use Rattle.geometry.specs.Geometry.{holdsAt, ifPassed}
+use Rattle.room.specs.Room.{volume, holdsAt, beneath, above}
+use Rattle.geometry.specs.Geometry.{ifPassed}
 
 -- what one cell after another makes of a value
 unfoldable pub along : {X : Type 0} → (ℕ → X → X) → List ℕ → X → X
@@ -67,3 +67,7 @@ leastUpper R conducts = along (λ cell. lesser (pairWith R conducts cell))
 pub record OnPath (R : Room) (conducts : ℕ → Bool) (path : List ℕ) : Type 0 where
   pub conducting : (v : ℕ) → In v path → conducts v ≡ true
   pub touched : (v u : ℕ) → v < volume R → beneath R v ≡ Inside u → conducts v ≡ true → conducts u ≡ true → In v path ⊎ In u path
+
+-- a test that no cell passes
+abbrev pub nowhere : ℕ → Bool
+nowhere v = false

@@ -11,7 +11,7 @@ use Rattle.basics.specs.Lists.{any}
 use Rattle.room.specs.declared.Room.{Room}
 use Rattle.room.specs.declared.Neighbour.{Neighbour}
 use Rattle.room.specs.declared.Neighbour.the-variants.{Inside, Outside}
-use Rattle.room.specs.Room.{volume, inOrOut, beneath, above}
+use Rattle.room.specs.Room.{volume, inOrOut, holdsAt, beneath, above}
 use Rattle.room.specs.Units.{air}
 use Rattle.routing_resources.specs.Marks.{isMarked}
 use Rattle.routing_resources.specs.Resources.{clearanceOf}
@@ -23,11 +23,6 @@ standsIn path v = any (λ cell. eqb cell v) path
 -- the conductors are the joinable cells and the path's, "both together"
 unfoldable pub conductor : List ℕ → List ℕ → ℕ → Bool
 conductor joinable path v = isMarked joinable v || standsIn path v
-
--- what the test says of the cell at a place; a place outside the room has none
-abbrev pub holdsAt : (ℕ → Bool) → Neighbour → Bool
-holdsAt test (Inside v) = test v
-holdsAt test Outside = false
 
 -- "a conductor with a conductor right beneath": v is the upper cell of such a pair
 unfoldable pub upperOfPair : Room → (ℕ → Bool) → ℕ → Bool

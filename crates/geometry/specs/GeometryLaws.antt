@@ -12,10 +12,10 @@ use Rattle.basics.specs.Tests.{ask, and-left, and-right, never}
 use Rattle.room.specs.declared.Room.{Room}
 use Rattle.room.specs.declared.Neighbour.{Neighbour}
 use Rattle.room.specs.declared.Neighbour.the-variants.{Inside, Outside}
-use Rattle.room.specs.Room.{Good, volume, beneath}
+use Rattle.room.specs.Room.{Good, volume, holdsAt, beneath}
 use Rattle.routing_resources.specs.Marks.{isMarked, noMarks, withByte, markedBy}
 use Rattle.routing_resources.specs.MarkLaws.{marked-after, with-length, with-at}
-use Rattle.geometry.specs.Geometry.{standsIn, conductor, holdsAt, upperOfPair, NoPair, firstPair, stairConflict, conflictAmong, conflictOf, Marks}
+use Rattle.geometry.specs.Geometry.{standsIn, conductor, upperOfPair, NoPair, firstPair, stairConflict, conflictAmong, conflictOf, Marks}
 use Rattle.geometry.specs.RoomPairs.{beneath-lt}
 use Rattle.geometry.specs.PairLaws.{or-none, none-first}
 

@@ -14,8 +14,7 @@ use Rattle.basics.specs.Lists.{In, in-at}
 use Rattle.room.specs.declared.Room.{Room}
 use Rattle.room.specs.declared.Neighbour.the-variants.{Inside}
 use Rattle.room.specs.Room.{volume, beneath}
-use Rattle.routing_resources.specs.Marks.{isMarked}
-use Rattle.routing_resources.specs.Resources.{AllCells}
+use Rattle.routing_resources.specs.Marks.{isMarked, AllCells}
 use Rattle.geometry.specs.Geometry.{standsIn, conductor, upperOfPair, NoPair, Marks}
 use Rattle.geometry.specs.Along.{along, Walk, replacedAt, replaced, laid, OnPath}
 
@@ -34,8 +33,8 @@ in-stands (c ∷ cs) v (inr i) = rw (in-stands cs v i, or-true)
 
 pub cells-in : (R : Room) (path : List ℕ) → AllCells R path → (v : ℕ) → In v path → v < volume R
 cells-in R [] all v i = absurd i
-cells-in R (c ∷ cs) all v (inl e) = rw e (all .inside 0 (omega arith))
-cells-in R (c ∷ cs) all v (inr i) = cells-in R cs (record { inside = λ k h. all .inside (suc k) (omega arith) }) v i
+cells-in R (c ∷ cs) all v (inl e) = rw e (all .below 0 (omega arith))
+cells-in R (c ∷ cs) all v (inr i) = cells-in R cs (record { below = λ k h. all .below (suc k) (omega arith) }) v i
 
 -- ---- bytes replaced along the path
 

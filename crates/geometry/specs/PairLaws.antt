@@ -1,5 +1,5 @@
 -- Laws of pairs: where each pair of conductors has a cell of the path, the first pair's upper cell is the least along the path.
-use mathlib.Core.Path.{_≡_, refl, sym, ap}
+use mathlib.Core.Path.{_≡_, refl, sym, ap, _∙_}
 use mathlib.Core.Logic.{_⊎_, inl, inr, ⊎-elim, _≢_}
 use mathlib.Core.Bool.{Bool, true, false}
 use mathlib.Core.List.{List, [], _∷_}
@@ -14,10 +14,11 @@ use Rattle.basics.specs.Lists.{In}
 use Rattle.room.specs.declared.Room.{Room}
 use Rattle.room.specs.declared.Neighbour.{Neighbour}
 use Rattle.room.specs.declared.Neighbour.the-variants.{Inside, Outside}
-use Rattle.room.specs.Room.{Good, volume, inOrOut, beneath, above}
-use Rattle.geometry.specs.Geometry.{holdsAt, upperOfPair, orElse, firstBelow, firstPair, ifPassed}
+use Rattle.room.specs.Room.{Good, volume, inOrOut, holdsAt, beneath, above}
+use Rattle.geometry.specs.Geometry.{upperOfPair, orElse, firstBelow, firstPair, ifPassed}
 use Rattle.geometry.specs.Along.{along, pairWith, lesser, leastUpper, OnPath}
 use Rattle.geometry.specs.RoomPairs.{above-beneath, beneath-above, beneath-lt}
+use Rattle.room.specs.RoomLaws.{inside-passed}
 
 -- ---- the first that passes a test
 
@@ -44,6 +45,17 @@ module _ (test : ℕ → Bool) where
       go (yes e) k = let t′ : test n ≡ true = rw e at t in rw (first-none n (λ v l. f v (omega arith)), t′, e)
       go (no d) k = rw (k d)
 
+  -- it passes, and it is below the bound
+  pub first-passed : (n v : ℕ) → firstBelow n test ≡ Inside v → (v < n) × (test v ≡ true)
+  unfolding firstBelow
+  first-passed zero v e = never (cc)
+  first-passed (suc n) v e = go (firstBelow n test) refl e (first-passed n)
+    where
+      go : (place : Neighbour) → firstBelow n test ≡ place → orElse place (inOrOut (test n) n) ≡ Inside v → ((u : ℕ) → firstBelow n test ≡ Inside u → (u < n) × (test u ≡ true))
+          → (v < suc n) × (test v ≡ true)
+      go (Inside u) w q below = let b = below v (w ∙ q) in (omega (arith, b .0), b .1)
+      go Outside w q below = let p = inside-passed (test n) n v q in (omega (arith, p .0), rw (← p .0) (p .1))
+
   -- and where there is none, none passes
   pub none-first : (n : ℕ) → firstBelow n test ≡ Outside → (v : ℕ) → v < n → test v ≡ false
   unfolding firstBelow
@@ -60,10 +72,6 @@ module _ (test : ℕ → Bool) where
 at-cell : (conducts : ℕ → Bool) (place : Neighbour) → holdsAt conducts place ≡ true → (u : ℕ) × ((place ≡ Inside u) × (conducts u ≡ true))
 at-cell conducts (Inside u) e = (u, (refl, e))
 at-cell conducts Outside e = never (cc)
-
-inside-passed : (b : Bool) (n w : ℕ) → inOrOut b n ≡ Inside w → (n ≡ w) × (b ≡ true)
-inside-passed true n w e = (cc, refl)
-inside-passed false n w e = never (cc)
 
 passed-cell : (test : ℕ → Bool) (place : Neighbour) (w : ℕ) → ifPassed test place ≡ Inside w → (place ≡ Inside w) × (test w ≡ true)
 passed-cell test (Inside v) w e = let q = inside-passed (test v) v w e in (ap Inside (q .0), rw (q .0) at (q .1))

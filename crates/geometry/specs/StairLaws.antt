@@ -4,23 +4,23 @@ use mathlib.Core.Bool.{Bool, true, false, _&&_}
 use mathlib.Core.List.{List, [], _∷_}
 use Prim.Native.Nat.{ℕ, _+_, _≤_, _<_}
 use native.Mathlib.Nat.{le-of-suc-le-suc, not-suc-le-zero}
-use native.Mathlib.Numerals.{add-one}
 use native.Mathlib.Omega.{arith}
 use lib.Dec.{eqb, ltb}
 use lib.ListN.{length, getD, drop, length-drop}
 use lib.Seq.{drop-cons}
 use Rattle.basics.specs.Tests.{ask, never}
-use Rattle.basics.specs.Lists.{in-at}
+use Rattle.basics.specs.Lists.{in-at, drop-next}
 use Rattle.room.specs.declared.Room.{Room}
 use Rattle.room.specs.declared.Neighbour.{Neighbour}
 use Rattle.room.specs.declared.Neighbour.the-variants.{Inside, Outside}
-use Rattle.room.specs.Room.{Good, volume, above, beneath}
-use Rattle.routing_resources.specs.Resources.{level, lower, clearanceOf, AllCells}
-use Rattle.routing_resources.specs.ResourceLaws.{clearance-in}
-use Rattle.geometry.specs.Geometry.{standsIn, holdsAt, upperOfPair, NoPair, orElse, atClearance, stairConflict}
-use Rattle.geometry.specs.Along.{OnPath}
+use Rattle.room.specs.Room.{Good, volume, holdsAt, above, beneath}
+use Rattle.routing_resources.specs.Resources.{level, lower, clearanceOf}
+use Rattle.routing_resources.specs.ResourceLaws.{lower-in, clearance-in}
+use Rattle.geometry.specs.Geometry.{standsIn, upperOfPair, NoPair, orElse, atClearance, stairConflict}
+use Rattle.geometry.specs.Along.{OnPath, nowhere}
 use Rattle.geometry.specs.RoomPairs.{above-beneath}
 use Rattle.geometry.specs.LayLaws.{stands-in}
+use Rattle.routing_resources.specs.Marks.{AllCells}
 
 -- ---- stair by stair
 
@@ -37,8 +37,7 @@ module _ (R : Room) (kinds : List ℕ) (onPath conducts : ℕ → Bool) where
   unfolding stairConflict
   stairs-from path i h =
       let rest = drop-cons path (i + 1) 0 h in
-      let all : drop i path ≡ getD path i 0 ∷ drop (i + 1) path = rw add-one (drop-cons path i 0 (omega arith)) in
-      rw (all, rest)
+      rw (drop-next path i 0 (omega arith), rest)
 
   pub stairs-next : (path : List ℕ) (i : ℕ) → i + 1 < length path → stairAt path i ≡ Outside → stairsFrom path (i + 1) ≡ stairsFrom path i
   stairs-next path i h e = rw (stairs-from path i h, e)
@@ -57,33 +56,20 @@ module _ (R : Room) (kinds : List ℕ) (onPath conducts : ℕ → Bool) where
 
 -- ---- the cell at a clearance
 
--- a test that no cell passes
-abbrev pub nowhere : ℕ → Bool
-nowhere v = false
-
 -- the lower end is a conductor, so that a conductor at the clearance would make a pair with it
 pub clear-of-conductors : (R : Room) → Good R → (conducts : ℕ → Bool) → NoPair R conducts → (a b : ℕ) → a < volume R → b < volume R → conducts a ≡ true → conducts b ≡ true
     → (v : ℕ) → clearanceOf R a b ≡ Inside v → conducts v ≡ false
 unfolding clearanceOf upperOfPair
-clear-of-conductors R G conducts alone a b a-in b-in ca cb v e = ask (eqb (level R a) (level R b)) (λ t. none (rw t at e)) (λ f. over (rw f at e))
+clear-of-conductors R G conducts alone a b a-in b-in ca cb v e = ask (eqb (level R a) (level R b)) (λ t. never (cc (rw t at e))) (λ f. over (rw f at e))
   where
-    none : Outside ≡ Inside v → conducts v ≡ false
-    none q = never (cc)
-
-    low-in : lower R a b < volume R
-    low-in = ask (ltb (level R a) (level R b)) (λ t. rw t a-in) (λ f. rw f b-in)
-
     low : conducts (lower R a b) ≡ true
     low = ask (ltb (level R a) (level R b)) (λ t. rw t ca) (λ f. rw f cb)
 
     over : above R (lower R a b) ≡ Inside v → conducts v ≡ false
     over q =
         let n : conducts v && holdsAt conducts (beneath R v) ≡ false = alone .none v (clearance-in R G a b a-in b-in v e) in
-        let m : conducts v && true ≡ false = rw (above-beneath R G (lower R a b) v low-in q, low) at n in
-        ask (conducts v) (λ t. never (clash (rw t at m))) (λ f. f)
-      where
-        clash : true ≡ false → _≡_ {A = ℕ} 0 1
-        clash z = cc
+        let m : conducts v && true ≡ false = rw (above-beneath R G (lower R a b) v (lower-in R G a b a-in b-in) q, low) at n in
+        ask (conducts v) (λ t. never (cc (rw t at m))) (λ f. f)
 
 pub same-at-clearance : (R : Room) (kinds : List ℕ) (onPath conducts : ℕ → Bool) (second : ℕ) (place : Neighbour) → ((v : ℕ) → place ≡ Inside v → onPath v ≡ false)
     → atClearance R kinds nowhere conducts second place ≡ atClearance R kinds onPath conducts second place
@@ -100,7 +86,7 @@ stair-read R G kinds path conducts all on alone i h a b ea eb =
   where
     clear : (v : ℕ) → clearanceOf R (getD path i 0) (getD path (i + 1) 0) ≡ Inside v → conducts v ≡ false
     clear =
-        clear-of-conductors R G conducts alone (getD path i 0) (getD path (i + 1) 0) (all .inside i (omega arith)) (all .inside (i + 1) h)
+        clear-of-conductors R G conducts alone (getD path i 0) (getD path (i + 1) 0) (all .below i (omega arith)) (all .below (i + 1) h)
         (on .conducting (getD path i 0) (in-at path i 0 (omega arith))) (on .conducting (getD path (i + 1) 0) (in-at path (i + 1) 0 h))
 
     off : (v : ℕ) → clearanceOf R (getD path i 0) (getD path (i + 1) 0) ≡ Inside v → standsIn path v ≡ false

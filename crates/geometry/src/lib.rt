@@ -2,26 +2,19 @@
 // and a cell of the path that is not joinable has 2 while the test runs, so that one look-up tells a conductor.
 use room::Neighbour;
 use room::Room;
+use room::wide;
 ghost use mathlib.Core.Path.{_≡_};
 ghost use Prim.Native.Nat.{ℕ, _<_};
 ghost use lib.ListN.{length};
 ghost use Rattle.basics.specs.Lists.{In};
 ghost use Rattle.room.specs.Room.{Good, volume};
-ghost use Rattle.routing_resources.specs.Marks.{isMarked};
-ghost use Rattle.routing_resources.specs.Resources.{clearanceOf, AllCells};
+ghost use Rattle.routing_resources.specs.Marks.{isMarked, AllCells};
+ghost use Rattle.routing_resources.specs.Resources.{clearanceOf};
 ghost use Rattle.geometry.specs.Geometry.{standsIn, NoPair, firstPair, ifPassed, atClearance, stairConflict, conflictAmong, conflictOf, Marks};
-ghost use Rattle.geometry.specs.Along.{replaced, laid, pairWith, lesser, OnPath};
-ghost use Rattle.geometry.specs.StairLaws.{nowhere};
+ghost use Rattle.geometry.specs.Along.{replaced, laid, pairWith, lesser, OnPath, nowhere};
 
 // The byte of a cell of the path that is not joinable.
 const ON_PATH: u8 = 2;
-
-// A cell of the path as an index.
-fn wide(cell: u32) -> usize
-    ensures { λ r. ⌜ r ≡ cell ⌝ }
-{
-    cell as usize
-}
 
 // Along the path, each byte `old` is made `new`. The path may hold a cell twice.
 fn replace(bytes: &mut [u8], path: &[u32], old: u8, new: u8)

@@ -18,29 +18,27 @@ use Rattle.room.specs.declared.Neighbour.{Neighbour}
 use Rattle.room.specs.declared.Neighbour.the-variants.{Inside, Outside}
 use Rattle.room.specs.Room.{Good, volume}
 use Rattle.room_search.specs.Steps.{placesOf}
-use Rattle.routing_resources.specs.Marks.{isMarked, withByte, markedBy, unmarkedBy}
+use Rattle.routing_resources.specs.Marks.{isMarked, withByte, markedBy, unmarkedBy, AllCells}
 use Rattle.routing_resources.specs.MarkLaws.{with-length, with-at}
-use Rattle.routing_resources.specs.Resources.{AllCells}
 use Rattle.geometry.specs.Geometry.{Marks, conflictOf}
 use Rattle.geometry.specs.GeometryLaws.{marks-with}
-use Rattle.blocked_world.specs.BlockedWorld.{Says, Fitting, seenTask, refreshed}
+use Rattle.blocked_world.specs.BlockedWorld.{Says, Fitting, refreshed}
 use Rattle.blocked_world.specs.SeenLaws.{says-one}
 use Rattle.blocked_world.specs.RefreshLaws.{mark-put, refreshed-says}
 use Rattle.goals.specs.declared.Tried.{Tried}
 use Rattle.goals.specs.declared.Tried.the-variants.{Found, Failed, Full}
 use Rattle.goals.specs.declared.Attempt.the-variants.{Ended, Conflict}
-use Rattle.goals.specs.Goals.{Site, Trial, found, failed, searchedFor, atConflict, afterSearch, attemptThen, attempts, endsGoal}
-use Rattle.goals.specs.Trials.{Tells, siteOf, Searchable, Able, Repeats, Attempted}
+use Rattle.goals.specs.Goals.{Site, Trial, found, searchedFor, atConflict, afterSearch, attemptThen, attempts, endsGoal, taskSeen}
+use Rattle.goals.specs.Trials.{Tells, siteOf, Able, Repeats, Attempted}
 use Rattle.goals.specs.PathLaws.{found-by, found-cells, conflict-in}
-
-pub tells-failed : (cells : List ℕ) → Tells failed Failed cells
-tells-failed cells = record { is = refl; fits = omega arith }
+use Rattle.room_search.specs.Turns.{Searchable}
+use Rattle.goals.specs.SearchLaws.{tells-failed}
 
 -- an answer that is no route
-abbrev pub NoRoute : Tried → Type 0
-NoRoute (Found n cost) = ⊥
-NoRoute Failed = Unit {0}
-NoRoute (Full x) = Unit {0}
+abbrev pub Routeless : Tried → Type 0
+Routeless (Found n cost) = ⊥
+Routeless Failed = Unit {0}
+Routeless (Full x) = Unit {0}
 
 -- ---- what an attempt asks
 
@@ -64,13 +62,13 @@ module _ {S : Site} {blocked classes known previous path : List ℕ} {start goal
 
 module _ (S : Site) (blocked : List ℕ) (start goal : ℕ) where
   abbrev searchNow : Trial
-  searchNow = searchedFor (seenTask (S .room) (S .config) (S .kinds) blocked start goal (S .places))
+  searchNow = searchedFor (taskSeen S blocked start goal)
 
   -- there is no route
-  pub ended-search : (r : Tried) (cells : List ℕ) → NoRoute r → Tells searchNow r cells → Attempted S blocked start goal cells (Ended r)
+  pub ended-search : (r : Tried) (cells : List ℕ) → Routeless r → Tells searchNow r cells → Attempted S blocked start goal cells (Ended r)
   unfolding afterSearch
   ended-search (Found n cost) cells none t = absurd none
-  ended-search Failed cells none t = record { comes = λ again. rw (← t .is) (record { is = refl; fits = omega arith }) }
+  ended-search Failed cells none t = record { comes = λ again. rw (← t .is) (tells-failed cells) }
   ended-search (Full x) cells none t = record { comes = λ again. rw (← t .is) (record { is = refl; fits = omega arith }) }
 
   module _ {n : ℕ} {cost : Cost} {cells : List ℕ} (t : Tells searchNow (Found n cost) cells) (conflict : Neighbour)
@@ -108,7 +106,7 @@ module _ (S : Site) (blocked : List ℕ) (start goal : ℕ) where
 -- ---- blocked marks
 
 -- a mark where there was none, taken away
-pub put-back : (marks : List ℕ) (v : ℕ) → Marks marks → isMarked marks v ≡ false → unmarkedBy (eqb v) (markedBy (eqb v) marks) ≡ marks
+put-back : (marks : List ℕ) (v : ℕ) → Marks marks → isMarked marks v ≡ false → unmarkedBy (eqb v) (markedBy (eqb v) marks) ≡ marks
 put-back marks v small free = ext-getD 0 _ marks (with-length 0 (eqb v) (markedBy (eqb v) marks) ∙ with-length 1 (eqb v) marks) same
   where
     same : (u : ℕ) → u < length (unmarkedBy (eqb v) (markedBy (eqb v) marks)) → getD (unmarkedBy (eqb v) (markedBy (eqb v) marks)) u 0 ≡ getD marks u 0
@@ -158,7 +156,7 @@ able-kept A s k p q = rw s (record {
   says = A .says;
 })
 
--- a cell v that is not blocked
+-- a cell v
 module _ {S : Site} {blocked classes known previous path : List ℕ} {start goal : ℕ} (A : Able S blocked classes known previous path start goal) (v : ℕ) {blocked′ : List ℕ} where
   -- once it is blocked, marks and room still fit together, and the next attempt can be made
   module _ (b : blocked′ ≡ markedBy (eqb v) blocked) where
@@ -188,7 +186,7 @@ module _ {S : Site} {blocked classes known previous path : List ℕ} {start goal
       says = says;
     }
 
-  -- once it is not blocked any more, marks and classes are as they were
+  -- where it was not blocked: once it is not blocked any more, marks and classes are as they were
   module _ (free : isMarked blocked v ≡ false) (b : blocked′ ≡ unmarkedBy (eqb v) (markedBy (eqb v) blocked)) where
     pub blocked-back : blocked′ ≡ blocked
     blocked-back = b ∙ put-back blocked v (A .grounds .blocked-marks) free

@@ -22,7 +22,8 @@ use Rattle.goals.specs.declared.Tried.{Tried}
 use Rattle.goals.specs.declared.Tried.the-variants.{Found, Failed, Full}
 use Rattle.goals.specs.Goals.{Site, full, maxAttempts, attempts, beats, cheaper, triedGoal, bestBelow, routeToTree}
 use Rattle.goals.specs.Trials.{told, Tells, siteOf, Able, GoesOn, KeepsCheaper}
-use Rattle.goals.specs.AttemptLaws.{tells-failed, site-same, able-kept}
+use Rattle.goals.specs.AttemptLaws.{site-same, able-kept}
+use Rattle.goals.specs.SearchLaws.{tells-failed}
 
 -- ---- a goal's class bytes
 

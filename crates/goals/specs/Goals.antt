@@ -20,7 +20,7 @@ use Rattle.blocked_world.specs.BlockedWorld.{seenTask}
 abbrev pub maxAttempts : ℕ
 maxAttempts = 64
 
--- what stays as it is while one sink is searched for: the room, its kinds, the queue's places, and the joinable cells
+-- what stays as it is while one sink is searched for: the room, the config, the kinds, the joinable cells, and the queue's places
 pub record Site : Type 0 where
   pub room : Room
   pub config : RouterConfig
@@ -41,6 +41,7 @@ trialOf (no-route x) = failed
 trialOf (limit-passed x) = failed
 trialOf (queue-full x) = full x
 
+-- an end that is not routeable, number 10, ends the goal too
 unfoldable pub searchedFor : Task → Trial
 searchedFor T = either (routeable T (T .start)) (either (routeable T (T .goal)) (trialOf (searched T)) failed) failed
 
@@ -60,10 +61,14 @@ afterSearch S blocked start goal again (found path cost) =
 afterSearch S blocked start goal again failed = failed
 afterSearch S blocked start goal again (full x) = full x
 
+-- the search from start to goal, as it sees the room
+abbrev pub taskSeen : Site → List ℕ → ℕ → ℕ → Task
+taskSeen S blocked start goal = seenTask (S .room) (S .config) (S .kinds) blocked start goal (S .places)
+
 -- one attempt, with what the attempts after it come to
 abbrev pub attemptThen : Site → List ℕ → ℕ → ℕ → (List ℕ → Trial) → Trial
 attemptThen S blocked start goal again =
-    afterSearch S blocked start goal again (searchedFor (seenTask (S .room) (S .config) (S .kinds) blocked start goal (S .places)))
+    afterSearch S blocked start goal again (searchedFor (taskSeen S blocked start goal))
 
 -- so many attempts for one goal, from these blocked cells on
 unfoldable pub attempts : ℕ → Site → ℕ → ℕ → List ℕ → Trial

@@ -10,8 +10,8 @@ use Rattle.basics.specs.Tests.{either, ask, never}
 use Rattle.room.specs.declared.Room.{Room}
 use Rattle.room.specs.declared.Neighbour.{Neighbour}
 use Rattle.room.specs.declared.Neighbour.the-variants.{Inside, Outside}
-use Rattle.room.specs.Room.{Good, volume, inOrOut, above}
-use Rattle.room.specs.RoomLaws.{above-in}
+use Rattle.room.specs.Room.{Good, volume, above}
+use Rattle.room.specs.RoomLaws.{above-in, same-cell, inside-passed}
 use Rattle.room.specs.Units.{air}
 use Rattle.best_first.specs.Search.{Graph, Answer, route, no-route, limit-passed, queue-full}
 use Rattle.best_first.specs.Ways.{Step, Way, Sound}
@@ -21,10 +21,12 @@ use Rattle.best_first.specs.Theorems.{honest}
 use Rattle.room_search.specs.Routing.{Task, routeable, entering, graphOf, graph, searched}
 use Rattle.room_search.specs.GraphLaws.{sound}
 use Rattle.room_search.specs.Traces.{path-short}
-use Rattle.routing_resources.specs.Resources.{clearanceOf, AllCells}
+use Rattle.routing_resources.specs.Resources.{clearanceOf}
 use Rattle.routing_resources.specs.ResourceLaws.{clearance-in}
-use Rattle.geometry.specs.Geometry.{orElse, firstBelow, firstPair, ifPassed, atClearance, stairConflict, conflictAmong, conflictOf, upperOfPair, conductor, standsIn}
+use Rattle.geometry.specs.Geometry.{orElse, firstPair, ifPassed, atClearance, stairConflict, conflictAmong, conflictOf, upperOfPair, conductor, standsIn}
 use Rattle.goals.specs.Goals.{found, failed, trialOf, searchedFor}
+use Rattle.geometry.specs.PairLaws.{first-passed}
+use Rattle.routing_resources.specs.Marks.{AllCells}
 
 -- ---- a path found
 
@@ -72,7 +74,7 @@ module _ {T : Task} {path : List ℕ} {cost : ℕ} (start-in : T .start < volume
   found-cells F =
       let way = found-lawful F in
       record {
-        inside = rw (way .begins)
+        below = rw (way .begins)
             (way-cells (graph T) (sound (T .room) (T .config) (entering T) (T .start) (T .goal) (T .places) start-in goal-in) (way .rest) (T .start) (T .goal) cost start-in (way .way));
       }
 
@@ -95,25 +97,9 @@ found-short {T} F = subst AtMost (F .is) (short (ending (graph T) (T .config .li
 
 -- ---- its conflict
 
-pub same-cell : (u v : ℕ) → Inside u ≡ Inside v → u ≡ v
-same-cell u v e = cc
-
-passed-inside : (b : Bool) (n v : ℕ) → inOrOut b n ≡ Inside v → n ≡ v
-passed-inside true n v e = cc
-passed-inside false n v e = never (cc)
-
-first-in : (test : ℕ → Bool) (n v : ℕ) → firstBelow n test ≡ Inside v → v < n
-unfolding firstBelow
-first-in test zero v e = never (cc)
-first-in test (suc n) v e = go (firstBelow n test) refl e (first-in test n)
-  where
-    go : (place : Neighbour) → firstBelow n test ≡ place → orElse place (inOrOut (test n) n) ≡ Inside v → ((u : ℕ) → firstBelow n test ≡ Inside u → u < n) → v < suc n
-    go (Inside u) w q below = omega (arith, same-cell u v q, below u w)
-    go Outside w q below = omega (arith, passed-inside (test n) n v q)
-
 module _ (R : Room) (G : Good R) (kinds : List ℕ) (onPath conducts : ℕ → Bool) where
   passed-in : (place : Neighbour) (u v : ℕ) → u < volume R → above R u ≡ place → ifPassed conducts place ≡ Inside v → v < volume R
-  passed-in (Inside w) u v h e q = above-in R G u v h (e ∙ ap Inside (passed-inside (conducts w) w v q))
+  passed-in (Inside w) u v h e q = above-in R G u v h (e ∙ ap Inside (inside-passed (conducts w) w v q .0))
   passed-in Outside u v h e q = never (cc)
 
   clearance-conflict : (a b v : ℕ) → a < volume R → b < volume R → atClearance R kinds onPath conducts b (clearanceOf R a b) ≡ Inside v → v < volume R
@@ -145,5 +131,5 @@ unfolding conflictAmong firstPair
 conflict-in R G kinds joinable path cells v e = go (conductor joinable path) (firstPair R (conductor joinable path)) refl e
   where
     go : (conducts : ℕ → Bool) (place : Neighbour) → firstPair R conducts ≡ place → orElse place (stairConflict R kinds (standsIn path) conducts path) ≡ Inside v → v < volume R
-    go conducts (Inside u) w q = first-in (upperOfPair R conducts) (volume R) v (w ∙ q)
-    go conducts Outside w q = stairs-in R G kinds (standsIn path) conducts path (cells .inside) v q
+    go conducts (Inside u) w q = first-passed (upperOfPair R conducts) (volume R) v (w ∙ q) .0
+    go conducts Outside w q = stairs-in R G kinds (standsIn path) conducts path (cells .below) v q

@@ -1,68 +1,60 @@
 -- What a route to the tree is: the route of the last attempt for a joinable goal, with more cells blocked or as many, and without conflict.
 use mathlib.Core.Path.{_≡_, refl, sym, ap, _∙_}
-use mathlib.Core.Logic.{_⊎_, inl, inr, _≢_}
-use mathlib.Core.Bool.{Bool, true, false, _||_, or-true, and-true}
+use mathlib.Core.Logic.{_⊎_, inl, inr}
+use mathlib.Core.Bool.{Bool, true, or-true}
 use mathlib.Core.List.{List, [], _∷_}
-use Prim.Native.Nat.{ℕ, zero, suc, _+_, _-_, _≤_, _<_}
+use Prim.Native.Nat.{ℕ, zero, suc, _+_, _≤_, _<_}
 use native.Mathlib.Numerals.{add-one}
 use native.Mathlib.Omega.{arith}
 use lib.Dec.{eqb, leb, ltb}
 use lib.ListN.{length, getD, List·getD-eq-default}
-use borrow.Author.Tests.{leb-true, leb-false, eqb-true, eq-eqb, ne-eqb}
+use borrow.Author.Tests.{leb-true, leb-false}
 use Rattle.basics.specs.Tests.{ask, never}
 use Rattle.basics.specs.Lists.{In}
 use Rattle.room.specs.declared.Room.{Room}
-use Rattle.room.specs.declared.RouterConfig.{RouterConfig}
 use Rattle.room.specs.declared.Move.{Move}
 use Rattle.room.specs.declared.Neighbour.{Neighbour}
 use Rattle.room.specs.declared.Neighbour.the-variants.{Inside, Outside}
 use Rattle.room.specs.Room.{volume, moves, neighbour}
-use Rattle.room.specs.Units.{air, solid}
 use Rattle.best_first.specs.Search
 use Rattle.best_first.specs.Search.{Graph}
 use Rattle.best_first.specs.Ways.{Step, Way}
 use Rattle.best_first.specs.Statements.{Lawful}
-use Rattle.room_search.specs.Routing.{Task, routeableKind, classFor, entering, graphOf, graph, anEnd}
+use Rattle.room_search.specs.Routing.{Task, entering, graphOf, graph}
 use Rattle.room_search.specs.GraphLaws.{made}
-use Rattle.routing_resources.specs.Marks.{isMarked, markedBy}
+use Rattle.routing_resources.specs.Marks.{isMarked, markedBy, AllCells}
 use Rattle.routing_resources.specs.MarkLaws.{marked-after}
-use Rattle.routing_resources.specs.Resources.{AllCells}
 use Rattle.geometry.specs.Geometry.{conflictOf}
-use Rattle.blocked_world.specs.BlockedWorld.{countsAsSolid, seenKind, seenTask}
-use Rattle.blocked_world.specs.SeenLaws.{seen-at}
-use Rattle.goals.specs.Goals.{Site, Trial, found, failed, full, searchedFor, atConflict, afterSearch, maxAttempts, attempts, cheaper, triedGoal, bestBelow, routeToTree}
+use Rattle.goals.specs.Goals.{Site, Trial, found, failed, full, searchedFor, atConflict, afterSearch, maxAttempts, attempts, cheaper, triedGoal, bestBelow, routeToTree, taskSeen, endsGoal}
 use Rattle.goals.specs.PathLaws.{FoundBy, found-by, found-lawful, found-cells, found-short}
 
 -- one goal's route: what was blocked at its last attempt, and that it was found so and has no conflict
 pub record Reaches (S : Site) (blocked : List ℕ) (start goal : ℕ) (path : List ℕ) (cost : ℕ) : Type 0 where
   pub blocked-last : List ℕ
   pub more : (v : ℕ) → isMarked blocked v ≡ true → isMarked blocked-last v ≡ true
-  pub by : FoundBy (seenTask (S .room) (S .config) (S .kinds) blocked-last start goal (S .places)) path cost
+  pub by : FoundBy (taskSeen S blocked-last start goal) path cost
   pub free : conflictOf (S .room) (S .kinds) (S .joinable) path ≡ Outside
 
 still-marked : (test : ℕ → Bool) (marks : List ℕ) (v : ℕ) → isMarked marks v ≡ true → isMarked (markedBy test marks) v ≡ true
 still-marked test marks v e =
     ask (leb (length marks) v)
-    (λ t. none (rw (List·getD-eq-default marks 0 {n = v} (leb-true _ _ t)) at e))
+    (λ t. never (cc (rw (List·getD-eq-default marks 0 {n = v} (leb-true _ _ t)) at e)))
     (λ f. marked-after test marks v (leb-false _ _ f) ∙ rw e (or-true (test v)))
-  where
-    none : false ≡ true → isMarked (markedBy test marks) v ≡ true
-    none q = never (cc)
 
 same-path : (p q : List ℕ) (c d : ℕ) → found p c ≡ found q d → (p ≡ q) × (c ≡ d)
 same-path p q c d e = (cc, cc)
 
 module _ (S : Site) (start goal : ℕ) where
-  pub attempts-reach : (n : ℕ) (blocked path : List ℕ) (cost : ℕ) → attempts n S start goal blocked ≡ found path cost → Reaches S blocked start goal path cost
+  attempts-reach : (n : ℕ) (blocked path : List ℕ) (cost : ℕ) → attempts n S start goal blocked ≡ found path cost → Reaches S blocked start goal path cost
   unfolding attempts afterSearch atConflict
   attempts-reach zero blocked path cost e = never (cc)
-  attempts-reach (suc n) blocked path cost e = after (searchedFor (seenTask (S .room) (S .config) (S .kinds) blocked start goal (S .places))) refl e (attempts-reach n)
+  attempts-reach (suc n) blocked path cost e = after (searchedFor (taskSeen S blocked start goal)) refl e (attempts-reach n)
     where
       -- what the later attempts reach from more blocked cells
       more-blocked : (v : ℕ) → Reaches S (markedBy (eqb v) blocked) start goal path cost → Reaches S blocked start goal path cost
       more-blocked v r = record { blocked-last = r .blocked-last; more = λ u m. r .more u (still-marked (eqb v) blocked u m); by = r .by; free = r .free }
 
-      at : (p : List ℕ) (c : ℕ) → searchedFor (seenTask (S .room) (S .config) (S .kinds) blocked start goal (S .places)) ≡ found p c
+      at : (p : List ℕ) (c : ℕ) → searchedFor (taskSeen S blocked start goal) ≡ found p c
           → (place : Neighbour) → conflictOf (S .room) (S .kinds) (S .joinable) p ≡ place
           → atConflict blocked start goal (attempts n S start goal) (found p c) place ≡ found path cost
           → ((blocked′ path′ : List ℕ) (cost′ : ℕ) → attempts n S start goal blocked′ ≡ found path′ cost′ → Reaches S blocked′ start goal path′ cost′)
@@ -71,14 +63,11 @@ module _ (S : Site) (start goal : ℕ) where
           let same = same-path p path c cost q in
           record { blocked-last = blocked; more = λ v m. m; by = found-by _ path cost (rw (← same .0, ← same .1) w); free = rw (← same .0) f }
       at p c w (Inside v) f q later =
-          ask (eqb v start || (eqb v goal || isMarked blocked v))
-          (λ t. none (rw t at q))
+          ask (endsGoal blocked start goal v)
+          (λ t. never (cc (rw t at q)))
           (λ n. more-blocked v (later (markedBy (eqb v) blocked) path cost (rw n at q)))
-        where
-          none : failed ≡ found path cost → Reaches S blocked start goal path cost
-          none z = never (cc)
 
-      after : (trial : Trial) → searchedFor (seenTask (S .room) (S .config) (S .kinds) blocked start goal (S .places)) ≡ trial
+      after : (trial : Trial) → searchedFor (taskSeen S blocked start goal) ≡ trial
           → afterSearch S blocked start goal (attempts n S start goal) trial ≡ found path cost
           → ((blocked′ path′ : List ℕ) (cost′ : ℕ) → attempts n S start goal blocked′ ≡ found path′ cost′ → Reaches S blocked′ start goal path′ cost′)
           → Reaches S blocked start goal path cost
@@ -108,16 +97,13 @@ module _ (S : Site) (start : ℕ) (blocked path : List ℕ) (cost : ℕ) where
   below-joins zero h e = never (cc)
   below-joins (suc n) h e = go (cheaper-one (bestBelow n S start blocked) (triedGoal S start blocked n) path cost e) (below-joins n (omega arith))
     where
-      none : failed ≡ found path cost → Joins S blocked start path cost
-      none q = never (cc)
-
       go : (bestBelow n S start blocked ≡ found path cost) ⊎ (triedGoal S start blocked n ≡ found path cost) → (bestBelow n S start blocked ≡ found path cost → Joins S blocked start path cost)
           → Joins S blocked start path cost
       go (inl q) earlier = earlier q
       go (inr q) earlier =
           ask (isMarked (S .joinable) n)
           (λ t. record { goal = n; goal-in = omega arith; joinable = t; reaches = attempts-reach S start n maxAttempts blocked path cost (rw t at q) })
-          (λ f. none (rw f at q))
+          (λ f. never (cc (rw f at q)))
 
   pub tree-joins : routeToTree S start blocked ≡ found path cost → Joins S blocked start path cost
   unfolding routeToTree
@@ -126,7 +112,7 @@ module _ (S : Site) (start : ℕ) (blocked path : List ℕ) (cost : ℕ) where
 -- so the path begins with the start, is a way of the search's moves to the goal, has at most V cells, and these are cells of the room
 module _ {S : Site} {blocked : List ℕ} {start : ℕ} {path : List ℕ} {cost : ℕ} (start-in : start < volume (S .room)) (J : Joins S blocked start path cost) where
   abbrev T : Task
-  T = seenTask (S .room) (S .config) (S .kinds) (J .reaches .blocked-last) start (J .goal) (S .places)
+  T = taskSeen S (J .reaches .blocked-last) start (J .goal)
 
   pub joins-lawful : Lawful (graph T) path cost
   joins-lawful = found-lawful start-in (J .goal-in) (J .reaches .by)
@@ -145,10 +131,6 @@ pub record Beside (R : Room) (u v : ℕ) : Type 0 where
   pub listed : In by moves
   pub leads : neighbour R u by ≡ Inside v
 
-way-last : (G : Graph) (l : List ℕ) (u t d : ℕ) → Way G u l t d → getD (u ∷ l) (length l) 0 ≡ t
-way-last G [] u t d w = w .0
-way-last G (v ∷ l) u t d w = way-last G l v t (w .1) (w .3)
-
 -- the i-th step
 way-step : (G : Graph) (l : List ℕ) (u t d : ℕ) → Way G u l t d → (i : ℕ) → i < length l → (c : ℕ) × Step G (getD (u ∷ l) i 0) (getD l i 0) c
 way-step G [] u t d w i h = absurd (omega arith)
@@ -156,31 +138,12 @@ way-step G (v ∷ l) u t d w zero h = (w .0, w .2)
 way-step G (v ∷ l) u t d w (suc i) h = way-step G l v t (w .1) (w .3) i (omega arith)
 
 module _ (T : Task) where
-  step-made : (u v c : ℕ) → Step (graph T) u v c → Beside (T .room) u v × (entering T v ≡ 0 → ⊥)
+  step-made : (u v c : ℕ) → Step (graph T) u v c → Beside (T .room) u v
   unfolding Step graphOf
   step-made u v c s =
       let m = made (T .room) (T .config) (entering T) u moves (s .0) (s .1) in
       let to : m .into ≡ v = ap (λ (g : Search.Move). g .to) (sym (m .is)) ∙ s .2 in
-      rw (← to) (record { by = m .by; listed = m .listed; leads = m .leads-in }, m .entered)
-
--- a cell that can be entered, other than start and goal, is Air and not blocked
-module _ (R : Room) (C : RouterConfig) (kinds blocked : List ℕ) (start goal places v : ℕ) (long : length kinds ≡ volume R) (v-in : v < volume R)
-    (entered : entering (seenTask R C kinds blocked start goal places) v ≡ 0 → ⊥) (n : v ≢ start) (m : v ≢ goal) where
-  not-end : anEnd start goal v ≡ false
-  not-end = rw (ne-eqb v start n, ne-eqb v goal m)
-
-  seen-air : seenKind kinds blocked start goal v ≡ air
-  unfolding classFor routeableKind
-  seen-air =
-      ask (eqb (seenKind kinds blocked start goal v) air) (λ t. eqb-true _ _ t)
-      (λ f. absurd (entered (rw (not-end, seen-at kinds blocked start goal v (rw long v-in), f))))
-
-  pub entered-free : (getD kinds v 0 ≡ air) × (isMarked blocked v ≡ false)
-  unfolding seenKind countsAsSolid
-  entered-free =
-      ask (countsAsSolid kinds blocked start goal v)
-      (λ t. let e : solid ≡ air = rw t at seen-air in absurd (omega arith))
-      (λ f. let e : getD kinds v 0 ≡ air = rw f at seen-air in (e, sym (and-true (isMarked blocked v)) ∙ (rw (eq-eqb (getD kinds v 0) 0 e, not-end) at f)))
+      rw (← to) (record { by = m .by; listed = m .listed; leads = m .leads-in })
 
 module _ {S : Site} {blocked : List ℕ} {start : ℕ} {path : List ℕ} {cost : ℕ} (start-in : start < volume (S .room)) (J : Joins S blocked start path cost) where
   abbrev rest : List ℕ
@@ -190,30 +153,10 @@ module _ {S : Site} {blocked : List ℕ} {start : ℕ} {path : List ℕ} {cost :
   unfolding graphOf
   begins = joins-lawful start-in J .begins
 
-  pub joins-first : getD path 0 0 ≡ start
-  joins-first = rw begins
-
-  pub joins-last : getD path (length path - 1) 0 ≡ J .goal
+  -- from each cell to the next leads one of the twelve moves
+  pub joins-steps : (i : ℕ) → i + 1 < length path → Beside (S .room) (getD path i 0) (getD path (i + 1) 0)
   unfolding graphOf
-  joins-last =
-      let e : suc (length rest) - 1 ≡ length rest = omega arith in
-      rw (begins, e) (way-last _ rest start (J .goal) cost (joins-lawful start-in J .way))
-
-  step-at : (i : ℕ) → i + 1 < length path → Beside (S .room) (getD path i 0) (getD path (i + 1) 0) × (entering (T start-in J) (getD path (i + 1) 0) ≡ 0 → ⊥)
-  unfolding graphOf
-  step-at i h =
+  joins-steps i h =
       let l : i < length rest = omega (arith, ap length begins) in
       let s = way-step _ rest start (J .goal) cost (joins-lawful start-in J .way) i l in
       rw (begins, add-one) (step-made (T start-in J) _ _ (s .0) (s .1))
-
-  -- from each cell to the next leads one of the twelve moves
-  pub joins-steps : (i : ℕ) → i + 1 < length path → Beside (S .room) (getD path i 0) (getD path (i + 1) 0)
-  joins-steps i h = step-at i h .0
-
-  -- each cell other than start and goal is Air and was not blocked
-  pub joins-free : length (S .kinds) ≡ volume (S .room) → (i : ℕ) → i + 1 < length path → getD path (i + 1) 0 ≢ start → getD path (i + 1) 0 ≢ J .goal
-      → (getD (S .kinds) (getD path (i + 1) 0) 0 ≡ air) × (isMarked blocked (getD path (i + 1) 0) ≡ false)
-  joins-free long i h n m =
-      let v = getD path (i + 1) 0 in
-      let f = entered-free (S .room) (S .config) (S .kinds) (J .reaches .blocked-last) start (J .goal) (S .places) v long (joins-cells start-in J .inside (i + 1) h) (step-at i h .1) n m in
-      (f .0, ask (isMarked blocked v) (λ t. let u = J .reaches .more v t in let w = f .1 in never (cc)) (λ e. e))

@@ -1,52 +1,36 @@
--- Laws of one search: over class bytes that say what is seen, its answer is the defined one; and what is known of a path that it finds.
-use mathlib.Core.Path.{_≡_, refl, sym, ap, _∙_}
+-- Laws of one search: over class bytes that say what is seen, its answer is the defined one.
+use mathlib.Core.Path.{_≡_, refl, sym}
 use mathlib.Core.Bool.{Bool, true, false, _&&_, and-false}
 use mathlib.Core.List.{List, [], _++_}
 use Prim.Native.Nat.{ℕ, _+_, _≤_, _<_, pred}
 use native.Mathlib.Omega.{arith}
 use lib.Dec.{eqb}
-use lib.ListN.{length, getD, drop, replicate, length-append}
+use lib.ListN.{length, getD, drop, length-append}
 use lib.Seq.{take-at}
 use borrow.Author.Tests.{eq-eqb}
 use Rattle.basics.specs.Tests.{either, never, and-left, and-right, either-true}
 use Rattle.room.specs.declared.Room.{Room}
 use Rattle.room.specs.declared.RouterConfig.{RouterConfig}
-use Rattle.room.specs.declared.Pos.{Pos}
 use Rattle.room.specs.declared.Cost.{Cost}
-use Rattle.room.specs.Room.{volume, posOf}
+use Rattle.room.specs.Room.{volume}
 use Rattle.room.specs.Units.{air}
 use Rattle.best_first.specs.Search.{trace}
 use Rattle.room_search.specs.declared.Outcome.{Outcome}
 use Rattle.room_search.specs.declared.Outcome.the-variants.{Arrived, NoRoute, LimitPassed, QueueFull}
 use Rattle.room_search.specs.Routing.{Task, routeableKind, routeable, graphOf, searched, anEnd}
 use Rattle.room_search.specs.Steps.{placesOf}
-use Rattle.room_search.specs.Turns.{Fresh, Ran, graphIn, Showable}
+use Rattle.room_search.specs.Turns.{Ran, graphIn, spotOf}
 use Rattle.blocked_world.specs.BlockedWorld.{countsAsSolid, seenKind, seenTask}
 use Rattle.blocked_world.specs.SeenLaws.{seen-at, says-graph}
 use Rattle.goals.specs.declared.Tried.{Tried}
 use Rattle.goals.specs.declared.Tried.the-variants.{Found, Failed, Full}
 use Rattle.goals.specs.Goals.{found, failed, trialOf, searchedFor}
-use Rattle.goals.specs.Trials.{told, Tells, spotOf, bothRouteable, Searchable, Shown, SearchTold}
-
--- ---- cleared memory
-
-pub searchable-fresh : {R : Room} {C : RouterConfig} {classes known₀ previous₀ queue : List ℕ} {start goal : ℕ}
-    → Searchable R C classes known₀ previous₀ queue start goal
-    → (known previous : List ℕ) (from to : Pos) → known ≡ replicate (length known₀) 0 → previous ≡ replicate (length previous₀) 0
-    → from ≡ posOf R start → to ≡ posOf R goal
-    → Fresh R C classes known previous queue (record { cell = start; at = from }) (record { cell = goal; at = to })
-searchable-fresh S known previous from to k p f t = record {
-  good = S .good;
-  fair = S .fair;
-  classes-length = S .classes-long;
-  known-zero = k ∙ ap (λ (n : ℕ). replicate n 0) (S .known-long);
-  previous-zero = p ∙ ap (λ (n : ℕ). replicate n 0) (S .previous-long);
-  start-placed = record { inside = S .start-in; is = f };
-  goal-placed = record { inside = S .goal-in; is = t };
-  places-some = S .places-some;
-}
+use Rattle.goals.specs.Trials.{told, Tells, bothRouteable, Shown, SearchTold}
 
 -- ---- the answer
+
+pub tells-failed : (cells : List ℕ) → Tells failed Failed cells
+tells-failed cells = record { is = refl; fits = omega arith }
 
 -- a route of which so many cells are written to the front
 pub tells-route : (cells : List ℕ) (n : ℕ) (cost : Cost) (path : List ℕ) (price : ℕ) (path′ : List ℕ) → n ≡ length cells → n ≤ length path → cost .0 ≡ price
@@ -64,10 +48,10 @@ module _ {size goal : ℕ} {known previous : List ℕ} where
 
   module _ (cells : List ℕ) where
     pub shown-none : (x : _) → Shown (NoRoute x) size goal known previous Failed cells
-    shown-none x = record { shows = λ G answer s g e. rw e (record { is = refl; fits = omega arith }) }
+    shown-none x = record { shows = λ G answer s g e. rw e (tells-failed cells) }
 
     pub shown-limit : (x : _) → Shown (LimitPassed x) size goal known previous Failed cells
-    shown-limit x = record { shows = λ G answer s g e. rw e (record { is = refl; fits = omega arith }) }
+    shown-limit x = record { shows = λ G answer s g e. rw e (tells-failed cells) }
 
     pub shown-full : (x : _) → Shown (QueueFull x) size goal known previous (Full x) cells
     shown-full x = record { shows = λ G answer s g e. rw e (record { is = refl; fits = omega arith }) }
@@ -107,18 +91,10 @@ module _ (R : Room) (C : RouterConfig) (kinds blocked : List ℕ) (start goal pl
 -- ---- the search over the class bytes
 
 module _ {R : Room} {C : RouterConfig} {classes queue : List ℕ} {start goal : ℕ} where
-  pub ran-showable : (o : Outcome) (known previous : List ℕ) → length previous ≡ volume R
-      → Ran R C classes queue (spotOf R start) (spotOf R goal) o known previous → Showable o goal known previous
-  unfolding graphOf
-  ran-showable (Arrived x) known previous e r = (λ v. rw e (r .told .linked v), r .told .reached)
-  ran-showable (NoRoute x) known previous e r = tt
-  ran-showable (LimitPassed x) known previous e r = tt
-  ran-showable (QueueFull x) known previous e r = tt
-
   module _ (kinds : List ℕ) (long : length kinds ≡ volume R) (start-in : start < volume R) (goal-in : goal < volume R) where
     pub told-failed : bothRouteable kinds start goal ≡ false → (cells : List ℕ) → SearchTold R C kinds classes queue start goal Failed cells
     told-failed e cells = record {
-      tells = λ blocked says. rw (not-routeable R C kinds blocked start goal (placesOf queue) long start-in goal-in e) (record { is = refl; fits = omega arith });
+      tells = λ blocked says. rw (not-routeable R C kinds blocked start goal (placesOf queue) long start-in goal-in e) (tells-failed cells);
     }
 
     pub told-searched : bothRouteable kinds start goal ≡ true → {o : Outcome} {known previous : List ℕ} → Ran R C classes queue (spotOf R start) (spotOf R goal) o known previous

@@ -7,10 +7,9 @@ use lib.Dec.{eqb}
 use lib.ListN.{length, getD, take}
 use Rattle.room.specs.declared.Room.{Room}
 use Rattle.room.specs.declared.RouterConfig.{RouterConfig}
-use Rattle.room.specs.Room.{Good, volume, posOf}
+use Rattle.room.specs.Room.{Good, volume}
 use Rattle.room.specs.Units.{Fair, air}
 use Rattle.best_first.specs.Search.{Graph, Answer}
-use Rattle.room_search.specs.declared.Spot.{Spot}
 use Rattle.room_search.specs.declared.Outcome.{Outcome}
 use Rattle.room_search.specs.Routing.{routeableKind}
 use Rattle.room_search.specs.Steps.{placesOf}
@@ -42,23 +41,9 @@ pub record Tells (trial : Trial) (r : Tried) (cells : List ℕ) : Type 0 where
 
 -- ---- one search
 
-abbrev pub spotOf : Room → ℕ → Spot
-spotOf R v = record { cell = v; at = posOf R v }
-
 -- both ends may hold wire; an end is never blocked for its own search
 abbrev pub bothRouteable : List ℕ → ℕ → ℕ → Bool
 bothRouteable kinds start goal = routeableKind true (getD kinds start air) && routeableKind true (getD kinds goal air)
-
--- work memory of exactly V cells, and a place in the queue
-pub record Searchable (R : Room) (C : RouterConfig) (classes known previous queue : List ℕ) (start goal : ℕ) : Type 0 where
-  pub good : Good R
-  pub fair : Fair C
-  pub classes-long : length classes ≡ volume R
-  pub known-long : length known ≡ volume R
-  pub previous-long : length previous ≡ volume R
-  pub start-in : start < volume R
-  pub goal-in : goal < volume R
-  pub places-some : 0 < placesOf queue
 
 -- what is made of a search's outcome: the answer, and the path where there is one
 pub record Shown (o : Outcome) (size goal : ℕ) (known previous : List ℕ) (r : Tried) (cells : List ℕ) : Type 0 where

@@ -6,15 +6,14 @@ ghost use lib.ListN.{length, getD};
 ghost use Rattle.room.specs.Room.{volume};
 ghost use Rattle.best_first.specs.Search.{trace};
 ghost use Rattle.room_search.specs.Traces.{Linked};
-ghost use Rattle.room_search.specs.Turns.{Ran, Showable};
+ghost use Rattle.room_search.specs.Turns.{Searchable, Showable};
 ghost use Rattle.goals.specs.Goals.{found};
-ghost use Rattle.goals.specs.Trials.{Tells, spotOf, bothRouteable, Searchable, Shown, SearchTold};
+ghost use Rattle.goals.specs.Trials.{Tells, bothRouteable, Shown, SearchTold};
 use crate::Tried;
 use room::Cost;
 use room::Room;
 use room::RouterConfig;
 use room_search::Outcome;
-use room_search::Spot;
 
 // Whether both ends may hold wire.
 fn both_routeable(kinds: &[u8], start: usize, goal: usize) -> bool
@@ -25,33 +24,6 @@ fn both_routeable(kinds: &[u8], start: usize, goal: usize) -> bool
         return false;
     }
     room_search::routeable_kind(true, kinds[goal])
-}
-
-// Searches over the class bytes, from cleared memory on.
-fn search_classes(
-    room: Room,
-    config: RouterConfig,
-    classes: &[u8],
-    known: &mut [u32],
-    previous: &mut [u32],
-    queue: &mut [u64],
-    start: usize,
-    goal: usize,
-) -> Outcome
-    requires { ⌜ Searchable room config (now classes) (now known) (now previous) (now queue) start goal ⌝ }
-    ensures { λ r. ⌜ Ran room config (now (classes .entry)) (now (queue .entry)) (spotOf room start) (spotOf room goal) r (now (known .exit)) (now (previous .exit)) ⌝ }
-{
-    lent::clear_words(known);
-    lent::clear_words(previous);
-    let from = Spot {
-        cell: start,
-        at: room.pos(start),
-    };
-    let to = Spot {
-        cell: goal,
-        at: room.pos(goal),
-    };
-    room_search::run(room, config, classes, known, previous, queue, from, to)
 }
 
 // The path by predecessors goes to the front of the buffer.
@@ -116,6 +88,15 @@ pub fn search_for(
     if !both_routeable(kinds, start, goal) {
         return Tried::Failed;
     }
-    let outcome = search_classes(room, config, classes, known, previous, queue, start, goal);
+    let outcome = room_search::search_classes(
+        room,
+        config,
+        classes,
+        known,
+        previous,
+        queue,
+        start,
+        goal,
+    );
     tried_of(outcome, kinds.len(), goal, known, previous, path)
 }

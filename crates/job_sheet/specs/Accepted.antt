@@ -7,7 +7,7 @@ use lib.ListN.{length, getD}
 use Rattle.room.specs.declared.Room.{Room}
 use Rattle.room.specs.declared.Pos.{Pos}
 use Rattle.room.specs.Room.{Within, Good as GoodRoom}
-use Rattle.room.specs.Units.{air, maxKind, Fair}
+use Rattle.room.specs.Units.{air, maxKind, maxFacing, maxPort, Fair}
 use Rattle.job_sheet.specs.declared.Block.{Block}
 use Rattle.job_sheet.specs.declared.Endpoint.{Endpoint}
 use Rattle.job_sheet.specs.declared.Part.{Part}
@@ -30,12 +30,12 @@ pub record SoundBlock (R : Room) (b : Block) : Type 0 where
   pub within : Within R (b .at)
   pub kind-known : b .kind ≤ maxKind
   pub not-air : b .kind ≡ air → ⊥
-  pub facing-known : b .facing ≤ 6
+  pub facing-known : b .facing ≤ maxFacing
 
 pub record SoundEndpoint (R : Room) (e : Endpoint) : Type 0 where
   pub within : Within R (e .at)
-  pub port-known : e .port ≤ 1
-  pub facing-known : e .facing ≤ 6
+  pub port-known : e .port ≤ maxPort
+  pub facing-known : e .facing ≤ maxFacing
 
 -- ---- sound lists: where they stand, what they are, and each record
 

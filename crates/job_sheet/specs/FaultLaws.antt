@@ -1,4 +1,4 @@
--- The first fault of a list can be found list by list, each time from the fault so far.
+-- The first fault of a list can be found list by list, each time from the fault so far; and no contents are judged number 1.
 use mathlib.Core.Path.{_≡_, refl, sym, ap, _∙_}
 use mathlib.Core.Bool.{Bool, true, false}
 use mathlib.Core.List.{List, [], _∷_, _++_, map}
@@ -29,9 +29,9 @@ good-is Config e = cc
 good-is Position e = cc
 good-is Code e = cc
 
-pub no-fault : firstFault [] ≡ Good
+first-none : firstFault [] ≡ Good
 unfolding firstFault
-no-fault = refl
+first-none = refl
 
 pub fault-first : (v : Verdict) (vs : List Verdict) → isGood v ≡ false → firstFault (v ∷ vs) ≡ v
 unfolding firstFault
@@ -42,7 +42,7 @@ unfolding firstFault
 good-first v vs e = rw e
 
 pub only-first : (v : Verdict) → firstFault (v ∷ []) ≡ v
-only-first v = ask (isGood v) (λ e. good-first v [] e ∙ no-fault ∙ sym (good-is v e)) (λ e. fault-first v [] e)
+only-first v = ask (isGood v) (λ e. good-first v [] e ∙ first-none ∙ sym (good-is v e)) (λ e. fault-first v [] e)
 
 pub first-on : (l m : List Verdict) → firstFault (l ++ m) ≡ firstFault (firstFault l ∷ m)
 unfolding firstFault

@@ -7,8 +7,9 @@ use native.Mathlib.Omega.{arith}
 use lib.Arith.{digits-div, digits-mod}
 use lib.ListN.{length, getD, drop, length-append, length-drop}
 use lib.Seq.{drop-cons, drop-at, drop-drop, getD-drop}
+use Rattle.job_sheet.specs.declared.Part.{Part}
 use Rattle.job_sheet.specs.Sheet.{two, four, joined, sides, costs, position, block, endpoint, blockSize, positionSize, endpointSize}
-use Rattle.job_sheet.specs.Places.{twoIn, fourIn, roomIn, configIn, positionIn, blockIn, endpointIn, many}
+use Rattle.job_sheet.specs.Places.{twoIn, fourIn, roomIn, configIn, positionIn, blockIn, endpointIn, many, blocksIn, positionsIn}
 
 -- ---- bytes
 
@@ -125,3 +126,13 @@ module _ {X : Type 0} {bytes : X → List ℕ} {value : List ℕ → X} {size : 
       let e : size * suc n ≡ size + size * n = next-size size n in
       let ih = many-forth n (drop size l) (bytes-drop size l b) (simp length-drop (omega (arith, e))) in
       rw (append-assoc, next-drop size n l, ih) (K .forth l b (omega (arith, e)))
+
+-- a list is as long as its count
+module _ (sheet : List ℕ) (p : Part) where
+  pub blocks-long : length (blocksIn sheet p) ≡ p .count
+  unfolding blocksIn
+  blocks-long = many-long blockIn blockSize (p .count) (drop (p .from) sheet)
+
+  pub positions-long : length (positionsIn sheet p) ≡ p .count
+  unfolding positionsIn
+  positions-long = many-long (λ l. positionIn l 0) positionSize (p .count) (drop (p .from) sheet)

@@ -73,7 +73,7 @@ pub fn block_from(sheet: &[u8], place: usize) -> Block
     Block {
         node: two_bytes(sheet, place, 0),
         at: position_from(sheet, place, 2),
-        kind: byte(sheet, place, crate::ENDPOINT_SIZE),
+        kind: byte(sheet, place, 5),
         facing: byte(sheet, place, 6),
     }
 }

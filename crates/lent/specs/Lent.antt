@@ -1,4 +1,5 @@
--- "1 to 6 touch nothing. 7 to 15 leave every lent writable buffer zero. A success writes the answer, zeros behind it, and zeroes work memory."
+-- What a call leaves in lent memory: numbers 1 to 6 touch nothing; 7 to 15 leave every lent writable buffer zero; a success writes the answer, zeros behind it,
+-- and zeroes work memory. Definitions alone.
 use mathlib.Core.Path.{_≡_}
 use mathlib.Core.Bool.{Bool, true}
 use mathlib.Core.List.{List, _++_}

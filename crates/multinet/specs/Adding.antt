@@ -1,17 +1,17 @@
 -- What the contracts of `add_branch` and `place_branch` cite.
 use mathlib.Core.Path.{_≡_}
 use mathlib.Core.List.{List}
-use Prim.Native.Nat.{ℕ, _+_, _≤_, _<_}
+use Prim.Native.Nat.{ℕ, _+_, _*_, _≤_, _<_}
 use lib.ListN.{length, take}
 use Rattle.room.specs.declared.Room.{Room}
-use Rattle.room.specs.Room.{Good, volume}
-use Rattle.routing_resources.specs.Marks.{markedBy}
-use Rattle.routing_resources.specs.Resources.{isClearance, AllCells}
+use Rattle.room.specs.Room.{Good, volume, maxVolume}
+use Rattle.routing_resources.specs.Marks.{markedBy, AllCells}
+use Rattle.routing_resources.specs.Resources.{isClearance}
 use Rattle.geometry.specs.Geometry.{standsIn}
 use Rattle.ends.specs.declared.Tap.{Tap}
 use Rattle.job_sheet.specs.Sheet.{maxSinks}
 use Rattle.branches.specs.declared.BranchLengths.{BranchLengths}
-use Rattle.branches.specs.Branches.{branchOf, allButLast, inserted, total, Short, lengthsIn}
+use Rattle.branches.specs.Branches.{branchOf, allButLast, inserted, total, Short, lengthsIn, longestBranch}
 use Rattle.multinet.specs.declared.Turned.{Turned}
 use Rattle.multinet.specs.declared.Turned.the-variants.{Grown, NoRoom}
 
@@ -21,7 +21,7 @@ pub record Addable (R : Room) (at used len : ℕ) (tap : Tap) (path branches joi
   pub at-within : at ≤ used
   pub room-left : used + length (branchOf tap path) ≤ length branches
   pub some : 1 ≤ length path
-  pub short : length path ≤ 16384
+  pub short : length path ≤ maxVolume
   pub path-in : AllCells R path
   pub terminal-in : tap .terminal < volume R
   pub len-is : len ≡ length (branchOf tap path)
@@ -35,11 +35,11 @@ pub record BranchAdded (R : Room) (at used : ℕ) (tap : Tap) (path branches joi
   pub blocked-are : blocked′ ≡ markedBy (isClearance R (branchOf tap path)) blocked
 
 -- how many cells the branches before this sink's have, and all of them
-abbrev pub before-sink : BranchLengths → ℕ → ℕ
-before-sink L k = total (take k (L .each))
+abbrev pub beforeSink : BranchLengths → ℕ → ℕ
+beforeSink L k = total (take k (L .each))
 
-abbrev pub used-by : BranchLengths → ℕ
-used-by L = total (lengthsIn L)
+abbrev pub usedBy : BranchLengths → ℕ
+usedBy L = total (lengthsIn L)
 
 -- a path of the room, and branches whose lengths are known
 pub record Placeable (R : Room) (k : ℕ) (L : BranchLengths) (tap : Tap) (path branches joinable blocked : List ℕ) : Type 0 where
@@ -47,10 +47,10 @@ pub record Placeable (R : Room) (k : ℕ) (L : BranchLengths) (tap : Tap) (path 
   pub few : L .count ≤ maxSinks
   pub sink-in : k < L .count
   pub lengths-short : Short L
-  pub at-within : before-sink L k ≤ used-by L
-  pub used-short : used-by L ≤ 262160
+  pub at-within : beforeSink L k ≤ usedBy L
+  pub used-short : usedBy L ≤ maxSinks * longestBranch
   pub some : 1 ≤ length path
-  pub short : length path ≤ 16384
+  pub short : length path ≤ maxVolume
   pub path-in : AllCells R path
   pub terminal-in : tap .terminal < volume R
   pub joinable-long : length joinable ≡ volume R
@@ -58,7 +58,7 @@ pub record Placeable (R : Room) (k : ℕ) (L : BranchLengths) (tap : Tap) (path 
 
 -- number 15 is due, or the branch is placed
 pub data BranchPlaced (R : Room) (k : ℕ) (L : BranchLengths) (tap : Tap) (path branches joinable blocked : List ℕ) (r : Turned) (branches′ joinable′ blocked′ : List ℕ) : Type 0 where
-  no-room : length branches < used-by L + length (branchOf tap path) → r ≡ NoRoom (k + 1) → BranchPlaced R k L tap path branches joinable blocked r branches′ joinable′ blocked′
-  placed : used-by L + length (branchOf tap path) ≤ length branches → r ≡ Grown k (length (branchOf tap path))
-      → BranchAdded R (before-sink L k) (used-by L) tap path branches joinable blocked branches′ joinable′ blocked′
+  no-room : length branches < usedBy L + length (branchOf tap path) → r ≡ NoRoom (k + 1) → BranchPlaced R k L tap path branches joinable blocked r branches′ joinable′ blocked′
+  placed : usedBy L + length (branchOf tap path) ≤ length branches → r ≡ Grown k (length (branchOf tap path))
+      → BranchAdded R (beforeSink L k) (usedBy L) tap path branches joinable blocked branches′ joinable′ blocked′
       → BranchPlaced R k L tap path branches joinable blocked r branches′ joinable′ blocked′

@@ -3,19 +3,17 @@ use mathlib.Core.Path.{_≡_, refl, _∙_}
 use mathlib.Core.List.{List}
 use Prim.Native.Nat.{ℕ, _+_, _-_, _≤_, _<_}
 use native.Mathlib.Omega.{arith}
-use lib.Dec.{eqb}
 use lib.ListN.{length, take, drop}
-use Rattle.basics.specs.Tests.{ask}
 use Rattle.room.specs.declared.Room.{Room}
 use Rattle.room.specs.Room.{volume}
-use Rattle.routing_resources.specs.Marks.{markedBy}
-use Rattle.routing_resources.specs.Resources.{isClearance, AllCells}
+use Rattle.routing_resources.specs.Marks.{markedBy, AllCells, CellsBelow}
+use Rattle.routing_resources.specs.Resources.{isClearance}
 use Rattle.geometry.specs.Geometry.{standsIn}
 use Rattle.ends.specs.declared.Tap.{Tap}
 use Rattle.branches.specs.declared.BranchLengths.{BranchLengths}
-use Rattle.branches.specs.Branches.{branchOf, branchLength, allButLast, inserted, CellsBelow}
-use Rattle.branches.specs.BranchLaws.{branch-some, branch-cells, cells-below, but-last-below, branch-at, but-last-at}
-use Rattle.multinet.specs.Adding.{Addable, BranchAdded, before-sink, used-by, Placeable, BranchPlaced, no-room, placed}
+use Rattle.branches.specs.Branches.{branchOf, allButLast, inserted}
+use Rattle.branches.specs.BranchLaws.{branch-some, branch-below, but-last-below, branch-at, but-last-at}
+use Rattle.multinet.specs.Adding.{Addable, BranchAdded, beforeSink, usedBy, Placeable, BranchPlaced, no-room, placed}
 use Rattle.multinet.specs.declared.Turned.the-variants.{Grown, NoRoom}
 
 module _ {R : Room} {at used len : ℕ} {tap : Tap} {path branches joinable blocked : List ℕ} (A : Addable R at used len tap path branches joinable blocked) where
@@ -36,10 +34,10 @@ module _ {R : Room} {at used len : ℕ} {tap : Tap} {path branches joinable bloc
       rw (n, e) (but-last-at branch branches at used (omega (arith, A .at-within, A .room-left)))
 
   pub branch-in : AllCells R branch
-  branch-in = branch-cells tap path (A .path-in) (A .terminal-in)
+  branch-in = branch-below tap path (A .path-in) (A .terminal-in)
 
   pub but-last-in-room : {n : ℕ} → n ≡ volume R → CellsBelow n (allButLast branch)
-  but-last-in-room e = but-last-below branch (rw e (cells-below branch-in))
+  but-last-in-room e = but-last-below branch (rw e branch-in)
 
   pub end-within : {n : ℕ} → n ≡ length branches → at + (len - 1) + 1 ≤ n
   end-within e = omega (arith, e, A .room-left, A .at-within, A .len-is, branch-has)
@@ -54,16 +52,13 @@ module _ {R : Room} {at used len : ℕ} {tap : Tap} {path branches joinable bloc
 
 -- ---- where the lengths are known
 
-pub branch-most : (tap : Tap) (count : ℕ) {len : ℕ} → len ≡ branchLength tap count → len ≤ count + 1
-branch-most tap count e = ask (eqb (tap .terminal) (tap .approach)) (λ t. let q = rw t at e in omega arith) (λ f. let q = rw f at e in omega arith)
-
-pub no-room-left : {R : Room} {k : ℕ} {L : BranchLengths} {tap : Tap} {path branches joinable blocked branches′ joinable′ blocked′ : List ℕ} → Placeable R k L tap path branches joinable blocked
-    → {used len : ℕ} → used ≡ used-by L → len ≡ length (branchOf tap path) → length branches < used + len
+pub no-room-left : {R : Room} {k : ℕ} {L : BranchLengths} {tap : Tap} {path branches joinable blocked branches′ joinable′ blocked′ : List ℕ}
+    {used len : ℕ} → used ≡ usedBy L → len ≡ length (branchOf tap path) → length branches < used + len
     → BranchPlaced R k L tap path branches joinable blocked (NoRoom (k + 1)) branches′ joinable′ blocked′
-no-room-left A u l n = no-room (rw (u, l) at n) refl
+no-room-left u l n = no-room (rw (u, l) at n) refl
 
 module _ {R : Room} {k : ℕ} {L : BranchLengths} {tap : Tap} {path branches joinable blocked : List ℕ} (A : Placeable R k L tap path branches joinable blocked)
-    {at used len : ℕ} (a : at ≡ before-sink L k) (u : used ≡ used-by L) (l : len ≡ length (branchOf tap path)) (fits : used + len ≤ length branches) where
+    {at used len : ℕ} (a : at ≡ beforeSink L k) (u : used ≡ usedBy L) (l : len ≡ length (branchOf tap path)) (fits : used + len ≤ length branches) where
   pub addable : Addable R at used len tap path branches joinable blocked
   addable = record {
     good = A .good;

@@ -2,21 +2,18 @@
 use mathlib.Core.Path.{_≡_}
 use mathlib.Core.List.{List, []}
 use Prim.Native.Nat.{ℕ, _≤_, _<_}
-use lib.Dec.{eqb}
 use lib.ListN.{length, getD}
 use Rattle.room.specs.declared.Room.{Room}
 use Rattle.room.specs.Room.{Good, volume}
-use Rattle.routing_resources.specs.Marks.{markedBy, noMarks}
-use Rattle.routing_resources.specs.Resources.{AllCells}
+use Rattle.routing_resources.specs.Marks.{markedBy, noMarks, AllCells}
 use Rattle.job_sheet.specs.Sheet.{joined, maxSinks}
 use Rattle.ends.specs.declared.Taps.{Taps}
-use Rattle.ends.specs.Ends.{tapsIn}
-use Rattle.ends.specs.EndLaws.{NetIn}
+use Rattle.ends.specs.Ends.{tapsIn, NetIn}
 use Rattle.geometry.specs.Geometry.{standsIn}
 use Rattle.branches.specs.declared.BranchLengths.{BranchLengths}
 use Rattle.branches.specs.Branches.{SheetOrder, LengthsOf, Short}
 use Rattle.repeaters.specs.Repeaters.{repeaterMarks}
-use Rattle.multinet.specs.Tree.{endMarks}
+use Rattle.multinet.specs.Tree.{endMarks, sourceMarks}
 use Rattle.multinet.specs.StepLaws.{Steps}
 
 -- the net's ends are in a room that has these marks, one a cell
@@ -50,5 +47,5 @@ pub record Finishable (R : Room) (source : ℕ) (k : Taps) (L : BranchLengths) (
 
 -- what the branches occupy, and their repeaters
 pub record Finished (R : Room) (source : ℕ) (k : Taps) (L : BranchLengths) (branches occupied repeaters : List ℕ) : Type 0 where
-  pub occupied-are : (bs : List (List ℕ)) → Holds R L branches bs → occupied ≡ markedBy (standsIn (joined bs)) (markedBy (eqb source) (noMarks (volume R)))
+  pub occupied-are : (bs : List (List ℕ)) → Holds R L branches bs → occupied ≡ markedBy (standsIn (joined bs)) (sourceMarks R source)
   pub repeaters-are : (bs : List (List ℕ)) → Holds R L branches bs → repeaters ≡ repeaterMarks R source (tapsIn k) bs (endMarks R source k)

@@ -1,31 +1,31 @@
 -- Laws of finishing: the ends marked, and the branches read back from the buffer.
 use mathlib.Core.Path.{_≡_, refl, sym, ap, _∙_}
 use mathlib.Core.List.{List, [], _∷_, _++_, map, append-assoc}
-use Prim.Native.Nat.{ℕ, zero, suc, _+_, _≤_, _<_}
+use Prim.Native.Nat.{ℕ, suc, _≤_, _<_}
 use native.Mathlib.Omega.{arith}
 use lib.Dec.{eqb}
-use lib.ListN.{length, getD, take, drop, length-map, length-replicate, take-append-drop}
-use lib.Seq.{take-at, drop-at, getD-take, length-take-le, ext-getD, take-length}
+use lib.ListN.{length, getD, take, drop, length-map, length-replicate, take-append-drop, List·getD-map}
+use lib.Seq.{take-at, drop-at, getD-take, length-take-le, ext-getD}
 use Rattle.basics.specs.Lists.{any}
 use Rattle.room.specs.declared.Room.{Room}
 use Rattle.room.specs.Room.{volume}
-use Rattle.routing_resources.specs.Marks.{markedBy, noMarks}
+use Rattle.routing_resources.specs.Marks.{markedBy, noMarks, AllCells, CellsBelow}
 use Rattle.routing_resources.specs.MarkLaws.{with-length, with-or}
-use Rattle.routing_resources.specs.Resources.{AllCells}
 use Rattle.job_sheet.specs.Sheet.{joined}
 use Rattle.ends.specs.declared.Tap.{Tap}
 use Rattle.ends.specs.declared.Taps.{Taps}
 use Rattle.ends.specs.Ends.{noTap, tapsIn}
 use Rattle.geometry.specs.Geometry.{standsIn}
 use Rattle.branches.specs.declared.BranchLengths.{BranchLengths}
-use Rattle.branches.specs.Branches.{total, CellsBelow, lengthsIn}
-use Rattle.branches.specs.BranchLaws.{joined-place, below-append, cells-below}
+use Rattle.branches.specs.Branches.{lengthsIn}
+use Rattle.branches.specs.BranchLaws.{below-append, lengths-total}
 use Rattle.repeaters.specs.Repeaters.{cutInto, branchesOf, repeaterMarks}
 use Rattle.repeaters.specs.Joins.{AllStepping}
 use Rattle.repeaters.specs.Sinks as repeating
 use Rattle.multinet.specs.Tree.{endAt, isEnd}
 use Rattle.multinet.specs.StepLaws.{Steps, steps-stepping}
 use Rattle.multinet.specs.Finishing.{EndsIn, Holds, Finishable, Finished}
+use Rattle.multinet.specs.Adding.{usedBy}
 
 -- ---- the ends
 
@@ -54,18 +54,13 @@ cut-joined (b ∷ bs) rest =
     let e : (b ++ joined bs) ++ rest ≡ b ++ (joined bs ++ rest) = append-assoc b (joined bs) rest in
     rw (e, take-at b (joined bs ++ rest) (length b) refl, drop-at b (joined bs ++ rest) (length b) refl) (ap (λ l. b ∷ l) (cut-joined bs rest))
 
-mapped-length : (bs : List (List ℕ)) (i : ℕ) → i < length bs → getD (map length bs) i 0 ≡ length (getD bs i [])
-mapped-length [] i h = absurd (omega arith)
-mapped-length (b ∷ bs) zero h = refl
-mapped-length (b ∷ bs) (suc i) h = mapped-length bs i (omega arith)
-
 all-stepping : (R : Room) (bs : List (List ℕ)) → ((i : ℕ) → i < length bs → Steps R (getD bs i [])) → AllStepping R bs
 all-stepping R [] f = tt {0}
 all-stepping R (b ∷ bs) f = (steps-stepping R b (f 0 (omega arith)), all-stepping R bs (λ i h. f (suc i) (omega arith)))
 
 all-below : (R : Room) (bs : List (List ℕ)) → ((i : ℕ) → i < length bs → AllCells R (getD bs i [])) → CellsBelow (volume R) (joined bs)
 all-below R [] f = record { below = λ i h. absurd (omega arith) }
-all-below R (b ∷ bs) f = below-append (cells-below (f 0 (omega arith))) (all-below R bs (λ i h. f (suc i) (omega arith)))
+all-below R (b ∷ bs) f = below-append (f 0 (omega arith)) (all-below R bs (λ i h. f (suc i) (omega arith)))
 
 module _ {R : Room} {L : BranchLengths} {branches : List ℕ} {bs : List (List ℕ)} (H : Holds R L branches bs) where
   lengths-list : lengthsIn L ≡ map length bs
@@ -73,20 +68,15 @@ module _ {R : Room} {L : BranchLengths} {branches : List ℕ} {bs : List (List �
       let n : length (lengthsIn L) ≡ L .count = length-take-le (L .count) (L .each) (omega (arith, H .count-is, H .lengths-are .all)) in
       let m = length-map bs length in
       ext-getD 0 (lengthsIn L) (map length bs) (n ∙ sym (H .count-is) ∙ sym m)
-      (λ i h. getD-take (L .count) (L .each) i 0 (omega (arith, n)) ∙ H .lengths-are .each-is i (omega (arith, n, H .count-is)) ∙ sym (mapped-length bs i (omega (arith, n, H .count-is))))
+      (λ i h. getD-take (L .count) (L .each) i 0 (omega (arith, n)) ∙ H .lengths-are .each-is i (omega (arith, n, H .count-is)) ∙ sym (List·getD-map length bs i []))
 
   pub branches-back : branchesOf L branches ≡ bs
   branches-back =
       let whole : branches ≡ joined bs ++ drop (length (joined bs)) branches = sym (take-append-drop (length (joined bs)) branches) ∙ ap (λ l. l ++ drop (length (joined bs)) branches) (H .in-order .in-order) in
       rw (lengths-list) (ap (cutInto (map length bs)) whole ∙ cut-joined bs (drop (length (joined bs)) branches))
 
-  pub used-is : total (lengthsIn L) ≡ length (joined bs)
-  used-is =
-      let n = H .count-is in
-      rw (← n) (joined-place bs (L .each) (H .lengths-are) (length bs) (omega arith) ∙ ap (λ l. length (joined l)) (take-length bs))
-
-  pub used-part : take (total (lengthsIn L)) branches ≡ joined bs
-  used-part = rw used-is (H .in-order .in-order)
+  pub used-part : take (usedBy L) branches ≡ joined bs
+  used-part = rw (lengths-total bs L (H .lengths-are) (H .count-is)) (H .in-order .in-order)
 
 -- ---- the finished tree
 
@@ -98,10 +88,10 @@ module _ {R : Room} {source : ℕ} {k : Taps} {L : BranchLengths} {branches occu
   pub source-marked : source < length occupied
   source-marked = rw (none-long occupied (F .occupied-clear)) (F .net .source-in)
 
-  pub used-fits : {used : ℕ} → used ≡ total (lengthsIn L) → used ≤ length branches
-  used-fits u = omega (arith, u, used-is (F .holds), F .holds .in-order .within)
+  pub used-fits : {used : ℕ} → used ≡ usedBy L → used ≤ length branches
+  used-fits u = omega (arith, u, lengths-total (F .bs) L (F .holds .lengths-are) (F .holds .count-is), F .holds .in-order .within)
 
-  pub cells-occupied : {used n : ℕ} → used ≡ total (lengthsIn L) → n ≡ length occupied → CellsBelow n (take used branches)
+  pub cells-occupied : {used n : ℕ} → used ≡ usedBy L → n ≡ length occupied → CellsBelow n (take used branches)
   cells-occupied u e =
       rw (u, used-part (F .holds), e, none-long occupied (F .occupied-clear)) (all-below R (F .bs) (λ i h. F .cells-in i (omega (arith, F .holds .count-is))))
 
@@ -126,7 +116,7 @@ module _ {R : Room} {source : ℕ} {k : Taps} {L : BranchLengths} {branches occu
     line-long = F .line-long;
   }
 
-  pub finished : {used : ℕ} {occupied′ occupied″ forbidden′ repeaters′ : List ℕ} → used ≡ total (lengthsIn L)
+  pub finished : {used : ℕ} {occupied′ occupied″ forbidden′ repeaters′ : List ℕ} → used ≡ usedBy L
       → occupied′ ≡ markedBy (eqb source) occupied
       → occupied″ ≡ markedBy (standsIn (take used branches)) occupied′
       → forbidden′ ≡ markedBy (isEnd source k) forbidden

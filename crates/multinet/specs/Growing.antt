@@ -1,24 +1,22 @@
 -- What the loop over the sinks' turns keeps: the tree so far, as the lent slices hold it.
 use mathlib.Core.Path.{_≡_}
 use mathlib.Core.List.{List, [], _∷_}
-use Prim.Native.Nat.{ℕ, _+_, _-_, _≤_, _<_}
-use lib.Dec.{eqb}
+use Prim.Native.Nat.{ℕ, _-_, _≤_, _<_}
 use lib.ListN.{length, getD, drop}
 use Rattle.room.specs.declared.Neighbour.the-variants.{Outside}
 use Rattle.room.specs.Room.{Good, volume}
 use Rattle.room.specs.Units.{Fair}
-use Rattle.routing_resources.specs.Marks.{markedBy, noMarks, isMarked}
-use Rattle.routing_resources.specs.Resources.{AllCells}
+use Rattle.routing_resources.specs.Marks.{markedBy, isMarked, AllCells}
 use Rattle.job_sheet.specs.Sheet.{joined, maxSinks}
-use Rattle.ends.specs.EndLaws.{NetIn}
 use Rattle.geometry.specs.Geometry.{standsIn, conflictOf, NoPair, Marks}
 use Rattle.turns.specs.Turns.{far, turnOf}
 use Rattle.goals.specs.Goals.{Site}
-use Rattle.branches.specs.Branches.{SheetOrder, LengthsOf}
-use Rattle.multinet.specs.Tree.{Plot, Tree, tapAt, growFrom, growthOf}
+use Rattle.branches.specs.Branches.{SheetOrder, LengthsOf, longestBranch}
+use Rattle.multinet.specs.Tree.{Plot, Tree, tapAt, growFrom, growthOf, sourceMarks}
 use Rattle.multinet.specs.StepLaws.{Steps, Near}
+use Rattle.ends.specs.Ends.{NetIn}
 
--- a plot that no number refuses
+-- a plot that no number up to 9 refuses
 pub record Sound (P : Plot) : Type 0 where
   pub good : Good (P .room)
   pub fair : Fair (P .config)
@@ -42,9 +40,9 @@ turnIn P k = turnOf (far (P .room) (P .source) (P .taps .taps)) (P .taps .count)
 abbrev pub branchIn : Tree → ℕ → List ℕ
 branchIn T k = getD (T .branches) k []
 
--- a tree whose sinks before this turn have their branches, and whose others have none
+-- a tree whose sinks from this turn on have no branch yet
 pub record Sprouted (P : Plot) (turn : ℕ) (T : Tree) : Type 0 where
-  pub occupied-is : T .occupied ≡ markedBy (standsIn (joined (T .branches))) (markedBy (eqb (P .source)) (noMarks (volume (P .room))))
+  pub occupied-is : T .occupied ≡ markedBy (standsIn (joined (T .branches))) (sourceMarks (P .room) (P .source))
   pub joinable-long : length (T .joinable) ≡ volume (P .room)
   pub joinable-marks : Marks (T .joinable)
   pub alone : NoPair (P .room) (isMarked (T .joinable))
@@ -52,8 +50,6 @@ pub record Sprouted (P : Plot) (turn : ℕ) (T : Tree) : Type 0 where
   pub blocked-marks : Marks (T .blocked)
   pub count-is : length (T .branches) ≡ P .taps .count
   pub none-yet : (k : ℕ) → k < P .taps .count → turn ≤ turnIn P k → branchIn T k ≡ []
-  pub has : (k : ℕ) → k < P .taps .count → turnIn P k < turn → 1 ≤ length (branchIn T k)
-  pub short : (k : ℕ) → k < P .taps .count → length (branchIn T k) ≤ volume (P .room) + 1
   pub cells-in : (k : ℕ) → k < P .taps .count → AllCells (P .room) (branchIn T k)
   pub steps : (k : ℕ) → k < P .taps .count → Steps (P .room) (branchIn T k)
 
@@ -69,5 +65,5 @@ pub record Growing (P : Plot) (outset start-buffer : List ℕ) (turn : ℕ) (joi
   pub buffer-long : length buffer ≡ P .buffer
   pub lengths-are : LengthsOf (tree .branches) each
   pub each-long : length each ≡ maxSinks
-  pub each-short : (i : ℕ) → i < maxSinks → getD each i 0 ≤ 16385
+  pub each-short : (i : ℕ) → i < maxSinks → getD each i 0 ≤ longestBranch
   pub each-none : (i : ℕ) → P .taps .count ≤ i → getD each i 0 ≡ 0

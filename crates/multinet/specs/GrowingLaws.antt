@@ -1,9 +1,9 @@
 -- Laws of growing: one turn after another.
 use mathlib.Core.Path.{_≡_, refl, sym, ap, _∙_}
 use mathlib.Core.Logic.{_⊎_, inl, inr, _≢_}
-use mathlib.Core.Bool.{Bool, true, false, _||_}
+use mathlib.Core.Bool.{true, _||_, or-comm, or-assoc}
 use mathlib.Core.List.{List, [], _∷_, _++_, reverse, reverse-cons, append-nil}
-use Prim.Native.Nat.{ℕ, zero, suc, _+_, _-_, _≤_, _<_}
+use Prim.Native.Nat.{ℕ, suc, _+_, _-_, _≤_, _<_}
 use native.Mathlib.Decide.{ℕ-discrete}
 use native.Mathlib.Omega.{arith}
 use lib.Dec.{eqb}
@@ -12,63 +12,42 @@ use lib.Seq.{getD-set-same, getD-set-other, drop-drop}
 use borrow.Author.Tests.{le-leb, lt-leb, eqb-true}
 use Rattle.basics.specs.Tests.{ask, never}
 use Rattle.basics.specs.Lists.{In}
-use Rattle.room.specs.declared.Neighbour.{Neighbour}
 use Rattle.room.specs.declared.Neighbour.the-variants.{Inside, Outside}
-use Rattle.room.specs.Room.{volume, inOrOut}
-use Rattle.routing_resources.specs.Marks.{markedBy, isMarked}
+use Rattle.routing_resources.specs.Marks.{markedBy, isMarked, AllCells}
 use Rattle.routing_resources.specs.MarkLaws.{with-length, with-or, with-same}
-use Rattle.routing_resources.specs.Resources.{isClearance, AllCells}
+use Rattle.routing_resources.specs.Resources.{isClearance}
 use Rattle.job_sheet.specs.Sheet.{joined, maxSinks}
-use Rattle.geometry.specs.Geometry.{firstBelow, orElse, standsIn, NoPair}
+use Rattle.geometry.specs.Geometry.{standsIn, NoPair}
 use Rattle.geometry.specs.LayLaws.{stands-in, in-stands}
 use Rattle.geometry.specs.GeometryLaws.{no-pair-after, marks-with}
 use Rattle.ends.specs.declared.Tap.{Tap}
 use Rattle.turns.specs.Turns.{far, sinkAt}
 use Rattle.turns.specs.TurnLaws.{its-turn}
 use Rattle.goals.specs.Goals.{Site, Trial, found, failed, full, routeToTree}
-use Rattle.branches.specs.Branches.{branchOf, allButLast, inserted}
-use Rattle.branches.specs.BranchLaws.{branch-some, branch-short, branch-cells, but-last-in, joined-none, joined-set, order-kept, behind-kept, inserted-long, lengths-set}
-use Rattle.multinet.specs.Tree.{Plot, Tree, grown, stopped, tapAt, siteOf, withBranch, afterSink, growSink, growOn, growFrom, growthOf}
+use Rattle.branches.specs.Branches.{branchOf, allButLast, inserted, longestBranch}
+use Rattle.branches.specs.BranchLaws.{branch-short, branch-below, but-last-in, joined-none, joined-set, order-kept, behind-kept, inserted-long, lengths-set}
+use Rattle.multinet.specs.Tree.{Plot, Tree, grown, stopped, tapAt, siteAt, sinkNow, withBranch, afterSink, growSink, growOn, growFrom, growthOf}
 use Rattle.multinet.specs.StepLaws.{Steps, branch-steps}
 use Rattle.multinet.specs.Growing.{Sound, Way, turnIn, branchIn, Sprouted, Growing}
+use Rattle.geometry.specs.PairLaws.{first-passed}
+use Rattle.room.specs.RoomLaws.{same-cell}
 
 -- ---- the sink whose turn it is
 
-first-below : (test : ℕ → Bool) (n v : ℕ) → firstBelow n test ≡ Inside v → (v < n) × (test v ≡ true)
-unfolding firstBelow
-first-below test zero v e = never (cc)
-first-below test (suc n) v e = go (firstBelow n test) refl e (first-below test n v)
-  where
-    here : (b : Bool) → test n ≡ b → inOrOut b n ≡ Inside v → (v < suc n) × (test v ≡ true)
-    here true t q = let s : n ≡ v = cc in (omega arith, rw s at t)
-    here false t q = never (cc)
-
-    go : (w : Neighbour) → firstBelow n test ≡ w → orElse w (inOrOut (test n) n) ≡ Inside v
-        → (firstBelow n test ≡ Inside v → (v < n) × (test v ≡ true)) → (v < suc n) × (test v ≡ true)
-    go (Inside w) f q rest = let r = rest (f ∙ q) in (omega (arith, r .0), r .1)
-    go Outside f q rest = here (test n) refl q
-
 module _ (P : Plot) (turn : ℕ) where
-  abbrev pub sinkNow : Neighbour
-  sinkNow = sinkAt (far (P .room) (P .source) (P .taps .taps)) (P .taps .count) turn
-
-  pub sink-now : (k : ℕ) → sinkNow ≡ Inside k → (k < P .taps .count) × (turnIn P k ≡ turn)
+  pub sink-now : (k : ℕ) → sinkNow P turn ≡ Inside k → (k < P .taps .count) × (turnIn P k ≡ turn)
   unfolding sinkAt
-  sink-now k e = let f = first-below (λ v. eqb (turnIn P v) turn) (P .taps .count) k e in (f .0, eqb-true _ _ (f .1))
+  sink-now k e = let f = first-passed (λ v. eqb (turnIn P v) turn) (P .taps .count) k e in (f .0, eqb-true _ _ (f .1))
+
+  now-is : (j : ℕ) → j < P .taps .count → turnIn P j ≡ turn → Inside j ≡ sinkNow P turn
+  now-is j h s = sym (its-turn (far (P .room) (P .source) (P .taps .taps)) (P .taps .count) j h) ∙ ap (sinkAt (far (P .room) (P .source) (P .taps .taps)) (P .taps .count)) s
 
   -- a sink whose turn it is not has its turn before or after
-  other-turn : (k j : ℕ) → sinkNow ≡ Inside k → j < P .taps .count → j ≢ k → turnIn P j ≢ turn
-  other-turn k j e h d s =
-      let q : Inside j ≡ Inside k = sym (its-turn (far (P .room) (P .source) (P .taps .taps)) (P .taps .count) j h) ∙ ap (sinkAt (far (P .room) (P .source) (P .taps .taps)) (P .taps .count)) s ∙ e in
-      d (same q)
-    where
-      same : Inside j ≡ Inside k → j ≡ k
-      same q = cc
+  pub other-turn : (k j : ℕ) → sinkNow P turn ≡ Inside k → j < P .taps .count → j ≢ k → turnIn P j ≢ turn
+  other-turn k j e h d s = d (same-cell j k (now-is j h s ∙ e))
 
-  no-turn : (j : ℕ) → sinkNow ≡ Outside → j < P .taps .count → turnIn P j ≢ turn
-  no-turn j e h s =
-      let q : Inside j ≡ Outside = sym (its-turn (far (P .room) (P .source) (P .taps .taps)) (P .taps .count) j h) ∙ ap (sinkAt (far (P .room) (P .source) (P .taps .taps)) (P .taps .count)) s ∙ e in
-      never (cc)
+  pub no-turn : (j : ℕ) → sinkNow P turn ≡ Outside → j < P .taps .count → turnIn P j ≢ turn
+  no-turn j e h s = never (cc (now-is j h s ∙ e))
 
 -- ---- one turn of the definition
 
@@ -90,19 +69,12 @@ unfolding standsIn
 stands-append [] ys v = refl
 stands-append (x ∷ xs) ys v = rw (stands-append xs ys v) (ask (eqb x v) (λ t. rw t) (λ f. rw f))
 
-either-way : (a b c : Bool) → a || (b || c) ≡ (a || c) || b
-either-way true b c = refl
-either-way false true true = refl
-either-way false true false = refl
-either-way false false true = refl
-either-way false false false = refl
-
 -- the cells of all branches with one more are theirs and its
 stands-joined : (bs : List (List ℕ)) (k : ℕ) (b : List ℕ) → k < length bs → getD bs k [] ≡ [] → (v : ℕ)
     → standsIn (joined (set bs k b)) v ≡ standsIn (joined bs) v || standsIn b v
 stands-joined bs k b h e v =
     rw (joined-set bs k h b, joined-none bs k h e, stands-append (joined (take k bs)) (b ++ joined (drop (suc k) bs)) v, stands-append b (joined (drop (suc k) bs)) v, stands-append (joined (take k bs)) (joined (drop (suc k) bs)) v)
-    (either-way (standsIn (joined (take k bs)) v) (standsIn b v) (standsIn (joined (drop (suc k) bs)) v))
+    (ap (λ c. standsIn (joined (take k bs)) v || c) (or-comm (standsIn b v) (standsIn (joined (drop (suc k) bs)) v)) ∙ sym (or-assoc (standsIn (joined (take k bs)) v) (standsIn (joined (drop (suc k) bs)) v) (standsIn b v)))
 
 -- the cells that become joinable are the path's
 in-append : (xs ys : List ℕ) (v : ℕ) → In v (xs ++ ys) → In v xs ⊎ In v ys
@@ -139,6 +111,14 @@ joined-to-path tap path v e =
 -- ---- a branch more
 
 module _ {P : Plot} {turn : ℕ} {T : Tree} (S : Sprouted P turn T) where
+  -- the sink whose turn it is has a place among the branches, and none yet
+  module _ (k : ℕ) (e : sinkNow P turn ≡ Inside k) where
+    pub sink-in-tree : k < length (T .branches)
+    sink-in-tree = omega (arith, sink-now P turn k e .0, S .count-is)
+
+    pub sink-empty : branchIn T k ≡ []
+    sink-empty = S .none-yet k (sink-now P turn k e .0) (omega (arith, sink-now P turn k e .1))
+
   -- no sink has this turn: nothing changes
   pub sprouted-on : sinkNow P turn ≡ Outside → Sprouted P (turn + 1) T
   sprouted-on e = record {
@@ -150,8 +130,6 @@ module _ {P : Plot} {turn : ℕ} {T : Tree} (S : Sprouted P turn T) where
     blocked-marks = S .blocked-marks;
     count-is = S .count-is;
     none-yet = λ k h g. S .none-yet k h (omega arith);
-    has = λ k h g. let d = no-turn P turn k e h in S .has k h (omega (arith, d));
-    short = S .short;
     cells-in = S .cells-in;
     steps = S .steps;
   }
@@ -162,7 +140,7 @@ module _ {P : Plot} {turn : ℕ} {T : Tree} (S : Sprouted P turn T) where
 
     set-here : branchIn next k ≡ branch
     unfolding withBranch
-    set-here = let s = sink-now P turn k e in getD-set-same (T .branches) k branch [] (omega (arith, s .0, S .count-is))
+    set-here = getD-set-same (T .branches) k branch [] (sink-in-tree k e)
 
     set-there : (j : ℕ) → j ≢ k → branchIn next j ≡ branchIn T j
     unfolding withBranch
@@ -176,12 +154,12 @@ module _ {P : Plot} {turn : ℕ} {T : Tree} (S : Sprouted P turn T) where
         go (yes q) = rw (q, set-here) this
         go (no d) = rw (set-there j d) (others j d)
 
-    module _ (has-cells : 1 ≤ length branch) (fits : length branch ≤ volume (P .room) + 1) (inside : AllCells (P .room) branch) (goes : Steps (P .room) branch)
+    module _ (inside : AllCells (P .room) branch) (goes : Steps (P .room) branch)
         (alone′ : NoPair (P .room) (isMarked (markedBy (standsIn (allButLast branch)) (T .joinable)))) where
       pub sprouted-next : Sprouted P (turn + 1) next
       unfolding withBranch
       sprouted-next = record {
-        occupied-is = ap (markedBy (standsIn branch)) (S .occupied-is) ∙ with-or 1 _ _ _ ∙ with-same 1 _ _ _ (λ v h. sym (stands-joined (T .branches) k branch (let s = sink-now P turn k e in omega (arith, s .0, S .count-is)) (let s = sink-now P turn k e in S .none-yet k (s .0) (omega (arith, s .1))) v));
+        occupied-is = ap (markedBy (standsIn branch)) (S .occupied-is) ∙ with-or 1 _ _ _ ∙ with-same 1 _ _ _ (λ v h. sym (stands-joined (T .branches) k branch (sink-in-tree k e) (sink-empty k e) v));
         joinable-long = with-length 1 _ (T .joinable) ∙ S .joinable-long;
         joinable-marks = marks-with 1 (omega arith) _ (T .joinable) (S .joinable-marks);
         alone = alone′;
@@ -191,10 +169,6 @@ module _ {P : Plot} {turn : ℕ} {T : Tree} (S : Sprouted P turn T) where
         none-yet = each-one (λ j b. j < P .taps .count → turn + 1 ≤ turnIn P j → b ≡ [])
             (λ h g. let s = sink-now P turn k e in absurd (omega (arith, s .1)))
             (λ j d h g. S .none-yet j h (omega arith));
-        has = each-one (λ j b. j < P .taps .count → turnIn P j < turn + 1 → 1 ≤ length b)
-            (λ h g. has-cells)
-            (λ j d h g. let n = other-turn P turn k j e h d in S .has j h (omega (arith, n)));
-        short = each-one (λ j b. j < P .taps .count → length b ≤ volume (P .room) + 1) (λ h. fits) (λ j d h. S .short j h);
         cells-in = each-one (λ j b. j < P .taps .count → AllCells (P .room) b) (λ h. inside) (λ j d h. S .cells-in j h);
         steps = each-one (λ j b. j < P .taps .count → Steps (P .room) b) (λ h. goes) (λ j d h. S .steps j h);
       }
@@ -227,7 +201,7 @@ module _ {P : Plot} {outset start-buffer : List ℕ} {turn : ℕ} {joinable bloc
     each-none = G .each-none;
   }
 
-  module _ (k : ℕ) (e : sinkNow P turn ≡ Inside k) {trial : Trial} (t : trial ≡ routeToTree (siteOf P now-tree) (tapAt P k .approach) (now-tree .blocked)) where
+  module _ (k : ℕ) (e : sinkNow P turn ≡ Inside k) {trial : Trial} (t : trial ≡ routeToTree (siteAt P (now-tree .joinable)) (tapAt P k .approach) (now-tree .blocked)) where
     comes : growSink P (sinkNow P turn) now-tree ≡ afterSink P k now-tree trial
     unfolding growSink
     comes = rw (e, t)
@@ -248,12 +222,12 @@ module _ {P : Plot} {outset start-buffer : List ℕ} {turn : ℕ} {joinable bloc
       unfolding afterSink
       sink-no-room n = turn-stops P outset h now-tree (G .same) 15 (k + 1) (comes ∙ rw (f, lt-leb _ _ n))
 
-      module _ (w : Way (siteOf P now-tree) (tapAt P k .approach) path) (fits : length (joined (now-tree .branches)) + length branch ≤ P .buffer) where
+      module _ (w : Way (siteAt P (now-tree .joinable)) (tapAt P k .approach) path) (fits : length (joined (now-tree .branches)) + length branch ≤ P .buffer) where
         in-tree : k < length (now-tree .branches)
-        in-tree = let s = sink-now P turn k e in omega (arith, s .0, G .sprouted .count-is)
+        in-tree = sink-in-tree (G .sprouted) k e
 
         empty : branchIn now-tree k ≡ []
-        empty = let s = sink-now P turn k e in G .sprouted .none-yet k (s .0) (omega (arith, s .1))
+        empty = sink-empty (G .sprouted) k e
 
         abbrev place : ℕ
         place = length (joined (take k (now-tree .branches)))
@@ -272,7 +246,6 @@ module _ {P : Plot} {outset start-buffer : List ℕ} {turn : ℕ} {joinable bloc
         unfolding afterSink withBranch
         sink-grows {buffer′ = buffer′} {each′ = each′} j b u l =
             let s = sink-now P turn k e in
-            let some = branch-some (tapAt P k) path (way-some w) in
             let goes : Steps (P .room) branch = rw (w .begins) (branch-steps (S .good) (tapAt P k) (w .rest) (S .near k (s .0)) (rw (w .begins) at (w .steps))) in
             let short = branch-short (tapAt P k) path in
             let room-left : length (joined (now-tree .branches)) + length branch ≤ length buffer = omega (arith, fits, G .buffer-long) in
@@ -281,7 +254,7 @@ module _ {P : Plot} {outset start-buffer : List ℕ} {turn : ℕ} {joinable bloc
               joinable-is = j ∙ ap (markedBy (standsIn (allButLast branch))) (G .joinable-is);
               blocked-is = b ∙ ap (markedBy (isClearance (P .room) branch)) (G .blocked-is);
               same = turn-grows P outset h now-tree (G .same) (withBranch (P .room) k branch now-tree) (comes ∙ rw (f, le-leb _ _ fits));
-              sprouted = sprouted-next (G .sprouted) k e branch some (omega (arith, short, w .short)) (branch-cells (tapAt P k) path (w .cells-in) (S .net .terminal-in k (s .0))) goes
+              sprouted = sprouted-next (G .sprouted) k e branch (branch-below (tapAt P k) path (w .cells-in) (S .net .terminal-in k (s .0))) goes
                   (no-pair-after (P .room) (P .kinds) (now-tree .joinable) path (w .free) (standsIn (allButLast branch)) (joined-to-path (tapAt P k) path));
               in-order = rw (u, ← joined-more) (order-kept (now-tree .branches) k in-tree empty (G .in-order) branch room-left);
               behind = rw (u, ← joined-more) (behind-kept (now-tree .branches) k in-tree empty (G .in-order) branch room-left ∙ later (G .behind));
@@ -302,9 +275,9 @@ module _ {P : Plot} {outset start-buffer : List ℕ} {turn : ℕ} {joinable bloc
             never-both : {i : ℕ} → i ≡ k → P .taps .count ≤ i → k < P .taps .count → ⊥
             never-both q g b = omega (arith, q, g, b)
 
-            short-still : (i : ℕ) → i < maxSinks → length branch ≤ 16385 → getD (set each k (length branch)) i 0 ≤ 16385
+            short-still : (i : ℕ) → i < maxSinks → length branch ≤ longestBranch → getD (set each k (length branch)) i 0 ≤ longestBranch
             short-still i g m = go (ℕ-discrete i k)
               where
-                go : Dec (i ≡ k) → getD (set each k (length branch)) i 0 ≤ 16385
+                go : Dec (i ≡ k) → getD (set each k (length branch)) i 0 ≤ longestBranch
                 go (yes q) = rw (q, getD-set-same each k (length branch) 0 (omega (arith, G .each-long, q))) m
                 go (no d) = rw (getD-set-other each k i (length branch) 0 d) (G .each-short i g)

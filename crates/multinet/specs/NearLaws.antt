@@ -17,9 +17,11 @@ use Rattle.port_realization.specs.PortLaws.{ends}
 use Rattle.job_sheet.specs.declared.Endpoint.{Endpoint}
 use Rattle.job_sheet.specs.declared.Sinks.{Sinks}
 use Rattle.ends.specs.declared.Fault.the-variants as fault
-use Rattle.ends.specs.Ends.{sinksIn, sinkAt, noTap, tapFrom, tapOf, tapsOf, faultOf}
-use Rattle.ends.specs.EndLaws.{SinksWithin, tap-at}
-use Rattle.multinet.specs.StepLaws.{step-back, Near}
+use Rattle.ends.specs.Ends.{sinksIn, sinkAt, noTap, tapFrom, tapOf, tapsOf, faultOf, SinksWithin}
+use Rattle.ends.specs.EndLaws.{tap-at}
+use Rattle.multinet.specs.StepLaws.{Near}
+use Rattle.repeaters.specs.JoinLaws.{step-back}
+use Rattle.room.specs.RoomLaws.{same-cell}
 
 module _ {R : Room} (G : Good R) where
   -- "Approach: terminal plus a horizontal facing, else the terminal itself."
@@ -27,11 +29,8 @@ module _ {R : Room} (G : Good R) where
   unfolding approachOf ahead
   faced facing t a w h e =
       ask (facingHorizontal facing)
-      (λ f. inr (step-back G (record { from-in = h; move = facingMove facing; listed = facing-in facing; leads = rw f at e })))
-      (λ n. inl (same (rw n at e)))
-    where
-      same : Inside t ≡ Inside a → t ≡ a
-      same q = cc
+      (λ f. inr (step-back (record { from-in = h; move = facingMove facing; listed = facing-in facing; leads = rw f at e }) G))
+      (λ n. inl (same-cell t a (rw n at e)))
 
   pub tap-near : (e : Endpoint) → Within R (e .at) → Near R (tapOf R e)
   unfolding tapOf sinkAt

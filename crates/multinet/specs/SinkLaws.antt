@@ -1,13 +1,12 @@
 -- Laws of a sink's turn: what its functions ask, and what they come to.
-use mathlib.Core.Path.{_≡_, refl, sym, ap, _∙_}
+use mathlib.Core.Path.{_≡_, refl, sym, _∙_}
 use mathlib.Core.List.{List, [], _∷_}
 use Prim.Native.Nat.{ℕ, zero, suc, _*_, _≤_, _<_}
 use native.Mathlib.Omega.{arith}
 use lib.ListN.{length, getD, take}
-use lib.Seq.{take-length}
 use Rattle.room.specs.declared.Neighbour.the-variants.{Inside, Outside}
 use Rattle.room_search.specs.Routing.{graphOf}
-use Rattle.job_sheet.specs.Sheet.{joined}
+use Rattle.job_sheet.specs.Sheet.{joined, maxSinks}
 use Rattle.goals.specs.declared.Tried.{Tried}
 use Rattle.goals.specs.declared.Tried.the-variants.{Found, Failed, Full}
 use Rattle.room.specs.declared.Cost.{Cost}
@@ -15,25 +14,25 @@ use Rattle.goals.specs.Goals.{Trial, found, routeToTree}
 use Rattle.goals.specs.Trials.{Tells, told, Grounds}
 use Rattle.goals.specs.RouteLaws.{tree-joins, joins-lawful, joins-cells, joins-short, joins-steps}
 use Rattle.branches.specs.declared.BranchLengths.{BranchLengths}
-use Rattle.branches.specs.Branches.{total, Short}
-use Rattle.branches.specs.BranchLaws.{joined-place, place-within}
+use Rattle.branches.specs.Branches.{total, Short, longestBranch}
+use Rattle.branches.specs.BranchLaws.{joined-place, place-within, lengths-total}
 use Rattle.multinet.specs.declared.Turned.{Turned}
 use Rattle.multinet.specs.declared.Turned.the-variants.{Skipped, QueueFull, NoGoal}
-use Rattle.multinet.specs.Adding.{before-sink, used-by, Placeable, BranchPlaced, no-room, placed}
-use Rattle.multinet.specs.Tree.{Plot, tapAt, siteOf}
+use Rattle.multinet.specs.Adding.{beforeSink, usedBy, Placeable, BranchPlaced, no-room, placed}
+use Rattle.multinet.specs.Tree.{Plot, tapAt, siteAt, sinkNow}
 use Rattle.multinet.specs.StepLaws.{stepping-steps}
-use Rattle.multinet.specs.Growing.{Sound, Way, branchIn, Growing}
-use Rattle.multinet.specs.GrowingLaws.{way-some, sinkNow, sink-now, no-sink, sink-fails, sink-full, sink-no-room, sink-grows}
+use Rattle.multinet.specs.Growing.{Sound, Way, Growing}
+use Rattle.multinet.specs.GrowingLaws.{way-some, sink-now, sink-in-tree, sink-empty, no-sink, sink-fails, sink-full, sink-no-room, sink-grows}
 use Rattle.multinet.specs.Sinks.{Findable, Turnable, TurnCame}
 
 -- sixteen branches of at most so many cells
-total-most : (each : List ℕ) (n : ℕ) → ((i : ℕ) → i < n → getD each i 0 ≤ 16385) → total (take n each) ≤ n * 16385
+total-most : (each : List ℕ) (n : ℕ) → ((i : ℕ) → i < n → getD each i 0 ≤ longestBranch) → total (take n each) ≤ n * longestBranch
 unfolding total
 total-most each zero f = omega arith
 total-most [] (suc n) f = omega arith
 total-most (x ∷ each) (suc n) f =
-    let a : x ≤ 16385 = f 0 (omega arith) in
-    let b : total (take n each) ≤ n * 16385 = total-most each n (λ i h. f (suc i) (omega arith)) in
+    let a : x ≤ longestBranch = f 0 (omega arith) in
+    let b : total (take n each) ≤ n * longestBranch = total-most each n (λ i h. f (suc i) (omega arith)) in
     omega (arith, a, b)
 
 -- a tree held in slices, at the turn of sink k
@@ -43,7 +42,7 @@ module _ {P : Plot} {turn : ℕ} {L : BranchLengths} {outset start-buffer joinab
   sink-in = sink-now P turn k e .0
 
   -- what a route's search asks of the marks
-  pub grounds : Grounds (record { room = P .room; config = P .config; kinds = P .kinds; joinable = joinable; places = P .places }) blocked (tapAt P k .approach)
+  pub grounds : Grounds (siteAt P joinable) blocked (tapAt P k .approach)
   grounds = record {
     good = S .good;
     fair = S .fair;
@@ -58,21 +57,16 @@ module _ {P : Plot} {turn : ℕ} {L : BranchLengths} {outset start-buffer joinab
   }
 
   -- the branches' lengths tell where they stand
-  pub used-is : used-by L ≡ length (joined (G .tree .branches))
-  used-is =
-      let n : P .taps .count ≡ length (G .tree .branches) = sym (G .sprouted .count-is) in
-      rw (count, n) (joined-place (G .tree .branches) (L .each) (G .lengths-are) (length (G .tree .branches)) (omega arith) ∙ ap (λ l. length (joined l)) (take-length (G .tree .branches)))
+  pub used-is : usedBy L ≡ length (joined (G .tree .branches))
+  used-is = lengths-total (G .tree .branches) L (G .lengths-are) (G .sprouted .count-is ∙ sym count)
 
-  pub before-is : before-sink L k ≡ length (joined (take k (G .tree .branches)))
+  pub before-is : beforeSink L k ≡ length (joined (take k (G .tree .branches)))
   before-is = joined-place (G .tree .branches) (L .each) (G .lengths-are) k (omega (arith, sink-in, G .sprouted .count-is))
 
-  empty : branchIn (G .tree) k ≡ []
-  empty = let s = sink-now P turn k e in G .sprouted .none-yet k (s .0) (omega (arith, s .1))
+  pub at-within : beforeSink L k ≤ usedBy L
+  at-within = rw (before-is, used-is) (place-within (G .tree .branches) k (sink-in-tree (G .sprouted) k e) (sink-empty (G .sprouted) k e) (G .in-order))
 
-  pub at-within : before-sink L k ≤ used-by L
-  at-within = rw (before-is, used-is) (place-within (G .tree .branches) k (omega (arith, sink-in, G .sprouted .count-is)) empty (G .in-order))
-
-  pub used-short : used-by L ≤ 262160
+  pub used-short : usedBy L ≤ maxSinks * longestBranch
   used-short = let t = total-most (L .each) (L .count) (λ i h. G .each-short i (omega (arith, count, S .net .few))) in omega (arith, t, count, S .net .few)
 
   pub lengths-short : Short L
@@ -80,20 +74,20 @@ module _ {P : Plot} {turn : ℕ} {L : BranchLengths} {outset start-buffer joinab
 
   -- what the search came to is what the definition's does
   module _ {r : Tried} {best : List ℕ}
-      (T : Tells (routeToTree (record { room = P .room; config = P .config; kinds = P .kinds; joinable = joinable; places = P .places }) (tapAt P k .approach) blocked) r best) where
-    pub trial : told r best ≡ routeToTree (siteOf P (G .tree)) (tapAt P k .approach) (G .tree .blocked)
+      (T : Tells (routeToTree (siteAt P joinable) (tapAt P k .approach) blocked) r best) where
+    pub trial : told r best ≡ routeToTree (siteAt P (G .tree .joinable)) (tapAt P k .approach) (G .tree .blocked)
     trial = T .is ∙ rw (G .joinable-is, G .blocked-is)
 
-    pub way-found : (path : List ℕ) (cost : ℕ) → told r best ≡ found path cost → Way (siteOf P (G .tree)) (tapAt P k .approach) path
+    pub way-found : (path : List ℕ) (cost : ℕ) → told r best ≡ found path cost → Way (siteAt P (G .tree .joinable)) (tapAt P k .approach) path
     unfolding graphOf
     way-found path cost f =
-        let J = tree-joins (siteOf P (G .tree)) (tapAt P k .approach) (G .tree .blocked) path cost (sym trial ∙ f) in
+        let J = tree-joins (siteAt P (G .tree .joinable)) (tapAt P k .approach) (G .tree .blocked) path cost (sym trial ∙ f) in
         let i = S .net .approach-in k sink-in in
         let w = joins-lawful i J in
         record {
           rest = w .rest;
           begins = w .begins;
-          steps = stepping-steps (P .room) path (λ j g. let b = joins-steps i J j g in record { from-in = joins-cells i J .inside j (omega arith); move = b .by; listed = b .listed; leads = b .leads });
+          steps = stepping-steps (P .room) path (λ j g. let b = joins-steps i J j g in record { from-in = joins-cells i J .below j (omega arith); move = b .by; listed = b .listed; leads = b .leads });
           short = joins-short i J;
           cells-in = joins-cells i J;
           free = J .reaches .free;
@@ -107,11 +101,11 @@ found-fits T n cost q = rw q at (T .fits)
 
 module _ {P : Plot} {turn : ℕ} {L : BranchLengths} {joinable blocked classes known previous path best branches : List ℕ}
     (A : Turnable P turn L joinable blocked classes known previous path best branches) (k : ℕ) (e : sinkNow P turn ≡ Inside k) where
-  pub findable : Findable (record { room = P .room; config = P .config; kinds = P .kinds; joinable = joinable; places = P .places }) blocked classes known previous path best (tapAt P k .approach)
+  pub findable : Findable (siteAt P joinable) blocked classes known previous path best (tapAt P k .approach)
   findable = record { grounds = grounds (A .sound) (A .growing) (A .count-is) k e; memory = A .memory; classes-long = A .classes-long; best-long = A .best-long }
 
   module _ {r : Tried} {best′ : List ℕ}
-      (T : Tells (routeToTree (record { room = P .room; config = P .config; kinds = P .kinds; joinable = joinable; places = P .places }) (tapAt P k .approach) blocked) r best′)
+      (T : Tells (routeToTree (siteAt P joinable) (tapAt P k .approach) blocked) r best′)
     where
       pub came-full : {joinable′ blocked′ branches′ : List ℕ} (x : _) → r ≡ Full x → TurnCame P turn L joinable blocked branches (QueueFull x) joinable′ blocked′ branches′
       came-full x q = record { came = λ o s G. sink-full (A .sound) G (A .turn-in) k e (trial (A .sound) G (A .count-is) k e T) (x .0) (rw q) }

@@ -1,9 +1,8 @@
--- What the contracts of the functions for one sink's turn cite.
+-- What the contracts of the growing functions cite, and what their loop keeps.
 use mathlib.Core.Path.{_≡_}
 use mathlib.Core.List.{List}
 use mathlib.Core.Bool.{Bool, true, false}
 use Prim.Native.Nat.{ℕ, _+_, _≤_, _<_}
-use lib.Dec.{eqb}
 use lib.ListN.{length, set}
 use Rattle.room.specs.declared.Room.{Room}
 use Rattle.room.specs.declared.RouterConfig.{RouterConfig}
@@ -17,9 +16,8 @@ use Rattle.branches.specs.declared.BranchLengths.{BranchLengths}
 use Rattle.multinet.specs.declared.Turned.{Turned}
 use Rattle.multinet.specs.declared.Turned.the-variants.{Grown, Skipped, QueueFull, NoGoal, NoRoom}
 use Rattle.multinet.specs.declared.Growth.{Growth}
-use Rattle.routing_resources.specs.Marks.{markedBy, noMarks}
 use Rattle.geometry.specs.Geometry.{Marks}
-use Rattle.multinet.specs.Tree.{Plot, stopped, growthOf}
+use Rattle.multinet.specs.Tree.{Plot, stopped, growthOf, sourceMarks}
 use Rattle.multinet.specs.Growing.{Sound, Growing}
 
 -- marks that joinable and blocked cells may have, and work memory of exactly V cells, whatever it holds
@@ -53,14 +51,32 @@ pub record Turnable (P : Plot) (turn : ℕ) (L : BranchLengths) (joinable blocke
   pub classes-long : length classes ≡ volume (P .room)
   pub best-long : length best ≡ volume (P .room)
 
+-- the number that a turn ends the growth with, and its detail
+abbrev pub stopNumber : Turned → ℕ
+stopNumber (Grown k n) = 0
+stopNumber Skipped = 0
+stopNumber (QueueFull x) = 13
+stopNumber (NoGoal cell) = 14
+stopNumber (NoRoom place) = 15
+
+abbrev pub stopDetail : Turned → ℕ
+stopDetail (Grown k n) = 0
+stopDetail Skipped = 0
+stopDetail (QueueFull x) = x .0
+stopDetail (NoGoal cell) = cell
+stopDetail (NoRoom place) = place
+
+abbrev pub StoppedBy : Plot → List ℕ → Turned → Type 0
+StoppedBy P outset turned = growthOf P outset ≡ stopped (stopNumber turned) (stopDetail turned)
+
 -- the next turn's tree, or the number that is due for the whole
 abbrev pub Came : Plot → List ℕ → List ℕ → ℕ → List ℕ → List ℕ → List ℕ → List ℕ → Turned → Type 0
 Came P outset start-buffer turn each joinable blocked branches (Grown k n) =
     (k < maxSinks) × Growing P outset start-buffer (turn + 1) joinable blocked branches (set each k n)
 Came P outset start-buffer turn each joinable blocked branches Skipped = Growing P outset start-buffer (turn + 1) joinable blocked branches each
-Came P outset start-buffer turn each joinable blocked branches (QueueFull x) = growthOf P outset ≡ stopped 13 (x .0)
-Came P outset start-buffer turn each joinable blocked branches (NoGoal cell) = growthOf P outset ≡ stopped 14 cell
-Came P outset start-buffer turn each joinable blocked branches (NoRoom place) = growthOf P outset ≡ stopped 15 place
+Came P outset start-buffer turn each joinable blocked branches (QueueFull x) = StoppedBy P outset (QueueFull x)
+Came P outset start-buffer turn each joinable blocked branches (NoGoal cell) = StoppedBy P outset (NoGoal cell)
+Came P outset start-buffer turn each joinable blocked branches (NoRoom place) = StoppedBy P outset (NoRoom place)
 
 pub record TurnCame (P : Plot) (turn : ℕ) (L : BranchLengths) (joinable blocked branches : List ℕ) (r : Turned) (joinable′ blocked′ branches′ : List ℕ) : Type 0 where
   pub came : (outset start-buffer : List ℕ) → Growing P outset start-buffer turn joinable blocked branches (L .each)
@@ -95,7 +111,7 @@ recordedBy L turned = record { count = L .count; each = eachBy (L .each) turned 
 -- the source terminal is joinable, these cells are blocked, and work memory has exactly V cells
 pub record Plantable (P : Plot) (joinable blocked classes known previous path best : List ℕ) : Type 0 where
   pub sound : Sound P
-  pub joinable-is : joinable ≡ markedBy (eqb (P .source)) (noMarks (volume (P .room)))
+  pub joinable-is : joinable ≡ sourceMarks (P .room) (P .source)
   pub blocked-long : length blocked ≡ volume (P .room)
   pub blocked-marks : Marks blocked
   pub memory : Memory (P .room) known previous path
@@ -125,9 +141,9 @@ abbrev pub Ended : Plot → List ℕ → List ℕ → BranchLengths → List ℕ
 Ended P outset start-buffer L joinable blocked branches (Grown k n) = ⊥
 Ended P outset start-buffer L joinable blocked branches Skipped =
     (L .count ≡ P .taps .count) × Growing P outset start-buffer (P .taps .count) joinable blocked branches (L .each)
-Ended P outset start-buffer L joinable blocked branches (QueueFull x) = growthOf P outset ≡ stopped 13 (x .0)
-Ended P outset start-buffer L joinable blocked branches (NoGoal cell) = growthOf P outset ≡ stopped 14 cell
-Ended P outset start-buffer L joinable blocked branches (NoRoom place) = growthOf P outset ≡ stopped 15 place
+Ended P outset start-buffer L joinable blocked branches (QueueFull x) = StoppedBy P outset (QueueFull x)
+Ended P outset start-buffer L joinable blocked branches (NoGoal cell) = StoppedBy P outset (NoGoal cell)
+Ended P outset start-buffer L joinable blocked branches (NoRoom place) = StoppedBy P outset (NoRoom place)
 
 pub record GrowthTold (P : Plot) (outset start-buffer : List ℕ) (r : Growth) (joinable blocked branches : List ℕ) : Type 0 where
   pub told : Ended P outset start-buffer (r .lengths) joinable blocked branches (r .ended)

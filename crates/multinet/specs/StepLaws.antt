@@ -11,10 +11,10 @@ use borrow.Author.Tests.{eqb-false}
 use Rattle.basics.specs.Tests.{ask}
 use Rattle.room.specs.declared.Room.{Room}
 use Rattle.room.specs.Room.{Good}
-use Rattle.room.specs.MoveLaws.{opposite, opposite-in, symmetric, leads}
 use Rattle.ends.specs.declared.Tap.{Tap}
 use Rattle.branches.specs.Branches.{branchOf}
 use Rattle.repeaters.specs.Joins.{Step, Stepping}
+use Rattle.repeaters.specs.JoinLaws.{step-back}
 
 -- each cell is one step from the next
 abbrev pub Steps : Room → List ℕ → Type 0
@@ -36,14 +36,6 @@ stepping-steps R [] f = tt {0}
 stepping-steps R (a ∷ []) f = tt {0}
 stepping-steps R (a ∷ (b ∷ rest)) f = (f 0 (omega arith), stepping-steps R (b ∷ rest) (λ i h. rw (suc-add i 1) at (f (suc i) (omega arith))))
 
-pub step-back : {R : Room} → Good R → {a b : ℕ} → Step R a b → Step R b a
-step-back {R = R} G {a = a} {b = b} s = record {
-  from-in = leads R a (s .move) b (s .leads) .inside;
-  move = opposite (s .move);
-  listed = opposite-in (s .move) (s .listed);
-  leads = symmetric R G a (s .move) b (s .from-in) (s .listed) (s .leads);
-}
-
 -- one step more at the end
 one-more : (R : Room) (xs : List ℕ) (u v : ℕ) → Steps R (xs ++ (u ∷ [])) → Step R u v → Steps R ((xs ++ (u ∷ [])) ++ (v ∷ []))
 one-more R [] u v s t = (t, tt {0})
@@ -55,7 +47,7 @@ steps-reverse G [] s = tt {0}
 steps-reverse G (a ∷ []) s = tt {0}
 steps-reverse {R = R} G (a ∷ (b ∷ rest)) s =
     let r : Steps R (reverse rest ++ (b ∷ [])) = rw (reverse-cons b rest) at (steps-reverse G (b ∷ rest) (s .1)) in
-    rw (reverse-cons a (b ∷ rest), reverse-cons b rest) (one-more R (reverse rest) b a r (step-back G (s .0)))
+    rw (reverse-cons a (b ∷ rest), reverse-cons b rest) (one-more R (reverse rest) b a r (step-back (s .0) G))
 
 -- a sink's terminal is its approach, or one step from it
 abbrev pub Near : Room → Tap → Type 0

@@ -49,17 +49,22 @@ pub data Growth : Type 0 where
 abbrev pub tapAt : Plot → ℕ → Tap
 tapAt P k = getD (P .taps .taps) k noTap
 
+-- marks of the source terminal alone
+abbrev pub sourceMarks : Room → ℕ → List ℕ
+sourceMarks R source = markedBy (eqb source) (noMarks (volume R))
+
 -- the source terminal is joinable and occupied from the outset
 unfoldable pub planted : Plot → List ℕ → Tree
 planted P blocked = record {
-  joinable = markedBy (eqb (P .source)) (noMarks (volume (P .room)));
-  occupied = markedBy (eqb (P .source)) (noMarks (volume (P .room)));
+  joinable = sourceMarks (P .room) (P .source);
+  occupied = sourceMarks (P .room) (P .source);
   blocked = blocked;
   branches = replicate (P .taps .count) [];
 }
 
-abbrev pub siteOf : Plot → Tree → Site
-siteOf P T = record { room = P .room; config = P .config; kinds = P .kinds; joinable = T .joinable; places = P .places }
+-- what a sink is searched over, with these joinable cells
+abbrev pub siteAt : Plot → List ℕ → Site
+siteAt P joinable = record { room = P .room; config = P .config; kinds = P .kinds; joinable = joinable; places = P .places }
 
 -- "All but the last cell become joinable; all become occupied; the branch's clearances become blocked."
 unfoldable pub withBranch : Room → ℕ → List ℕ → Tree → Tree
@@ -83,18 +88,22 @@ afterSink P k T (full x) = stopped 13 x
 
 -- one sink's turn
 unfoldable pub growSink : Plot → Neighbour → Tree → Growth
-growSink P (Inside k) T = afterSink P k T (routeToTree (siteOf P T) (tapAt P k .approach) (T .blocked))
+growSink P (Inside k) T = afterSink P k T (routeToTree (siteAt P (T .joinable)) (tapAt P k .approach) (T .blocked))
 growSink P Outside T = grown T
 
 abbrev pub growOn : (Tree → Growth) → Growth → Growth
 growOn rest (grown T) = rest T
 growOn rest (stopped number detail) = stopped number detail
 
+-- the sink whose turn it is
+abbrev pub sinkNow : Plot → ℕ → Neighbour
+sinkNow P turn = sinkAt (far (P .room) (P .source) (P .taps .taps)) (P .taps .count) turn
+
 -- so many turns, from this one on
 unfoldable pub growFrom : ℕ → Plot → ℕ → Tree → Growth
 growFrom zero P turn T = grown T
 growFrom (suc n) P turn T =
-    growOn (growFrom n P (turn + 1)) (growSink P (sinkAt (far (P .room) (P .source) (P .taps .taps)) (P .taps .count) turn) T)
+    growOn (growFrom n P (turn + 1)) (growSink P (sinkNow P turn) T)
 
 unfoldable pub growthOf : Plot → List ℕ → Growth
 growthOf P blocked = growFrom (P .taps .count) P 0 (planted P blocked)

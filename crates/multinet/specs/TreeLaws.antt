@@ -10,7 +10,7 @@ use borrow.Author.Tests.{eqb-true, ltb-true, ltb-false}
 use Rattle.basics.specs.Tests.{ask, never}
 use Rattle.basics.specs.Zeros.{zeros}
 use Rattle.room.specs.Room.{volume}
-use Rattle.routing_resources.specs.Marks.{markedBy, noMarks, isMarked}
+use Rattle.routing_resources.specs.Marks.{noMarks, isMarked}
 use Rattle.routing_resources.specs.MarkLaws.{with-length, with-none, marked-after}
 use Rattle.job_sheet.specs.Sheet.{joined}
 use Rattle.geometry.specs.Geometry.{standsIn, Marks}
@@ -20,7 +20,7 @@ use Rattle.branches.specs.declared.BranchLengths.{BranchLengths}
 use Rattle.branches.specs.BranchLaws.{order-first, lengths-first, joined-nothing}
 use Rattle.multinet.specs.declared.Turned.{Turned}
 use Rattle.multinet.specs.declared.Turned.the-variants.{Grown, Skipped, QueueFull, NoGoal, NoRoom}
-use Rattle.multinet.specs.Tree.{Plot, planted, growFrom, growthOf}
+use Rattle.multinet.specs.Tree.{Plot, planted, growFrom, growthOf, sourceMarks}
 use Rattle.multinet.specs.Growing.{Sound, Sprouted, Growing}
 use Rattle.multinet.specs.Sinks.{Turnable, Came, TurnCame, stopsBy, Recordable, eachBy, recordedBy, Plantable, Turning, Ended, GrowthTold}
 
@@ -31,41 +31,30 @@ unfolding standsIn
 stands-none v = refl
 
 module _ {P : Plot} (S : Sound P) (blocked : List ℕ) where
-  abbrev source-marks : List ℕ
-  source-marks = markedBy (eqb (P .source)) (noMarks (volume (P .room)))
-
-  only-source : (v : ℕ) → isMarked source-marks v ≡ true → v ≡ P .source
+  only-source : (v : ℕ) → isMarked (sourceMarks (P .room) (P .source)) v ≡ true → v ≡ P .source
   only-source v e =
       ask (eqb (P .source) v) (λ t. sym (eqb-true (P .source) v t))
-      (λ f. let m : isMarked source-marks v ≡ false = not-marked v f in none (sym m ∙ e))
+      (λ f. let m : isMarked (sourceMarks (P .room) (P .source)) v ≡ false = not-marked v f in never (cc (sym m ∙ e)))
     where
-      none : false ≡ true → v ≡ P .source
-      none q = never (cc)
-
-      not-marked : (u : ℕ) → eqb (P .source) u ≡ false → isMarked source-marks u ≡ false
+      not-marked : (u : ℕ) → eqb (P .source) u ≡ false → isMarked (sourceMarks (P .room) (P .source)) u ≡ false
       not-marked u f = ask (ltb u (volume (P .room)))
           (λ t. let h : u < length (noMarks (volume (P .room))) = rw (length-replicate {A = ℕ} (volume (P .room)) 0) (ltb-true _ _ t) in
           marked-after (eqb (P .source)) (noMarks (volume (P .room))) u h ∙ rw (f, getD-replicate {A = ℕ} (volume (P .room)) u 0 0 (ltb-true _ _ t)))
-          (λ g. let h : length source-marks ≤ u = rw (with-length 1 (eqb (P .source)) (noMarks (volume (P .room))), length-replicate {A = ℕ} (volume (P .room)) 0) (ltb-false _ _ g) in
-          rw (List·getD-eq-default source-marks 0 {n = u} h))
-
-  nothing-yet : joined (replicate {A = List ℕ} (P .taps .count) []) ≡ []
-  nothing-yet = joined-nothing (P .taps .count)
+          (λ g. let h : length (sourceMarks (P .room) (P .source)) ≤ u = rw (with-length 1 (eqb (P .source)) (noMarks (volume (P .room))), length-replicate {A = ℕ} (volume (P .room)) 0) (ltb-false _ _ g) in
+          rw (List·getD-eq-default (sourceMarks (P .room) (P .source)) 0 {n = u} h))
 
   pub planted-sprouts : length blocked ≡ volume (P .room) → Marks blocked → Sprouted P 0 (planted P blocked)
   unfolding planted
   planted-sprouts long marks = record {
-    occupied-is = sym (with-none 1 _ source-marks (λ v h. rw nothing-yet (stands-none v)));
+    occupied-is = sym (with-none 1 _ (sourceMarks (P .room) (P .source)) (λ v h. rw (joined-nothing (P .taps .count)) (stands-none v)));
     joinable-long = with-length 1 (eqb (P .source)) (noMarks (volume (P .room))) ∙ length-replicate {A = ℕ} (volume (P .room)) 0;
     joinable-marks = marks-with 1 (omega arith) (eqb (P .source)) (noMarks (volume (P .room))) (marks-none (volume (P .room)));
-    alone = no-pair-one (P .room) (S .good) (isMarked source-marks) (P .source) only-source;
+    alone = no-pair-one (P .room) (S .good) (isMarked (sourceMarks (P .room) (P .source))) (P .source) only-source;
     blocked-long = long;
     blocked-marks = marks;
     count-is = length-replicate {A = List ℕ} (P .taps .count) [];
     none-yet = λ k h g. getD-replicate {A = List ℕ} (P .taps .count) k [] [] h;
-    has = λ k h g. absurd (omega arith);
-    short = λ k h. rw (getD-replicate {A = List ℕ} (P .taps .count) k [] [] h) (omega arith);
-    cells-in = λ k h. rw (getD-replicate {A = List ℕ} (P .taps .count) k [] [] h) (record { inside = λ i g. absurd (omega arith) });
+    cells-in = λ k h. rw (getD-replicate {A = List ℕ} (P .taps .count) k [] [] h) (record { below = λ i g. absurd (omega arith) });
     steps = λ k h. rw (getD-replicate {A = List ℕ} (P .taps .count) k [] [] h) (tt {0});
   }
 
@@ -73,7 +62,7 @@ module _ {P : Plot} {joinable blocked classes known previous path best : List �
   first-growing : (branches : List ℕ) → P .buffer ≡ length branches → Growing P blocked branches 0 joinable blocked branches (replicate 16 0)
   unfolding growthOf planted
   first-growing branches b =
-      let z : length (joined (replicate {A = List ℕ} (P .taps .count) [])) ≡ 0 = ap length (nothing-yet (A .sound) blocked) in
+      let z : length (joined (replicate {A = List ℕ} (P .taps .count) [])) ≡ 0 = ap length (joined-nothing (P .taps .count)) in
       record {
         tree = planted P blocked;
         joinable-is = A .joinable-is;

@@ -6,7 +6,7 @@ use room::Room;
 ghost use Rattle.multinet.specs.Adding.{Addable, BranchAdded, Placeable, BranchPlaced};
 
 // "All but the last cell become joinable; .. the branch's clearances become blocked." The branch, of `len` cells, comes to
-// stand at `at` of the branch buffer. Occupied is what stands there at last.
+// stand at `at` of the branch buffer. The occupied marks are made at the end, from the whole buffer (`finish_tree`).
 fn add_branch(
     room: Room,
     at: usize,

@@ -15,8 +15,8 @@ ghost use Rattle.multinet.specs.declared.Turned.{Turned};
 ghost use Rattle.goals.specs.Goals.{routeToTree};
 ghost use Rattle.goals.specs.Trials.{Tells, siteOf};
 ghost use Rattle.room.specs.declared.Neighbour.{Neighbour};
-ghost use Rattle.multinet.specs.GrowingLaws.{sinkNow};
 ghost use Rattle.multinet.specs.Sinks.{Findable, plotOf, Turnable, TurnCame, stopsBy, Recordable, recordedBy, Plantable, GrowthTold};
+ghost use Rattle.multinet.specs.Tree.{sinkNow};
 
 // The cheapest route from a sink's approach to the tree, if there is one. Its path goes to the front of `best`.
 fn find_route(

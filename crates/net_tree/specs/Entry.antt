@@ -29,6 +29,7 @@ use Rattle.net_tree.specs.declared.Answer.{Answer}
 use Rattle.net_tree.specs.declared.Ended.{Ended}
 use Rattle.net_tree.specs.declared.Ended.the-variants.{Routed, Refused}
 use Rattle.net_tree.specs.Answers.{Lent, lengthsOf, buffersGood, Outcome, routed, refused, outcomeOf, jobOutcome, answerOf}
+use Rattle.multinet.specs.Sinks.{stopNumber, stopDetail}
 
 -- what the outputs hold: the answer and zeros behind it; after a number, whatever it was that they held when it was due
 abbrev pub Written : Outcome → (branches branches′ occupied′ repeaters′ : List ℕ) → Type 0
@@ -56,11 +57,7 @@ isWhole (NoRoom place) = false
 
 -- the number that ended the growth
 abbrev pub refusedBy : Turned → Outcome
-refusedBy (Grown k n) = refused 0 0
-refusedBy Skipped = refused 0 0
-refusedBy (QueueFull x) = refused 13 (x .0)
-refusedBy (NoGoal cell) = refused 14 cell
-refusedBy (NoRoom place) = refused 15 place
+refusedBy turned = refused (stopNumber turned) (stopDetail turned)
 
 -- a growth that can be harvested if it is whole
 pub record Gatherable (R : Room) (source : ℕ) (taps : Taps) (g : Growth) (branches occupied repeaters classes known previous path : List ℕ) : Type 0 where

@@ -19,8 +19,8 @@ use Rattle.blocks.specs.declared.Placement.{Placement}
 use Rattle.blocks.specs.Blocks.{kindsOf, nodesOf, BlocksLaid}
 use Rattle.blocks.specs.BlockLaws.{tabulated-long}
 use Rattle.ends.specs.declared.Fault.{Fault}
-use Rattle.ends.specs.Ends.{sinksIn, faultOf, endsOf}
-use Rattle.ends.specs.EndLaws.{NetIn, net-in}
+use Rattle.ends.specs.Ends.{sinksIn, faultOf, endsOf, NetIn}
+use Rattle.ends.specs.EndLaws.{net-in}
 use Rattle.outset.specs.declared.Outset.{Outset}
 use Rattle.outset.specs.Outset.{blockedAtOutset}
 use Rattle.outset.specs.SetOut.{readyBy, numberBy, detailBy, OutsetAsked, OutsetOf, SetOut}

@@ -4,10 +4,10 @@ use mathlib.Core.Bool.{true, false}
 use mathlib.Core.List.{List, [], _++_}
 use Prim.Native.Nat.{ℕ, _+_, _-_, _≤_, _<_}
 use native.Mathlib.Omega.{arith}
-use lib.ListN.{length, drop, replicate, length-append, length-drop, length-replicate}
+use lib.ListN.{length, drop, replicate, length-append, length-drop}
 use borrow.Author.Tests.{lt-ltb, ne-eqb}
 use Rattle.basics.specs.Tests.{never}
-use Rattle.basics.specs.Zeros.{drop-zeros}
+use Rattle.basics.specs.Zeros.{drop-zeros, zeros-long}
 use Rattle.lent.specs.Lent.{touches, filled, outputAfter, workAfter, Emptied}
 use Rattle.room.specs.Room.{volume}
 use Rattle.job_sheet.specs.declared.Job.{Job}
@@ -27,9 +27,6 @@ use Rattle.net_tree.specs.EntryLaws.{enough}
 high : {number : ℕ} → 6 < number → touches number ≡ true
 high {number} h = rw (ne-eqb number 0 (omega arith), lt-ltb 6 number h)
 
-emptied-long : (before : List ℕ) {after : List ℕ} → Emptied before after → length after ≡ length before
-emptied-long before e = ap length e ∙ length-replicate {A = ℕ} (length before) 0
-
 module _ {sheet : List ℕ} {job : Job} {B : Lent} (A : Lendable sheet job B) {branches occupied repeaters : List ℕ}
     (eb : Emptied (B .branches) branches) (eo : Emptied (B .occupied) occupied) (er : Emptied (B .repeaters) repeaters) where
   abbrev pub clean : Lent
@@ -37,9 +34,9 @@ module _ {sheet : List ℕ} {job : Job} {B : Lent} (A : Lendable sheet job B) {b
 
   same-lengths : lengthsOf clean ≡ lengthsOf B
   same-lengths = λ i. record {
-    branches = emptied-long (B .branches) eb i;
-    occupied = emptied-long (B .occupied) eo i;
-    repeaters = emptied-long (B .repeaters) er i;
+    branches = zeros-long {n = length (B .branches)} eb i;
+    occupied = zeros-long {n = length (B .occupied)} eo i;
+    repeaters = zeros-long {n = length (B .repeaters)} er i;
     kinds = length (B .kinds);
     blocked = length (B .blocked);
     classes = length (B .classes);
@@ -56,9 +53,9 @@ module _ {sheet : List ℕ} {job : Job} {B : Lent} (A : Lendable sheet job B) {b
 
   pub clean-cleared : Cleared clean
   clean-cleared = record {
-    branches-clear = eb ∙ ap (λ n. replicate n 0) (sym (emptied-long (B .branches) eb));
-    occupied-clear = eo ∙ ap (λ n. replicate n 0) (sym (emptied-long (B .occupied) eo));
-    repeaters-clear = er ∙ ap (λ n. replicate n 0) (sym (emptied-long (B .repeaters) er));
+    branches-clear = eb ∙ ap (λ n. replicate n 0) (sym (zeros-long {n = length (B .branches)} eb));
+    occupied-clear = eo ∙ ap (λ n. replicate n 0) (sym (zeros-long {n = length (B .occupied)} eo));
+    repeaters-clear = er ∙ ap (λ n. replicate n 0) (sym (zeros-long {n = length (B .repeaters)} er));
   }
 
   -- ---- what comes of the job
@@ -86,14 +83,14 @@ module _ {sheet : List ℕ} {job : Job} {B : Lent} (A : Lendable sheet job B) {b
     marks-behind before {zeros = zeros} marks e h a k =
         let n = volume (job .room) in
         let whole : length marks + length (drop n zeros) ≡ length zeros = sym (length-append marks (drop n zeros)) ∙ ap length (sym a) ∙ k in
-        let m : length marks ≡ n = omega (arith, whole, length-drop n zeros, emptied-long before e, h) in
+        let m : length marks ≡ n = omega (arith, whole, length-drop n zeros, zeros-long {n = length before} e, h) in
         a ∙ ap (λ l. marks ++ l) (ap (drop n) e ∙ drop-zeros n (length before) ∙ ap (λ x. replicate (length before - x) 0) (sym m))
 
     -- a refusal leaves zeros
     refused-after : {number : ℕ} → 6 < number → (buffer mid : List ℕ) {zeros : List ℕ} → length mid ≡ length zeros → Emptied buffer zeros
         → replicate (length mid) 0 ≡ outputAfter number [] buffer
     refused-after {number = number} h buffer mid k e =
-        let z : length buffer - 0 ≡ length mid = omega (arith, k, emptied-long buffer e) in
+        let z : length buffer - 0 ≡ length mid = omega (arith, k, zeros-long {n = length buffer} e) in
         rw (high h) (ap (λ n. replicate n 0) (sym z))
 
     module _ {branches″ occupied″ repeaters″ : List ℕ}
@@ -105,7 +102,7 @@ module _ {sheet : List ℕ} {job : Job} {B : Lent} (A : Lendable sheet job B) {b
 
       outputs : (o : Outcome) → r ≡ answerOf o → Written o branches branches′ (F .occupied-front) (F .repeaters-front) → Outputs o
       outputs (routed bs marks repeating) a w = record {
-        branches-are = sb ∙ ap (λ x. settledBy (x .ended) branches′) a ∙ w .0 ∙ ap (λ n. joined bs ++ replicate (n - length (joined bs)) 0) (emptied-long (B .branches) eb);
+        branches-are = sb ∙ ap (λ x. settledBy (x .ended) branches′) a ∙ w .0 ∙ ap (λ n. joined bs ++ replicate (n - length (joined bs)) 0) (zeros-long {n = length (B .branches)} eb);
         occupied-are =
             so ∙ ap (λ x. settledBy (x .ended) occupied′) a
             ∙ marks-behind (B .occupied) marks eo (enough A .occupied-room) (F .occupied-is ∙ ap (λ l. l ++ drop (volume (job .room)) occupied) (w .1)) ko;

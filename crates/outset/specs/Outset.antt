@@ -1,22 +1,27 @@
 -- "Blocked at the outset", as "The tree of one net" of the requirement has it: which cells no branch may enter when the first search starts.
 -- Definitions alone; their laws are in OutsetLaws.
+use mathlib.Core.Path.{_≡_}
 use mathlib.Core.Bool.{Bool, true, false, not, _&&_, _||_}
 use mathlib.Core.List.{List}
-use Prim.Native.Nat.{ℕ, _+_}
+use Prim.Native.Nat.{ℕ, _+_, _<_}
 use lib.Dec.{eqb}
-use lib.ListN.{getD}
+use lib.ListN.{length, getD}
 use Rattle.basics.specs.Tests.{either}
 use Rattle.basics.specs.Lists.{any}
-use Rattle.ends.specs.Ends.{tapsIn}
+use Rattle.ends.specs.Ends.{tapsIn, NetIn}
 use Rattle.room.specs.declared.Room.{Room}
 use Rattle.room.specs.declared.Pos.{Pos}
 use Rattle.room.specs.declared.Neighbour.{Neighbour}
-use Rattle.room.specs.Room.{volume, cellOf, beneath}
+use Rattle.room.specs.Room.{Good, volume, cellOf, beneath}
 use Rattle.room.specs.Units.{air, solid, redstoneTorch, repeater, lever, redstoneBlock, ahead}
 use Rattle.routing_resources.specs.Marks.{markedBy, noMarks, isCell}
 use Rattle.routing_resources.specs.Resources.{inKeepout}
 use Rattle.job_sheet.specs.declared.Block.{Block}
+use Rattle.job_sheet.specs.declared.Part.{Part}
+use Rattle.job_sheet.specs.declared.Job.{Job}
 use Rattle.job_sheet.specs.Sheet.{Contents}
+use Rattle.job_sheet.specs.Accepted.{PositionList, Usable}
+use Rattle.job_sheet.specs.Places.{positionsIn}
 use Rattle.ends.specs.declared.Tap.{Tap}
 use Rattle.ends.specs.declared.Taps.{Taps}
 
@@ -72,3 +77,34 @@ ownCell R source k v = atOrBeneath R v source || any (tapCell R v) (tapsIn k)
 unfoldable pub blockedAtOutset : List ℕ → List ℕ → Contents → ℕ → Taps → List ℕ
 blockedAtOutset kinds nodes J source k =
     markedBy (λ v. blockedBy kinds nodes J v && not (ownCell (J .room) source k v)) (noMarks (volume (J .room)))
+
+-- ---- what the functions ask
+
+-- a list of positions in a room, and marks of its cells
+pub record PositionsListed (sheet : List ℕ) (R : Room) (p : Part) (marks : List ℕ) : Type 0 where
+  pub good : Good R
+  pub list : PositionList sheet R p (positionsIn sheet p)
+  pub long : length marks ≡ volume R
+
+-- one entry a cell in each
+pub record Sized (R : Room) (kinds nodes marks : List ℕ) : Type 0 where
+  pub good : Good R
+  pub kinds-long : length kinds ≡ volume R
+  pub nodes-long : length nodes ≡ volume R
+  pub long : length marks ≡ volume R
+
+-- an output cell, where there is one, is in the room
+pub record OutputKnown (R : Room) (kinds nodes : List ℕ) (output : Neighbour) (marks : List ℕ) : Type 0 where
+  pub sized : Sized R kinds nodes marks
+  pub output-in : (v : ℕ) → output ≡ Neighbour.Inside v → v < volume R
+
+-- an accepted sheet, the room's blocks, a net whose ends are in the room, and cleared marks
+pub record OutsetReady (sheet : List ℕ) (job : Job) (source : ℕ) (k : Taps) (kinds nodes marks : List ℕ) : Type 0 where
+  pub contents : Contents
+  pub usable : Usable sheet job contents
+  pub sized : Sized (job .room) kinds nodes marks
+  pub net : NetIn (job .room) source k
+  pub clear : marks ≡ noMarks (volume (job .room))
+
+pub record OutsetMarked (sheet : List ℕ) (job : Job) (source : ℕ) (k : Taps) (kinds nodes marks : List ℕ) : Type 0 where
+  pub is : (J : Contents) → Usable sheet job J → marks ≡ blockedAtOutset kinds nodes J source k

@@ -2,76 +2,25 @@
 use mathlib.Core.Path.{_≡_, refl, sym, ap, _∙_}
 use mathlib.Core.Bool.{Bool, true, false, not, _&&_, _||_}
 use mathlib.Core.List.{List}
-use Prim.Native.Nat.{ℕ, _+_, _≤_, _<_}
-use native.Mathlib.Numerals.{add-one}
+use Prim.Native.Nat.{ℕ}
 use lib.Dec.{eqb}
-use lib.ListN.{length, getD, drop, drop-of-length-le}
-use lib.Seq.{drop-cons}
 use Rattle.basics.specs.Lists.{any}
 use Rattle.room.specs.declared.Room.{Room}
 use Rattle.room.specs.declared.Pos.{Pos}
 use Rattle.room.specs.declared.Neighbour.{Neighbour}
-use Rattle.room.specs.Room.{Good, volume, cellOf, beneath}
+use Rattle.room.specs.Room.{volume, cellOf, beneath}
 use Rattle.room.specs.Units.{repeater, ahead}
 use Rattle.routing_resources.specs.Marks.{withByte, markedBy, unmarkedBy, noMarks, isCell}
-use Rattle.routing_resources.specs.MarkLaws.{Turn, next-turn, last-turn, with-none, with-same, with-or, taken-out}
+use Rattle.routing_resources.specs.MarkLaws.{with-none, with-same, with-or, taken-out}
 use Rattle.routing_resources.specs.Resources.{inKeepout}
 use Rattle.job_sheet.specs.declared.Block.{Block}
-use Rattle.job_sheet.specs.declared.Part.{Part}
 use Rattle.job_sheet.specs.declared.Job.{Job}
-use Rattle.job_sheet.specs.Sheet.{Contents, positionSize}
-use Rattle.job_sheet.specs.Accepted.{PositionList, Usable}
-use Rattle.job_sheet.specs.Places.{positionIn, positionsIn, blocksIn}
-use Rattle.job_sheet.specs.RecordLaws.{many-long}
+use Rattle.job_sheet.specs.Sheet.{Contents}
+use Rattle.job_sheet.specs.Places.{positionsIn, blocksIn}
 use Rattle.ends.specs.declared.Tap.{Tap}
 use Rattle.ends.specs.declared.Taps.{Taps}
 use Rattle.ends.specs.Ends.{tapsIn}
-use Rattle.ends.specs.EndLaws.{NetIn}
-use Rattle.outset.specs.Outset.{standsAt, nearConductor, blockedBy, powers, solidOf, outputKeepout, sourceKeepout, atOrBeneath, tapCell, ownCell, blockedAtOutset}
-
--- ---- what the functions ask
-
--- a list of positions in a room, and marks of its cells
-pub record Listed (sheet : List ℕ) (R : Room) (p : Part) (marks : List ℕ) : Type 0 where
-  pub good : Good R
-  pub list : PositionList sheet R p (positionsIn sheet p)
-  pub long : length marks ≡ volume R
-
--- one entry a cell in each
-pub record Sized (R : Room) (kinds nodes marks : List ℕ) : Type 0 where
-  pub good : Good R
-  pub kinds-long : length kinds ≡ volume R
-  pub nodes-long : length nodes ≡ volume R
-  pub long : length marks ≡ volume R
-
--- an output cell, where there is one, is in the room
-pub record OutputKnown (R : Room) (kinds nodes : List ℕ) (output : Neighbour) (marks : List ℕ) : Type 0 where
-  pub sized : Sized R kinds nodes marks
-  pub output-in : (v : ℕ) → output ≡ Neighbour.Inside v → v < volume R
-
--- ---- a list of positions is as long as its count
-
-pub positions-long : (s : List ℕ) (p : Part) → length (positionsIn s p) ≡ p .count
-unfolding positionsIn
-positions-long s p = many-long (λ l. positionIn l 0) positionSize (p .count) (drop (p .from) s)
-
--- ---- a loop that marks, one record a turn, each cell for which a test of the record passes
-
--- the cells of the records from the k-th on
-abbrev pub restOf : {X : Type 0} → (ℕ → X → Bool) → List X → ℕ → ℕ → Bool
-restOf test xs k v = any (test v) (drop k xs)
-
-module _ {X : Type 0} (test : ℕ → X → Bool) (xs : List X) where
-  from-here : (k : ℕ) (d : X) → k < length xs → (v : ℕ) → restOf test xs k v ≡ test v (getD xs k d) || restOf test xs (k + 1) v
-  from-here k d h v = rw add-one (ap (any (test v)) (drop-cons xs k d h))
-
-  module _ {byte : ℕ} {start marks : List ℕ} {k : ℕ} (turn : Turn byte (restOf test xs) start marks k) where
-    pub turn-on : (d x : X) → x ≡ getD xs k d → k < length xs → {marks′ : List ℕ} → marks′ ≡ withByte byte (λ v. test v x) marks
-        → Turn byte (restOf test xs) start marks′ (k + 1)
-    turn-on d x s h e = next-turn turn (λ v. test v x) e (λ v. from-here k d h v ∙ ap (λ y. test v y || restOf test xs (k + 1) v) (sym s))
-
-    pub turn-done : length xs ≤ k → marks ≡ withByte byte (λ v. any (test v) xs) start
-    turn-done h = last-turn turn (λ v. ap (any (test v)) (drop-of-length-le xs h))
+use Rattle.outset.specs.Outset.{standsAt, nearConductor, blockedBy, powers, solidOf, outputKeepout, sourceKeepout, atOrBeneath, tapCell, ownCell, blockedAtOutset, OutsetReady, OutsetMarked}
 
 -- ---- the keepout that a block asks for
 
@@ -132,17 +81,6 @@ unfolding blockedAtOutset blockedBy
 said-by kinds nodes source k J R cs ls ts rs bs r c l t s b = rw (r, c, l, t, s, b) refl
 
 -- ---- all of it
-
--- an accepted sheet, the room's blocks, a net whose ends are in the room, and cleared marks
-pub record OutsetReady (sheet : List ℕ) (job : Job) (source : ℕ) (k : Taps) (kinds nodes marks : List ℕ) : Type 0 where
-  pub contents : Contents
-  pub usable : Usable sheet job contents
-  pub sized : Sized (job .room) kinds nodes marks
-  pub net : NetIn (job .room) source k
-  pub clear : marks ≡ noMarks (volume (job .room))
-
-pub record OutsetMarked (sheet : List ℕ) (job : Job) (source : ℕ) (k : Taps) (kinds nodes marks : List ℕ) : Type 0 where
-  pub is : (J : Contents) → Usable sheet job J → marks ≡ blockedAtOutset kinds nodes J source k
 
 -- marked five times, then taken out
 five-marked : (p₁ p₂ p₃ p₄ p₅ q : ℕ → Bool) (n : ℕ) {m₀ m₁ m₂ m₃ m₄ m₅ m₆ : List ℕ} → m₀ ≡ noMarks n

@@ -23,11 +23,10 @@ use Rattle.blocks.specs.BlockLaws as blocks
 use Rattle.blocks.specs.BlockLaws.{tabulated-long, own-list, blocks-laid-for}
 use Rattle.ends.specs.declared.Ends.{Ends}
 use Rattle.ends.specs.declared.Fault.{Fault}
-use Rattle.ends.specs.Ends.{sinksIn, endsOf}
-use Rattle.ends.specs.EndLaws.{SinksWithin, NetIn, net-in}
+use Rattle.ends.specs.Ends.{sinksIn, endsOf, SinksWithin, NetIn}
+use Rattle.ends.specs.EndLaws.{net-in}
 use Rattle.outset.specs.declared.Outset.{Outset}
-use Rattle.outset.specs.Outset.{blockedAtOutset}
-use Rattle.outset.specs.OutsetLaws.{OutsetReady, OutsetMarked}
+use Rattle.outset.specs.Outset.{blockedAtOutset, OutsetReady, OutsetMarked}
 use Rattle.outset.specs.SetOut.{readyBy, OutsetOf, SetOut}
 
 -- no number is due: the blocks are placed, and the ends are good

@@ -19,15 +19,14 @@ ghost use mathlib.Core.Bool.{_||_};
 ghost use Prim.Native.Nat.{_<_};
 ghost use lib.Dec.{eqb};
 ghost use lib.ListN.{length};
-ghost use Rattle.ends.specs.EndLaws.{NetIn};
 ghost use Rattle.routing_resources.specs.Resources.{inKeepout};
 ghost use Rattle.basics.specs.Lists.{any};
 ghost use Rattle.room.specs.Room.{Good, volume};
 ghost use Rattle.routing_resources.specs.Marks.{markedBy, unmarkedBy};
 ghost use Rattle.job_sheet.specs.Accepted.{SoundBlock, BlockList};
 ghost use Rattle.job_sheet.specs.Places.{positionsIn, blocksIn};
-ghost use Rattle.outset.specs.Outset.{standsAt, nearConductor, powers, solidOf, outputKeepout, sourceKeepout, atOrBeneath, tapCell, ownCell};
-ghost use Rattle.outset.specs.OutsetLaws.{Listed, Sized, OutputKnown, OutsetReady, OutsetMarked};
+ghost use Rattle.outset.specs.Outset.{standsAt, nearConductor, powers, solidOf, outputKeepout, sourceKeepout, atOrBeneath, tapCell, ownCell, PositionsListed, Sized, OutputKnown, OutsetReady, OutsetMarked};
+ghost use Rattle.ends.specs.Ends.{NetIn};
 
 // A tree set out: where the blocks stand, and the ends.
 pub struct Outset {
@@ -37,7 +36,7 @@ pub struct Outset {
 
 // Marks the cells of a list of positions.
 fn mark_positions(sheet: &[u8], part: Part, room: Room, marks: &mut [u8])
-    requires { ⌜ Listed (now sheet) room part (now marks) ⌝ }
+    requires { ⌜ PositionsListed (now sheet) room part (now marks) ⌝ }
     ensures { λ _. ⌜ now (marks .exit) ≡ markedBy (λ v. any (standsAt room v) (positionsIn (now (sheet .entry)) part)) (now (marks .entry)) ⌝ }
 {
     let mut i: usize = 0;
@@ -61,7 +60,7 @@ fn mark_conductor(room: Room, marks: &mut [u8], cell: usize)
 
 // Marks other nets' conductors and their keepouts.
 fn mark_conductors(sheet: &[u8], part: Part, room: Room, marks: &mut [u8])
-    requires { ⌜ Listed (now sheet) room part (now marks) ⌝ }
+    requires { ⌜ PositionsListed (now sheet) room part (now marks) ⌝ }
     ensures { λ _. ⌜ now (marks .exit) ≡ markedBy (λ v. any (nearConductor room v) (positionsIn (now (sheet .entry)) part)) (now (marks .entry)) ⌝ }
 {
     let mut i: usize = 0;

@@ -39,7 +39,6 @@ approach-in R terminal facing approach h e =
 
 -- what is known of a sink that is realized
 pub record Ends (R : Room) (p : Pos) (port facing terminal approach : ℕ) : Type 0 where
-  pub terminal-is : terminalOf R p port facing ≡ Terminal.At terminal
   pub approach-is : approachOf R terminal facing ≡ Neighbour.Inside approach
   pub terminal-below : terminal < volume R
   pub approach-below : approach < volume R
@@ -57,7 +56,7 @@ ends R p w port facing terminal approach e = go _ refl e
         let b : terminalOf R p port facing ≡ Terminal.At terminal = cc in
         let c : approachOf R terminal facing ≡ Neighbour.Inside approach = cc in
         let h = terminal-in R p w port facing terminal b in
-        record { terminal-is = b; approach-is = c; terminal-below = h; approach-below = approach-in R terminal facing approach h c }
+        record { approach-is = c; terminal-below = h; approach-below = approach-in R terminal facing approach h c }
     met t o Neighbour.Outside n q = never (cc)
 
     go : (t : Terminal) → terminalOf R p port facing ≡ t → withApproach R facing t ≡ Realized.At terminal approach → Ends R p port facing terminal approach

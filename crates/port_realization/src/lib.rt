@@ -57,7 +57,7 @@ fn with_approach(room: Room, terminal: usize, facing: u8) -> Realized
     Realized::At { terminal, approach }
 }
 
-// A source has no approach, so it is realized by its terminal alone.
+// The terminal and the approach of a sink. A source has a terminal alone.
 pub fn realize_sink_endpoint(room: Room, at: Pos, port: u8, facing: u8) -> Realized
     requires { ⌜ Good room ⌝ }
     requires { ⌜ Within room at ⌝ }

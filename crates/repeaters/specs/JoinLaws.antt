@@ -1,6 +1,6 @@
 -- Laws of the masks: their bits, and that joining cells adds to the relation that they hold.
 use mathlib.Core.Path.{_≡_, refl, sym, ap, _∙_}
-use mathlib.Core.Bool.{Bool, true, false, _&&_, _||_}
+use mathlib.Core.Bool.{Bool, true, false, _&&_, _||_, or-assoc, or-comm}
 use mathlib.Core.List.{List}
 use Prim.Native.Nat.{ℕ, zero, suc, _+_, _-_, _/_, _%_, _^_, _≤_, _<_}
 use native.Mathlib.Nat.{le-of-suc-le-suc, not-suc-le-zero, pow-zero, pow-suc, pow-succ', div-one, div-div-eq-div-mul}
@@ -10,18 +10,19 @@ use lib.Dec.{eqb, ltb, eqb·suc-suc, eqb·zero-suc, eqb·suc-zero}
 use lib.ListN.{getD, set, replicate, length-set, length-replicate, getD-replicate}
 use lib.Seq.{getD-set-same, getD-set-other}
 use borrow.Author.Tests.{eq-eqb, ne-eqb, eqb-true, eqb-false, ltb-true}
-use Rattle.basics.specs.Tests.{ask, and-left, and-right, never}
-use Rattle.basics.specs.Lists.{In, every-in, in-at}
+use Rattle.basics.specs.Tests.{ask, never}
+use Rattle.basics.specs.Lists.{In, every-in, in-at, allBelow, below-all}
 use Rattle.room.specs.declared.Room.{Room}
 use Rattle.room.specs.declared.Pos.{Pos}
 use Rattle.room.specs.declared.Move.{Move}
 use Rattle.room.specs.declared.Neighbour.{Neighbour}
-use Rattle.room.specs.Room.{Good, Moved, volume, posOf, by, moves, neighbour}
+use Rattle.room.specs.Room.{Good, Moved, volume, posOf, by, moves, moveAt, holdsAt, neighbour}
 use Rattle.room.specs.RoomLaws.{small-pos}
-use Rattle.room.specs.MoveLaws.{leads, small, symmetric, opposite, opposite-in}
+use Rattle.room.specs.MoveLaws.{leads, small, symmetric, opposite, opposite-in, sameMove, same-move}
+use Rattle.best_first.specs.Statements.{bit}
 use Rattle.repeaters.specs.Repeaters.{isStep}
-use Rattle.repeaters.specs.Links.{numberOrder, moveAt, orderedMoves, orderedMove}
-use Rattle.repeaters.specs.Joins.{Step, bit, maskOf, onPlace, isLink, Masks, Masked, withLink, Joined, moveIndex, moveBetween, stepIndex}
+use Rattle.repeaters.specs.Links.{numberOrder, orderedMoves, orderedMove}
+use Rattle.repeaters.specs.Joins.{Step, maskOf, isLink, Masks, Masked, withLink, Joined, moveIndex, moveBetween, stepIndex}
 
 -- ---- bits
 
@@ -72,36 +73,14 @@ mask-add (suc n) f (suc k) h e =
 
 -- ---- the number of a move
 
--- one computed test shows a rule of every number below n
-unfoldable pub allBelow : (ℕ → Bool) → ℕ → Bool
-allBelow p zero = true
-allBelow p (suc n) = p n && allBelow p n
-
-pub below : (p : ℕ → Bool) (n : ℕ) → allBelow p n ≡ true → (k : ℕ) → k < n → p k ≡ true
-unfolding allBelow
-below p zero e k h = absurd (not-suc-le-zero h)
-below p (suc n) e k h =
-    ask (eqb k n) (λ t. rw (eqb-true k n t) (and-left (p n) (allBelow p n) e))
-    (λ f. below p n (and-right (p n) (allBelow p n) e) k (omega (arith, eqb-false k n f)))
-
-abbrev sameMove : Move → Move → Bool
-sameMove a b = eqb (a .x) (b .x) && (eqb (a .y) (b .y) && eqb (a .z) (b .z))
-
-same-move : (a b : Move) → sameMove a b ≡ true → a ≡ b
-same-move a b e =
-    let p : a .x ≡ b .x = eqb-true _ _ (and-left _ _ e) in
-    let q : a .y ≡ b .y = eqb-true _ _ (and-left _ _ (and-right (eqb (a .x) (b .x)) _ e)) in
-    let r : a .z ≡ b .z = eqb-true _ _ (and-right (eqb (a .y) (b .y)) _ (and-right (eqb (a .x) (b .x)) _ e)) in
-    λ i. record { x = p i; y = q i; z = r i }
-
 -- the moves in number order are the room's
 pub order-in : (k : ℕ) → k < 12 → getD numberOrder k 0 < 12
 unfolding allBelow
-order-in k h = ltb-true (getD numberOrder k 0) 12 (below (λ j. ltb (getD numberOrder j 0) 12) 12 refl k h)
+order-in k h = ltb-true (getD numberOrder k 0) 12 (below-all (λ j. ltb (getD numberOrder j 0) 12) 12 refl k h)
 
 pub order-is : (k : ℕ) → k < 12 → moveAt (getD numberOrder k 0) ≡ orderedMove k
 unfolding allBelow orderedMoves moves
-order-is k h = same-move _ _ (below (λ j. sameMove (moveAt (getD numberOrder j 0)) (orderedMove j)) 12 refl k h)
+order-is k h = same-move _ _ (below-all (λ j. sameMove (moveAt (getD numberOrder j 0)) (orderedMove j)) 12 refl k h)
 
 pub ordered-in : (k : ℕ) → k < 12 → In (orderedMove k) moves
 unfolding moves
@@ -119,7 +98,7 @@ ordered-index m i = same-move _ m (every-in (λ k. sameMove (orderedMove (moveIn
 -- and no two have one
 index-ordered : (k : ℕ) → k < 12 → moveIndex (orderedMove k) ≡ k
 unfolding allBelow orderedMoves moveIndex moves
-index-ordered k h = eqb-true _ k (below (λ j. eqb (moveIndex (orderedMove j)) j) 12 refl k h)
+index-ordered k h = eqb-true _ k (below-all (λ j. eqb (moveIndex (orderedMove j)) j) 12 refl k h)
 
 between-is : (p q : Pos) (m : Move) → Moved p m q → moveBetween p q ≡ m
 between-is p q m v =
@@ -191,7 +170,7 @@ masks-same {R} {p} {q} s M = record {
   bits = λ u h. M .bits u h ∙ mask-same 12 (isLink R p u) (isLink R q u) (λ k l. one u (neighbour R u (orderedMove k)));
 }
   where
-    one : (u : ℕ) (place : Neighbour) → onPlace (p u) place ≡ onPlace (q u) place
+    one : (u : ℕ) (place : Neighbour) → holdsAt (p u) place ≡ holdsAt (q u) place
     one u (Neighbour.Inside v) = s u v
     one u Neighbour.Outside = refl
 
@@ -203,7 +182,7 @@ masks-none R = record {
       ∙ sym (mask-same 12 (isLink R (λ a b. false) u) (λ k. false) (λ k l. one (neighbour R u (orderedMove k))) ∙ mask-none 12);
 }
   where
-    one : (place : Neighbour) → onPlace (λ b. false) place ≡ false
+    one : (place : Neighbour) → holdsAt (λ b. false) place ≡ false
     one (Neighbour.Inside v) = refl
     one Neighbour.Outside = refl
 
@@ -233,7 +212,7 @@ module _ {R : Room} {a b : ℕ} (s : Step R a b) (p : ℕ → ℕ → Bool) wher
   same-bits : (u k : ℕ) → (a ≡ u → ⊥) → isLink R p u k ≡ isLink R (withLink a b p) u k
   same-bits u k n = one (neighbour R u (orderedMove k))
     where
-      one : (place : Neighbour) → onPlace (p u) place ≡ onPlace (withLink a b p u) place
+      one : (place : Neighbour) → holdsAt (p u) place ≡ holdsAt (withLink a b p u) place
       one (Neighbour.Inside v) = rw (ne-eqb a u n)
       one Neighbour.Outside = refl
 
@@ -278,15 +257,6 @@ module _ {R : Room} {a b : ℕ} (s : Step R a b) (p : ℕ → ℕ → Bool) wher
 
 -- ---- cells are joined one after the other
 
-or-both : (a b c : Bool) → (b || (a || c)) ≡ ((a || b) || c)
-or-both true true c = refl
-or-both true false c = refl
-or-both false b c = refl
-
-pub or-false : (a : Bool) → a || false ≡ a
-or-false true = refl
-or-false false = refl
-
 pub masked-none : {R : Room} {links : List ℕ} → links ≡ replicate (volume R) 0 → Masked R links
 masked-none {R} e = record { relation = λ u v. false; masks = rw e (masks-none R) }
 
@@ -316,12 +286,8 @@ module _ {R : Room} where
       → Joined R (λ u v. eqb a u && eqb b v) links′ links″ → Joined R (isStep a b) links links″
   unfolding isStep
   joined-both a b J K = record {
-    goes = λ p M. masks-same (λ u v. regroup (eqb a u && eqb b v) (eqb b u && eqb a v) (p u v)) (K .goes _ (J .goes p M));
+    goes = λ p M. masks-same (λ u v. sym (or-assoc (eqb a u && eqb b v) (eqb b u && eqb a v) (p u v))) (K .goes _ (J .goes p M));
   }
-    where
-      regroup : (x y z : Bool) → (x || (y || z)) ≡ ((x || y) || z)
-      regroup true y z = refl
-      regroup false y z = refl
 
 -- joining in turns: what is left to add, with what was added to the relation of the start, makes all with it
 pub record Added (R : Room) (left all p : ℕ → ℕ → Bool) (links : List ℕ) : Type 0 where
@@ -348,7 +314,10 @@ module _ {R : Room} where
           record {
             relation = λ u v. more u v || N .relation u v;
             masks = J .goes (N .relation) (N .masks);
-            same = λ u v. or-both (more u v) (left′ u v) (N .relation u v) ∙ ap (λ (x : Bool). x || N .relation u v) (sym (s u v)) ∙ N .same u v;
+            same = λ u v.
+                sym (or-assoc (left′ u v) (more u v) (N .relation u v))
+                ∙ ap (λ (x : Bool). x || N .relation u v) (or-comm (left′ u v) (more u v) ∙ sym (s u v))
+                ∙ N .same u v;
           };
     }
 

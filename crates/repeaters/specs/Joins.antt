@@ -1,6 +1,6 @@
 -- The masks of a tree: which relation they hold, and what joining two cells does to it.
 use mathlib.Core.Path.{_≡_}
-use mathlib.Core.Bool.{Bool, true, false, _&&_, _||_}
+use mathlib.Core.Bool.{Bool, _&&_, _||_}
 use mathlib.Core.List.{List, [], _∷_}
 use Prim.Native.Nat.{ℕ, zero, suc, _+_, _-_, _*_, _/_, _≤_, _<_}
 use lib.Dec.{eqb}
@@ -11,7 +11,8 @@ use Rattle.room.specs.declared.Room.{Room}
 use Rattle.room.specs.declared.Pos.{Pos}
 use Rattle.room.specs.declared.Move.{Move}
 use Rattle.room.specs.declared.Neighbour.{Neighbour}
-use Rattle.room.specs.Room.{volume, posOf, by, moves, neighbour}
+use Rattle.room.specs.Room.{volume, posOf, by, moves, holdsAt, neighbour}
+use Rattle.best_first.specs.Statements.{bit}
 use Rattle.branches.specs.declared.BranchLengths.{BranchLengths}
 use Rattle.branches.specs.Branches.{total, lengthsIn}
 use Rattle.repeaters.specs.Repeaters.{branchesOf}
@@ -43,22 +44,14 @@ pub record Laid (R : Room) (L : BranchLengths) (cells : List ℕ) : Type 0 where
 
 -- ---- the masks
 
-abbrev pub bit : Bool → ℕ
-bit true = 1
-bit false = 0
-
 -- the mask of n bits
 unfoldable pub maskOf : ℕ → (ℕ → Bool) → ℕ
 maskOf zero f = 0
 maskOf (suc n) f = maskOf n (λ k. f (suc k)) * 2 + bit (f zero)
 
-abbrev pub onPlace : (ℕ → Bool) → Neighbour → Bool
-onPlace p (Neighbour.Inside v) = p v
-onPlace p Neighbour.Outside = false
-
 -- the k-th move leads from u to a cell that is related to it
 abbrev pub isLink : Room → (ℕ → ℕ → Bool) → ℕ → ℕ → Bool
-isLink R p u k = onPlace (p u) (neighbour R u (orderedMove k))
+isLink R p u k = holdsAt (p u) (neighbour R u (orderedMove k))
 
 -- the masks hold this relation
 pub record Masks (R : Room) (p : ℕ → ℕ → Bool) (links : List ℕ) : Type 0 where

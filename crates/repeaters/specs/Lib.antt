@@ -10,7 +10,6 @@ pub mod Roots
 pub mod RootLaws
 pub mod Runs
 pub mod RunLaws
-pub mod Tails
 pub mod TailLaws
 pub mod Sinks
 pub mod SinkLaws

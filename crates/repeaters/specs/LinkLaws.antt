@@ -2,13 +2,12 @@
 use mathlib.Core.Path.{_≡_, sym, ap, _∙_}
 use mathlib.Core.Bool.{true, false}
 use mathlib.Core.List.{List, []}
-use Prim.Native.Nat.{ℕ, _+_, _-_, _/_, _%_, _≤_, _<_}
-use native.Mathlib.Numerals.{add-one}
+use Prim.Native.Nat.{ℕ, _+_, _/_, _%_, _≤_, _<_}
 use native.Mathlib.Omega.{arith}
 use lib.Dec.{eqb}
 use lib.ListN.{length, drop}
-use lib.Seq.{drop-cons}
 use Rattle.basics.specs.Tests.{ask, never}
+use Rattle.basics.specs.Lists.{drop-next}
 use Rattle.room.specs.declared.Room.{Room}
 use Rattle.room.specs.declared.Pos.{Pos}
 use Rattle.room.specs.declared.Neighbour.{Neighbour}
@@ -27,7 +26,7 @@ cellsLeft R p rest k = cellsBy R p rest (drop k orderedMoves)
 module _ (R : Room) (p : Pos) (rest k : ℕ) where
   pub cells-more : k < 12 → cellsLeft R p rest k ≡ consPlace (linkedPlace R p rest (orderedMove k)) (cellsLeft R p (rest / 2) (k + 1))
   unfolding cellsBy orderedMoves moves
-  cells-more h = rw (add-one, drop-cons orderedMoves k (by 0 0 0) h)
+  cells-more h = rw (drop-next orderedMoves k (by 0 0 0) h)
 
   pub cells-none : k ≤ 12 → 12 ≤ k → cellsLeft R p rest k ≡ []
   unfolding cellsBy orderedMoves moves

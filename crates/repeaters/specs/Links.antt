@@ -11,16 +11,13 @@ use Rattle.room.specs.declared.Room.{Room}
 use Rattle.room.specs.declared.Pos.{Pos}
 use Rattle.room.specs.declared.Move.{Move}
 use Rattle.room.specs.declared.Neighbour.{Neighbour}
-use Rattle.room.specs.Room.{Good, volume, posOf, by, moves, neighbourAt}
-use Rattle.routing_resources.specs.Resources.{AllCells}
+use Rattle.room.specs.Room.{Good, volume, posOf, by, moveAt, neighbourAt}
 use Rattle.repeaters.specs.Repeaters.{fits}
+use Rattle.routing_resources.specs.Marks.{AllCells}
 
 -- the places of the twelve moves, in the number order of the cells that they lead to: by the change of x, then of y, then of z
 abbrev pub numberOrder : List ℕ
 numberOrder = 3 ∷ 4 ∷ 5 ∷ 9 ∷ 6 ∷ 10 ∷ 7 ∷ 11 ∷ 8 ∷ 0 ∷ 1 ∷ 2 ∷ []
-
-abbrev pub moveAt : ℕ → Move
-moveAt place = getD moves place (by 0 0 0)
 
 unfoldable pub orderedMoves : List Move
 orderedMoves = map moveAt numberOrder

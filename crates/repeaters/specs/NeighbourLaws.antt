@@ -1,9 +1,9 @@
 -- The cells that the masks of a tree lead to are its tree neighbours, in number order.
 use mathlib.Core.Path.{_≡_, refl, sym, ap, _∙_}
 use mathlib.Core.Logic.{_⊎_, inl, inr, ⊎-elim}
-use mathlib.Core.Bool.{Bool, true, false, _&&_, _||_}
+use mathlib.Core.Bool.{Bool, true, false, _&&_, _||_, or-false}
 use mathlib.Core.List.{List, [], _∷_}
-use Prim.Native.Nat.{ℕ, zero, suc, _+_, _-_, _≤_, _<_}
+use Prim.Native.Nat.{ℕ, zero, suc, _+_, _≤_, _<_}
 use native.Mathlib.Nat.{le-of-suc-le-suc, not-suc-le-zero}
 use native.Mathlib.Numerals.{add-one}
 use native.Mathlib.Omega.{arith}
@@ -19,10 +19,11 @@ use Rattle.room.specs.declared.Neighbour.{Neighbour}
 use Rattle.room.specs.Room.{Good, Moved, volume, posOf, by, moves, neighbourAt, neighbour}
 use Rattle.room.specs.RoomLaws.{Before, order, cell-pos}
 use Rattle.room.specs.MoveLaws.{leads}
+use Rattle.best_first.specs.Statements.{bit}
 use Rattle.repeaters.specs.Repeaters.{cellsFrom, treeNeighbours, isStep, besideOn, neighbouring}
 use Rattle.repeaters.specs.Links.{orderedMoves, orderedMove, consPlace, cellsBy, linkedCells}
-use Rattle.repeaters.specs.Joins.{Step, AllStepping, bit, maskOf, isLink, stepIndex, Masks, Joined}
-use Rattle.repeaters.specs.JoinLaws.{mask-low, mask-rest, masks-same, masks-none, or-false, step-back, step-in, step-ordered}
+use Rattle.repeaters.specs.Joins.{Step, AllStepping, maskOf, isLink, stepIndex, Masks, Joined}
+use Rattle.repeaters.specs.JoinLaws.{mask-low, mask-rest, masks-same, masks-none, step-back, step-in, step-ordered}
 
 -- ---- two ascending lists with the same members are one
 

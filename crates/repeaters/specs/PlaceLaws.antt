@@ -7,8 +7,6 @@ use native.Mathlib.Omega.{arith}
 use lib.ListN.{length, getD}
 use borrow.Author.Tests.{eq-eqb, ne-eqb, lt-ltb, le-ltb}
 use Rattle.room.specs.declared.Room.{Room}
-use Rattle.room.specs.Room.{volume}
-use Rattle.routing_resources.specs.Resources.{AllCells}
 use Rattle.repeaters.specs.Repeaters.{cellAt, fits, straight}
 
 module _ (R : Room) (next : ℕ → List ℕ) (forbidden path : List ℕ) (i : ℕ) where
@@ -40,7 +38,3 @@ module _ (R : Room) (next : ℕ → List ℕ) (forbidden path : List ℕ) (i : �
         unfolding fits
         fits-if e =
             rw (lt-ltb 0 i some, lt-ltb (i + 1) (length path) more, ne-eqb (getD forbidden (cellAt path i) 0) 1 free, eq-eqb (length (next (cellAt path i))) 2 e)
-
--- a cell read from a path of the room
-pub read-in : {R : Room} {path : List ℕ} → AllCells R path → (i : ℕ) → i < length path → (v : ℕ) → v ≡ getD path i 0 → v < volume R
-read-in cells i h v e = rw e (cells .inside i h)

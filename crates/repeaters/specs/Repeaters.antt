@@ -10,7 +10,7 @@ use Rattle.branches.specs.Branches.{lengthsIn}
 use Rattle.room.specs.declared.Room.{Room}
 use Rattle.room.specs.declared.Pos.{Pos}
 use Rattle.room.specs.Room.{volume, posOf}
-use Rattle.room.specs.Units.{north, east, south, west}
+use Rattle.room.specs.Units.{noFacing, north, east, south, west}
 use Rattle.best_first.specs.Search.{trace}
 use Rattle.routing_resources.specs.Marks.{noMarks, isMarked}
 use Rattle.ends.specs.declared.Tap.{Tap}
@@ -77,9 +77,13 @@ unfoldable pub spread : ℕ → (ℕ → List ℕ) → Wave → List ℕ
 spread zero next w = w .parents
 spread (suc n) next w = elim (w .waiting) [ [] ↦ w .parents | u ∷ rest ↦ spread n next (meetAll u (next u) (wave (w .parents) rest)) ]
 
--- the source is reached at the outset, and has no parent
+-- at the outset the source alone is reached
+abbrev pub firstParents : ℕ → ℕ → List ℕ
+firstParents n source = set (replicate n 0) source (source + 1)
+
+-- the source itself has no parent
 unfoldable pub parentsFrom : (ℕ → List ℕ) → ℕ → ℕ → List ℕ
-parentsFrom next n source = set (spread n next (wave (set (replicate n 0) source (source + 1)) (source ∷ []))) source 0
+parentsFrom next n source = set (spread n next (wave (firstParents n source) (source ∷ []))) source 0
 
 -- the path to a cell by its parents; a cell that is not reached stands alone on it
 abbrev pub rootPath : List ℕ → ℕ → List ℕ
@@ -97,15 +101,15 @@ facingBy p q =
     (either (stepsBy (p .x) (q .x) (p .z) (q .z)) east
     (either (stepsBy (q .x) (p .x) (p .z) (q .z)) west
     (either (stepsBy (p .z) (q .z) (p .x) (q .x)) south
-    (either (stepsBy (q .z) (p .z) (p .x) (q .x)) north 0))))
-    0
+    (either (stepsBy (q .z) (p .z) (p .x) (q .x)) north noFacing))))
+    noFacing
 
 abbrev pub facingOf : Room → ℕ → ℕ → ℕ
 facingOf R a b = facingBy (posOf R a) (posOf R b)
 
 -- "equal flat facing in and out"
 unfoldable pub straight : Room → ℕ → ℕ → ℕ → Bool
-straight R a b c = not (eqb (facingOf R a b) 0) && eqb (facingOf R a b) (facingOf R b c)
+straight R a b c = not (eqb (facingOf R a b) noFacing) && eqb (facingOf R a b) (facingOf R b c)
 
 abbrev pub cellAt : List ℕ → ℕ → ℕ
 cellAt path i = getD path i 0
@@ -181,10 +185,14 @@ lastReset path marks = latest (repeaterAt path marks) (length path)
 abbrev pub alone : List ℕ → List ℕ → ℕ → Bool
 alone path marks i = not (repeaterAt path marks (i - 1)) && not (repeaterAt path marks (i + 1))
 
+-- a repeater may stand there, with none next to it on the path
+abbrev pub tailFit : (ℕ → Bool) → List ℕ → List ℕ → ℕ → Bool
+tailFit fit path marks i = fit i && alone path marks i
+
 module _ (limit : ℕ) (fit : ℕ → Bool) (path : List ℕ) where
   -- "the earliest such cell among the last 8 before the end"
   abbrev pub tailPlace : List ℕ → ℕ
-  tailPlace marks = earliest (λ i. fit i && alone path marks i) (end path - (end path - limit)) (end path - limit)
+  tailPlace marks = earliest (tailFit fit path marks) (end path - (end path - limit)) (end path - limit)
 
   -- "with over 8 steps after its last repeater (or the source)"
   unfoldable pub reinforced : List ℕ → List ℕ
@@ -192,11 +200,11 @@ module _ (limit : ℕ) (fit : ℕ → Bool) (path : List ℕ) where
 
 -- ---- "sink by sink"
 
-abbrev pub runLimit : ℕ
-runLimit = 12
+abbrev pub maxRun : ℕ
+maxRun = 12
 
-abbrev pub tailLimit : ℕ
-tailLimit = 8
+abbrev pub maxTail : ℕ
+maxTail = 8
 
 -- what one sink does to the marks is done for all, one after the other
 unfoldable pub inTurn : (Tap → List ℕ → List ℕ) → List Tap → List ℕ → List ℕ
@@ -208,11 +216,11 @@ module _ (R : Room) (next : ℕ → List ℕ) (parents forbidden : List ℕ) whe
   pathTo tap = rootPath parents (tap .terminal)
 
   abbrev pub runOf : Tap → List ℕ → List ℕ
-  runOf tap marks = run runLimit (fits R next forbidden (pathTo tap)) (pathTo tap) marks
+  runOf tap marks = run maxRun (fits R next forbidden (pathTo tap)) (pathTo tap) marks
 
   -- "per Wire sink"
   abbrev pub tailOf : Tap → List ℕ → List ℕ
-  tailOf tap marks = either (tap .wire) (reinforced tailLimit (fits R next forbidden (pathTo tap)) (pathTo tap) marks) marks
+  tailOf tap marks = either (tap .wire) (reinforced maxTail (fits R next forbidden (pathTo tap)) (pathTo tap) marks) marks
 
   -- the runs of all sinks, and then the tails
   unfoldable pub planned : List Tap → List ℕ → List ℕ

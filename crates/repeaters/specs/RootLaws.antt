@@ -7,52 +7,35 @@ use native.Mathlib.Nat.{le-of-suc-le-suc, not-suc-le-zero, sub-zero}
 use native.Mathlib.Numerals.{add-one}
 use native.Mathlib.Omega.{arith}
 use lib.Dec.{eqb}
-use lib.ListN.{length, getD, take, drop, set, replicate, length-set, length-replicate, getD-replicate, drop-of-length-le}
-use lib.Seq.{drop-cons, take-suc-set, drop-append-le, getD-set-same, getD-set-other, getD-take, length-take-le, take-at}
+use lib.ListN.{length, getD, take, drop, set, replicate, length-set, length-replicate, getD-replicate}
+use lib.Seq.{slice, slice-cons, slice-empty, take-suc-set, drop-append-le, getD-set-same, getD-set-other, length-take-le, take-at}
 use borrow.Author.Tests.{eq-eqb, ne-eqb, eqb-true, eqb-false}
 use Rattle.basics.specs.Tests.{ask}
+use Rattle.basics.specs.Zeros.{zeros}
 use Rattle.room.specs.declared.Room.{Room}
 use Rattle.room.specs.declared.Pos.{Pos}
 use Rattle.room.specs.declared.Neighbour.{Neighbour}
 use Rattle.room.specs.Room.{volume}
+use Rattle.best_first.specs.Lists.{marked, marked-le, marked-none, marked-new}
 use Rattle.best_first.specs.Search.{trace}
 use Rattle.best_first.specs.Equations.{trace-start, trace-back}
 use Rattle.room_search.specs.Traces.{Linked, traceLength, trace-length}
-use Rattle.routing_resources.specs.Resources.{AllCells}
-use Rattle.repeaters.specs.Repeaters.{Wave, wave, meet, meetAll, spread, parentsFrom, rootPath}
+use Rattle.repeaters.specs.Repeaters.{Wave, wave, meet, meetAll, spread, firstParents, parentsFrom, rootPath}
 use Rattle.repeaters.specs.Links.{orderedMoves, orderedMove, linkedPlace, consPlace, cellsBy, linkedCells}
 use Rattle.repeaters.specs.LinkLaws.{cellsLeft, cells-more, cells-none}
-use Rattle.repeaters.specs.Roots.{waitingIn, reached, Held, Met, Rooted, Traced}
+use Rattle.repeaters.specs.Roots.{Held, Met, Rooted, Traced}
+use Rattle.routing_resources.specs.Marks.{AllCells}
 
 -- ---- counting the cells reached
 
-reached-most : (ps : List ℕ) → reached ps ≤ length ps
-unfolding reached
-reached-most [] = omega arith
-reached-most (zero ∷ ps) = omega (arith, reached-most ps)
-reached-most (suc u ∷ ps) = omega (arith, reached-most ps)
-
 -- a cell that is not reached is one more to come
-reached-less : (ps : List ℕ) (v : ℕ) → v < length ps → getD ps v 0 ≡ 0 → reached ps < length ps
-unfolding reached
-reached-less [] v h e = absurd (not-suc-le-zero h)
-reached-less (zero ∷ ps) zero h e = omega (arith, reached-most ps)
-reached-less (suc u ∷ ps) zero h e = absurd (omega arith)
-reached-less (zero ∷ ps) (suc v) h e = omega (arith, reached-less ps v (le-of-suc-le-suc h) e)
-reached-less (suc u ∷ ps) (suc v) h e = omega (arith, reached-less ps v (le-of-suc-le-suc h) e)
-
-reached-one-more : (ps : List ℕ) (v u : ℕ) → v < length ps → getD ps v 0 ≡ 0 → reached (set ps v (suc u)) ≡ suc (reached ps)
-unfolding reached
-reached-one-more [] v u h e = absurd (not-suc-le-zero h)
-reached-one-more (zero ∷ ps) zero u h e = refl
-reached-one-more (suc w ∷ ps) zero u h e = absurd (omega arith)
-reached-one-more (zero ∷ ps) (suc v) u h e = reached-one-more ps v u (le-of-suc-le-suc h) e
-reached-one-more (suc w ∷ ps) (suc v) u h e = ap suc (reached-one-more ps v u (le-of-suc-le-suc h) e)
-
-reached-none : (n : ℕ) → reached (replicate n 0) ≡ 0
-unfolding reached
-reached-none zero = refl
-reached-none (suc n) = reached-none n
+marked-less : (ps : List ℕ) (v : ℕ) → v < length ps → getD ps v 0 ≡ 0 → marked ps < length ps
+unfolding marked
+marked-less [] v h e = absurd (not-suc-le-zero h)
+marked-less (zero ∷ ps) zero h e = omega (arith, marked-le ps)
+marked-less (suc u ∷ ps) zero h e = absurd (omega arith)
+marked-less (zero ∷ ps) (suc v) h e = omega (arith, marked-less ps v (le-of-suc-le-suc h) e)
+marked-less (suc u ∷ ps) (suc v) h e = omega (arith, marked-less ps v (le-of-suc-le-suc h) e)
 
 -- ---- the equations of the definition, branch by branch
 
@@ -77,32 +60,32 @@ spread-done (suc n) next parents = refl
 
 -- ---- one cell is met
 
-waiting-more : (line : List ℕ) (head tail v : ℕ) → tail < length line → head ≤ tail → waitingIn head (tail + 1) (set line tail v) ≡ waitingIn head tail line ++ (v ∷ [])
+waiting-more : (line : List ℕ) (head tail v : ℕ) → tail < length line → head ≤ tail → slice head (tail + 1) (set line tail v) ≡ slice head tail line ++ (v ∷ [])
 waiting-more line head tail v h k =
     rw (add-one, take-suc-set line tail v h) (drop-append-le head (take tail line) (v ∷ []) (rw (length-take-le tail line (omega arith)) k))
 
 module _ {parents line : List ℕ} {tail : ℕ} (H : Held parents line tail) where
   pub held-most : tail ≤ length parents
-  held-most = omega (arith, H .counted, reached-most parents)
+  held-most = omega (arith, H .counted, marked-le parents)
 
   pub met-before : (from v : ℕ) → getD parents v 0 ≢ 0 → Met from (v ∷ []) parents line tail parents line tail
-  met-before from v n = record { held = H; long = refl; on = omega arith; goes = λ head h. meet-before from v parents (waitingIn head tail line) n }
+  met-before from v n = record { held = H; long = refl; on = omega arith; goes = λ head h. meet-before from v parents (slice head tail line) n }
 
   module _ (from v : ℕ) (from-in : from < length parents) (v-in : v < length parents) (new : getD parents v 0 ≡ 0) where
     pub line-room : tail < length line
-    line-room = omega (arith, H .counted, H .line-long, reached-less parents v v-in new)
+    line-room = omega (arith, H .counted, H .line-long, marked-less parents v v-in new)
 
     pub met-now : Met from (v ∷ []) parents line tail (set parents v (from + 1)) (set line tail v) (tail + 1)
     met-now = record {
       held = record {
         line-long = length-set line tail v ∙ H .line-long ∙ sym (length-set parents v (from + 1));
-        counted = ap (λ (x : ℕ). reached (set parents v x)) (add-one from) ∙ reached-one-more parents v from v-in new ∙ ap suc (H .counted) ∙ sym (add-one tail);
+        counted = ap (λ (x : ℕ). marked (set parents v x)) (add-one from) ∙ marked-new parents v from v-in new ∙ ap suc (H .counted) ∙ sym (add-one tail);
         cells = λ i h. rw length-set (in-line i h);
         linked = λ w. rw length-set (parent w);
       };
       long = length-set parents v (from + 1);
       on = omega arith;
-      goes = λ head h. rw (waiting-more line head tail v line-room h) (meet-now from v parents (waitingIn head tail line) new);
+      goes = λ head h. rw (waiting-more line head tail v line-room h) (meet-now from v parents (slice head tail line) new);
     }
       where
         in-line : (i : ℕ) → i < tail + 1 → getD (set line tail v) i 0 < length parents
@@ -134,8 +117,8 @@ pub record Visiting (R : Room) (p : Pos) (from mask : ℕ) (parents₀ line₀ :
   pub long : length parents ≡ length parents₀
   pub on : tail₀ ≤ tail
   pub goes : (head : ℕ) → head ≤ tail₀
-      → meetAll from (cellsLeft R p rest k) (wave parents (waitingIn head tail line))
-      ≡ meetAll from (cellsBy R p mask orderedMoves) (wave parents₀ (waitingIn head tail₀ line₀))
+      → meetAll from (cellsLeft R p rest k) (wave parents (slice head tail line))
+      ≡ meetAll from (cellsBy R p mask orderedMoves) (wave parents₀ (slice head tail₀ line₀))
 
 module _ {R : Room} {p : Pos} {from mask : ℕ} {parents₀ line₀ : List ℕ} {tail₀ : ℕ} where
   pub visiting-none : Held parents₀ line₀ tail₀ → Visiting R p from mask parents₀ line₀ tail₀ parents₀ line₀ tail₀ mask 0
@@ -152,8 +135,8 @@ module _ {R : Room} {p : Pos} {from mask : ℕ} {parents₀ line₀ : List ℕ} 
       on = omega (arith, I .on, M .on);
       goes = λ head q.
           ap (meetAll from (cellsLeft R p (rest / 2) (k + 1))) (M .goes head (omega (arith, I .on)))
-          ∙ sym (meet-more from place (cellsLeft R p (rest / 2) (k + 1)) (wave parents (waitingIn head tail line)))
-          ∙ ap (λ (vs : List ℕ). meetAll from vs (wave parents (waitingIn head tail line)))
+          ∙ sym (meet-more from place (cellsLeft R p (rest / 2) (k + 1)) (wave parents (slice head tail line)))
+          ∙ ap (λ (vs : List ℕ). meetAll from vs (wave parents (slice head tail line)))
           (ap (λ (q : Neighbour). consPlace q (cellsLeft R p (rest / 2) (k + 1))) e ∙ sym (cells-more R p rest k h))
           ∙ I .goes head q;
     }
@@ -165,38 +148,34 @@ module _ {R : Room} {p : Pos} {from mask : ℕ} {parents₀ line₀ : List ℕ} 
       long = I .long;
       on = I .on;
       goes = λ head q.
-          sym (ap (λ (vs : List ℕ). meetAll from vs (wave parents (waitingIn head tail line))) (cells-none R p rest k (I .within) h)) ∙ I .goes head q;
+          sym (ap (λ (vs : List ℕ). meetAll from vs (wave parents (slice head tail line))) (cells-none R p rest k (I .within) h)) ∙ I .goes head q;
     }
 
 -- ---- the loop over the cells that wait
-
--- the parents at the outset
-abbrev pub outset : ℕ → ℕ → List ℕ
-outset n source = set (replicate n 0) source (source + 1)
 
 pub record Spreading (R : Room) (source : ℕ) (links parents line : List ℕ) (head tail : ℕ) : Type 0 where
   pub held : Held parents line tail
   pub long : length parents ≡ volume R
   pub within : head ≤ tail
-  pub same : spread (volume R - head) (linkedCells R links) (wave parents (waitingIn head tail line))
-      ≡ spread (volume R) (linkedCells R links) (wave (outset (volume R) source) (source ∷ []))
+  pub same : spread (volume R - head) (linkedCells R links) (wave parents (slice head tail line))
+      ≡ spread (volume R) (linkedCells R links) (wave (firstParents (volume R) source) (source ∷ []))
 
 module _ {R : Room} {source : ℕ} {links : List ℕ} where
   pub spreading-outset : (line : List ℕ) → source < volume R → length line ≡ volume R
-      → Spreading R source links (outset (volume R) source) (set line 0 source) 0 1
+      → Spreading R source links (firstParents (volume R) source) (set line 0 source) 0 1
   spreading-outset line h e = record {
     held = record {
       line-long = length-set line 0 source ∙ e ∙ sym long;
-      counted = rw add-one (reached-one-more (replicate (volume R) 0) source source (rw (length-replicate {A = ℕ} (volume R) 0) h) (getD-replicate {A = ℕ} (volume R) source 0 0 h) ∙ ap suc (reached-none (volume R)));
+      counted = rw add-one (marked-new (replicate (volume R) 0) source source (rw (length-replicate {A = ℕ} (volume R) 0) h) (getD-replicate {A = ℕ} (volume R) source 0 0 h) ∙ ap suc (marked-none (volume R)));
       cells = λ i k. rw long (first i k);
       linked = λ v. rw long (parent v);
     };
     long = long;
     within = omega arith;
-    same = rw sub-zero (ap (λ (ws : List ℕ). spread (volume R) (linkedCells R links) (wave (outset (volume R) source) ws)) (one line e));
+    same = rw sub-zero (ap (λ (ws : List ℕ). spread (volume R) (linkedCells R links) (wave (firstParents (volume R) source) ws)) (one line e));
   }
     where
-      long : length (outset (volume R) source) ≡ volume R
+      long : length (firstParents (volume R) source) ≡ volume R
       long = length-set (replicate (volume R) 0) source (source + 1) ∙ length-replicate {A = ℕ} (volume R) 0
 
       some : 0 < length line
@@ -205,18 +184,13 @@ module _ {R : Room} {source : ℕ} {links : List ℕ} where
       first : (i : ℕ) → i < 1 → getD (set line 0 source) i 0 < volume R
       first i k = let z : i ≡ 0 = omega arith in rw (z, getD-set-same line 0 source 0 some) h
 
-      parent : (v : ℕ) → getD (outset (volume R) source) v 0 ≤ volume R
+      parent : (v : ℕ) → getD (firstParents (volume R) source) v 0 ≤ volume R
       parent v =
           ask (eqb v source)
           (λ t. rw (eqb-true v source t, getD-set-same (replicate (volume R) 0) source (source + 1) 0 (rw (length-replicate {A = ℕ} (volume R) 0) h)) (omega arith))
-          (λ f. rw (getD-set-other (replicate (volume R) 0) source v (source + 1) 0 (eqb-false v source f)) (none v (volume R)))
-        where
-          none : (v n : ℕ) → getD (replicate n 0) v 0 ≤ n
-          none v zero = omega arith
-          none zero (suc n) = omega arith
-          none (suc v) (suc n) = omega (arith, none v n)
+          (λ f. rw (getD-set-other (replicate (volume R) 0) source v (source + 1) 0 (eqb-false v source f), zeros (volume R) v) (omega arith))
 
-      one : (l : List ℕ) → length l ≡ volume R → waitingIn 0 1 (set l 0 source) ≡ source ∷ []
+      one : (l : List ℕ) → length l ≡ volume R → slice 0 1 (set l 0 source) ≡ source ∷ []
       one [] q = absurd (omega arith)
       one (x ∷ xs) q = refl
 
@@ -236,7 +210,7 @@ module _ {R : Room} {source : ℕ} {links : List ℕ} where
       within = omega (arith, M .on);
       same =
           ap (spread (volume R - (head + 1)) (linkedCells R links)) (M .goes (head + 1) (omega arith))
-          ∙ sym (spread-turn (volume R - (head + 1)) (linkedCells R links) parents cell (waitingIn (head + 1) tail line))
+          ∙ sym (spread-turn (volume R - (head + 1)) (linkedCells R links) parents cell (slice (head + 1) tail line))
           ∙ rw (← left, ← first) (I .same);
     }
       where
@@ -246,10 +220,8 @@ module _ {R : Room} {source : ℕ} {links : List ℕ} where
         in-line : tail ≤ length line
         in-line = omega (arith, held-most (I .held), I .held .line-long)
 
-        first : waitingIn head tail line ≡ cell ∷ waitingIn (head + 1) tail line
-        first =
-            let b : head < length (take tail line) = rw (length-take-le tail line in-line) h in
-            drop-cons (take tail line) head 0 b ∙ rw (getD-take tail line head 0 h, add-one, e)
+        first : slice head tail line ≡ cell ∷ slice (head + 1) tail line
+        first = rw (add-one, e) (slice-cons head tail line 0 h in-line)
 
     pub spreading-all : tail ≤ head → (parents′ : List ℕ) → parents′ ≡ set parents source 0 → Rooted R source links parents′
     unfolding parentsFrom
@@ -259,10 +231,10 @@ module _ {R : Room} {source : ℕ} {links : List ℕ} where
       long = ap length e ∙ length-set parents source 0 ∙ I .long;
     }
       where
-        none : waitingIn head tail line ≡ []
-        none = drop-of-length-le (take tail line) {i = head} (rw (length-take-le tail line (omega (arith, held-most (I .held), I .held .line-long))) h)
+        none : slice head tail line ≡ []
+        none = let e : head ≡ tail = omega (arith, I .within) in rw e (slice-empty tail line)
 
-        done : parents ≡ spread (volume R) (linkedCells R links) (wave (outset (volume R) source) (source ∷ []))
+        done : parents ≡ spread (volume R) (linkedCells R links) (wave (firstParents (volume R) source) (source ∷ []))
         done = sym (spread-done (volume R - head) (linkedCells R links) parents) ∙ rw none at (I .same)
 
         parent : (v : ℕ) → getD (set parents source 0) v 0 ≤ length parents
@@ -277,15 +249,6 @@ module _ {R : Room} {source : ℕ} {links : List ℕ} where
             at-source (x ∷ xs) (suc s) = omega (arith, at-source xs s)
 
 -- ---- the path by parents
-
-pub trace-few : (n : ℕ) (parents : List ℕ) (v : ℕ) → traceLength n parents v ≤ n
-unfolding traceLength
-trace-few zero parents v = omega arith
-trace-few (suc n) parents v = go (getD parents v 0) (λ u. trace-few n parents u)
-  where
-    go : (k : ℕ) → ((u : ℕ) → traceLength n parents u ≤ n) → elim k [ zero ↦ 1 | suc u ↦ suc (traceLength n parents u) ] ≤ suc n
-    go zero ih = omega arith
-    go (suc u) ih = omega (arith, ih u)
 
 pub traced : (parents line : List ℕ) {line′ : List ℕ} (cell : ℕ) {count : ℕ} → count ≡ traceLength (length parents) parents cell → count ≤ length line
     → length line′ ≡ length line → line′ ≡ rootPath parents cell ++ drop count line → Traced parents cell line′ count
@@ -316,5 +279,5 @@ trace-cells (suc n) parents L v rest h r = go (getD parents v 0) refl (λ u. tra
 pub path-cells : (R : Room) (parents : List ℕ) → length parents ≡ volume R → Linked parents → (cell : ℕ) → cell < volume R
     → AllCells R (rootPath parents cell)
 path-cells R parents e L cell h = record {
-  inside = λ i k. rw (← e) (trace-cells (length parents) parents L cell [] (rw e h) (λ j q. absurd (not-suc-le-zero q)) i k);
+  below = λ i k. rw (← e) (trace-cells (length parents) parents L cell [] (rw e h) (λ j q. absurd (not-suc-le-zero q)) i k);
 }

@@ -1,28 +1,21 @@
 -- The breadth-first search as the code holds it: the cells reached stand in a line, in the order in which they were reached; those from `head` to `tail`
 -- wait for their turn.
 use mathlib.Core.Path.{_≡_}
-use mathlib.Core.List.{List, [], _∷_}
-use Prim.Native.Nat.{ℕ, zero, suc, _≤_, _<_}
-use lib.ListN.{length, getD, take, drop}
+use mathlib.Core.List.{List}
+use Prim.Native.Nat.{ℕ, _≤_, _<_}
+use lib.ListN.{length, getD, take}
+use lib.Seq.{slice}
 use Rattle.room.specs.declared.Room.{Room}
 use Rattle.room.specs.Room.{volume}
+use Rattle.best_first.specs.Lists.{marked}
 use Rattle.room_search.specs.Traces.{Linked}
 use Rattle.repeaters.specs.Repeaters.{wave, meetAll, parentsFrom, rootPath}
 use Rattle.repeaters.specs.Links.{linkedCells}
 
-abbrev pub waitingIn : ℕ → ℕ → List ℕ → List ℕ
-waitingIn head tail line = drop head (take tail line)
-
--- how many cells are reached
-unfoldable pub reached : List ℕ → ℕ
-reached [] = 0
-reached (zero ∷ parents) = reached parents
-reached (suc u ∷ parents) = suc (reached parents)
-
--- each cell reached stands in the line once, so that the line has room for all
+-- each cell reached, one whose parent is not 0, stands in the line once, so that the line has room for all
 pub record Held (parents line : List ℕ) (tail : ℕ) : Type 0 where
   pub line-long : length line ≡ length parents
-  pub counted : reached parents ≡ tail
+  pub counted : marked parents ≡ tail
   pub cells : (i : ℕ) → i < tail → getD line i 0 < length parents
   pub linked : Linked parents
 
@@ -31,7 +24,7 @@ pub record Met (from : ℕ) (cells : List ℕ) (parents line : List ℕ) (tail :
   pub held : Held parents′ line′ tail′
   pub long : length parents′ ≡ length parents
   pub on : tail ≤ tail′
-  pub goes : (head : ℕ) → head ≤ tail → wave parents′ (waitingIn head tail′ line′) ≡ meetAll from cells (wave parents (waitingIn head tail line))
+  pub goes : (head : ℕ) → head ≤ tail → wave parents′ (slice head tail′ line′) ≡ meetAll from cells (wave parents (slice head tail line))
 
 pub record Rooted (R : Room) (source : ℕ) (links parents : List ℕ) : Type 0 where
   pub is : parents ≡ parentsFrom (linkedCells R links) (volume R) source

@@ -4,8 +4,8 @@ use mathlib.Core.List.{List, [], _∷_}
 use Prim.Native.Nat.{ℕ, _+_, _≤_, _<_}
 use native.Mathlib.Numerals.{add-one}
 use native.Mathlib.Omega.{arith}
-use lib.ListN.{length, getD, take, drop, drop-of-length-le}
-use lib.Seq.{drop-cons, getD-take, length-take-le}
+use lib.ListN.{length, getD, take, drop}
+use lib.Seq.{slice-cons, slice-empty}
 use Rattle.room.specs.declared.Room.{Room}
 use Rattle.room.specs.Room.{volume}
 use Rattle.routing_resources.specs.Marks.{noMarks}
@@ -18,7 +18,7 @@ use Rattle.repeaters.specs.Roots.{Traced}
 use Rattle.repeaters.specs.RootLaws.{path-cells}
 use Rattle.repeaters.specs.Sinks.{Grown}
 
--- a path of it is ready for the tests of its places
+-- a path of a grown tree is ready for the tests of its places
 pub ready : {R : Room} {links parents forbidden : List ℕ} → Grown R links parents forbidden → {cell : ℕ} {line : List ℕ} {count : ℕ} → cell < volume R
     → Traced parents cell line count → Ready R links forbidden (take count line)
 ready {R} {links} {parents} G {cell} h T = record {
@@ -49,14 +49,13 @@ module _ {put : Tap → List ℕ → List ℕ} {T : Taps} {start : List ℕ} whe
     }
       where
         first : drop k (tapsIn T) ≡ tap ∷ drop (k + 1) (tapsIn T)
-        first =
-            let b : k < length (tapsIn T) = rw (length-take-le (T .count) (T .taps) f) h in
-            drop-cons (tapsIn T) k noTap b ∙ rw (getD-take (T .count) (T .taps) k noTap h, add-one, t)
+        first = rw (add-one, t) (slice-cons k (T .count) (T .taps) noTap h f)
 
-    pub sown-all : T .count ≤ length (T .taps) → T .count ≤ k → marks ≡ inTurn put (tapsIn T) start
+    pub sown-all : T .count ≤ k → marks ≡ inTurn put (tapsIn T) start
     unfolding inTurn
-    sown-all f h =
-        let none : drop k (tapsIn T) ≡ [] = drop-of-length-le (tapsIn T) {i = k} (rw (length-take-le (T .count) (T .taps) f) h) in
+    sown-all h =
+        let e : k ≡ T .count = omega (arith, I .within) in
+        let none : drop k (tapsIn T) ≡ [] = rw e (slice-empty (T .count) (T .taps)) in
         rw none at (I .same)
 
 module _ (R : Room) (source : ℕ) (taps : List Tap) (branches : List (List ℕ)) (forbidden links parents : List ℕ) where

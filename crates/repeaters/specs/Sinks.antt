@@ -13,7 +13,7 @@ use Rattle.branches.specs.declared.BranchLengths.{BranchLengths}
 use Rattle.repeaters.specs.Joins.{Laid}
 
 -- at most sixteen sinks, whose terminals are cells of the room
-pub record TapsIn (R : Room) (T : Taps) : Type 0 where
+pub record TerminalsIn (R : Room) (T : Taps) : Type 0 where
   pub full : length (T .taps) ≡ 16
   pub few : T .count ≤ 16
   pub terminals : (k : ℕ) → k < T .count → getD (T .taps) k noTap .terminal < volume R
@@ -30,7 +30,7 @@ pub record Grown (R : Room) (links parents forbidden : List ℕ) : Type 0 where
 pub record Placeable (R : Room) (source : ℕ) (T : Taps) (L : BranchLengths) (cells forbidden repeaters links parents line : List ℕ) : Type 0 where
   pub good : Good R
   pub source-in : source < volume R
-  pub taps-in : TapsIn R T
+  pub taps-in : TerminalsIn R T
   pub laid : Laid R L cells
   pub forbidden-long : length forbidden ≡ volume R
   pub unmarked : repeaters ≡ noMarks (volume R)

@@ -10,21 +10,8 @@ use lib.ListN.{length, getD, set}
 use borrow.Author.Tests.{lt-ltb, le-ltb, ltb-true, eq-eqb, ne-eqb}
 use Rattle.basics.specs.Tests.{either, ask, and-left, and-right}
 use Rattle.room.specs.declared.Room.{Room}
-use Rattle.room.specs.Room.{volume}
-use Rattle.routing_resources.specs.Resources.{AllCells}
-use Rattle.branches.specs.Branches.{CellsBelow}
-use Rattle.branches.specs.BranchLaws.{cells-below}
-use Rattle.repeaters.specs.Repeaters.{cellAt, fits, latest, earliest, repeaterAt, withRepeater, end, lastReset, reinforced}
-use Rattle.repeaters.specs.Tails.{tailFit}
+use Rattle.repeaters.specs.Repeaters.{cellAt, fits, latest, earliest, repeaterAt, withRepeater, end, lastReset, tailPlace, reinforced}
 use Rattle.repeaters.specs.RunLaws.{latest-is, latest-next}
-
--- a cell read from a path whose cells have marks has one
-pub read-marked : {n : ℕ} {path : List ℕ} → CellsBelow n path → (i : ℕ) → i < length path → (v : ℕ) → v ≡ getD path i 0 → v < n
-read-marked cells i h v e = rw e (cells .below i h)
-
--- where each cell of the room has a mark, those of its paths have
-pub marked : {R : Room} {path : List ℕ} {n : ℕ} → AllCells R path → n ≡ volume R → CellsBelow n path
-marked cells e = rw e (cells-below cells)
 
 -- a place that fits has a cell before it and one behind it
 module _ (R : Room) (next : ℕ → List ℕ) (forbidden path : List ℕ) (i : ℕ) (e : fits R next forbidden path i ≡ true) where
@@ -107,7 +94,7 @@ module _ (limit : ℕ) (fit : ℕ → Bool) (path marks : List ℕ) (last : ℕ)
   unfolding reinforced
   reinforced-near h = rw (← l, le-ltb (last + limit) (end path) h)
 
-  module _ (far : limit < end path - last) (place : ℕ) (e : place ≡ earliest (tailFit fit path marks) (end path - (end path - limit)) (end path - limit)) where
+  module _ (far : limit < end path - last) (place : ℕ) (e : place ≡ tailPlace limit fit path marks) where
     pub reinforced-none : place ≡ 0 → marks ≡ reinforced limit fit path marks
     unfolding reinforced withRepeater
     reinforced-none z = rw (← l, lt-ltb (last + limit) (end path) (omega arith), ← e, eq-eqb place 0 z)

@@ -1,13 +1,14 @@
 -- The loops that make the masks of a tree: over the steps of a branch, and over the branches.
-use mathlib.Core.Path.{_≡_, refl, _∙_}
+use mathlib.Core.Path.{_≡_, refl}
 use mathlib.Core.Bool.{Bool, false, _||_}
 use mathlib.Core.List.{List, [], _∷_}
 use Prim.Native.Nat.{ℕ, _+_, _-_, _≤_, _<_}
 use native.Mathlib.Nat.{le-of-suc-le-suc, not-suc-le-zero}
 use native.Mathlib.Numerals.{add-one}
 use native.Mathlib.Omega.{arith}
-use lib.ListN.{length, getD, take, drop, length-drop, drop-of-length-le}
-use lib.Seq.{drop-cons, drop-drop, length-take-le, getD-take}
+use lib.ListN.{length, getD, take, drop, length-drop}
+use lib.Seq.{drop-cons, drop-drop, slice-cons, slice-empty}
+use Rattle.basics.specs.Lists.{drop-next}
 use Rattle.room.specs.declared.Room.{Room}
 use Rattle.branches.specs.declared.BranchLengths.{BranchLengths}
 use Rattle.branches.specs.Branches.{total, lengthsIn}
@@ -25,8 +26,7 @@ pub one-step : (branch : List ℕ) (i : ℕ) → i + 1 < length branch → (a b 
 unfolding besideOn
 one-step branch i h a b e f u v =
     let rest = drop-cons branch (i + 1) 0 h in
-    let all : drop i branch ≡ getD branch i 0 ∷ drop (i + 1) branch = rw add-one (drop-cons branch i 0 (omega arith)) in
-    rw (all, rest, e, f)
+    rw (drop-next branch i 0 (omega arith), rest, e, f)
 
 one-cell : (branch : List ℕ) → length branch ≤ 1 → (u v : ℕ) → besideOn branch u v ≡ false
 unfolding besideOn
@@ -58,9 +58,7 @@ module _ {R : Room} {L : BranchLengths} {cells start : List ℕ} (D : Laid R L c
       ends = omega arith
 
       first : drop k (lengthsIn L) ≡ (to - from) ∷ drop (k + 1) (lengthsIn L)
-      first =
-          let b : k < length (lengthsIn L) = rw (length-take-le (L .count) (L .each) (omega (arith, D .few, D .full))) h in
-          drop-cons (lengthsIn L) k 0 b ∙ rw (getD-take (L .count) (L .each) k 0 h, add-one, size-is)
+      first = rw (add-one, size-is) (slice-cons k (L .count) (L .each) 0 h (omega (arith, D .few, D .full)))
 
       cut : cutInto (drop k (lengthsIn L)) (drop from cells) ≡ take (to - from) (drop from cells) ∷ cutInto (drop (k + 1) (lengthsIn L)) (drop to cells)
       unfolding cutInto
@@ -93,4 +91,4 @@ module _ {R : Room} {L : BranchLengths} {cells start : List ℕ} (D : Laid R L c
     laying-all h = adding-all (I .adding) (λ u v. rw none)
       where
         none : drop k (lengthsIn L) ≡ []
-        none = drop-of-length-le (lengthsIn L) {i = k} (rw (length-take-le (L .count) (L .each) (omega (arith, D .few, D .full))) h)
+        none = let e : k ≡ L .count = omega (arith, I .within) in rw e (slice-empty (L .count) (L .each))

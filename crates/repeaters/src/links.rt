@@ -1,10 +1,10 @@
 // The tree neighbours of each cell, as a mask of twelve bits.
-use crate::places::wide;
 use branches::BranchLengths;
 use room::Move;
 use room::Neighbour;
 use room::Pos;
 use room::Room;
+use room::wide;
 ghost use mathlib.Core.Path.{_≡_};
 ghost use mathlib.Core.Bool.{_&&_};
 ghost use Prim.Native.Nat.{_≤_, _<_, _^_};
@@ -39,6 +39,7 @@ pub fn linked_place(room: Room, p: Pos, mask: u32, k: usize) -> Neighbour
     Neighbour::Outside
 }
 
+// 1 for a cell, 0 for none.
 fn one_inside(place: Neighbour) -> usize
     ensures { λ r. ⌜ r ≡ insideCount place ⌝ }
 {

@@ -7,6 +7,7 @@ use room::Pos;
 use room::Room;
 use room::SOUTH;
 use room::WEST;
+use room::wide;
 use routing_resources::MARKED;
 ghost use mathlib.Core.Path.{_≡_};
 ghost use Prim.Native.Nat.{_<_};
@@ -76,13 +77,6 @@ fn goes_straight(room: Room, a: usize, b: usize, c: usize) -> bool
     }
     let out = facing(room, b, c);
     into == out
-}
-
-// A cell of a path as an index.
-pub fn wide(cell: u32) -> usize
-    ensures { λ r. ⌜ r ≡ cell ⌝ }
-{
-    cell as usize
 }
 
 // Whether a repeater may stand at a place of the path: "not a terminal or approach of this net, has a next cell, two tree

@@ -1,14 +1,14 @@
 // The path from the source to each cell, breadth first over the tree, neighbours in number order. A parent u stands as
 // u + 1, and 0 for none.
 use crate::links::linked_place;
-use crate::places::wide;
 use room::Neighbour;
 use room::Room;
+use room::wide;
 ghost use mathlib.Core.Path.{_≡_};
 ghost use mathlib.Core.List.{[], _∷_};
 ghost use Prim.Native.Nat.{ℕ, _≤_, _<_};
 ghost use lib.ListN.{length, replicate};
-ghost use Rattle.room.specs.Room.{Good, volume, posOf};
+ghost use Rattle.room.specs.Room.{Good, maxVolume, volume, posOf};
 ghost use Rattle.room_search.specs.Traces.{Linked};
 ghost use Rattle.repeaters.specs.Links.{orderedMoves, consPlace, cellsBy};
 ghost use Rattle.repeaters.specs.Roots.{Held, Met, Rooted, Traced};
@@ -16,7 +16,7 @@ ghost use Rattle.repeaters.specs.Roots.{Held, Met, Rooted, Traced};
 // A cell met from another is reached, unless it was before, and waits at the line's end. Gives the line's end.
 fn meet(parents: &mut [u32], line: &mut [u32], tail: usize, from: usize, cell: usize) -> usize
     requires { ⌜ Held (now parents) (now line) tail ⌝ }
-    requires { ⌜ length (now parents) ≤ 16384 ⌝ }
+    requires { ⌜ length (now parents) ≤ maxVolume ⌝ }
     requires { ⌜ from < length (now parents) ⌝ }
     requires { ⌜ cell < length (now parents) ⌝ }
     ensures { λ r. ⌜ Met from (cell ∷ []) (now (parents .entry)) (now (line .entry)) tail (now (parents .exit)) (now (line .exit)) r ⌝ }
@@ -38,7 +38,7 @@ fn meet_place(
     place: Neighbour,
 ) -> usize
     requires { ⌜ Held (now parents) (now line) tail ⌝ }
-    requires { ⌜ length (now parents) ≤ 16384 ⌝ }
+    requires { ⌜ length (now parents) ≤ maxVolume ⌝ }
     requires { ⌜ from < length (now parents) ⌝ }
     requires { ⌜ ((v : ℕ) → place ≡ Neighbour.Inside v → v < length (now parents)) ⌝ }
     ensures { λ r. ⌜ Met from (consPlace place []) (now (parents .entry)) (now (line .entry)) tail (now (parents .exit)) (now (line .exit)) r ⌝ }
@@ -108,7 +108,7 @@ pub fn rooted_parent(
 pub fn root_path(parents: &[u32], cell: usize, line: &mut [u32]) -> usize
     requires { ⌜ cell < length (now parents) ⌝ }
     requires { ⌜ Linked (now parents) ⌝ }
-    requires { ⌜ length (now parents) ≤ 16384 ⌝ }
+    requires { ⌜ length (now parents) ≤ maxVolume ⌝ }
     requires { ⌜ length (now line) ≡ length (now parents) ⌝ }
     ensures { λ r. ⌜ Traced (now (parents .entry)) cell (now (line .exit)) r ⌝ }
 {

@@ -1,8 +1,8 @@
 // Repeaters along the runs: "at a cell more than 12 steps past the last reset", the latest cell that may hold one.
 use crate::Stride;
 use crate::places::may_stand;
-use crate::places::wide;
 use room::Room;
+use room::wide;
 use routing_resources::MARKED;
 ghost use mathlib.Core.Path.{_≡_};
 ghost use Prim.Native.Nat.{_<_};
@@ -48,26 +48,21 @@ fn stride(
     }
     let passes = may_stand(room, links, forbidden, path, place);
     let latest = later(passes, place, s.latest);
-    if place - s.reset <= limit {
-        return Stride {
-            reset: s.reset,
-            place: place + 1,
-            latest,
-        };
+    if limit < place - s.reset {
+        if latest != 0 {
+            let chosen = wide(path[latest]);
+            repeaters[chosen] = MARKED;
+            return Stride {
+                reset: latest,
+                place: latest + 1,
+                latest: 0,
+            };
+        }
     }
-    if latest == 0 {
-        return Stride {
-            reset: s.reset,
-            place: place + 1,
-            latest,
-        };
-    }
-    let chosen = wide(path[latest]);
-    repeaters[chosen] = MARKED;
     Stride {
-        reset: latest,
-        place: latest + 1,
-        latest: 0,
+        reset: s.reset,
+        place: place + 1,
+        latest,
     }
 }
 

@@ -12,7 +12,7 @@ ghost use Rattle.ends.specs.Ends.{tapsIn};
 ghost use Rattle.room.specs.Room.{volume};
 ghost use Rattle.repeaters.specs.Repeaters.{inTurn, runOf, tailOf};
 ghost use Rattle.repeaters.specs.Links.{linkedCells};
-ghost use Rattle.repeaters.specs.Sinks.{TapsIn, Grown};
+ghost use Rattle.repeaters.specs.Sinks.{TerminalsIn, Grown};
 
 // "At a cell more than 12 steps past the last reset".
 const MAX_RUN: usize = 12;
@@ -51,7 +51,7 @@ pub fn plan_repeaters(
     line: &mut [u32],
 )
     requires { ⌜ Grown room (now links) (now parents) (now forbidden) ⌝ }
-    requires { ⌜ TapsIn room taps ⌝ }
+    requires { ⌜ TerminalsIn room taps ⌝ }
     requires { ⌜ length (now repeaters) ≡ volume room ⌝ }
     requires { ⌜ length (now line) ≡ volume room ⌝ }
     ensures { λ _. ⌜ now (repeaters .exit) ≡ inTurn (runOf room (linkedCells room (now (links .entry))) (now (parents .entry)) (now (forbidden .entry))) (tapsIn taps) (now (repeaters .entry)) ⌝ }
@@ -99,7 +99,7 @@ pub fn reinforce_wire_sink_tails(
     line: &mut [u32],
 )
     requires { ⌜ Grown room (now links) (now parents) (now forbidden) ⌝ }
-    requires { ⌜ TapsIn room taps ⌝ }
+    requires { ⌜ TerminalsIn room taps ⌝ }
     requires { ⌜ length (now repeaters) ≡ volume room ⌝ }
     requires { ⌜ length (now line) ≡ volume room ⌝ }
     ensures { λ _. ⌜ now (repeaters .exit) ≡ inTurn (tailOf room (linkedCells room (now (links .entry))) (now (parents .entry)) (now (forbidden .entry))) (tapsIn taps) (now (repeaters .entry)) ⌝ }

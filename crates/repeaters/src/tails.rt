@@ -1,18 +1,17 @@
 // Repeaters near the ends of Wire sinks: "with over 8 steps after its last repeater (or the source): the earliest such cell
 // among the last 8 before the end, not the first cell, with no repeater next to it on the path".
 use crate::places::may_stand;
-use crate::places::wide;
 use crate::runs::later;
 use room::Room;
+use room::wide;
 use routing_resources::MARKED;
 ghost use mathlib.Core.Path.{_≡_};
 ghost use Prim.Native.Nat.{_+_, _-_, _≤_, _<_};
 ghost use lib.ListN.{length};
 ghost use Rattle.room.specs.Room.{volume};
-ghost use Rattle.branches.specs.Branches.{CellsBelow};
-ghost use Rattle.repeaters.specs.Repeaters.{earliest, lastReset, alone, reinforced};
+ghost use Rattle.repeaters.specs.Repeaters.{earliest, lastReset, alone, tailFit, reinforced};
 ghost use Rattle.repeaters.specs.Links.{fitBy, Ready};
-ghost use Rattle.repeaters.specs.Tails.{tailFit};
+ghost use Rattle.routing_resources.specs.Marks.{CellsBelow};
 
 // The place of the last repeater on the path, 0 for none: the source.
 fn last_reset(path: &[u32], repeaters: &[u8]) -> usize

@@ -6,13 +6,13 @@ use Prim.Native.Nat.{ℕ, suc, _+_, _*_, _-_, _≤_, _<_}
 use native.Mathlib.Omega.{arith}
 use Rattle.replay.specs.declared.searches.Stored.{Stored}
 use borrow.Author.Tests.{not-true, not-false}
-use Rattle.stored.specs.Runs.{isSame, longerBy, queueMore, sumOf, Narrowed}
+use Rattle.stored.specs.Runs.{isSame, longerBy, cellsMore, queueMore, sumOf, Narrowed}
 use Rattle.replay.specs.declared.compare.Lent.{Lent}
 use Rattle.stored.specs.declared.runs.Verdict.{Verdict}
 use Rattle.stored.specs.declared.runs.Gap.{Gap}
 use Rattle.replay.specs.Searches.{storedAt}
 use Rattle.replay.specs.Verdicts.{RanIn}
-use Rattle.replay.specs.Runs.{lent, storedLengths, cellsMore, longerLengths, SameTwice, RanWith, isNarrowed}
+use Rattle.replay.specs.Runs.{lent, storedLengths, longerLengths, SameTwice, RanWith, isNarrowed}
 use Rattle.replay.specs.Runs.{tally, ReplayedOne, differs, twice-alone, narrowed, oneMore, numberedFrom}
 
 pub lent-by : {cells cells′ queue queue′ : ℕ} → cells ≡ cells′ → queue ≡ queue′ → lent cells queue ≡ lent cells′ queue′

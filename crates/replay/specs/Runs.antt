@@ -3,10 +3,10 @@
 use mathlib.Core.Path.{_≡_}
 use mathlib.Core.Bool.{Bool, true, false, _&&_}
 use mathlib.Core.List.{List}
-use Prim.Native.Nat.{ℕ, zero, suc, _*_, _-_}
+use Prim.Native.Nat.{ℕ, zero, suc, _*_}
 use lib.Dec.{eqb, ltb}
 use Rattle.basics.specs.Tests.{either}
-use Rattle.stored.specs.Runs.{Turns, isSame, longerBy, queueMore, sumOf, Narrowed}
+use Rattle.stored.specs.Runs.{Turns, isSame, longerBy, cellsMore, queueMore, sumOf, Narrowed}
 use Rattle.replay.specs.declared.searches.Stored.{Stored}
 use Rattle.stored.specs.declared.runs.Verdict.{Verdict}
 use Rattle.replay.specs.declared.compare.Lent.{Lent}
@@ -23,9 +23,6 @@ lent cells queue = record { cells = cells; queue = queue }
 
 abbrev pub storedLengths : Stored → Lent
 storedLengths S = lent (S .lent) (S .places * 2)
-
-unfoldable pub cellsMore : ℕ → ℕ → ℕ
-cellsMore cells number = either (eqb number 6) cells (longerBy cells 100)
 
 -- longer buffers that change no answer. Numbers 6 and 13 hang on lengths
 abbrev pub longerLengths : Stored → Lent

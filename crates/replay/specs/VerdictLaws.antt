@@ -1,10 +1,10 @@
 -- Laws of the verdict on an answer and lent memory.
-use mathlib.Core.Path.{_≡_, sym, _∙_}
-use mathlib.Core.Bool.{Bool, true, false, not}
+use mathlib.Core.Path.{_≡_, _∙_}
+use mathlib.Core.Bool.{true}
 use mathlib.Core.List.{List}
 use Prim.Native.Nat.{ℕ, _≤_}
 use lib.ListN.{length}
-use borrow.Author.Tests.{not-true, not-false, le-leb}
+use borrow.Author.Tests.{le-leb}
 use Rattle.routing.specs.declared.Answer.{Answer}
 use Rattle.routing.specs.declared.Lengths.{Lengths}
 use Rattle.replay.specs.declared.searches.Stored.{Stored}
@@ -12,15 +12,6 @@ use Rattle.stored.specs.declared.runs.Verdict.{Verdict}
 use Rattle.replay.specs.declared.compare.Lent.{Lent}
 use Rattle.replay.specs.Searches.{kindsIn, cellsIn}
 use Rattle.replay.specs.Verdicts.{verdictOf, Memory, AllRubbish, Promised, Judged, lengthsBy, fits, Ran, judged, own, RanIn}
-
--- ---- a test that a function makes, and its result turned round
-
-module _ {r a : Bool} (e : r ≡ a) where
-  pub test-fails : not r ≡ true → a ≡ false
-  test-fails n = sym e ∙ not-true r n
-
-  pub test-passes : not r ≡ false → a ≡ true
-  test-passes n = sym e ∙ not-false r n
 
 -- ---- a run, judged
 

@@ -12,7 +12,7 @@ use Rattle.routing.specs.declared.Answer.the-variants.{Routed, Refused, NotRout
 use Rattle.routing.specs.declared.Route.{Route}
 use Rattle.routing.specs.declared.Lengths.{Lengths}
 use Rattle.routing.specs.Answers.{numberOf, detailOf, Promise, input, lengthsOf}
-use Rattle.stored.specs.Memory.{Rubbish, holds}
+use Rattle.stored.specs.Memory.{ownRoom, Rubbish, holds, fourHold}
 use Rattle.replay.specs.declared.searches.Told.{Told}
 use Rattle.replay.specs.declared.searches.Stored.{Stored}
 use Rattle.stored.specs.declared.runs.Verdict.{Verdict}
@@ -56,13 +56,9 @@ pub record Memory : Type 0 where
 abbrev pub memory : (path known previous classes queue : List ℕ) → Memory
 memory path known previous classes queue = record { path = path; known = known; previous = previous; classes = classes; queue = queue }
 
--- work memory: the rubbish that was there, or zeros
-unfoldable pub workHolds : Bool → (known previous classes queue : List ℕ) → Bool
-workHolds kept known previous classes queue = holds kept [] known && holds kept [] previous && holds kept [] classes && holds kept [] queue
-
 -- the rubbish that was there; or these cells, and zeros
 unfoldable pub memoryHolds : Bool → List ℕ → Memory → Bool
-memoryHolds kept cells M = holds kept cells (M .path) && workHolds kept (M .known) (M .previous) (M .classes) (M .queue)
+memoryHolds kept cells M = holds kept cells (M .path) && fourHold kept (M .known) (M .previous) (M .classes) (M .queue)
 
 -- ---- both
 
@@ -120,7 +116,7 @@ pub data Ran (S : Stored) (kinds cells : List ℕ) (L : Lengths) (N : Lent) (r :
 
 -- the program's own buffers, with a queue of so many numbers
 abbrev pub own : ℕ → Lengths
-own longs = record { path = 16600; known = 16600; previous = 16600; classes = 16600; queue = longs }
+own longs = record { path = ownRoom; known = ownRoom; previous = ownRoom; classes = ownRoom; queue = longs }
 
 -- a run of what is stored in a file
 abbrev pub RanIn : List ℕ → ℕ → Stored → Lent → Verdict → Type 0

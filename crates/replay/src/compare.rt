@@ -6,6 +6,7 @@ use reply::detail_of;
 use reply::number_of;
 use routing::Answer;
 use routing::Route;
+use stored::memory::ROOM;
 use stored::memory::bytes_hold;
 use stored::memory::cells_hold;
 use stored::memory::longs_hold;
@@ -14,13 +15,15 @@ use stored::memory::spoil_longs;
 use stored::memory::spoil_words;
 use stored::memory::words_hold;
 use stored::runs::Verdict;
+use stored::runs::full_if;
+use stored::runs::same_if;
 ghost use mathlib.Core.Path.{_≡_};
 ghost use lib.ListN.{length};
-ghost use Rattle.stored.specs.Runs.{fullIf, sameIf};
+ghost use Rattle.stored.specs.Memory.{fourHold};
 ghost use Rattle.routing.specs.Answers.{lengthsOf};
 ghost use Rattle.stored.specs.Places.{cellsFrom};
 ghost use Rattle.replay.specs.Searches.{cellsIn};
-ghost use Rattle.replay.specs.Verdicts.{sameRoute, sameWay, sameAnswer, earlyEnough, fullEarly, memory, workHolds, memoryHolds};
+ghost use Rattle.replay.specs.Verdicts.{sameRoute, sameWay, sameAnswer, earlyEnough, fullEarly, memory, memoryHolds};
 ghost use Rattle.replay.specs.Verdicts.{verdictOf, AllRubbish, Judged, Ran, RanIn};
 
 // The lengths at which buffers are lent: those of a number a cell, and the queue.
@@ -88,7 +91,7 @@ fn full_early(answer: Answer, told: Told) -> bool
 
 // Work memory: the rubbish that was there, or zeros.
 fn work_holds(kept: bool, known: &[u32], previous: &[u32], classes: &[u8], queue: &[u64]) -> bool
-    ensures { λ r. ⌜ r ≡ workHolds kept (now (known .entry)) (now (previous .entry)) (now (classes .entry)) (now (queue .entry)) ⌝ }
+    ensures { λ r. ⌜ r ≡ fourHold kept (now (known .entry)) (now (previous .entry)) (now (classes .entry)) (now (queue .entry)) ⌝ }
 {
     if !words_hold(kept, &known[..0], known) {
         return false;
@@ -120,18 +123,6 @@ fn memory_holds(
         return false;
     }
     work_holds(kept, known, previous, classes, queue)
-}
-
-fn same_if(holds: bool) -> Verdict
-    ensures { λ r. ⌜ r ≡ sameIf holds ⌝ }
-{
-    if holds { Verdict::Same } else { Verdict::Other }
-}
-
-fn full_if(holds: bool) -> Verdict
-    ensures { λ r. ⌜ r ≡ fullIf holds ⌝ }
-{
-    if holds { Verdict::Full } else { Verdict::Other }
 }
 
 // The answer and all memory, held to what is stored, or to what a full queue leaves.
@@ -248,15 +239,14 @@ fn attempt_lent(
     )
 }
 
-// A stored search, run at these lengths, in memory of its own but for the queue: room for the longest buffer that is stored, of 16,484
-// numbers, and some more.
+// A stored search, run at these lengths, in memory of its own but for the queue.
 pub fn run_stored(file: &[u8], stored: Stored, lent: Lent, queue: &mut [u64]) -> Verdict
     ensures { λ r. ⌜ RanIn (now (file .entry)) (length (now (queue .entry))) stored lent r ⌝ }
 {
-    let mut path = [0u32; 16600];
-    let mut known = [0u32; 16600];
-    let mut previous = [0u32; 16600];
-    let mut classes = [0u8; 16600];
+    let mut path = [0u32; ROOM];
+    let mut known = [0u32; ROOM];
+    let mut previous = [0u32; ROOM];
+    let mut classes = [0u8; ROOM];
     let kinds = part(file, stored.kinds, stored.count);
     attempt_lent(
         stored,

@@ -7,6 +7,7 @@ use crate::searches::stored_at;
 use stored::places::past;
 use stored::runs::Gap;
 use stored::runs::add;
+use stored::runs::cells_more;
 use stored::runs::is_open;
 use stored::runs::is_same;
 use stored::runs::longer;
@@ -17,7 +18,7 @@ use stored::runs::twice;
 ghost use mathlib.Core.Path.{_≡_};
 ghost use lib.ListN.{length};
 ghost use Rattle.stored.specs.Runs.{Halved, Narrowed};
-ghost use Rattle.replay.specs.Runs.{storedLengths, cellsMore, longerLengths, SameTwice};
+ghost use Rattle.replay.specs.Runs.{storedLengths, longerLengths, SameTwice};
 ghost use Rattle.replay.specs.Runs.{RanWith, isNarrowed, ReplayedOne, oneFurther, Next, Replayed, oneMore, numbered};
 
 struct Tally {
@@ -40,16 +41,6 @@ fn stored_lengths(stored: Stored) -> Lent
     Lent {
         cells: stored.lent,
         queue: twice(stored.places),
-    }
-}
-
-fn cells_more(cells: usize, number: u32) -> usize
-    ensures { λ r. ⌜ r ≡ cellsMore cells number ⌝ }
-{
-    if number == 6 {
-        cells
-    } else {
-        longer(cells, 100)
     }
 }
 

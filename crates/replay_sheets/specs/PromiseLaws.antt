@@ -1,7 +1,7 @@
 -- The bytes of a file determine its replay: two outcomes that keep the promise coincide.
 use mathlib.Core.Path.{_≡_, sym, ap, _∙_}
 use mathlib.Core.List.{List}
-use Prim.Native.Nat.{ℕ}
+use Prim.Native.Nat.{ℕ, min}
 use Rattle.basics.specs.Tests.{never}
 use Rattle.basics.specs.Promises.{Determines}
 use Rattle.room.specs.Room.{volume}
@@ -24,7 +24,7 @@ use Rattle.replay_sheets.specs.declared.sheets.Asked.{Asked}
 use Rattle.replay_sheets.specs.declared.sheets.Stored.{Stored}
 use Rattle.replay_sheets.specs.Counts.{compared}
 use Rattle.replay_sheets.specs.Verdicts.{AllRubbish, verdictOf, Judged, Ran, too-long, judged}
-use Rattle.replay_sheets.specs.Runs.{lesserOf, SizeOf, refused, accepted, lens, lensOf, agreesIn, RanWith, Narrows, AgreesIn, least-queue, one-run}
+use Rattle.replay_sheets.specs.Runs.{SizeOf, refused, accepted, lens, lensOf, agreesIn, RanWith, Narrows, AgreesIn, least-queue, one-run}
 use Rattle.replay_sheets.specs.Replays.{InKind, not-due, is-due, InKinds, Next, Replayed}
 
 -- ---- a run
@@ -78,7 +78,7 @@ size-one sheet most x y (refused r p f c l) (accepted j A d m) = never (cc (sym 
 size-one sheet most x y (accepted j A c l) (refused r p f d m) = never (cc (sym f ∙ read-good p (A .means) (A .good)))
 size-one sheet most x y (accepted j A c l) (accepted k B d m) =
     let e = one-job A B in
-    size (c ∙ ap (λ job. lesserOf most (volume (job .room))) e ∙ sym d) (l ∙ ap (λ job. job .config .limit .0) e ∙ sym m)
+    size (c ∙ ap (λ job. min most (volume (job .room))) e ∙ sym d) (l ∙ ap (λ job. job .config .limit .0) e ∙ sym m)
 
 -- ---- a sheet in one kind
 

@@ -3,11 +3,11 @@ use mathlib.Core.Path.{_≡_}
 use Prim.Native.Nat.{ℕ, _*_}
 use lib.Dec.{eqb}
 use Rattle.basics.specs.Tests.{either}
-use Rattle.stored.specs.Runs.{longerBy, queueMore}
+use Rattle.stored.specs.Runs.{longerBy, cellsMore, queueMore}
 use Rattle.replay_sheets.specs.declared.sheets.Asked.{Asked}
 use Rattle.replay_sheets.specs.Runs.{lens, longerLens}
 
-pub longer-by : (A : Asked) (number : ℕ) {cells branch places more queue : ℕ} → cells ≡ either (eqb number 6) (A .lent) (longerBy (A .lent) 100)
+pub longer-by : (A : Asked) (number : ℕ) {cells branch places more queue : ℕ} → cells ≡ cellsMore (A .lent) number
     → branch ≡ either (eqb number 15) (A .branch) (longerBy (A .branch) 100) → places ≡ A .places * 2 → more ≡ queueMore number
     → queue ≡ longerBy places more → lens cells branch queue ≡ longerLens A number
 unfolding longerLens

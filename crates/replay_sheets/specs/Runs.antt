@@ -2,10 +2,10 @@
 use mathlib.Core.Path.{_≡_}
 use mathlib.Core.Bool.{Bool, true, false}
 use mathlib.Core.List.{List}
-use Prim.Native.Nat.{ℕ, _*_, _-_}
-use lib.Dec.{eqb, ltb, leb}
+use Prim.Native.Nat.{ℕ, _*_, _-_, min}
+use lib.Dec.{eqb, leb}
 use Rattle.basics.specs.Tests.{either}
-use Rattle.stored.specs.Runs.{isSame, longerBy, queueMore, Narrowed}
+use Rattle.stored.specs.Runs.{isSame, longerBy, cellsMore, queueMore, Narrowed}
 use Rattle.room.specs.Room.{volume}
 use Rattle.job_sheet.specs.declared.Job.{Job}
 use Rattle.job_sheet.specs.declared.Reading.{Reading}
@@ -22,13 +22,10 @@ use Rattle.replay_sheets.specs.Verdicts.{Ran}
 
 -- ---- a sheet's size
 
-unfoldable pub lesserOf : ℕ → ℕ → ℕ
-lesserOf a b = either (ltb a b) a b
-
 -- V, or the stored length where that is shorter, and the node limit
 pub data SizeOf (sheet : List ℕ) (lent : ℕ) (r : Size) : Type 0 where
   refused : (reading : Reading) → Read sheet reading → isGood (reading .verdict) ≡ false → r .cells ≡ lent → r .limit ≡ 0 → SizeOf sheet lent r
-  accepted : (job : Job) → Accepted sheet job → r .cells ≡ lesserOf lent (volume (job .room)) → r .limit ≡ job .config .limit .0 → SizeOf sheet lent r
+  accepted : (job : Job) → Accepted sheet job → r .cells ≡ min lent (volume (job .room)) → r .limit ≡ job .config .limit .0 → SizeOf sheet lent r
 
 -- ---- lengths
 
@@ -39,7 +36,7 @@ lens cells branch queue = record { cells = cells; branch = branch; queue = queue
 unfoldable pub longerLens : Asked → ℕ → Lens
 longerLens A number =
     lens
-    (either (eqb number 6) (A .lent) (longerBy (A .lent) 100))
+    (cellsMore (A .lent) number)
     (either (eqb number 15) (A .branch) (longerBy (A .branch) 100))
     (longerBy (A .places * 2) (queueMore number))
 

@@ -2,17 +2,18 @@
 -- place, and past the file's end everything is 0. `set` leaves a list as it is that lacks the place.
 use mathlib.Core.Path.{_≡_}
 use mathlib.Core.Bool.{Bool}
-use mathlib.Core.List.{List}
+use mathlib.Core.List.{List, []}
 use Prim.Native.Nat.{ℕ, zero, suc, _+_, _*_, _-_, min}
 use lib.Dec.{eqb, leb}
 use lib.ListN.{take, drop, set, replicate}
 use Rattle.basics.specs.Tests.{either}
 use Rattle.branches.specs.declared.BranchLengths.{BranchLengths}
+use Rattle.net_tree.specs.Answers.{branchLengths}
+use Rattle.stored.specs.Memory.{ownRoom}
 use Rattle.stored.specs.Places.{past, byteAt, cellAt, wordAt}
 use Rattle.replay_sheets.specs.declared.sheets.Asked.{Asked}
 use Rattle.replay_sheets.specs.declared.sheets.Part.{Part}
 use Rattle.replay_sheets.specs.declared.sheets.Stored.{Stored}
-use Rattle.replay_sheets.specs.Verdicts.{noLengths}
 
 -- ---- the head, and what a record begins with
 
@@ -99,7 +100,7 @@ abbrev pub left : Stored → ℕ → List ℕ → List ℕ → List ℕ → Left
 left stored end cells covered marks = record { stored = stored; end = end; cells = cells; covered = covered; marks = marks }
 
 abbrev pub refusalOf : ℕ → ℕ → Stored
-refusalOf number detail = record { number = number; detail = detail; lengths = noLengths; total = 0; occupied = 0; repeaters = 0 }
+refusalOf number detail = record { number = number; detail = detail; lengths = branchLengths []; total = 0; occupied = 0; repeaters = 0 }
 
 abbrev pub treeOf : ℕ → BranchLengths → ℕ → ℕ → ℕ → Stored
 treeOf detail lengths total occupied repeaters =
@@ -139,7 +140,7 @@ abbrev pub sheetOf : List ℕ → ℕ → List ℕ
 sheetOf F at = take (sheetAt F at .end - sheetAt F at .from) (drop (sheetAt F at .from) F)
 
 unfoldable pub zeros : List ℕ
-zeros = replicate 16600 0
+zeros = replicate ownRoom 0
 
 abbrev pub answerOf : List ℕ → ℕ → Left
 answerOf F at = answerAt F (sheetAt F at .end) zeros zeros zeros

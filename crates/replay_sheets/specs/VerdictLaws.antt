@@ -1,6 +1,6 @@
 -- Laws of the verdict on an answer and lent memory.
-use mathlib.Core.Path.{_≡_, refl, sym, _∙_}
-use mathlib.Core.Bool.{Bool, true, false, _&&_, not}
+use mathlib.Core.Path.{_≡_, refl, _∙_}
+use mathlib.Core.Bool.{true, false, _&&_, and-false}
 use mathlib.Core.List.{List, _++_}
 use Prim.Native.Nat.{ℕ, zero, suc, _+_, _≤_, _<_}
 use native.Mathlib.Numerals.{add-one}
@@ -8,25 +8,16 @@ use native.Mathlib.Omega.{arith}
 use lib.Dec.{eqb, leb}
 use lib.ListN.{length, getD, take, drop, length-take}
 use lib.Seq.{length-take-le, getD-take, take-at}
-use borrow.Author.Tests.{not-true, not-false, eqb-true, leb-true, eq-eqb, ne-eqb}
-use Rattle.basics.specs.Tests.{ask, and-left, and-right, and-both, never}
+use borrow.Author.Tests.{eqb-true, eqb-false, leb-true, eq-eqb, ne-eqb}
+use Rattle.basics.specs.Tests.{ask, and-left, and-right, and-both}
 use Rattle.net_tree.specs.declared.Lengths.{Lengths}
 use Rattle.net_tree.specs.Answers.{Lent, lent, lengthsOf}
-use Rattle.stored.specs.Memory.{Rubbish}
+use Rattle.stored.specs.Memory.{ownRoom, Rubbish}
 use Rattle.replay_sheets.specs.declared.sheets.Stored.{Stored}
 use Rattle.replay_sheets.specs.declared.judging.Shortage.{Shortage}
 use Rattle.stored.specs.declared.runs.Verdict.{Verdict}
 use Rattle.replay_sheets.specs.declared.attempt.Lens.{Lens}
 use Rattle.replay_sheets.specs.Verdicts.{sameBelow, AllRubbish, Judged, OwnRubbish, hasRoom, lengthsBy, Ran, judged}
-
--- ---- a test that a function makes, and its result turned round
-
-module _ {r a : Bool} (e : r ≡ a) where
-  pub test-fails : not r ≡ true → a ≡ false
-  test-fails n = sym e ∙ not-true r n
-
-  pub test-passes : not r ≡ false → a ≡ true
-  test-passes n = sym e ∙ not-false r n
 
 -- ---- the same numbers at the first places
 
@@ -42,46 +33,39 @@ module _ (a b : List ℕ) where
   pub same-never : (n k : ℕ) → k < n → (getD a k 0 ≡ getD b k 0 → ⊥) → sameBelow n a b ≡ false
   unfolding sameBelow
   same-never zero k h d = absurd (omega arith)
-  same-never (suc n) k h d = ask (eqb k n) (λ t. here (eqb-true k n t)) (λ f. later (same-never n k (omega (arith, apart f)) d))
+  same-never (suc n) k h d = ask (eqb k n) (λ t. here (eqb-true k n t)) (λ f. later (same-never n k (omega (arith, eqb-false k n f)) d))
     where
       here : k ≡ n → sameBelow (suc n) a b ≡ false
       here e = let f = ne-eqb (getD a k 0) (getD b k 0) d in rw (← e, f)
 
-      last : (x : Bool) → x && false ≡ false
-      last true = refl
-      last false = refl
-
-      apart : eqb k n ≡ false → k ≡ n → ⊥
-      apart f e = let t = eq-eqb k n e in never (cc)
-
       later : sameBelow n a b ≡ false → sameBelow (suc n) a b ≡ false
-      later g = rw g (last (eqb (getD a n 0) (getD b n 0)))
+      later g = rw g (and-false (eqb (getD a n 0) (getD b n 0)))
 
 -- ---- the fronts that are lent have the lengths asked for
 
 module _ (N : Lens) (queue : ℕ) (e : hasRoom N queue ≡ true) where
-  fits-both : leb (N .branch) 16600 && leb (N .cells) 16600 ≡ true
+  fits-both : leb (N .branch) ownRoom && leb (N .cells) ownRoom ≡ true
   unfolding hasRoom
-  fits-both = and-left (leb (N .branch) 16600 && leb (N .cells) 16600) (leb (N .queue) queue) e
+  fits-both = and-left (leb (N .branch) ownRoom && leb (N .cells) ownRoom) (leb (N .queue) queue) e
 
-  pub fits-branch : N .branch ≤ 16600
-  fits-branch = leb-true (N .branch) 16600 (and-left (leb (N .branch) 16600) (leb (N .cells) 16600) fits-both)
+  pub fits-branch : N .branch ≤ ownRoom
+  fits-branch = leb-true (N .branch) ownRoom (and-left (leb (N .branch) ownRoom) (leb (N .cells) ownRoom) fits-both)
 
-  pub fits-cells : N .cells ≤ 16600
-  fits-cells = leb-true (N .cells) 16600 (and-right (leb (N .branch) 16600) (leb (N .cells) 16600) fits-both)
+  pub fits-cells : N .cells ≤ ownRoom
+  fits-cells = leb-true (N .cells) ownRoom (and-right (leb (N .branch) ownRoom) (leb (N .cells) ownRoom) fits-both)
 
   pub fits-queue : N .queue ≤ queue
   unfolding hasRoom
-  fits-queue = leb-true (N .queue) queue (and-right (leb (N .branch) 16600 && leb (N .cells) 16600) (leb (N .queue) queue) e)
+  fits-queue = leb-true (N .queue) queue (and-right (leb (N .branch) ownRoom && leb (N .cells) ownRoom) (leb (N .queue) queue) e)
 
 pub fits-again : (N : Lens) (queue queue′ : List ℕ) → hasRoom N (length queue) ≡ true → length queue′ ≡ length queue → N .queue ≤ length queue′
 fits-again N queue queue′ e k = rw k (fits-queue N (length queue) e)
 
 module _ {s : List ℕ} (R : OwnRubbish s) where
-  pub front-fits : (n : ℕ) → n ≤ 16600 → n ≤ length s
+  pub front-fits : (n : ℕ) → n ≤ ownRoom → n ≤ length s
   front-fits n h = rw (R .long) h
 
-  pub front-long : (n : ℕ) → n ≤ 16600 → length (take n s) ≡ n
+  pub front-long : (n : ℕ) → n ≤ ownRoom → length (take n s) ≡ n
   front-long n h = length-take-le n s (front-fits n h)
 
   front-rubbish : (n : ℕ) → Rubbish (take n s)

@@ -4,7 +4,7 @@ use mathlib.Core.Bool.{Bool, true, false, _&&_, not}
 use mathlib.Core.List.{List, []}
 use Prim.Native.Nat.{ℕ, zero, suc}
 use lib.Dec.{eqb, leb}
-use lib.ListN.{length, getD, replicate}
+use lib.ListN.{length, getD}
 use Rattle.basics.specs.Tests.{either}
 use Rattle.lent.specs.Lent.{touches}
 use Rattle.stored.specs.Runs.{fullIf, sameIf}
@@ -14,13 +14,13 @@ use Rattle.net_tree.specs.declared.Lengths.{Lengths}
 use Rattle.net_tree.specs.declared.Answer.{Answer}
 use Rattle.net_tree.specs.declared.Ended.{Ended}
 use Rattle.net_tree.specs.declared.Ended.the-variants.{Routed, Refused}
-use Rattle.net_tree.specs.Answers.{Lent, lengthsOf, Promise}
+use Rattle.net_tree.specs.Answers.{Lent, lengthsOf, Promise, branchLengths}
 use Rattle.replay_sheets.specs.declared.sheets.Stored.{Stored}
 use Rattle.replay_sheets.specs.declared.judging.Shortage.{Shortage}
 use Rattle.stored.specs.declared.runs.Verdict.{Verdict}
 use Rattle.stored.specs.declared.runs.Verdict.the-variants.{Other}
 use Rattle.replay_sheets.specs.declared.attempt.Lens.{Lens}
-use Rattle.stored.specs.Memory.{Rubbish, holds, covers}
+use Rattle.stored.specs.Memory.{ownRoom, Rubbish, holds, fourHold, covers}
 
 -- ---- the answer
 
@@ -31,9 +31,6 @@ sameBelow (suc n) a b = eqb (getD a n 0) (getD b n 0) && sameBelow n a b
 
 unfoldable pub sameLengths : BranchLengths → BranchLengths → Bool
 sameLengths a b = eqb (a .count) (b .count) && sameBelow 16 (a .each) (b .each)
-
-abbrev pub noLengths : BranchLengths
-noLengths = record { count = 0; each = replicate 16 0 }
 
 -- a tree with as many cells and repeaters as are stored
 unfoldable pub sameCounts : ℕ → ℕ → Stored → Bool
@@ -58,7 +55,7 @@ shortEnd (Routed occupied repeaters) F = false
 shortEnd (Refused number detail) F = shortRefusal number detail F
 
 unfoldable pub shortAnswer : Answer → Shortage → Bool
-shortAnswer a F = shortEnd (a .ended) F && sameLengths (a .lengths) noLengths
+shortAnswer a F = shortEnd (a .ended) F && sameLengths (a .lengths) (branchLengths [])
 
 -- ---- lent memory
 
@@ -69,9 +66,6 @@ occupiedHolds kept count covered occupied = either kept (holds true covered occu
 unfoldable pub outputsHold : Bool → ℕ → (cells covered marks branches occupied repeaters : List ℕ) → Bool
 outputsHold kept count cells covered marks branches occupied repeaters =
     holds kept cells branches && occupiedHolds kept count covered occupied && holds kept marks repeaters
-
-unfoldable pub fourHold : Bool → (a b c d : List ℕ) → Bool
-fourHold kept a b c d = holds kept [] a && holds kept [] b && holds kept [] c && holds kept [] d
 
 -- work memory: the rubbish that was there, or zeros
 unfoldable pub workHolds : Bool → (kinds blocked classes joinable known previous path best queue : List ℕ) → Bool
@@ -121,12 +115,12 @@ pub record Judged (sheet : List ℕ) (L : Lengths) (S : Stored) (F : Shortage) (
 
 -- a buffer of the program's own, full of rubbish
 pub record OwnRubbish (s : List ℕ) : Type 0 where
-  pub long : length s ≡ 16600
+  pub long : length s ≡ ownRoom
   pub rubbish-all : Rubbish s
 
 -- lengths that the program's own memory has, with a queue so long
 unfoldable pub hasRoom : Lens → ℕ → Bool
-hasRoom N queue = leb (N .branch) 16600 && leb (N .cells) 16600 && leb (N .queue) queue
+hasRoom N queue = leb (N .branch) ownRoom && leb (N .cells) ownRoom && leb (N .queue) queue
 
 abbrev pub lengthsBy : Lens → Lengths
 lengthsBy N = record {

@@ -2,6 +2,7 @@
 use crate::judging::Shortage;
 use crate::judging::judge;
 use crate::sheets::Stored;
+use stored::memory::ROOM;
 use stored::memory::spoil_bytes;
 use stored::memory::spoil_longs;
 use stored::memory::spoil_words;
@@ -12,9 +13,6 @@ ghost use lib.ListN.{length, take};
 ghost use Rattle.net_tree.specs.Answers.{lent, lengthsOf};
 ghost use Rattle.stored.specs.Memory.{Rubbish};
 ghost use Rattle.replay_sheets.specs.Verdicts.{OwnRubbish, AllRubbish, Judged, hasRoom, Ran};
-
-// How many numbers the program's own buffers have: room for the largest room and branch buffer that are stored, and some more.
-const ROOM: usize = 16600;
 
 // The lengths at which buffers are lent: those of a number a cell, the branch buffer, and the queue.
 pub struct Lens {
@@ -137,10 +135,7 @@ pub fn run(
     if !has_room(lens, queue.len()) {
         return Verdict::Other;
     }
-    let branch = lens.branch;
-    let count = lens.cells;
-    let longs = lens.queue;
-    spoil_front(queue, longs);
+    spoil_front(queue, lens.queue);
     let words = rubbish_words();
     let bytes = rubbish_bytes();
     let mut branches = words;
@@ -161,17 +156,17 @@ pub fn run(
         cells,
         covered,
         marks,
-        &mut branches[..branch],
-        &mut occupied[..count],
-        &mut repeaters[..count],
-        &mut kinds[..count],
-        &mut blocked[..count],
-        &mut classes[..count],
-        &mut joinable[..count],
-        &mut known[..count],
-        &mut previous[..count],
-        &mut path[..count],
-        &mut best[..count],
-        &mut queue[..longs],
+        &mut branches[..lens.branch],
+        &mut occupied[..lens.cells],
+        &mut repeaters[..lens.cells],
+        &mut kinds[..lens.cells],
+        &mut blocked[..lens.cells],
+        &mut classes[..lens.cells],
+        &mut joinable[..lens.cells],
+        &mut known[..lens.cells],
+        &mut previous[..lens.cells],
+        &mut path[..lens.cells],
+        &mut best[..lens.cells],
+        &mut queue[..lens.queue],
     )
 }

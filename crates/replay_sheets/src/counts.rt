@@ -1,4 +1,4 @@
-// How far the file has been replayed.
+// What is counted of the sheets that have been replayed.
 ghost use mathlib.Core.Path.{_≡_};
 ghost use Rattle.replay_sheets.specs.Counts.{oneMore, oneMoreAt, firstOf, firstAt, nothingYet, met, compared};
 

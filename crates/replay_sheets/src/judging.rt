@@ -10,11 +10,15 @@ use stored::memory::covers;
 use stored::memory::longs_hold;
 use stored::memory::words_hold;
 use stored::runs::Verdict;
+use stored::runs::full_if;
+use stored::runs::same_if;
 ghost use mathlib.Core.Path.{_≡_};
-ghost use Rattle.stored.specs.Runs.{fullIf, sameIf};
+ghost use mathlib.Core.Bool.{false};
+ghost use mathlib.Core.List.{[]};
+ghost use Rattle.stored.specs.Memory.{fourHold};
 ghost use Rattle.net_tree.specs.Answers.{lent};
 ghost use Rattle.replay_sheets.specs.Verdicts.{sameLengths, sameCounts, sameRefusal, sameEnd, sameAnswer, shortRefusal, shortEnd, shortAnswer};
-ghost use Rattle.replay_sheets.specs.Verdicts.{occupiedHolds, outputsHold, fourHold, workHolds, memoryHolds, verdictOf};
+ghost use Rattle.replay_sheets.specs.Verdicts.{occupiedHolds, outputsHold, workHolds, memoryHolds, verdictOf};
 
 // What a buffer gives that is too short: a number, and the greatest detail that it can have. The least is 1.
 pub struct Shortage {
@@ -263,16 +267,42 @@ fn memory_holds(
     )
 }
 
-fn same_if(holds: bool) -> Verdict
-    ensures { λ r. ⌜ r ≡ sameIf holds ⌝ }
+// Whether every buffer holds zeros alone.
+fn memory_emptied(
+    branches: &[u32],
+    occupied: &[u8],
+    repeaters: &[u8],
+    kinds: &[u8],
+    blocked: &[u8],
+    classes: &[u8],
+    joinable: &[u8],
+    known: &[u32],
+    previous: &[u32],
+    path: &[u32],
+    best: &[u32],
+    queue: &[u64],
+) -> bool
+    ensures { λ r. ⌜ r ≡ memoryHolds false 0 [] [] [] (lent (now (branches .entry)) (now (occupied .entry)) (now (repeaters .entry)) (now (kinds .entry)) (now (blocked .entry)) (now (classes .entry)) (now (joinable .entry)) (now (known .entry)) (now (previous .entry)) (now (path .entry)) (now (best .entry)) (now (queue .entry))) ⌝ }
 {
-    if holds { Verdict::Same } else { Verdict::Other }
-}
-
-fn full_if(holds: bool) -> Verdict
-    ensures { λ r. ⌜ r ≡ fullIf holds ⌝ }
-{
-    if holds { Verdict::Full } else { Verdict::Other }
+    memory_holds(
+        false,
+        0,
+        &branches[..0],
+        &occupied[..0],
+        &repeaters[..0],
+        branches,
+        occupied,
+        repeaters,
+        kinds,
+        blocked,
+        classes,
+        joinable,
+        known,
+        previous,
+        path,
+        best,
+        queue,
+    )
 }
 
 // The answer and all memory, held to what is stored, or to what a buffer leaves that is too short.
@@ -323,12 +353,7 @@ pub fn judge(
     if !short_answer(answer, shortage) {
         return Verdict::Other;
     }
-    full_if(memory_holds(
-        false,
-        0,
-        &cells[..0],
-        &covered[..0],
-        &marks[..0],
+    full_if(memory_emptied(
         branches,
         occupied,
         repeaters,

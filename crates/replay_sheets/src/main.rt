@@ -7,6 +7,11 @@ mod replay;
 mod sheets;
 
 use crate::counts::Tally;
+use crate::replay::BRANCH_FULL;
+use crate::replay::BRANCH_SHORT;
+use crate::replay::EXACT;
+use crate::replay::LONGER;
+use crate::replay::QUEUE;
 use libc::STDOUT_FILENO;
 ghost use mathlib.Core.Path.{_≡_};
 ghost use Prim.Native.Nat.{_<_};
@@ -53,19 +58,31 @@ fn print_kind(word: &[u8], kind: usize, compared: [u32; 5], differ: [u32; 5], fi
 }
 
 fn print_kinds(compared: [u32; 5], differ: [u32; 5], first: [u32; 5]) {
-    print_kind(b"buffers of exactly V cells: ", 0, compared, differ, first);
-    print_kind(b"longer buffers: ", 1, compared, differ, first);
-    print_kind(b"branch buffer exactly full: ", 2, compared, differ, first);
+    print_kind(
+        b"buffers of exactly V cells: ",
+        EXACT,
+        compared,
+        differ,
+        first,
+    );
+    print_kind(b"longer buffers: ", LONGER, compared, differ, first);
+    print_kind(
+        b"branch buffer exactly full: ",
+        BRANCH_FULL,
+        compared,
+        differ,
+        first,
+    );
     print_kind(
         b"branch buffer one cell short: ",
-        3,
+        BRANCH_SHORT,
         compared,
         differ,
         first,
     );
     print_kind(
         b"least queue, and one place less: ",
-        4,
+        QUEUE,
         compared,
         differ,
         first,

@@ -13,9 +13,11 @@ use crate::sheets::asked_at;
 use crate::sheets::count_in;
 use crate::sheets::known_if;
 use crate::sheets::sheet_at;
+use stored::memory::ROOM;
 use stored::places::past;
 use stored::runs::Gap;
 use stored::runs::Verdict;
+use stored::runs::cells_more;
 use stored::runs::is_open;
 use stored::runs::is_same;
 use stored::runs::longer;
@@ -24,25 +26,25 @@ use stored::runs::narrowed;
 use stored::runs::queue_more;
 use stored::runs::twice;
 ghost use mathlib.Core.Path.{_≡_};
-ghost use Prim.Native.Nat.{_-_};
+ghost use Prim.Native.Nat.{_-_, min};
 ghost use lib.Dec.{eqb};
 ghost use lib.ListN.{length};
 ghost use Rattle.basics.specs.Tests.{either};
 ghost use Rattle.stored.specs.Runs.{longerBy, Halved};
-ghost use Rattle.replay_sheets.specs.Runs.{lesserOf, SizeOf, longerLens, branchOf, lensOf, isFull, agreesIn, dueIn, RanWith, Narrows, AgreesIn};
+ghost use Rattle.replay_sheets.specs.Runs.{SizeOf, longerLens, branchOf, lensOf, isFull, agreesIn, dueIn, RanWith, Narrows, AgreesIn};
 ghost use Rattle.replay_sheets.specs.Replays.{InKind, InKinds, Next, Replayed};
 
 // The kinds of comparison: buffers of exactly V cells, longer ones, a branch buffer exactly full, one that is one cell short, and
 // the least queue.
-const EXACT: usize = 0;
+pub const EXACT: usize = 0;
 
-const LONGER: usize = 1;
+pub const LONGER: usize = 1;
 
-const BRANCH_FULL: usize = 2;
+pub const BRANCH_FULL: usize = 2;
 
-const BRANCH_SHORT: usize = 3;
+pub const BRANCH_SHORT: usize = 3;
 
-const QUEUE: usize = 4;
+pub const QUEUE: usize = 4;
 
 // How far the file has been replayed: where the next record stands, and what has come of those before it.
 pub struct Stand {
@@ -59,7 +61,7 @@ struct Size {
 fn size_of(sheet: &[u8], lent: usize) -> Size
     ensures { λ r. ⌜ SizeOf (now (sheet .entry)) lent r ⌝ }
 {
-    let reading = job_sheet::read_sheet(sheet);
+    let reading = sheet_reader::read_sheet(sheet);
     let verdict = reading.verdict;
     if !verdict.is_good() {
         return Size {
@@ -75,15 +77,9 @@ fn size_of(sheet: &[u8], lent: usize) -> Size
 }
 
 fn lesser(a: usize, b: usize) -> usize
-    ensures { λ r. ⌜ r ≡ lesserOf a b ⌝ }
+    ensures { λ r. ⌜ r ≡ min a b ⌝ }
 {
     if a < b { a } else { b }
-}
-
-fn cells_more(lent: usize, number: u32) -> usize
-    ensures { λ r. ⌜ r ≡ either (eqb number 6) lent (longerBy lent 100) ⌝ }
-{
-    if number == 6 { lent } else { longer(lent, 100) }
 }
 
 fn branch_more(branch: usize, number: u32) -> usize
@@ -321,9 +317,9 @@ fn replay_kinds(
 fn replay_next(file: &[u8], stand: Stand, queue: &mut [u64]) -> Stand
     ensures { λ r. ⌜ Next (now (file .entry)) (length (now (queue .entry))) stand r ⌝ }
 {
-    let mut cells = [0u32; 16600];
-    let mut covered = [0u8; 16600];
-    let mut marks = [0u8; 16600];
+    let mut cells = [0u32; ROOM];
+    let mut covered = [0u8; ROOM];
+    let mut marks = [0u8; ROOM];
     let tally = stand.tally;
     let part = sheet_at(file, stand.at);
     let from = part.from;

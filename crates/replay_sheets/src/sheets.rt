@@ -7,10 +7,11 @@ use stored::places::past;
 use stored::places::size_at;
 use stored::places::word_at;
 ghost use mathlib.Core.Path.{_≡_};
+ghost use mathlib.Core.List.{[]};
 ghost use Prim.Native.Nat.{_+_, _≤_, _<_, min};
 ghost use lib.ListN.{set};
+ghost use Rattle.net_tree.specs.Answers.{branchLengths};
 ghost use Rattle.replay_sheets.specs.Sheets.{countIn, askedAt, sheetAt, marksOf, cellsOf, Branched, left, refusalOf, treeAt, answerAt, knownIf};
-ghost use Rattle.replay_sheets.specs.Verdicts.{noLengths};
 
 // The file's letters, DRT1.
 const LETTERS: u32 = 0x44525431;
@@ -166,7 +167,7 @@ fn at_most_sixteen(count: u8) -> usize
 }
 
 pub fn no_lengths() -> BranchLengths
-    ensures { λ r. ⌜ r ≡ noLengths ⌝ }
+    ensures { λ r. ⌜ r ≡ branchLengths [] ⌝ }
 {
     BranchLengths {
         count: 0,
@@ -249,7 +250,7 @@ pub fn answer_at(
     }
 }
 
-// The stored answer of a sheet that the file holds whole. One that it doesn't counts as another answer than any.
+// The stored answer, where the file holds the whole sheet; else an answer that no run gives.
 pub fn known_if(whole: bool, stored: Stored) -> Stored
     ensures { λ r. ⌜ r ≡ knownIf whole stored ⌝ }
 {

@@ -1,5 +1,5 @@
 -- Laws of the moves: a neighbour is inside exactly when its position is, moves are symmetric, a facing's flat move is one of them, and a flat step
--- changes a distance by at most 1, a stair by at most 2.
+-- lowers a distance by at most 1, a stair by at most 2.
 use mathlib.Core.Path.{_≡_, refl, sym, ap, _∙_}
 use mathlib.Core.Logic.{inl, inr}
 use mathlib.Core.Bool.{Bool, true, false, _&&_}
@@ -7,21 +7,18 @@ use mathlib.Core.List.{List, [], _∷_}
 use Prim.Native.Nat.{ℕ, zero, suc, _+_, _-_, _≤_, _<_}
 use native.Mathlib.Omega.{arith}
 use lib.Dec.{leb, eqb}
-use lib.ListN.{getD}
-use borrow.Author.Tests.{leb-true, eqb-true, le-leb, eq-eqb}
+use borrow.Author.Tests.{eqb-true, le-leb, eq-eqb}
 use Rattle.basics.specs.Tests.{either, ask, and-left, and-right, and-both, never}
-use Rattle.basics.specs.Lists.{In, every, every-in, in-at}
+use Rattle.basics.specs.Lists.{In, every, any, every-in, in-at}
 use Rattle.room.specs.declared.Room.{Room}
 use Rattle.room.specs.declared.Pos.{Pos}
 use Rattle.room.specs.declared.Move.{Move}
 use Rattle.room.specs.declared.Neighbour.the-variants.{Inside, Outside}
-use Rattle.room.specs.Room.{Good, Within, Moved, at, by, volume, cellOf, posOf, moves, between, stays, shifted, neighbourAt, neighbour, beneath, apart, distance}
+use Rattle.room.specs.Room.{Good, Within, Moved, by, volume, cellOf, posOf, moves, moveAt, flat, between, stays, shifted, neighbourAt, neighbour, apart, distanceAt, distance}
 use Rattle.room.specs.Units.{north, east, south, facingHorizontal, facingMove, ahead}
-use Rattle.room.specs.RoomLaws.{cell-in, cell-pos, pos-cell, pos-in}
+use Rattle.room.specs.RoomLaws.{passed, cell-in, cell-pos, pos-cell, pos-in}
 
 -- ---- a neighbour is inside exactly when its position is
-
-ruleset passed = (and-left, and-right, leb-true)
 
 pub one-less : {a : ℕ} → 1 ≤ a → a - 1 + 1 ≡ a
 one-less h = omega arith
@@ -88,20 +85,6 @@ pub not-stays : (R : Room) (n : ℕ) (m : Move) → stays R (posOf R n) m ≡ fa
 unfolding neighbour
 not-stays R n m e = rw e
 
-pub leads-out : (R : Room) (n : ℕ) (m : Move) → neighbour R n m ≡ Outside → (q : Pos) → Moved (posOf R n) m q → Within R q → ⊥
-leads-out R n m e q v w = let f = leads-to R n m q v w in never (cc)
-
--- the cell beneath a cell of the room is in the room
-pub beneath-in : (R : Room) (n b : ℕ) → n < volume R → beneath R n ≡ Inside b → b < volume R
-unfolding beneath
-beneath-in R n b h e = ask (leb 1 (posOf R n .y)) (λ t. down (rw t at e)) (λ f. out (rw f at e))
-  where
-    down : Inside (n - R .deep) ≡ Inside b → b < volume R
-    down q = let c : n - R .deep ≡ b = cc in omega arith
-
-    out : Outside ≡ Inside b → b < volume R
-    out q = never (cc)
-
 -- the tests one by one, as the code makes them
 module _ (R : Room) (p : Pos) (m : Move) where
   pub out-x : between 1 (p .x + m .x) (R .wide) ≡ false → Outside ≡ neighbourAt R p m
@@ -134,15 +117,14 @@ module _ (R : Room) (p : Pos) (m : Move) where
 abbrev pub opposite : Move → Move
 opposite m = by (2 - m .x) (2 - m .y) (2 - m .z)
 
-abbrev same : Move → Move → Bool
-same a b = eqb (a .x) (b .x) && (eqb (a .y) (b .y) && eqb (a .z) (b .z))
+abbrev pub sameMove : Move → Move → Bool
+sameMove a b = eqb (a .x) (b .x) && (eqb (a .y) (b .y) && eqb (a .z) (b .z))
 
 abbrev among : Move → List Move → Bool
-among m [] = false
-among m (k ∷ ks) = either (same m k) true (among m ks)
+among m ks = any (sameMove m) ks
 
-same-is : (a b : Move) → same a b ≡ true → a ≡ b
-same-is a b e =
+pub same-move : (a b : Move) → sameMove a b ≡ true → a ≡ b
+same-move a b e =
     let p : a .x ≡ b .x = eqb-true _ _ (and-left _ _ e) in
     let q : a .y ≡ b .y = eqb-true _ _ (and-left _ _ (and-right (eqb (a .x) (b .x)) _ e)) in
     let r : a .z ≡ b .z = eqb-true _ _ (and-right (eqb (a .y) (b .y)) _ (and-right (eqb (a .x) (b .x)) _ e)) in
@@ -150,7 +132,7 @@ same-is a b e =
 
 among-is : (m : Move) (ks : List Move) → among m ks ≡ true → In m ks
 among-is m [] e = never (cc)
-among-is m (k ∷ ks) e = ask (same m k) (λ t. inl (same-is m k t)) (λ f. inr (among-is m ks (rw f at e)))
+among-is m (k ∷ ks) e = ask (sameMove m k) (λ t. inl (same-move m k t)) (λ f. inr (among-is m ks (rw f at e)))
 
 pub opposite-in : (m : Move) → In m moves → In (opposite m) moves
 unfolding moves
@@ -201,9 +183,9 @@ listed m s =
     let z = every-in (listedIf (m .x) (m .y)) parts y (m .z) (part (m .z) (s .z-small)) in
     among-is m moves (rw (eq-eqb _ 1 (s .aside)) at z)
 
-pub move-small : (k : ℕ) → k < 12 → Small (getD moves k (by 0 0 0))
+pub move-small : (k : ℕ) → k < 12 → Small (moveAt k)
 unfolding moves
-move-small k h = small (getD moves k (by 0 0 0)) (in-at moves k (by 0 0 0) h)
+move-small k h = small (moveAt k) (in-at moves k (by 0 0 0) h)
 
 pub moved-back : (p : Pos) (m : Move) (q : Pos) → Small m → Moved p m q → Moved q (opposite m) p
 moved-back p m q s v = record {
@@ -231,11 +213,7 @@ unfolding ahead
 ahead-in R n facing v e =
     ask (facingHorizontal facing) (λ t. leads R n (facingMove facing) v (rw t at e) .inside) (λ f. never (cc (rw f at e)))
 
--- ---- the distance changes by at most 1 on a flat step and 2 on a stair
-
--- flat is the move that leaves y as it is
-abbrev pub flat : Move → Bool
-flat m = eqb (m .y) 1
+-- ---- the distance falls by at most 1 on a flat step and 2 on a stair
 
 unfoldable pub most : Move → ℕ
 most m = either (flat m) 1 2
@@ -245,8 +223,7 @@ shift : (a o g t : ℕ) → t + 1 ≡ a + o → apart a g ≤ apart t g + apart 
 shift a o g t e = omega arith
 
 shifts : (p : Pos) (m : Move) (q g : Pos) → Moved p m q
-    → apart (p .x) (g .x) + apart (p .y) (g .y) + apart (p .z) (g .z)
-    ≤ apart (q .x) (g .x) + apart (q .y) (g .y) + apart (q .z) (g .z) + (apart (m .x) 1 + apart (m .y) 1 + apart (m .z) 1)
+    → distanceAt p g ≤ distanceAt q g + (apart (m .x) 1 + apart (m .y) 1 + apart (m .z) 1)
 shifts p m q g v =
     omega (
       arith,
@@ -263,14 +240,3 @@ change m s =
 pub nearer : (R : Room) (n : ℕ) (m : Move) (v g : ℕ) → In m moves → neighbour R n m ≡ Inside v → distance R n g ≤ distance R v g + most m
 unfolding distance
 nearer R n m v g i e = omega (arith, shifts (posOf R n) m (posOf R v) (posOf R g) (leads R n m v e .moved), change m (small m i))
-
-most-opposite : (m : Move) → In m moves → most (opposite m) ≡ most m
-unfolding moves most
-most-opposite m i = eqb-true _ _ (every-in (λ k. eqb (most (opposite k)) (most k)) moves refl m i)
-
-pub farther : (R : Room) (n : ℕ) (m : Move) (v g : ℕ) → In m moves → neighbour R n m ≡ Inside v → distance R v g ≤ distance R n g + most m
-unfolding distance
-farther R n m v g i e =
-    let back = moved-back (posOf R n) m (posOf R v) (small m i) (leads R n m v e .moved) in
-    let o = opposite-in m i in
-    omega (arith, shifts (posOf R v) (opposite m) (posOf R n) (posOf R g) back, change (opposite m) (small (opposite m) o), most-opposite m i)

@@ -4,7 +4,8 @@ use mathlib.Core.Path.{_≡_}
 use mathlib.Core.Bool.{Bool, true, false, _&&_}
 use mathlib.Core.List.{List, [], _∷_}
 use Prim.Native.Nat.{ℕ, _+_, _-_, _*_, _/_, _%_, _≤_, _<_}
-use lib.Dec.{leb, ltb}
+use lib.Dec.{leb, ltb, eqb}
+use lib.ListN.{getD}
 use Rattle.room.specs.declared.Room.{Room}
 use Rattle.room.specs.declared.Pos.{Pos}
 use Rattle.room.specs.declared.Move.{Move}
@@ -29,7 +30,7 @@ between low a high = leb low a && leb a high
 unfoldable pub sidesGood : Room → Bool
 sidesGood R = between 1 (R .wide) maxSide && (between 1 (R .high) maxSide && (between 1 (R .deep) maxSide && leb (volume R) maxVolume))
 
--- a room that number 2 does not refuse
+-- a room that number 2 does not refuse: its test, read as inequalities
 pub record Good (R : Room) : Type 0 where
   pub x-some : 1 ≤ R .wide
   pub x-most : R .wide ≤ maxSide
@@ -49,7 +50,7 @@ cellOf R p = (p .x * R .high + p .y) * R .deep + p .z
 unfoldable pub posOf : Room → ℕ → Pos
 posOf R n = at (n / R .deep / R .high) (n / R .deep % R .high) (n % R .deep)
 
--- the position is in the room
+-- the position is in the room; `within` is its test
 pub record Within (R : Room) (p : Pos) : Type 0 where
   pub x-in : p .x < R .wide
   pub y-in : p .y < R .high
@@ -71,6 +72,13 @@ moves =
     ∷ by 1 0 0 ∷ by 1 1 0 ∷ by 1 2 0
     ∷ []
 
+abbrev pub moveAt : ℕ → Move
+moveAt k = getD moves k (by 0 0 0)
+
+-- a flat step leaves y as it is; every other is a stair
+abbrev pub flat : Move → Bool
+flat m = eqb (m .y) 1
+
 -- q is where the move m leads from p
 pub record Moved (p : Pos) (m : Move) (q : Pos) : Type 0 where
   pub x-by : q .x + 1 ≡ p .x + m .x
@@ -80,6 +88,11 @@ pub record Moved (p : Pos) (m : Move) (q : Pos) : Type 0 where
 abbrev pub inOrOut : Bool → ℕ → Neighbour
 inOrOut true n = Inside n
 inOrOut false n = Outside
+
+-- what the test says of the cell at a place; a place outside the room has none
+abbrev pub holdsAt : (ℕ → Bool) → Neighbour → Bool
+holdsAt test (Inside v) = test v
+holdsAt test Outside = false
 
 -- the move m from p stays in the room
 unfoldable pub stays : Room → Pos → Move → Bool
@@ -107,5 +120,8 @@ above R n = inOrOut (ltb (posOf R n .y + 1) (R .high)) (n + R .deep)
 abbrev pub apart : ℕ → ℕ → ℕ
 apart a b = (a - b) + (b - a)
 
+abbrev pub distanceAt : Pos → Pos → ℕ
+distanceAt p q = apart (p .x) (q .x) + apart (p .y) (q .y) + apart (p .z) (q .z)
+
 unfoldable pub distance : Room → ℕ → ℕ → ℕ
-distance R a b = apart (posOf R a .x) (posOf R b .x) + apart (posOf R a .y) (posOf R b .y) + apart (posOf R a .z) (posOf R b .z)
+distance R a b = distanceAt (posOf R a) (posOf R b)

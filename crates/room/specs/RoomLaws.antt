@@ -1,24 +1,24 @@
--- Laws of the room: what its tests say, and that numbering is a bijection between the positions inside and the numbers below V that keeps the
--- order of (x, y, z).
-use mathlib.Core.Path.{_≡_, sym, ap}
+-- Laws of the room: what its tests say, that numbering is a bijection between the positions inside and the numbers below V that keeps the order of
+-- (x, y, z), and that the cells right above and beneath a cell are in the room.
+use mathlib.Core.Path.{_≡_, refl, ap}
 use mathlib.Core.Logic.{_⊎_, inl, inr}
-use mathlib.Core.Bool.{true}
-use Prim.Native.Nat.{ℕ, _+_, _*_, _/_, _≤_, _<_}
-use native.Mathlib.Nat.{add-assoc, add-mul, div-add-mod', mul-le-mul-left, mul-le-mul-right, mul-le-mul, mod-lt, mod-le, div-lt-iff-lt-mul, div-mul-le-self}
-use native.Mathlib.Decide.{decLe}
+use mathlib.Core.Bool.{Bool, true, false}
+use Prim.Native.Nat.{ℕ, _+_, _-_, _*_, _/_, _≤_, _<_}
+use native.Mathlib.Nat.{add-assoc, add-mul, div-add-mod', mul-le-mul-left, mul-le-mul-right, mod-lt, mod-le, div-lt-iff-lt-mul, div-mul-le-self}
 use native.Mathlib.Omega.{arith}
-use lib.Dec.{ltb}
+use lib.Dec.{leb, ltb}
 use lib.Arith.{digits-lt, digits-div, digits-mod}
-use borrow.Author.Tests.{leb-true, ltb-true, le-leb, lt-ltb}
-use Rattle.basics.specs.Tests.{ask, and-left, and-right, and-both, never}
+use borrow.Author.Tests.{leb-true, ltb-true}
+use Rattle.basics.specs.Tests.{and-left, and-right, never}
 use Rattle.room.specs.declared.Room.{Room}
 use Rattle.room.specs.declared.Pos.{Pos}
-use Rattle.room.specs.declared.Neighbour.the-variants.{Inside, Outside}
-use Rattle.room.specs.Room.{Good, Within, maxSide, maxVolume, volume, between, sidesGood, at, cellOf, posOf, within, above, apart}
+use Rattle.room.specs.declared.Neighbour.the-variants.{Inside}
+use Rattle.room.specs.Room.{Good, Within, maxSide, maxVolume, volume, between, sidesGood, at, cellOf, posOf, within, inOrOut, beneath, above}
 
-ruleset passed = (and-left, and-right, leb-true, ltb-true)
+-- what a conjunction of tests says of numbers
+pub ruleset passed = (and-left, and-right, leb-true, ltb-true)
 
--- a room that passes the test of number 2 is good, and a good one passes
+-- a room that passes the test of number 2 is good
 pub good : (R : Room) → sidesGood R ≡ true → Good R
 unfolding sidesGood between
 good R e = record {
@@ -31,20 +31,9 @@ good R e = record {
   few = search passed;
 }
 
-pub good-passes : (R : Room) → Good R → sidesGood R ≡ true
-unfolding sidesGood between
-good-passes R G =
-    and-both (and-both (le-leb _ _ (G .x-some)) (le-leb _ _ (G .x-most)))
-    (and-both (and-both (le-leb _ _ (G .y-some)) (le-leb _ _ (G .y-most)))
-    (and-both (and-both (le-leb _ _ (G .z-some)) (le-leb _ _ (G .z-most))) (le-leb _ _ (G .few))))
-
 pub within-is : (R : Room) (p : Pos) → within R p ≡ true → Within R p
 unfolding within
 within-is R p e = record { x-in = search passed; y-in = search passed; z-in = search passed }
-
-pub within-passes : (R : Room) (p : Pos) → Within R p → within R p ≡ true
-unfolding within
-within-passes R p w = and-both (lt-ltb _ _ (w .x-in)) (and-both (lt-ltb _ _ (w .y-in)) (lt-ltb _ _ (w .z-in)))
 
 -- ---- numbering is a bijection
 
@@ -99,51 +88,38 @@ order R p q v w (inr b) = go (b .1)
     go (inl h) = digits-more (q .z) (R .deep) (v .z-in) (rw (b .0) (omega arith))
     go (inr e) = rw (b .0, e .0) (omega (arith, e .1))
 
--- of two positions in the room, one comes before the other or they are one
-pub compare : (p q : Pos) → Before p q ⊎ ((p ≡ q) ⊎ Before q p)
-compare p q = go (three (p .x) (q .x)) (three (p .y) (q .y)) (three (p .z) (q .z))
-  where
-    three : (a b : ℕ) → (a < b) ⊎ ((a ≡ b) ⊎ (b < a))
-    three a b = elim (decLe (1 + a) b) [ yes h ↦ inl (omega arith) | no h ↦ elim (decLe (1 + b) a) [ yes k ↦ inr (inr (omega arith)) | no k ↦ inr (inl (omega arith)) ] ]
+-- ---- the cells right above and beneath a cell
 
-    go : (p .x < q .x) ⊎ ((p .x ≡ q .x) ⊎ (q .x < p .x)) → (p .y < q .y) ⊎ ((p .y ≡ q .y) ⊎ (q .y < p .y)) → (p .z < q .z) ⊎ ((p .z ≡ q .z) ⊎ (q .z < p .z)) → Before p q ⊎ ((p ≡ q) ⊎ Before q p)
-    go (inl h) b c = inl (inl h)
-    go (inr (inr h)) b c = inr (inr (inl h))
-    go (inr (inl e)) (inl h) c = inl (inr (e, inl h))
-    go (inr (inl e)) (inr (inr h)) c = inr (inr (inr (sym e, inl h)))
-    go (inr (inl e)) (inr (inl f)) (inl h) = inl (inr (e, inr (f, h)))
-    go (inr (inl e)) (inr (inl f)) (inr (inr h)) = inr (inr (inr (sym e, inr (sym f, h))))
-    go (inr (inl e)) (inr (inl f)) (inr (inl g)) = inr (inl (λ i. record { x = e i; y = f i; z = g i }))
+-- a cell is no other
+pub same-cell : (u v : ℕ) → Inside u ≡ Inside v → u ≡ v
+same-cell u v e = cc
 
-pub order-back : (R : Room) (p q : Pos) → Within R p → Within R q → cellOf R p < cellOf R q → Before p q
-order-back R p q v w h = go (compare p q)
-  where
-    go : Before p q ⊎ ((p ≡ q) ⊎ Before q p) → Before p q
-    go (inl b) = b
-    go (inr (inl e)) = absurd (omega (arith, ap (cellOf R) e))
-    go (inr (inr b)) = absurd (omega (arith, order R q p w v b))
+-- a cell that there is passed the test
+pub inside-passed : (b : Bool) (n v : ℕ) → inOrOut b n ≡ Inside v → (n ≡ v) × (b ≡ true)
+inside-passed true n v e = (cc, refl)
+inside-passed false n v e = never (cc)
 
--- ---- the cell right above a cell
+-- the position right above one
+abbrev pub up : Pos → Pos
+up p = at (p .x) (p .y + 1) (p .z)
 
-one-up : (R : Room) (n : ℕ) → n + R .deep ≡ cellOf R (at (posOf R n .x) (posOf R n .y + 1) (posOf R n .z))
+pub up-number : (R : Room) (p : Pos) → cellOf R (up p) ≡ cellOf R p + R .deep
 unfolding cellOf
-one-up R n =
-    let p = posOf R n in
-    omega (arith, cell-pos R n, ap (λ (k : ℕ). k * R .deep) (add-assoc (p .x * R .high) (p .y) 1), add-mul (p .x * R .high + p .y) 1 (R .deep))
+up-number R p = omega (arith, ap (λ (k : ℕ). k * R .deep) (add-assoc (p .x * R .high) (p .y) 1), add-mul (p .x * R .high + p .y) 1 (R .deep))
+
+pub up-within : (R : Room) (p : Pos) → Within R p → ltb (p .y + 1) (R .high) ≡ true → Within R (up p)
+up-within R p w t = record { x-in = w .x-in; y-in = ltb-true _ _ t; z-in = w .z-in }
 
 pub above-in : (R : Room) → Good R → (n v : ℕ) → n < volume R → above R n ≡ Inside v → v < volume R
 unfolding above
-above-in R G n v h e = ask (ltb (posOf R n .y + 1) (R .high)) (λ t. higher t (rw t at e)) (λ f. none (rw f at e))
-  where
-    higher : ltb (posOf R n .y + 1) (R .high) ≡ true → Inside (n + R .deep) ≡ Inside v → v < volume R
-    higher t q =
-        let w = pos-in R G n h in
-        let up : Within R (at (posOf R n .x) (posOf R n .y + 1) (posOf R n .z)) = record { x-in = w .x-in; y-in = ltb-true _ _ t; z-in = w .z-in } in
-        let s : n + R .deep ≡ v = cc in
-        omega (arith, one-up R n, cell-in R _ up)
+above-in R G n v h e =
+    let q = inside-passed (ltb (posOf R n .y + 1) (R .high)) (n + R .deep) v e in
+    omega (arith, q .0, up-number R (posOf R n), cell-pos R n, cell-in R _ (up-within R (posOf R n) (pos-in R G n h) (q .1)))
 
-    none : Outside ≡ Inside v → v < volume R
-    none q = never (cc)
+-- the cell beneath a cell of the room is in the room
+pub beneath-in : (R : Room) (n b : ℕ) → n < volume R → beneath R n ≡ Inside b → b < volume R
+unfolding beneath
+beneath-in R n b h e = omega (arith, inside-passed (leb 1 (posOf R n .y)) (n - R .deep) b e .0)
 
 -- ---- what the code computes on the way is small
 
@@ -154,9 +130,6 @@ between-low low a high e = search passed
 pub between-high : (low a high : ℕ) → between low a high ≡ true → a ≤ high
 unfolding between
 between-high low a high e = search passed
-
-pub product-few : (a b : ℕ) {m n : ℕ} → a ≤ m → b ≤ n → a * b ≤ m * n
-product-few a b h k = mul-le-mul h k
 
 module _ (R : Room) (G : Good R) where
   pub base-few : R .wide * R .high ≤ maxVolume
@@ -178,11 +151,3 @@ module _ (R : Room) (G : Good R) where
   small-pos n h p e =
       let w : Within R p = rw e (pos-in R G n h) in
       (omega (arith, w .x-in, G .x-most), omega (arith, w .y-in, G .y-most), omega (arith, w .z-in, G .z-most))
-
-  -- and so is each part of a distance
-  pub parts-few : (n k : ℕ) → n < volume R → k < volume R → (p q : Pos) → p ≡ posOf R n → q ≡ posOf R k
-      → (apart (p .x) (q .x) < maxSide) × (apart (p .y) (q .y) < maxSide) × (apart (p .z) (q .z) < maxSide)
-  parts-few n k hn hk p q e f =
-      let v = small-pos n hn p e in
-      let w = small-pos k hk q f in
-      (omega arith, omega arith, omega arith)

@@ -1,12 +1,9 @@
 -- Laws of the config: what its test says.
 use mathlib.Core.Path.{_≡_}
 use mathlib.Core.Bool.{true}
-use borrow.Author.Tests.{leb-true}
-use Rattle.basics.specs.Tests.{and-left, and-right}
 use Rattle.room.specs.declared.RouterConfig.{RouterConfig}
 use Rattle.room.specs.Units.{configGood, Fair}
-
-ruleset passed = (and-left, and-right, leb-true)
+use Rattle.room.specs.RoomLaws.{passed}
 
 -- a config that passes the test of number 3 is fair
 pub fair : (C : RouterConfig) → configGood C ≡ true → Fair C

@@ -42,8 +42,14 @@ abbrev pub kindKnown : ℕ → Bool
 kindKnown kind = leb kind maxKind
 
 -- "Facing: 0 none, 1 North (z-1), 2 East (x+1), 3 South (z+1), 4 West (x-1), 5 Up, 6 Down."
+abbrev pub maxFacing : ℕ
+maxFacing = 6
+
 abbrev pub facingKnown : ℕ → Bool
-facingKnown facing = leb facing 6
+facingKnown facing = leb facing maxFacing
+
+abbrev pub noFacing : ℕ
+noFacing = 0
 
 abbrev pub north : ℕ
 north = 1
@@ -73,8 +79,11 @@ ahead R n facing = either (facingHorizontal facing) (neighbour R n (facingMove f
 abbrev pub wire : ℕ
 wire = 0
 
+abbrev pub maxPort : ℕ
+maxPort = 1
+
 abbrev pub portKnown : ℕ → Bool
-portKnown port = leb port 1
+portKnown port = leb port maxPort
 
 -- "Each cost is 0 to 100,000, the node limit 0 to 200,000."
 abbrev pub maxCost : ℕ
@@ -88,7 +97,7 @@ unfoldable pub configGood : RouterConfig → Bool
 configGood C =
     leb (C .limit .0) maxNodes && (leb (C .horizontal .0) maxCost && (leb (C .stair .0) maxCost && leb (C .support .0) maxCost))
 
--- a config that number 3 does not refuse
+-- a config that number 3 does not refuse: its test, read as inequalities
 pub record Fair (C : RouterConfig) : Type 0 where
   pub limit-most : C .limit .0 ≤ maxNodes
   pub horizontal-most : C .horizontal .0 ≤ maxCost

@@ -1,9 +1,8 @@
 // The room: its sides, the numbers of its cells, the twelve moves, the cells beneath, above and ahead, distances; kinds,
 // facings and port kinds; cost and node count as units of their own; the config with its ranges.
 ghost use mathlib.Core.Path.{_≡_};
-ghost use Prim.Native.Nat.{_≤_, _<_};
-ghost use lib.ListN.{getD};
-ghost use Rattle.room.specs.Room.{Good, Within, between, sidesGood, volume, cellOf, posOf, within, by, moves, neighbourAt, neighbour, beneath, above, apart, distance};
+ghost use Prim.Native.Nat.{_≤_, _<_, _^_};
+ghost use Rattle.room.specs.Room.{Good, Within, between, sidesGood, volume, cellOf, posOf, within, maxSide, moveAt, neighbourAt, neighbour, beneath, above, apart, distanceAt, distance};
 ghost use Rattle.room.specs.Units.{kindKnown, facingKnown, facingHorizontal, facingMove, ahead, portKnown, configGood, usualConfig};
 
 pub const MAX_SIDE: usize = 64;
@@ -181,11 +180,34 @@ impl RouterConfig {
     }
 }
 
+// A number kept in four bytes, as an index.
+pub fn wide(number: u32) -> usize
+    ensures { λ r. ⌜ (r ≡ number) × (r < 2 ^ 32) ⌝ }
+{
+    number as usize
+}
+
+// A number kept in four bytes, in eight.
+pub fn long(number: u32) -> u64
+    ensures { λ r. ⌜ r ≡ number ⌝ }
+{
+    number as u64
+}
+
 // |a - b|
-pub fn apart_by(a: usize, b: usize) -> usize
+fn apart(a: usize, b: usize) -> usize
     ensures { λ r. ⌜ r ≡ apart a b ⌝ }
 {
     if a < b { b - a } else { a - b }
+}
+
+// The distance |dx|+|dy|+|dz| of two positions, of which each part is below the longest side.
+pub fn distance_at(p: Pos, q: Pos) -> usize
+    requires { ⌜ (p .x < maxSide) × (p .y < maxSide) × (p .z < maxSide) ⌝ }
+    requires { ⌜ (q .x < maxSide) × (q .y < maxSide) × (q .z < maxSide) ⌝ }
+    ensures { λ r. ⌜ r ≡ distanceAt p q ⌝ }
+{
+    apart(p.x, q.x) + apart(p.y, q.y) + apart(p.z, q.z)
 }
 
 impl Room {
@@ -267,7 +289,7 @@ impl Room {
     // The k-th of the moves.
     pub fn move_at(k: usize) -> Move
         requires { ⌜ k < 12 ⌝ }
-        ensures { λ r. ⌜ r ≡ getD moves k (by 0 0 0) ⌝ }
+        ensures { λ r. ⌜ r ≡ moveAt k ⌝ }
     {
         Room::MOVES[k]
     }
@@ -347,15 +369,13 @@ impl Room {
         }
     }
 
-    // The distance |dx|+|dy|+|dz| of two cells.
+    // The distance of two cells.
     pub fn distance(self, a: usize, b: usize) -> usize
         requires { ⌜ Good self ⌝ }
         requires { ⌜ a < volume self ⌝ }
         requires { ⌜ b < volume self ⌝ }
         ensures { λ r. ⌜ r ≡ distance self a b ⌝ }
     {
-        let p = self.pos(a);
-        let q = self.pos(b);
-        apart_by(p.x, q.x) + apart_by(p.y, q.y) + apart_by(p.z, q.z)
+        distance_at(self.pos(a), self.pos(b))
     }
 }

@@ -5,15 +5,15 @@ use mathlib.Core.List.{List, [], _∷_, _++_}
 use Prim.Native.Nat.{ℕ, zero, suc, _+_, _-_, _*_, _≤_, _<_}
 use native.Mathlib.Omega.{arith}
 use lib.Dec.{leb}
-use lib.ListN.{length, getD, take, drop}
+use lib.ListN.{length, take, drop}
 use borrow.Author.Tests.{lt-leb}
 use Rattle.room.specs.declared.Room.{Room}
 use Rattle.room.specs.declared.Move.{Move}
 use Rattle.room.specs.declared.RouterConfig.{RouterConfig}
 use Rattle.room.specs.declared.Neighbour.the-variants.{Outside}
-use Rattle.room.specs.Room.{Good, Within, at, by, moves, cellOf, posOf, between, stays, neighbour}
+use Rattle.room.specs.Room.{Good, Within, at, by, moves, cellOf, posOf, between, stays, neighbour, moveAt}
 use Rattle.room.specs.RoomLaws.{cell-in, pos-cell, pos-in}
-use Rattle.room.specs.MoveLaws.{not-stays, one-less, one-less-in}
+use Rattle.room.specs.MoveLaws.{not-stays, one-less, one-less-in, move-small}
 use Rattle.room_search.specs.declared.Line.{Line}
 use Rattle.room_search.specs.declared.Spot.{Spot}
 use Rattle.room_search.specs.declared.Step.the-variants.{On, Full}
@@ -147,7 +147,7 @@ module _ (R : Room) (G : Good R) (from : Spot) (P : Placed R from) (m : Move) (x
 
 -- ---- the four columns are the twelve moves
 
-pub columns-next : (k : ℕ) → k < 4 → take (k * 3) moves ++ column (getD moves (k * 3) (by 0 0 0)) ≡ take ((k + 1) * 3) moves
+pub columns-next : (k : ℕ) → k < 4 → take (k * 3) moves ++ column (moveAt (k * 3)) ≡ take ((k + 1) * 3) moves
 unfolding moves
 columns-next zero h = refl
 columns-next (suc zero) h = refl
@@ -155,7 +155,7 @@ columns-next (suc (suc zero)) h = refl
 columns-next (suc (suc (suc zero))) h = refl
 columns-next (suc (suc (suc (suc k)))) h = absurd (omega arith)
 
-pub columns-split : (k : ℕ) → k < 4 → (take (k * 3) moves ++ column (getD moves (k * 3) (by 0 0 0))) ++ drop ((k + 1) * 3) moves ≡ moves
+pub columns-split : (k : ℕ) → k < 4 → (take (k * 3) moves ++ column (moveAt (k * 3))) ++ drop ((k + 1) * 3) moves ≡ moves
 unfolding moves
 columns-split zero h = refl
 columns-split (suc zero) h = refl
@@ -171,13 +171,9 @@ columns-few (suc (suc zero)) h = omega arith
 columns-few (suc (suc (suc zero))) h = omega arith
 columns-few (suc (suc (suc (suc k)))) h = absurd (omega arith)
 
-pub columns-small : (k : ℕ) → k < 4 → (getD moves (k * 3) (by 0 0 0) .x ≤ 2) × (getD moves (k * 3) (by 0 0 0) .z ≤ 2)
+pub columns-small : (k : ℕ) → k < 4 → (moveAt (k * 3) .x ≤ 2) × (moveAt (k * 3) .z ≤ 2)
 unfolding moves
-columns-small zero h = (omega arith, omega arith)
-columns-small (suc zero) h = (omega arith, omega arith)
-columns-small (suc (suc zero)) h = (omega arith, omega arith)
-columns-small (suc (suc (suc zero))) h = (omega arith, omega arith)
-columns-small (suc (suc (suc (suc k)))) h = absurd (omega arith)
+columns-small k h = let s = move-small (k * 3) (omega arith) in (s .x-small, s .z-small)
 
 pub columns-all : (k : ℕ) → k ≡ 4 → take (k * 3) moves ≡ moves
 unfolding moves

@@ -15,7 +15,7 @@ use Rattle.room.specs.declared.Move.{Move}
 use Rattle.room.specs.declared.RouterConfig.{RouterConfig}
 use Rattle.room.specs.declared.Neighbour.{Neighbour}
 use Rattle.room.specs.declared.Neighbour.the-variants.{Inside, Outside}
-use Rattle.room.specs.Room.{volume, moves, neighbour, distance}
+use Rattle.room.specs.Room.{volume, moves, neighbour, distance, flat}
 use Rattle.room.specs.MoveLaws.{most, leads, nearer}
 use Rattle.best_first.specs.Search
 use Rattle.best_first.specs.Ways.{Sound, Consistent}
@@ -67,7 +67,7 @@ dearest C = max (C .horizontal .0) (C .stair .0) + C .support .0
 price-low : (C : RouterConfig) (m : Move) (class : ℕ) → total (priceOf C m class) ≤ dearest C
 unfolding priceOf dearest
 price-low C m class =
-    let step : priceOf C m class .step ≤ max (C .horizontal .0) (C .stair .0) = ask (eqb (m .y) 1) (λ t. rw t (omega arith)) (λ f. rw f (omega arith)) in
+    let step : priceOf C m class .step ≤ max (C .horizontal .0) (C .stair .0) = ask (flat m) (λ t. rw t (omega arith)) (λ f. rw f (omega arith)) in
     let support : priceOf C m class .support ≤ C .support .0 = ask (eqb class 2) (λ t. rw t (omega arith)) (λ f. rw f (omega arith)) in
     omega arith
 
@@ -96,7 +96,7 @@ module _ (R : Room) (C : RouterConfig) (class : ℕ → ℕ) (start goal places 
   module _ (flat-least : 10 ≤ C .horizontal .0) (stair-least : 20 ≤ C .stair .0) where
     covers : (m : Move) (k : ℕ) → 10 * most m ≤ total (priceOf C m k)
     unfolding most priceOf
-    covers m k = ask (eqb (m .y) 1) (λ t. rw t (omega arith)) (λ f. rw f (omega arith))
+    covers m k = ask (flat m) (λ t. rw t (omega arith)) (λ f. rw f (omega arith))
 
     pub consistent : Consistent (graphOf R C class start goal places)
     unfolding graphOf distance

@@ -1,5 +1,5 @@
 -- "A lawful way is a list of cells from start to goal whose steps keep these rules, both ends being routeable." Said of rooms, kinds and ends by
--- positions alone, apart from the search.
+-- positions, apart from the search, of which it shares only what is routeable and what bears.
 use mathlib.Core.Path.{_≡_}
 use mathlib.Core.Bool.{true}
 use mathlib.Core.List.{List, [], _∷_}

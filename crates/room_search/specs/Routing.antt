@@ -1,5 +1,5 @@
 -- "One search" of the requirement, in its order: which cells may be entered and what that costs make a graph of the room, and the search is
--- `best-first` over that graph. Definitions alone.
+-- `bestFirst` over that graph. Definitions alone.
 use mathlib.Core.Bool.{Bool, true, false}
 use mathlib.Core.List.{List, [], _∷_, _++_}
 use Prim.Native.Nat.{ℕ, _+_, _*_}
@@ -11,10 +11,10 @@ use Rattle.room.specs.declared.Move.{Move}
 use Rattle.room.specs.declared.RouterConfig.{RouterConfig}
 use Rattle.room.specs.declared.Neighbour.{Neighbour}
 use Rattle.room.specs.declared.Neighbour.the-variants.{Inside, Outside}
-use Rattle.room.specs.Room.{volume, moves, neighbour, beneath, distance}
+use Rattle.room.specs.Room.{volume, moves, neighbour, beneath, distance, flat}
 use Rattle.room.specs.Units.{air, solid, transparent, redstoneWire, redstoneBlock}
 use Rattle.best_first.specs.Search
-use Rattle.best_first.specs.Search.{Graph, Answer, best-first}
+use Rattle.best_first.specs.Search.{Graph, Answer, bestFirst}
 
 -- What one search is over: a room, what steps cost in it and how many cells may be expanded, the kind of each cell (one for each
 -- number below V), the two ends, and the places of the queue
@@ -64,7 +64,7 @@ total p = p .step + p .support
 
 unfoldable pub priceOf : RouterConfig → Move → ℕ → Price
 priceOf C m class = record {
-  step = either (eqb (m .y) 1) (C .horizontal .0) (C .stair .0);
+  step = either (flat m) (C .horizontal .0) (C .stair .0);
   support = either (eqb class 2) (C .support .0) 0;
 }
 
@@ -93,4 +93,4 @@ graph T = graphOf (T .room) (T .config) (entering T) (T .start) (T .goal) (T .pl
 
 -- the defined search
 unfoldable pub searched : Task → Answer
-searched T = best-first (graph T) (T .config .limit .0)
+searched T = bestFirst (graph T) (T .config .limit .0)

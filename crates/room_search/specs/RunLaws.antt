@@ -4,12 +4,12 @@ use mathlib.Core.List.{List, [], _∷_}
 use Prim.Native.Nat.{ℕ, _+_, _-_, _*_, _/_, _≤_, _<_, _^_}
 use native.Mathlib.Nat.{mul-le-mul}
 use native.Mathlib.Omega.{arith}
-use lib.ListN.{length, getD, set}
+use lib.ListN.{length, getD, set, replicate}
 use Rattle.room.specs.declared.Room.{Room}
 use Rattle.room.specs.declared.RouterConfig.{RouterConfig}
-use Rattle.room.specs.Room.{Good, volume, distance}
+use Rattle.room.specs.Room.{Good, volume, distance, posOf}
 use Rattle.room.specs.Units.{Fair}
-use Rattle.best_first.specs.Search.{Graph, no-route, outset, best-first}
+use Rattle.best_first.specs.Search.{Graph, no-route, outset, bestFirst, Answer}
 use Rattle.best_first.specs.Entries.{Same}
 use Rattle.best_first.specs.Statements.{Bounded}
 use Rattle.best_first.specs.Loops.{Going, going-outset, going-alike, going-bounded, going-none}
@@ -24,7 +24,9 @@ use Rattle.room_search.specs.Held.{entriesIn, held}
 use Rattle.room_search.specs.HeldLaws.{pushed-entries}
 use Rattle.room_search.specs.GraphLaws.{dearest, sound}
 use Rattle.room_search.specs.Steps.{maxKnown, estimateOf, placesOf, Ready, Placed}
-use Rattle.room_search.specs.Turns.{graphIn, Takeable, Told, Turned, Fresh}
+use Rattle.room_search.specs.Turns.{graphIn, Takeable, Told, Turned, Fresh, Searchable, Showable}
+use Rattle.room_search.specs.declared.Outcome.the-variants.{Arrived, NoRoute, LimitPassed, QueueFull}
+use Rattle.room.specs.declared.Pos.{Pos}
 
 -- what a search is over, and stays over
 pub record Arena (R : Room) (C : RouterConfig) (classes : List ℕ) (start : ℕ) (goal : Spot) : Type 0 where
@@ -47,7 +49,7 @@ arena F = record {
 -- the search from the outset comes to the same as from here; of the queue as it was at first only the length counts
 pub record Running (R : Room) (C : RouterConfig) (classes queue₀ : List ℕ) (start : ℕ) (goal : Spot) (known previous queue : List ℕ) (line : Line)
     (expanded : ℕ) : Type 0 where
-  pub going : Going (graphIn R C classes start (goal .cell) queue₀) (C .limit .0) (best-first (graphIn R C classes start (goal .cell) queue₀) (C .limit .0))
+  pub going : Going (graphIn R C classes start (goal .cell) queue₀) (C .limit .0) (bestFirst (graphIn R C classes start (goal .cell) queue₀) (C .limit .0))
       (held known previous queue line expanded)
   pub ready : Ready queue line
   pub kept : length queue ≡ length queue₀
@@ -119,14 +121,39 @@ module _ {R : Room} {C : RouterConfig} {classes queue₀ : List ℕ} {start : �
     pub running-on : {next : Line} → length queue′ ≡ length queue → Turned R C classes known previous queue line expanded goal (GoesOn next) known′ previous′ queue′
         → Running R C classes queue₀ start goal known′ previous′ queue′ next (expanded + 1)
     running-on same T =
-        let W = T .goes start (best-first G (C .limit .0)) (A .start-in) (rw (I .kept) (I .going)) in
+        let W = T .goes start (bestFirst G (C .limit .0)) (A .start-in) (rw (I .kept) (I .going)) in
         record { going = rw (I .kept) at (W .0); ready = W .1; kept = same ∙ I .kept }
 
     pub running-ended : {o : Outcome} → Turned R C classes known previous queue line expanded goal (Ended o) known′ previous′ queue′
-        → Told G (best-first G (C .limit .0)) known′ previous′ o
-    running-ended T = rw (I .kept) at (T .goes start (best-first G (C .limit .0)) (A .start-in) (rw (I .kept) (I .going)))
+        → Told G (bestFirst G (C .limit .0)) known′ previous′ o
+    running-ended T = rw (I .kept) at (T .goes start (bestFirst G (C .limit .0)) (A .start-in) (rw (I .kept) (I .going)))
 
   -- nothing waits any more
-  pub running-none : line .waiting ≡ 0 → best-first G (C .limit .0) ≡ no-route expanded
+  pub running-none : line .waiting ≡ 0 → bestFirst G (C .limit .0) ≡ no-route expanded
   unfolding held entriesIn
   running-none e = going-none (I .going) (rw (e, bag-zero))
+
+-- ---- cleared memory
+
+pub searchable-fresh : {R : Room} {C : RouterConfig} {classes known₀ previous₀ queue : List ℕ} {start goal : ℕ}
+    → Searchable R C classes known₀ previous₀ queue start goal
+    → (known previous : List ℕ) (from to : Pos) → known ≡ replicate (length known₀) 0 → previous ≡ replicate (length previous₀) 0
+    → from ≡ posOf R start → to ≡ posOf R goal
+    → Fresh R C classes known previous queue (record { cell = start; at = from }) (record { cell = goal; at = to })
+searchable-fresh S known previous from to k p f t = record {
+  good = S .good;
+  fair = S .fair;
+  classes-length = S .classes-long;
+  known-zero = k ∙ ap (λ (n : ℕ). replicate n 0) (S .known-long);
+  previous-zero = p ∙ ap (λ (n : ℕ). replicate n 0) (S .previous-long);
+  start-placed = record { inside = S .start-in; is = f };
+  goal-placed = record { inside = S .goal-in; is = t };
+  places-some = S .places-some;
+}
+
+-- the path of a search that arrived can be written
+pub told-showable : (G : Graph) (answer : Answer) (o : Outcome) (known previous : List ℕ) → length previous ≡ G .size → Told G answer known previous o → Showable o (G .goal) known previous
+told-showable G answer (Arrived x) known previous e t = (λ v. rw e (t .linked v), t .reached)
+told-showable G answer (NoRoute x) known previous e t = tt
+told-showable G answer (LimitPassed x) known previous e t = tt
+told-showable G answer (QueueFull x) known previous e t = tt

@@ -8,7 +8,7 @@ use Rattle.room.specs.declared.Room.{Room}
 use Rattle.room.specs.declared.Pos.{Pos}
 use Rattle.room.specs.declared.Move.{Move}
 use Rattle.room.specs.declared.RouterConfig.{RouterConfig}
-use Rattle.room.specs.Room.{Good, maxSide, by, volume, posOf, apart}
+use Rattle.room.specs.Room.{Good, maxSide, by, volume, posOf, distanceAt}
 use Rattle.room.specs.Units.{Fair}
 use Rattle.best_first.specs.Search
 use Rattle.best_first.specs.Search.{Graph, Pushed, full}
@@ -30,7 +30,7 @@ pub record Small (p : Pos) : Type 0 where
 
 -- ten times the distance of two positions
 abbrev pub estimateOf : Pos → Pos → ℕ
-estimateOf p q = 10 * (apart (p .x) (q .x) + apart (p .y) (q .y) + apart (p .z) (q .z))
+estimateOf p q = 10 * distanceAt p q
 
 -- two numbers a place
 abbrev pub placesOf : List ℕ → ℕ

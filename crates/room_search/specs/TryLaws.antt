@@ -14,7 +14,7 @@ use Rattle.room.specs.declared.Pos.{Pos}
 use Rattle.room.specs.declared.Move.{Move}
 use Rattle.room.specs.declared.RouterConfig.{RouterConfig}
 use Rattle.room.specs.declared.Neighbour.the-variants.{Inside, Outside}
-use Rattle.room.specs.Room.{Good, Within, Moved, at, volume, posOf, cellOf, between, stays, neighbour, distance}
+use Rattle.room.specs.Room.{Good, Within, Moved, at, volume, posOf, cellOf, between, stays, neighbour, distance, flat}
 use Rattle.room.specs.RoomLaws.{cell-pos, pos-cell, pos-in, cell-in}
 use Rattle.room.specs.MoveLaws.{leads-to, not-stays, one-less-in}
 use Rattle.basics.specs.Tests.{ask}
@@ -209,7 +209,7 @@ module _ (C : RouterConfig) (m : Move) (class : ℕ) where
   price-most F = omega (arith, step-most, support-most)
     where
       step-most : priceOf C m class .step ≤ 100000
-      step-most = ask (eqb (m .y) 1) (λ t. rw t (F .horizontal-most)) (λ f. rw f (F .stair-most))
+      step-most = ask (flat m) (λ t. rw t (F .horizontal-most)) (λ f. rw f (F .stair-most))
 
       support-most : priceOf C m class .support ≤ 100000
       support-most = ask (eqb class 2) (λ t. rw t (F .support-most)) (λ f. rw f (omega arith))

@@ -12,7 +12,7 @@ use Rattle.room.specs.Room.{volume, moves}
 use Rattle.best_first.specs.Search.{Graph, Answer, State, full, counted}
 use Rattle.best_first.specs.Search as search
 use Rattle.best_first.specs.Entries.{Popped, popped-taking}
-use Rattle.best_first.specs.Statements.{cost-of}
+use Rattle.best_first.specs.Statements.{costOf}
 use Rattle.best_first.specs.Loops.{Going, going-bounded, going-goal, going-limit, going-full, going-try, going-on}
 use Rattle.queue.specs.Queue.{Taken}
 use Rattle.room_search.specs.declared.Line.{Line}
@@ -94,8 +94,8 @@ module _ (R : Room) (C : RouterConfig) (classes known previous queue : List ℕ)
           dearest = dearest C;
           sound = sound R C (λ v. getD classes v 0) start (goal .cell) (placesOf queue) s (T .goal-placed .inside);
           cell = cell;
-          cost = cost-of now cell;
-          outcome = search.expand G cell (cost-of now cell) (G .moves cell) (counted now (entriesIn queue′ (line .waiting - 1)));
+          cost = costOf now cell;
+          outcome = search.expand G cell (costOf now cell) (G .moves cell) (counted now (entriesIn queue′ (line .waiting - 1)));
           expanded = suc expanded;
         }
 

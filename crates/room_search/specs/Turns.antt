@@ -5,11 +5,11 @@ use Prim.Native.Nat.{ℕ, _+_, _≤_, _<_, _^_, pred}
 use lib.ListN.{length, getD, replicate}
 use Rattle.room.specs.declared.Room.{Room}
 use Rattle.room.specs.declared.RouterConfig.{RouterConfig}
-use Rattle.room.specs.Room.{Good, volume}
+use Rattle.room.specs.Room.{Good, volume, posOf}
 use Rattle.room.specs.Units.{Fair}
 use Rattle.basics.specs.Lists.{In}
 use Rattle.room_search.specs.Traces.{Linked}
-use Rattle.best_first.specs.Search.{Graph, Answer, Entry, trace, route, no-route, limit-passed, queue-full, best-first}
+use Rattle.best_first.specs.Search.{Graph, Answer, Entry, trace, route, no-route, limit-passed, queue-full, bestFirst}
 use Rattle.best_first.specs.Loops.{Going}
 use Rattle.room_search.specs.declared.Line.{Line}
 use Rattle.room_search.specs.declared.Spot.{Spot}
@@ -76,10 +76,25 @@ pub record Fresh (R : Room) (C : RouterConfig) (classes known previous queue : L
   pub goal-placed : Placed R goal
   pub places-some : 0 < placesOf queue
 
+-- a cell with its position
+abbrev pub spotOf : Room → ℕ → Spot
+spotOf R v = record { cell = v; at = posOf R v }
+
+-- what a search over class bytes asks, whatever its memory holds: work memory of exactly V cells, and a place in the queue
+pub record Searchable (R : Room) (C : RouterConfig) (classes known previous queue : List ℕ) (start goal : ℕ) : Type 0 where
+  pub good : Good R
+  pub fair : Fair C
+  pub classes-long : length classes ≡ volume R
+  pub known-long : length known ≡ volume R
+  pub previous-long : length previous ≡ volume R
+  pub start-in : start < volume R
+  pub goal-in : goal < volume R
+  pub places-some : 0 < placesOf queue
+
 -- the outcome of a whole search is what the definition says
 pub record Ran (R : Room) (C : RouterConfig) (classes queue : List ℕ) (start goal : Spot) (o : Outcome) (known′ previous′ : List ℕ) : Type 0 where
   pub told : Told (graphIn R C classes (start .cell) (goal .cell) queue)
-      (best-first (graphIn R C classes (start .cell) (goal .cell) queue) (C .limit .0)) known′ previous′ o
+      (bestFirst (graphIn R C classes (start .cell) (goal .cell) queue) (C .limit .0)) known′ previous′ o
 
 -- what the outcome asks of the slices, so that the path can be written
 abbrev pub Showable : Outcome → ℕ → List ℕ → List ℕ → Type 0

@@ -14,12 +14,7 @@ use room::Move;
 use room::Pos;
 use room::Room;
 use room::RouterConfig;
-
-fn wide(x: u32) -> u64
-    ensures { λ r. ⌜ r ≡ x ⌝ }
-{
-    x as u64
-}
+use room::long;
 
 // Ten times the distance of two positions, of which each part is below 64.
 pub fn estimate(p: Pos, q: Pos) -> u64
@@ -27,8 +22,7 @@ pub fn estimate(p: Pos, q: Pos) -> u64
     requires { ⌜ Small q ⌝ }
     ensures { λ r. ⌜ r ≡ estimateOf p q ⌝ }
 {
-    let distance = room::apart_by(p.x, q.x) + room::apart_by(p.y, q.y) + room::apart_by(p.z, q.z);
-    10 * (distance as u64)
+    10 * (room::distance_at(p, q) as u64)
 }
 
 // Offers a cell at a cost, by way of `from`: it is pushed where that is lower than its known cost.
@@ -61,7 +55,7 @@ fn offer(
         return Step::Full;
     }
     let serial = line.serial + 1;
-    let key = wide(cost) + estimate(at, goal);
+    let key = long(cost) + estimate(at, goal);
     known[cell] = cost + 1;
     previous[cell] = (from + 1) as u32;
     queue::push(queue, waiting, key * 4294967296 + serial, cell as u64);

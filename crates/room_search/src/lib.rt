@@ -9,7 +9,7 @@ pub use classes::class_for;
 pub use classes::fill_classes;
 pub use classes::make_end;
 pub use classes::routeable_kind;
-pub use search::run;
+pub use search::search_classes;
 pub use trace::trace_into;
 pub use trace::trace_length;
 

@@ -1,6 +1,6 @@
 // The takings of one search, until the goal is taken, nothing waits, or a limit is met.
 ghost use Prim.Native.Nat.{_+_, _≤_, _<_};
-ghost use Rattle.room_search.specs.Turns.{Fresh, Ran, Takeable, Turned};
+ghost use Rattle.room_search.specs.Turns.{Fresh, Ran, Takeable, Turned, spotOf, Searchable};
 use crate::Line;
 use crate::Outcome;
 use crate::Spot;
@@ -63,7 +63,7 @@ fn take_turn(
 }
 
 // One whole search over fresh memory: the start is known at cost 0 and waits, and entries are taken until it ends.
-pub fn run(
+fn run(
     room: Room,
     config: RouterConfig,
     classes: &[u8],
@@ -112,4 +112,31 @@ pub fn run(
         }
     }
     Outcome::NoRoute(Nodes(expanded))
+}
+
+// Searches over the class bytes, from cleared memory on.
+pub fn search_classes(
+    room: Room,
+    config: RouterConfig,
+    classes: &[u8],
+    known: &mut [u32],
+    previous: &mut [u32],
+    queue: &mut [u64],
+    start: usize,
+    goal: usize,
+) -> Outcome
+    requires { ⌜ Searchable room config (now classes) (now known) (now previous) (now queue) start goal ⌝ }
+    ensures { λ r. ⌜ Ran room config (now (classes .entry)) (now (queue .entry)) (spotOf room start) (spotOf room goal) r (now (known .exit)) (now (previous .exit)) ⌝ }
+{
+    lent::clear_words(known);
+    lent::clear_words(previous);
+    let from = Spot {
+        cell: start,
+        at: room.pos(start),
+    };
+    let to = Spot {
+        cell: goal,
+        at: room.pos(goal),
+    };
+    run(room, config, classes, known, previous, queue, from, to)
 }

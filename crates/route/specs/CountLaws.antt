@@ -11,10 +11,9 @@ use Rattle.job_sheet.specs.Sheet.{Contents, maxSinks}
 use Rattle.ends.specs.Ends.{endsOf}
 use Rattle.outset.specs.declared.Outset.{Outset}
 use Rattle.outset.specs.SetOut.{ready, OutsetOf}
-use Rattle.turns.specs.Turns.{far, sinkAt}
 use Rattle.goals.specs.Goals.{Trial, found, failed, full}
 use Rattle.branches.specs.Branches.{branchOf}
-use Rattle.multinet.specs.Tree.{Plot, Tree, Growth, grown, stopped, planted, withBranch, tapAt, fitsIn, afterSink, growSink, growOn, growFrom, growthOf}
+use Rattle.multinet.specs.Tree.{Plot, Tree, Growth, grown, stopped, planted, withBranch, tapAt, fitsIn, afterSink, growSink, growOn, growFrom, growthOf, sinkNow}
 use Rattle.net_tree.specs.declared.Lengths.{Lengths}
 use Rattle.net_tree.specs.Answers.{routed, plotFor, outcomeOf, jobOutcome, Comes, unread, unlent, set-out}
 
@@ -40,7 +39,7 @@ unfolding growFrom
 grow-count zero P turn T U e = same-tree e
 grow-count (suc n) P turn T U e = on _ refl (λ S f. grow-count n P (turn + 1) S U f) e
   where
-    on : (g : Growth) → growSink P (sinkAt (far (P .room) (P .source) (P .taps .taps)) (P .taps .count) turn) T ≡ g → ((S : Tree) → growFrom n P (turn + 1) S ≡ grown U → length (U .branches) ≡ length (S .branches))
+    on : (g : Growth) → growSink P (sinkNow P turn) T ≡ g → ((S : Tree) → growFrom n P (turn + 1) S ≡ grown U → length (U .branches) ≡ length (S .branches))
         → growOn (growFrom n P (turn + 1)) g ≡ grown U → length (U .branches) ≡ length (T .branches)
     on (grown S) d rest f = rest S f ∙ sink-count P _ T S d
     on (stopped number detail) d rest f = never (cc)

@@ -21,14 +21,9 @@ use Rattle.blocks.specs.declared.Placement.{Placement}
 use Rattle.ends.specs.declared.Fault.{Fault}
 use Rattle.outset.specs.SetOut.{numberBy, ready}
 use Rattle.goals.specs.Goals.{Trial, found, failed, full, routeToTree}
-use Rattle.multinet.specs.Tree.{Plot, Tree, Growth, grown, stopped, fitsIn, afterSink, growSink, growOn, growFrom, growthOf, tapAt, siteOf, withBranch, planted}
-use Rattle.net_tree.specs.Answers.{buffersGood, Outcome, routed, refused, outcomeOf, jobOutcome, unread, unlent, set-out, plotFor}
+use Rattle.multinet.specs.Tree.{Plot, Tree, Growth, grown, stopped, fitsIn, afterSink, growSink, growOn, growFrom, growthOf, tapAt, siteAt, withBranch, planted}
+use Rattle.net_tree.specs.Answers.{buffersGood, Outcome, numberFor, outcomeOf, jobOutcome, unread, unlent, set-out, plotFor}
 use Rattle.route.specs.Printed.{maxCells, programLengths, ComesHere, over, not-over}
-
--- the number of an outcome, 0 for a tree
-abbrev pub numberIn : Outcome → ℕ
-numberIn (routed branches occupied repeaters) = 0
-numberIn (refused number detail) = number
 
 -- ---- a sheet that is refused has one of 1 to 5
 
@@ -71,7 +66,7 @@ after-high P k T (full x) = omega arith
 
 sink-high : (P : Plot) (k : Neighbour) (T : Tree) → StopsHigh (growSink P k T)
 unfolding growSink
-sink-high P (Inside k) T = after-high P k T (routeToTree (siteOf P T) (tapAt P k .approach) (T .blocked))
+sink-high P (Inside k) T = after-high P k T (routeToTree (siteAt P (T .joinable)) (tapAt P k .approach) (T .blocked))
 sink-high P Outside T = tt
 
 on-high : (rest : Tree → Growth) → ((T : Tree) → StopsHigh (rest T)) → (g : Growth) → StopsHigh g → StopsHigh (growOn rest g)
@@ -85,11 +80,11 @@ growth-high (suc n) P turn T =
     let k = sinkAt (far (P .room) (P .source) (P .taps .taps)) (P .taps .count) turn in
     on-high (growFrom n P (turn + 1)) (growth-high n P (turn + 1)) (growSink P k T) (sink-high P k T)
 
-outcome-high : (P : Plot) (g : Growth) → StopsHigh g → numberIn (outcomeOf P g) ≡ 6 → ⊥
+outcome-high : (P : Plot) (g : Growth) → StopsHigh g → numberFor (outcomeOf P g) ≡ 6 → ⊥
 outcome-high P (grown T) s e = omega arith
 outcome-high P (stopped number detail) s e = omega arith
 
-job-high : (J : Contents) (L : Lengths) (O : Outset) (kinds blocked : List ℕ) → numberIn (jobOutcome J L O kinds blocked) ≡ 6 → ⊥
+job-high : (J : Contents) (L : Lengths) (O : Outset) (kinds blocked : List ℕ) → numberFor (jobOutcome J L O kinds blocked) ≡ 6 → ⊥
 unfolding jobOutcome growthOf
 job-high J L O kinds blocked e =
     let P = plotFor J L O kinds in
@@ -99,11 +94,11 @@ job-high J L O kinds blocked e =
 
 -- ---- so it never says 6
 
-pub no-six : {sheet : List ℕ} {o : Outcome} → ComesHere sheet o → numberIn o ≡ 6 → ⊥
-no-six (over J m h e) n = let k : _≡_ {A = ℕ} 2 6 = sym (ap numberIn e) ∙ n in omega (arith, k)
-no-six (not-over small (unread r p f e)) n = refused-low (r .verdict) (sym (ap numberIn e) ∙ n)
+pub no-six : {sheet : List ℕ} {o : Outcome} → ComesHere sheet o → numberFor o ≡ 6 → ⊥
+no-six (over J m h e) n = let k : _≡_ {A = ℕ} 2 6 = sym (ap numberFor e) ∙ n in omega (arith, k)
+no-six (not-over small (unread r p f e)) n = refused-low (r .verdict) (sym (ap numberFor e) ∙ n)
 no-six (not-over small (unlent J m g b e)) n = never (clash (sym b ∙ lent-enough (J .room) (small J m)))
   where
     clash : false ≡ true → _≡_ {A = ℕ} 0 1
     clash c = cc
-no-six (not-over small (set-out J m g b O kinds nodes blocked s e)) n = job-high J programLengths O kinds blocked (sym (ap numberIn e) ∙ n)
+no-six (not-over small (set-out J m g b O kinds nodes blocked s e)) n = job-high J programLengths O kinds blocked (sym (ap numberFor e) ∙ n)

@@ -234,12 +234,9 @@ pub coincide : (sheet : List ℕ) → Determines (Puts sheet)
 coincide sheet x y p q = p .text-is ∙ p .put .is ∙ ap printed (here-one (p .put .so) (q .put .so)) ∙ sym (q .put .is) ∙ sym (q .text-is)
 
 -- the program's own memory has these lengths
-abbrev zeros : ℕ → List ℕ
-zeros n = replicate n 0
-
 pub own-lengths :
     lengthsOf
-    (lent (zeros 16384) (zeros maxCells) (zeros maxCells) (zeros maxCells) (zeros maxCells) (zeros maxCells) (zeros maxCells) (zeros maxCells) (zeros maxCells)
-    (zeros maxCells) (zeros maxCells) (zeros 24576))
+    (lent (replicate 16384 0) (replicate maxCells 0) (replicate maxCells 0) (replicate maxCells 0) (replicate maxCells 0) (replicate maxCells 0) (replicate maxCells 0) (replicate maxCells 0) (replicate maxCells 0)
+    (replicate maxCells 0) (replicate maxCells 0) (replicate 24576 0))
     ≡ programLengths
 own-lengths = rw (length-replicate {A = ℕ} 16384 0, length-replicate {A = ℕ} maxCells 0, length-replicate {A = ℕ} 24576 0) refl

@@ -2,7 +2,7 @@
 use branches::BranchLengths;
 use net_tree::Answer;
 use net_tree::Ended;
-ghost use mathlib.Core.Path.{_≡_};
+use room::long;
 ghost use Rattle.route.specs.Lines.{number, numbers, netLine, branchLine, branchLines, repeatersLine, refusedLine, treeText, answerText};
 ghost use Rattle.route.specs.Putting.{Put, Fits, Branched};
 ghost use Rattle.route.specs.Marked.{ifMarked, marked};
@@ -31,13 +31,6 @@ fn put_number(out: &mut [u8], at: usize, n: u64) -> usize
     put_bytes(out, spaced, &digits[..count])
 }
 
-// A cell of a branch as a number to print.
-fn wide(cell: u32) -> u64
-    ensures { λ r. ⌜ r ≡ cell ⌝ }
-{
-    cell as u64
-}
-
 fn put_cells(out: &mut [u8], at: usize, cells: &[u32]) -> usize
     requires { ⌜ Fits (now out) at (numbers (now cells)) ⌝ }
     ensures { λ r. ⌜ Put (now (out .entry)) at (numbers (now (cells .entry))) (now (out .exit)) r ⌝ }
@@ -45,7 +38,7 @@ fn put_cells(out: &mut [u8], at: usize, cells: &[u32]) -> usize
     let mut end = at;
     let mut i: usize = 0;
     while i < cells.len() {
-        end = put_number(out, end, wide(cells[i]));
+        end = put_number(out, end, long(cells[i]));
         i += 1;
     }
     end

@@ -15,7 +15,7 @@ const INPUT_BYTES: usize = 60001;
 // The longest text: see `longestText` in specs/Printed.antt.
 const TEXT_BYTES: usize = 430248;
 
-// What one read brings: how many bytes, 0 at the input's end.
+// What one read brings: whether it failed, and how many bytes, 0 at the input's end.
 struct Piece {
     failed: bool,
     bytes: usize,

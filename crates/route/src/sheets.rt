@@ -34,7 +34,7 @@ fn cells_in(sheet: &[u8]) -> usize
 fn too_large(sheet: &[u8]) -> bool
     ensures { λ r. ⌜ SizeJudged (now (sheet .entry)) r ⌝ }
 {
-    let reading = job_sheet::read_sheet(sheet);
+    let reading = sheet_reader::read_sheet(sheet);
     let verdict = reading.verdict;
     if verdict.number() == 1 {
         return false;

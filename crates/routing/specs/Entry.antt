@@ -21,23 +21,16 @@ use Rattle.routing.specs.declared.Ends.the-variants.{Good as EndsGood, B
 use Rattle.routing.specs.declared.Answer.{Answer}
 use Rattle.room_search.specs.Routing.{Task, routeableKind, graph, searched}
 use Rattle.room_search.specs.Steps.{placesOf}
-use Rattle.room_search.specs.Turns.{Told}
+use Rattle.room_search.specs.Turns.{Told, Searchable}
 use Rattle.routing.specs.Answers.{answered, cellsOf}
 
 abbrev pub searchTask : Room → RouterConfig → List ℕ → ℕ → ℕ → List ℕ → Task
 searchTask R C kinds start goal queue = record { room = R; config = C; kinds = kinds; start = start; goal = goal; places = placesOf queue }
 
 -- an input that no number from 2 to 6 refuses, with work memory of exactly V cells
-pub record Searchable (R : Room) (C : RouterConfig) (kinds : List ℕ) (start goal : ℕ) (known previous classes queue : List ℕ) : Type 0 where
-  pub good : Good R
-  pub fair : Fair C
+pub record RoomSearchable (R : Room) (C : RouterConfig) (kinds : List ℕ) (start goal : ℕ) (known previous classes queue : List ℕ) : Type 0 where
   pub kinds-length : length kinds ≡ volume R
-  pub start-in : start < volume R
-  pub goal-in : goal < volume R
-  pub known-length : length known ≡ volume R
-  pub previous-length : length previous ≡ volume R
-  pub classes-length : length classes ≡ volume R
-  pub places-some : 0 < placesOf queue
+  pub memory : Searchable R C classes known previous queue start goal
 
 -- the outcome is the defined search's
 pub record Found (T : Task) (o : Outcome) (known previous : List ℕ) : Type 0 where

@@ -9,8 +9,7 @@ use Rattle.basics.specs.Zeros.{drop-zeros}
 use Rattle.lent.specs.Lent.{Emptied}
 use Rattle.room.specs.declared.Room.{Room}
 use Rattle.room.specs.declared.RouterConfig.{RouterConfig}
-use Rattle.room.specs.declared.Pos.{Pos}
-use Rattle.room.specs.Room.{volume, posOf}
+use Rattle.room.specs.Room.{volume}
 use Rattle.best_first.specs.Search.{trace, route}
 use Rattle.room.specs.declared.Nodes.{Nodes}
 use Rattle.routing.specs.declared.Route.{Route}
@@ -20,35 +19,32 @@ use Rattle.room_search.specs.declared.Outcome.the-variants.{Arrived, NoRoute, L
 use Rattle.room_search.specs.Routing.{Task, graphOf, searched}
 use Rattle.room_search.specs.Classes.{Plain, withEnd}
 use Rattle.room_search.specs.SameGraph.{made-length, made-graph}
-use Rattle.room_search.specs.Turns.{Fresh, Ran, Showable}
-use Rattle.routing.specs.Entry.{searchTask, Searchable, Found, Written, Roomy}
+use Rattle.room_search.specs.Turns.{Ran, spotOf, Searchable}
+use Rattle.routing.specs.Entry.{searchTask, Found, Written, Roomy, RoomSearchable}
 use Rattle.routing.specs.Answers.{lengthsOf, answered, cellsOf}
 
--- memory cleared and classes filled in, the search can run; what it comes to is what the definition says
-module _ {R : Room} {C : RouterConfig} {kinds : List ℕ} {start goal : ℕ} {known₀ previous₀ classes₀ queue : List ℕ}
-    (S : Searchable R C kinds start goal known₀ previous₀ classes₀ queue) {classes : List ℕ} (P : Plain R kinds classes) where
+-- with the classes filled in, the search can run; what it comes to is what the definition says
+module _ {R : Room} {C : RouterConfig} {kinds : List ℕ} {start goal : ℕ} {known previous classes₀ queue : List ℕ}
+    (S : RoomSearchable R C kinds start goal known previous classes₀ queue) {classes : List ℕ} (P : Plain R kinds classes) where
   abbrev T : Task
   T = searchTask R C kinds start goal queue
 
-  pub searchable-fresh : (known previous : List ℕ) (from to : Pos) → known ≡ replicate (length known₀) 0 → previous ≡ replicate (length previous₀) 0
-      → from ≡ posOf R start → to ≡ posOf R goal
-      → Fresh R C (withEnd R kinds goal (withEnd R kinds start classes)) known previous queue (record { cell = start; at = from }) (record { cell = goal; at = to })
-  searchable-fresh known previous from to k p f t = record {
-    good = S .good;
-    fair = S .fair;
-    classes-length = made-length T classes P (S .start-in) (S .goal-in);
-    known-zero = k ∙ ap (λ (n : ℕ). replicate n 0) (S .known-length);
-    previous-zero = p ∙ ap (λ (n : ℕ). replicate n 0) (S .previous-length);
-    start-placed = record { inside = S .start-in; is = f };
-    goal-placed = record { inside = S .goal-in; is = t };
-    places-some = S .places-some;
+  pub filled-searchable : Searchable R C (withEnd R kinds goal (withEnd R kinds start classes)) known previous queue start goal
+  filled-searchable = record {
+    good = S .memory .good;
+    fair = S .memory .fair;
+    classes-long = made-length T classes P (S .memory .start-in) (S .memory .goal-in);
+    known-long = S .memory .known-long;
+    previous-long = S .memory .previous-long;
+    start-in = S .memory .start-in;
+    goal-in = S .memory .goal-in;
+    places-some = S .memory .places-some;
   }
 
-  pub searchable-found : (from to : Pos) (o : Outcome) (known previous : List ℕ)
-      → Ran R C (withEnd R kinds goal (withEnd R kinds start classes)) queue (record { cell = start; at = from }) (record { cell = goal; at = to }) o known previous
-      → Found T o known previous
+  pub filled-found : {o : Outcome} {known′ previous′ : List ℕ} → Ran R C (withEnd R kinds goal (withEnd R kinds start classes)) queue (spotOf R start) (spotOf R goal) o known′ previous′
+      → Found T o known′ previous′
   unfolding searched
-  searchable-found from to o known previous r = record { told = rw (made-graph T classes P (S .start-in) (S .goal-in)) at (r .told) }
+  filled-found r = record { told = rw (made-graph T classes P (S .memory .start-in) (S .memory .goal-in)) at (r .told) }
 
 -- ---- the answer
 
@@ -96,26 +92,19 @@ module _ (front whole : List ℕ) (v : ℕ) (kept : length front ≡ length (tak
 pub lent-length : (whole : List ℕ) (v : ℕ) → v ≤ length whole → v ≡ length (take v whole)
 lent-length whole v h = sym (length-take-le v whole h)
 
--- the path can be written
-pub found-showable : (T : Task) (o : Outcome) (known previous : List ℕ) → length previous ≡ volume (T .room) → Found T o known previous
-    → Showable o (T .goal) known previous
-unfolding graphOf
-found-showable T (Arrived x) known previous e F = (λ v. rw e (F .told .linked v), F .told .reached)
-found-showable T (NoRoute x) known previous e F = tt
-found-showable T (LimitPassed x) known previous e F = tt
-found-showable T (QueueFull x) known previous e F = tt
-
 pub searchable : {R : Room} {C : RouterConfig} {kinds : List ℕ} {start goal : ℕ} (path known previous classes queue : List ℕ) {v : ℕ}
     → Roomy R C kinds start goal (lengthsOf path known previous classes queue) → v ≡ volume R
-    → Searchable R C kinds start goal (take v known) (take v previous) (take v classes) queue
+    → RoomSearchable R C kinds start goal (take v known) (take v previous) (take v classes) queue
 searchable {R} {C} {kinds} {start} {goal} path known previous classes queue {v} P e = record {
-  good = P .good;
-  fair = P .fair;
   kinds-length = P .kinds-length;
-  start-in = P .start-in;
-  goal-in = P .goal-in;
-  known-length = rw e (length-take-le (volume R) known (P .known-room));
-  previous-length = rw e (length-take-le (volume R) previous (P .previous-room));
-  classes-length = rw e (length-take-le (volume R) classes (P .classes-room));
-  places-some = P .places-some;
+  memory = record {
+    good = P .good;
+    fair = P .fair;
+    classes-long = rw e (length-take-le (volume R) classes (P .classes-room));
+    known-long = rw e (length-take-le (volume R) known (P .known-room));
+    previous-long = rw e (length-take-le (volume R) previous (P .previous-room));
+    start-in = P .start-in;
+    goal-in = P .goal-in;
+    places-some = P .places-some;
+  };
 }

@@ -8,7 +8,7 @@ ghost use Rattle.lent.specs.Lent.{Emptied};
 ghost use Rattle.room_search.specs.Traces.{Linked};
 ghost use Rattle.room.specs.Room.{volume};
 ghost use Rattle.routing.specs.Answers.{input, lengthsOf, Promise};
-ghost use Rattle.routing.specs.Entry.{Searchable, Found, searchTask, Shown, Written, endsOf, Roomy, Fitted};
+ghost use Rattle.routing.specs.Entry.{RoomSearchable, Found, searchTask, Shown, Written, endsOf, Roomy, Fitted};
 ghost use Rattle.room_search.specs.Routing.{searched};
 use crate::Answer;
 use crate::Ends;
@@ -21,11 +21,10 @@ use room::Nodes;
 use room::Room;
 use room::RouterConfig;
 use room_search::Outcome;
-use room_search::Spot;
 use room_search::fill_classes;
 use room_search::make_end;
 use room_search::routeable_kind;
-use room_search::run;
+use room_search::search_classes;
 use room_search::trace_into;
 use room_search::trace_length;
 
@@ -41,23 +40,13 @@ fn search_room(
     classes: &mut [u8],
     queue: &mut [u64],
 ) -> Outcome
-    requires { ⌜ Searchable room config (now kinds) start goal (now known) (now previous) (now classes) (now queue) ⌝ }
+    requires { ⌜ RoomSearchable room config (now kinds) start goal (now known) (now previous) (now classes) (now queue) ⌝ }
     ensures { λ r. ⌜ Found (searchTask room config (now (kinds .entry)) start goal (now (queue .entry))) r (now (known .exit)) (now (previous .exit)) ⌝ }
 {
-    lent::clear_words(known);
-    lent::clear_words(previous);
     fill_classes(room, kinds, classes);
     make_end(room, kinds, classes, start);
     make_end(room, kinds, classes, goal);
-    let from = Spot {
-        cell: start,
-        at: room.pos(start),
-    };
-    let to = Spot {
-        cell: goal,
-        at: room.pos(goal),
-    };
-    run(room, config, classes, known, previous, queue, from, to)
+    search_classes(room, config, classes, known, previous, queue, start, goal)
 }
 
 // The path is counted and written to a cleared buffer.

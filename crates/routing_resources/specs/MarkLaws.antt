@@ -1,16 +1,17 @@
--- Laws of marks: what each byte is, that marking is determined, composes and commutes, how a loop marks in turns, and what unmarking leaves.
+-- Laws of marks: what each byte is, that marking is determined and composes, how a loop marks in turns, and what unmarking leaves.
 use mathlib.Core.Path.{_≡_, refl, sym, ap, _∙_}
 use mathlib.Core.Bool.{Bool, true, false, not, _&&_, _||_}
 use mathlib.Core.List.{List, [], _∷_}
-use Prim.Native.Nat.{ℕ, zero, suc, _+_, _<_}
+use Prim.Native.Nat.{ℕ, zero, suc, _+_, _≤_, _<_}
 use native.Mathlib.Nat.{le-of-suc-le-suc, not-suc-le-zero}
 use native.Mathlib.Omega.{arith}
 use lib.Dec.{eqb}
-use lib.ListN.{length, getD, set, length-set, length-replicate, getD-replicate}
+use lib.ListN.{length, getD, drop, set, length-set, length-replicate, getD-replicate, drop-of-length-le}
 use lib.Seq.{getD-set-same, getD-set-other, ext-getD}
 use borrow.Author.Tests.{eqb-true, eqb-false}
 use Rattle.basics.specs.Tests.{either, ask}
-use Rattle.routing_resources.specs.Marks.{withByte, markedBy, unmarkedBy, isMarked, noMarks}
+use Rattle.basics.specs.Lists.{any, drop-next}
+use Rattle.routing_resources.specs.Marks.{withByte, markedBy, unmarkedBy, isMarked, noMarks, CellsBelow}
 
 both-bytes : (byte m : ℕ) (p q : Bool) → either q byte (either p byte m) ≡ either (p || q) byte m
 both-bytes byte m true true = refl
@@ -59,7 +60,7 @@ module _ (byte : ℕ) where
   pub with-same : (p q : ℕ → Bool) (ms : List ℕ) → ((v : ℕ) → v < length ms → p v ≡ q v) → withByte byte p ms ≡ withByte byte q ms
   with-same p q ms s = with-is q ms _ (with-length p ms) (λ v h. with-at p ms v h ∙ rw (s v h))
 
-  -- one test after another is both at once, in either order
+  -- one test after another is both at once
   pub with-or : (p q : ℕ → Bool) (ms : List ℕ) → withByte byte q (withByte byte p ms) ≡ withByte byte (λ v. p v || q v) ms
   with-or p q ms = with-is _ ms _ (with-length q (withByte byte p ms) ∙ with-length p ms) (λ v h. both v h)
     where
@@ -92,6 +93,22 @@ module _ {byte : ℕ} {rest : ℕ → ℕ → Bool} {start marks : List ℕ} {k 
   pub last-turn : ((v : ℕ) → rest k v ≡ false) → marks ≡ withByte byte (rest 0) start
   last-turn n = sym (with-none byte (rest k) marks (λ v h. n v)) ∙ turn .left
 
+-- a loop that marks, one record a turn, each cell for which a test of the record passes: the cells of the records from the k-th on
+abbrev pub restOf : {X : Type 0} → (ℕ → X → Bool) → List X → ℕ → ℕ → Bool
+restOf test xs k v = any (test v) (drop k xs)
+
+module _ {X : Type 0} (test : ℕ → X → Bool) (xs : List X) where
+  from-here : (k : ℕ) (d : X) → k < length xs → (v : ℕ) → restOf test xs k v ≡ test v (getD xs k d) || restOf test xs (k + 1) v
+  from-here k d h v = ap (any (test v)) (drop-next xs k d h)
+
+  module _ {byte : ℕ} {start marks : List ℕ} {k : ℕ} (turn : Turn byte (restOf test xs) start marks k) where
+    pub turn-on : (d x : X) → x ≡ getD xs k d → k < length xs → {marks′ : List ℕ} → marks′ ≡ withByte byte (λ v. test v x) marks
+        → Turn byte (restOf test xs) start marks′ (k + 1)
+    turn-on d x s h e = next-turn turn (λ v. test v x) e (λ v. from-here k d h v ∙ ap (λ y. test v y || restOf test xs (k + 1) v) (sym s))
+
+    pub turn-done : length xs ≤ k → marks ≡ withByte byte (λ v. any (test v) xs) start
+    turn-done h = last-turn turn (λ v. ap (any (test v)) (drop-of-length-le xs h))
+
 -- what is marked afterwards
 module _ (p : ℕ → Bool) (ms : List ℕ) (v : ℕ) (h : v < length ms) where
   pub marked-after : isMarked (markedBy p ms) v ≡ p v || isMarked ms v
@@ -106,3 +123,7 @@ taken-out p q n = with-is 1 _ (noMarks n) _ (with-length 0 q (markedBy p (noMark
         let b : v < n = rw (length-replicate {A = ℕ} n 0) at h in
         with-at 0 q (markedBy p (noMarks n)) v (rw (with-length 1 p (noMarks n)) h)
         ∙ rw (with-at 1 p (noMarks n) v h, getD-replicate {A = ℕ} n v 0 0 b) (left-bytes (p v) (q v))
+
+-- a cell read from a list of cells
+pub read-below : {n : ℕ} {cells : List ℕ} → CellsBelow n cells → (i : ℕ) → i < length cells → (v : ℕ) → v ≡ getD cells i 0 → v < n
+read-below all i h v e = rw e (all .below i h)

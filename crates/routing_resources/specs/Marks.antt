@@ -1,11 +1,14 @@
--- A set of cells as marks: one byte a cell, 1 where the cell is marked and 0 where it is not. Definitions alone; their laws are in MarkLaws.
+-- A set of cells as marks: one byte a cell, 1 where the cell is marked and 0 where it is not; and lists of cells. Definitions alone; their laws are in
+-- MarkLaws.
 use mathlib.Core.Bool.{Bool, false}
 use mathlib.Core.List.{List, [], _∷_}
-use Prim.Native.Nat.{ℕ, suc}
+use Prim.Native.Nat.{ℕ, suc, _<_}
 use lib.Dec.{eqb}
-use lib.ListN.{getD, replicate}
+use lib.ListN.{length, getD, replicate}
 use Rattle.basics.specs.Tests.{either}
+use Rattle.room.specs.declared.Room.{Room}
 use Rattle.room.specs.declared.Neighbour.{Neighbour}
+use Rattle.room.specs.Room.{volume}
 
 -- the marks with this byte at each cell that passes the test; every other cell keeps its byte
 unfoldable pub withByte : ℕ → (ℕ → Bool) → List ℕ → List ℕ
@@ -29,3 +32,11 @@ isMarked ms v = eqb (getD ms v 0) 1
 abbrev pub isCell : Neighbour → ℕ → Bool
 isCell (Neighbour.Inside cell) v = eqb cell v
 isCell Neighbour.Outside v = false
+
+-- each of these is a number below n
+pub record CellsBelow (n : ℕ) (cells : List ℕ) : Type 0 where
+  pub below : (i : ℕ) → i < length cells → getD cells i 0 < n
+
+-- each of these is the number of a cell
+abbrev pub AllCells : Room → List ℕ → Type 0
+AllCells R = CellsBelow (volume R)

@@ -1,14 +1,13 @@
 -- What a wire keeps clear of others, as "The tree of one net" of the requirement has it. Definitions alone; their laws are in ResourceLaws.
 use mathlib.Core.Bool.{Bool, false, _||_}
 use mathlib.Core.List.{List, [], _∷_}
-use Prim.Native.Nat.{ℕ, _<_}
+use Prim.Native.Nat.{ℕ}
 use lib.Dec.{ltb, eqb}
-use lib.ListN.{length, getD}
 use Rattle.basics.specs.Tests.{either}
 use Rattle.basics.specs.Lists.{any}
 use Rattle.room.specs.declared.Room.{Room}
 use Rattle.room.specs.declared.Neighbour.{Neighbour}
-use Rattle.room.specs.Room.{volume, posOf, by, neighbour, above}
+use Rattle.room.specs.Room.{posOf, by, neighbour, above}
 use Rattle.room.specs.declared.Move.{Move}
 use Rattle.routing_resources.specs.Marks.{isCell}
 
@@ -40,7 +39,3 @@ unfoldable pub isClearance : Room → List ℕ → ℕ → Bool
 isClearance R [] v = false
 isClearance R (a ∷ []) v = false
 isClearance R (a ∷ (b ∷ rest)) v = isCell (clearanceOf R a b) v || isClearance R (b ∷ rest) v
-
--- each of these is the number of a cell
-pub record AllCells (R : Room) (cells : List ℕ) : Type 0 where
-  pub inside : (i : ℕ) → i < length cells → getD cells i 0 < volume R

@@ -2,13 +2,14 @@
 // it is not. Cells outside the room have no mark.
 use room::Neighbour;
 use room::Room;
+use room::wide;
 ghost use mathlib.Core.Path.{_≡_};
 ghost use Prim.Native.Nat.{ℕ, _<_};
 ghost use lib.Dec.{eqb};
 ghost use lib.ListN.{length};
 ghost use Rattle.room.specs.Room.{Good, volume};
-ghost use Rattle.routing_resources.specs.Marks.{withByte, markedBy, unmarkedBy, isCell};
-ghost use Rattle.routing_resources.specs.Resources.{isNeighbour, inKeepout, clearanceOf, isClearance, AllCells};
+ghost use Rattle.routing_resources.specs.Marks.{withByte, markedBy, unmarkedBy, isCell, AllCells};
+ghost use Rattle.routing_resources.specs.Resources.{isNeighbour, inKeepout, clearanceOf, isClearance};
 
 pub const UNMARKED: u8 = 0;
 
@@ -39,11 +40,11 @@ pub fn put_mark(marks: &mut [u8], place: Neighbour, mark: u8)
 }
 
 // A level down, the same level, a level up: the middle part of a move.
-const DOWN: usize = 0;
+const ONE_DOWN: usize = 0;
 
-const LEVEL: usize = 1;
+const SAME_LEVEL: usize = 1;
 
-const UP: usize = 2;
+const ONE_UP: usize = 2;
 
 // Marks the four neighbours of a cell on the level that `rise` names. The moves stand in threes, one for each level.
 pub fn horizontal_neighbors(room: Room, marks: &mut [u8], cell: usize, rise: usize)
@@ -70,9 +71,9 @@ pub fn electrical_keepout_for_wire(room: Room, marks: &mut [u8], cell: usize)
     requires { ⌜ length (now marks) ≡ volume room ⌝ }
     ensures { λ _. ⌜ now (marks .exit) ≡ markedBy (inKeepout room cell) (now (marks .entry)) ⌝ }
 {
-    horizontal_neighbors(room, marks, cell, LEVEL);
-    horizontal_neighbors(room, marks, cell, UP);
-    horizontal_neighbors(room, marks, cell, DOWN);
+    horizontal_neighbors(room, marks, cell, SAME_LEVEL);
+    horizontal_neighbors(room, marks, cell, ONE_UP);
+    horizontal_neighbors(room, marks, cell, ONE_DOWN);
 }
 
 // The clearance of a stair: the cell above its lower end. Two cells of one level have none.
@@ -91,13 +92,6 @@ pub fn clearance(room: Room, a: usize, b: usize) -> Neighbour
         return room.above(a);
     }
     room.above(b)
-}
-
-// A cell of a branch as an index.
-fn wide(cell: u32) -> usize
-    ensures { λ r. ⌜ r ≡ cell ⌝ }
-{
-    cell as usize
 }
 
 // Marks the clearances of all stairs along a branch.

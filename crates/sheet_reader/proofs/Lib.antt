@@ -1,2 +1,4 @@
 pub mod Calling
 pub mod Methods
+pub mod Reading
+pub mod Walking

@@ -1,3 +1,4 @@
+pub mod TestLaws
 pub mod Places
 pub mod PlaceLaws
 pub mod Memory

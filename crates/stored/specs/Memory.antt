@@ -8,6 +8,10 @@ use lib.Dec.{eqb, leb}
 use lib.ListN.{length, getD}
 use Rattle.basics.specs.Tests.{either}
 
+-- how many numbers the programs' own buffers have
+abbrev pub ownRoom : ℕ
+ownRoom = 16600
+
 -- the rubbish at a place: never 0 nor a mark
 unfoldable pub rubbish : ℕ → ℕ
 rubbish i = i % 251 + 2
@@ -31,6 +35,10 @@ isDue kept expected i x = eqb x (dueAt kept expected i)
 
 unfoldable pub holds : Bool → List ℕ → List ℕ → Bool
 holds kept expected s = allFrom (isDue kept expected) 0 s
+
+-- four buffers in which nothing is expected: the rubbish that was there, or zeros
+unfoldable pub fourHold : Bool → (a b c d : List ℕ) → Bool
+fourHold kept a b c d = holds kept [] a && holds kept [] b && holds kept [] c && holds kept [] d
 
 -- each place holds a mark or 0, and a mark where one is expected
 unfoldable pub coversAt : List ℕ → ℕ → ℕ → Bool

@@ -1,17 +1,17 @@
 -- Laws of what lent memory holds.
 use mathlib.Core.Path.{_≡_, refl, sym, ap, _∙_}
 use mathlib.Core.Bool.{Bool, true, false, _&&_}
-use mathlib.Core.List.{List, [], _∷_}
-use Prim.Native.Nat.{ℕ, zero, suc, _+_, _≤_, _<_}
-use native.Mathlib.Nat.{le-of-suc-le-suc, not-suc-le-zero}
+use mathlib.Core.List.{List}
+use Prim.Native.Nat.{ℕ, _+_, _≤_, _<_}
+use native.Mathlib.Nat.{not-suc-le-zero}
 use native.Mathlib.Numerals.{add-one}
 use native.Mathlib.Omega.{arith}
 use lib.Dec.{eqb}
 use lib.ListN.{length, getD, set, drop, drop-of-length-le, length-set}
 use lib.Seq.{ext-getD, drop-cons, getD-set-same, getD-set-other}
-use borrow.Author.Tests.{eqb-true, eq-eqb, ne-eqb}
-use Rattle.basics.specs.Tests.{ask, and-left, and-right, never}
-use Rattle.stored.specs.Memory.{rubbish, Rubbish, allFrom, dueAt, isDue, holds}
+use borrow.Author.Tests.{eqb-true, eqb-false, eq-eqb, ne-eqb}
+use Rattle.basics.specs.Tests.{ask}
+use Rattle.stored.specs.Memory.{rubbish, Rubbish, allFrom}
 
 -- ---- filling with rubbish: the first i numbers are rubbish
 
@@ -29,12 +29,8 @@ module _ {s₀ : List ℕ} where
       kept = length-set s i x ∙ S .kept;
       front = λ j l. ask (eqb j i)
           (λ t. let q = eqb-true j i t in rw q (getD-set-same s i x 0 h ∙ e))
-          (λ f. let n : j ≡ i → ⊥ = λ q. absurd (differ f (eq-eqb j i q)) in
-          getD-set-other s i j x 0 n ∙ S .front j (omega (arith, n)));
+          (λ f. let n = eqb-false j i f in getD-set-other s i j x 0 n ∙ S .front j (omega (arith, n)));
     }
-      where
-        differ : {b : Bool} → b ≡ false → b ≡ true → ⊥
-        differ p q = never (cc)
 
     pub spoiled-all : length s ≤ i → Rubbish s
     spoiled-all h = λ j l. S .front j (omega arith)
@@ -71,22 +67,3 @@ is-due {x} {d = d} e f = eq-eqb x d (f ∙ e)
 
 pub not-due : {x y d : ℕ} → y ≡ d → (x ≡ y → ⊥) → eqb x d ≡ false
 not-due {x} {d = d} e n = ne-eqb x d (λ f. n (f ∙ sym e))
-
--- ---- what the tests say
-
-pub all-at : (p : ℕ → ℕ → Bool) (i : ℕ) (l : List ℕ) → allFrom p i l ≡ true → (k : ℕ) → k < length l → p (i + k) (getD l k 0) ≡ true
-all-at p i [] e k h = absurd (not-suc-le-zero h)
-all-at p i (x ∷ xs) e zero h = let z : i + 0 ≡ i = omega arith in rw z (and-left (p i x) (allFrom p (suc i) xs) e)
-all-at p i (x ∷ xs) e (suc k) h =
-    let z : i + suc k ≡ suc i + k = omega arith in
-    rw z (all-at p (suc i) xs (and-right (p i x) (allFrom p (suc i) xs) e) k (le-of-suc-le-suc h))
-
--- nothing was touched
-pub holds-kept : (expected s : List ℕ) → holds true expected s ≡ true → Rubbish s
-unfolding holds dueAt
-holds-kept expected s e = λ k h. let z : 0 + k ≡ k = omega arith in eqb-true (getD s k 0) (rubbish k) (rw z at (all-at (isDue true expected) 0 s e k h))
-
--- all that is expected, and zeros behind it
-pub holds-expected : (expected s : List ℕ) → holds false expected s ≡ true → (k : ℕ) → k < length s → getD s k 0 ≡ getD expected k 0
-unfolding holds dueAt
-holds-expected expected s e k h = let z : 0 + k ≡ k = omega arith in eqb-true (getD s k 0) (getD expected k 0) (rw z at (all-at (isDue false expected) 0 s e k h))

@@ -28,6 +28,10 @@ fullIf false = Other
 unfoldable pub longerBy : ℕ → ℕ → ℕ
 longerBy length more = either (ltb length 1000000) (length + more) length
 
+-- how long a buffer of a number a cell is lent without a change of the answer. Number 6 hangs on its length
+unfoldable pub cellsMore : ℕ → ℕ → ℕ
+cellsMore cells number = either (eqb number 6) cells (longerBy cells 100)
+
 -- by how much a queue is lent longer without a change of the answer. Numbers 6 and 13 hang on its places, and half a place more is none
 unfoldable pub queueMore : ℕ → ℕ
 queueMore number = either (eqb number 6) 1 (either (eqb number 13) 1 51)

@@ -8,6 +8,10 @@ ghost use Rattle.stored.specs.Places.{cellsFrom};
 use crate::places::cell_at;
 use crate::places::past;
 
+// How many numbers the programs' own buffers have: room for the longest buffer that is stored, of 16,484
+// numbers, and some more.
+pub const ROOM: usize = 16600;
+
 // The rubbish at a place: a small number, which could pass for a cell, a cost or an entry, and is never 0 nor a mark.
 fn rubbish(i: usize) -> u8
     ensures { λ r. ⌜ (r ≡ rubbish i) × (r < 256) ⌝ }

@@ -1,7 +1,7 @@
 // What every stored case is put to: the verdict on a run, longer buffers, and the least queue that gives the stored answer.
 ghost use mathlib.Core.Path.{_≡_};
 ghost use Prim.Native.Nat.{_*_};
-ghost use Rattle.stored.specs.Runs.{isSame, longerBy, queueMore, sumOf, middleOf, isOpen, narrowedBy};
+ghost use Rattle.stored.specs.Runs.{isSame, sameIf, fullIf, longerBy, cellsMore, queueMore, sumOf, middleOf, isOpen, narrowedBy};
 
 // All as stored; or the number that a buffer gives that is too short, and everything is zero; or something else.
 pub enum Verdict {
@@ -29,6 +29,18 @@ pub fn is_same(verdict: Verdict) -> bool
     }
 }
 
+pub fn same_if(holds: bool) -> Verdict
+    ensures { λ r. ⌜ r ≡ sameIf holds ⌝ }
+{
+    if holds { Verdict::Same } else { Verdict::Other }
+}
+
+pub fn full_if(holds: bool) -> Verdict
+    ensures { λ r. ⌜ r ≡ fullIf holds ⌝ }
+{
+    if holds { Verdict::Full } else { Verdict::Other }
+}
+
 // A cell of a path takes two bytes in the file, and a place of the queue two numbers.
 pub fn twice(count: u32) -> usize
     ensures { λ r. ⌜ r ≡ count * 2 ⌝ }
@@ -43,6 +55,17 @@ pub fn longer(length: usize, by: u8) -> usize
         length + by as usize
     } else {
         length
+    }
+}
+
+// Number 6 hangs on the length of a buffer of a number a cell.
+pub fn cells_more(cells: usize, number: u32) -> usize
+    ensures { λ r. ⌜ r ≡ cellsMore cells number ⌝ }
+{
+    if number == 6 {
+        cells
+    } else {
+        longer(cells, 100)
     }
 }
 

@@ -1,4 +1,4 @@
-//! Samples a to l of document 01 and its hex sheet, with the answers that document 01 and the settled readings give.
+//! Samples a to l of document 01 and its hex sheet, with the answers that document 01 and docs/DECISIONS.md give.
 
 use crate::Refusal;
 use crate::room::{Config, facing, kind, port};

@@ -79,15 +79,8 @@ pub struct Net {
     pub branches: Vec<Vec<usize>>,
     pub occupied: BTreeSet<usize>,
     pub repeaters: BTreeSet<usize>,
-    pub measure: Measure,
-}
-
-/// The most that any search of a tree needed.
-#[derive(Clone, Copy, Debug, Default, Eq, PartialEq)]
-pub struct Measure {
+    /// The most entries that waited at once in any of its searches.
     pub most_waiting: usize,
-    pub most_attempts: usize,
-    pub expanded: u64,
 }
 
 impl Net {
@@ -126,7 +119,7 @@ pub fn route_net_tree(job: &Job, room: &Room, limits: Limits) -> Result<Net, Ref
         branches,
         occupied: tree.occupied,
         repeaters,
-        measure: tree.measure,
+        most_waiting: tree.most_waiting,
     })
 }
 
@@ -285,7 +278,7 @@ struct Tree<'a> {
     blocked: Vec<bool>,
     joinable: BTreeSet<usize>,
     occupied: BTreeSet<usize>,
-    measure: Measure,
+    most_waiting: usize,
 }
 
 impl<'a> Tree<'a> {
@@ -298,7 +291,7 @@ impl<'a> Tree<'a> {
             blocked: blocked_at_outset(job, room, ends),
             joinable: BTreeSet::from([ends.source]),
             occupied: BTreeSet::from([ends.source]),
-            measure: Measure::default(),
+            most_waiting: 0,
         }
     }
 
@@ -339,10 +332,9 @@ impl<'a> Tree<'a> {
         goal: usize,
     ) -> Result<Option<(u64, Vec<usize>)>, Refusal> {
         let mut blocked = self.blocked.clone();
-        for attempt in 1..=ATTEMPTS {
+        for _ in 0..ATTEMPTS {
             let searched = self.search(&blocked, start, goal);
-            self.measure
-                .note(attempt, searched.most_waiting, searched.expanded);
+            self.most_waiting = self.most_waiting.max(searched.most_waiting);
             let (path, cost) = match searched.end {
                 End::Route { path, cost } => (path, cost),
                 End::QueueFull => return Err(Refusal::new(13, searched.expanded)),
@@ -396,14 +388,6 @@ impl<'a> Tree<'a> {
             }
         }
         None
-    }
-}
-
-impl Measure {
-    fn note(&mut self, attempt: usize, waiting: usize, expanded: u32) {
-        self.most_attempts = self.most_attempts.max(attempt);
-        self.most_waiting = self.most_waiting.max(waiting);
-        self.expanded += u64::from(expanded);
     }
 }
 

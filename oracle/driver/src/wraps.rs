@@ -10,11 +10,11 @@ use crate::proved;
 /// A stair so dear that nobody should take one: two of them come round to nothing in 32 bits.
 const STAIR: u32 = 2_147_483_648;
 
-/// A row of five cells under a second one, with a block in the middle of the lower: the only way is over it, by two flat steps and two stairs.
-const SIDES: [u8; 3] = [5, 2, 1];
+/// A row of three cells under a second one, with a block in the middle of the lower: the only way is over it, by two stairs.
+const SIDES: [u8; 3] = [3, 2, 1];
 
 pub fn show() {
-    let mut case = default_search(SIDES, 0, 8, &[(4, kind::SOLID)]);
+    let mut case = default_search(SIDES, 0, 4, &[(2, kind::SOLID)]);
     case.config = Config {
         stair: STAIR,
         support: 0,
@@ -36,7 +36,7 @@ pub fn show() {
         stair_cost: case.config.stair,
         new_support_cost: case.config.support,
     };
-    println!("room 5x2x1, Solid at cell 4, from cell 0 to cell 8, costs 10, {STAIR}, 0");
+    println!("room 3x2x1, Solid at cell 2, from cell 0 to cell 4, costs 10, {STAIR}, 0");
     match astar_route(
         &world(&room, &case.kinds),
         pos(case.start),

@@ -1,10 +1,10 @@
 -- `seen_beneath` meets its contract: inside it is the kind seen there, outside it is Solid.
 use mathlib.Core.Path.{sym, _∙_}
 use native.Mathlib.Omega.{arith}
-use Rattle.room.specs.MoveLaws.{beneath-in}
 use borrow.Author.Needs.{needs}
 use Rattle.blocked_world.specs.SeenLaws.{seen-at}
 use Rattle.blocked_world.proofs.seen_beneath.Statement.{statement}
+use Rattle.room.specs.RoomLaws.{beneath-in}
 use Rattle.blocked_world.proofs.seen_beneath.Tie as tie
 
 beneath-requires : tie.Need-beneath-requires

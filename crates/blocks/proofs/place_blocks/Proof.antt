@@ -11,14 +11,15 @@ use Rattle.job_sheet.specs.Accepted.{BlockList}
 use Rattle.job_sheet.specs.Places.{blocksIn}
 use Rattle.blocks.specs.Blocks.{cellAt}
 use Rattle.blocks.specs.Laying.{Kept}
-use Rattle.blocks.specs.BlockLaws.{cells-in, list-long, list-sound}
+use Rattle.blocks.specs.BlockLaws.{cells-in, list-sound}
 use Rattle.blocks.specs.LayingLaws.{kept-all, kept-refused}
 use Rattle.blocks.proofs.place_blocks.Statement.{statement}
+use Rattle.job_sheet.specs.RecordLaws.{blocks-long}
 use Rattle.blocks.proofs.place_blocks.Tie as tie
 
 of-all : (sheet : List ℕ) (R : Room) (p : Part) {kinds nodes : List ℕ} {found : ℕ} → Kept R (blocksIn sheet p) (p .count) kinds nodes found
     → Kept R (blocksIn sheet p) (length (blocksIn sheet p)) kinds nodes found
-of-all sheet R p K = rw (list-long sheet p) K
+of-all sheet R p K = rw (blocks-long sheet p) K
 
 cells-small : {sheet : List ℕ} {R : Room} {p : Part} → Good R → BlockList sheet R p (blocksIn sheet p)
     → (i : ℕ) → i < length (blocksIn sheet p) → cellAt R (blocksIn sheet p) i < 65536

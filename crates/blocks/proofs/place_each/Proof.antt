@@ -1,15 +1,14 @@
 -- `place_each` meets its contract: after i turns the first i blocks are laid out.
 use mathlib.Core.Path.{_≡_, sym, _∙_}
-use mathlib.Core.List.{List}
-use Prim.Native.Nat.{ℕ, _-_, _≤_}
+use Prim.Native.Nat.{_-_, _≤_}
 use native.Mathlib.Omega.{arith}
-use lib.ListN.{length, replicate, length-replicate}
 use borrow.Author.Needs.{needs}
 use Rattle.room.specs.RoomLaws.{cell-in}
 use Rattle.job_sheet.specs.Places.{blocksIn}
 use Rattle.blocks.specs.Laying.{Kept}
 use Rattle.blocks.specs.LayingLaws.{kept-none, kept-next}
 use Rattle.blocks.proofs.place_each.Statement.{statement}
+use Rattle.basics.specs.Zeros.{zeros-long}
 use Rattle.blocks.proofs.place_each.Tie as tie
 
 abbrev Inv-loop : tie.InvT-loop
@@ -17,9 +16,6 @@ Inv-loop sheet part room kinds₀ nodes₀ count found₀ i₀ kinds nodes found
 
 abbrev μ-loop : tie.MeasureT-loop
 μ-loop sheet part room kinds₀ nodes₀ count found₀ i₀ kinds nodes found i = count - i
-
-cleared-long : {l : List ℕ} {n : ℕ} → l ≡ replicate n 0 → length l ≡ n
-cleared-long {l} {n} e = rw e (length-replicate n 0)
 
 loop-holds : tie.Need-loop-holds Inv-loop μ-loop
 loop-holds c = let pre = c .before .before .before .pre in (omega arith, rw (pre .1 .1 .0, pre .1 .1 .1) (kept-none _ _))
@@ -50,10 +46,10 @@ loop-again c =
     (omega arith, kept-next _ _ (at .i) _ _ _ (at .inv .1) inside (block .result) (block .ensures .is) added)
 
 same-length : tie.Need-same-length Inv-loop μ-loop
-same-length c = c .before .loop .inv .1 .kinds-long ∙ sym (cleared-long (c .before .before .before .before .before .pre .1 .1 .0))
+same-length c = c .before .loop .inv .1 .kinds-long ∙ sym (zeros-long (c .before .before .before .before .before .pre .1 .1 .0))
 
 same-length-2 : tie.Need-same-length-2 Inv-loop μ-loop
-same-length-2 c = c .before .loop .inv .1 .nodes-long ∙ sym (cleared-long (c .before .before .before .before .before .pre .1 .1 .1))
+same-length-2 c = c .before .loop .inv .1 .nodes-long ∙ sym (zeros-long (c .before .before .before .before .before .pre .1 .1 .1))
 
 returns : tie.Need-returns Inv-loop μ-loop
 returns c =

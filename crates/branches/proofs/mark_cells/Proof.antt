@@ -29,7 +29,7 @@ wide-requires c κs = search needs
 mark-requires : tie.Need-mark-requires Inv-loop μ-loop
 mark-requires c κs =
     let turn = c .before .before .before .before .loop in
-    rw (c .wide .ensures, turn .inv .1 .long) (c .before .before .before .before .before .before .before .pre .below (turn .i) (c .before .before .before .loop-test .taken))
+    rw (c .wide .ensures .0, turn .inv .1 .long) (c .before .before .before .before .before .before .before .pre .below (turn .i) (c .before .before .before .loop-test .taken))
 
 add-i : tie.Need-add-i Inv-loop μ-loop
 add-i c = search needs
@@ -41,7 +41,7 @@ loop-again : tie.Need-loop-again Inv-loop μ-loop
 loop-again c =
     let turn = c .before .before .before .before .before .before .before .loop in
     let more = cells-next _ (turn .i) (c .before .before .before .before .before .before .loop-test .taken) in
-    (omega arith, next-turn (turn .inv .1) _ (c .before .before .mark .ensures) (rw (c .before .before .before .wide .ensures) more))
+    (omega arith, next-turn (turn .inv .1) _ (c .before .before .mark .ensures) (rw (c .before .before .before .wide .ensures .0) more))
 
 same-length : tie.Need-same-length Inv-loop μ-loop
 same-length c = c .before .loop .inv .1 .long

@@ -27,7 +27,7 @@ wide-requires : tie.Need-wide-requires Inv-loop μ-loop
 wide-requires c κs = search needs
 
 pair-with-requires : tie.Need-pair-with-requires Inv-loop μ-loop
-pair-with-requires c κs = let s = c .before .before .before .before .before .before in (s .pre .0, (s .pre .1 .0, rw (c .wide .ensures) (s .pre .1 .1 .0 .inside _ (c .before .before .loop-test .taken))))
+pair-with-requires c κs = let s = c .before .before .before .before .before .before in (s .pre .0, (s .pre .1 .0, rw (c .wide .ensures .0) (s .pre .1 .1 .0 .below _ (c .before .before .loop-test .taken))))
 
 lesser-of-requires : tie.Need-lesser-of-requires Inv-loop μ-loop
 lesser-of-requires c κs = search needs
@@ -39,7 +39,7 @@ loop-less : tie.Need-loop-less Inv-loop μ-loop
 loop-less c = search needs
 
 loop-again : tie.Need-loop-again Inv-loop μ-loop
-loop-again c = walk-next _ _ (c .before .before .before .before .before .loop .inv) (c .before .before .before .before .loop-test .taken) _ (rw (c .before .pair-with .ensures, c .before .before .wide .ensures) at (c .lesser-of .ensures))
+loop-again c = walk-next _ _ (c .before .before .before .before .before .loop .inv) (c .before .before .before .before .loop-test .taken) _ (rw (c .before .pair-with .ensures, c .before .before .wide .ensures .0) at (c .lesser-of .ensures))
 
 returns : tie.Need-returns Inv-loop μ-loop
 returns c = let s = c .before .before .before .before .before in first-found _ (s .pre .0) _ _ (cells-in _ _ (s .pre .1 .1 .0)) (s .pre .1 .1 .1) _ _ (s .pre .1 .0) (walk-last _ _ (c .before .before .loop .inv) (c .before .loop-test .left)) (c .if1 .taken)

@@ -1,8 +1,7 @@
 -- `pair_with` meets its contract: the conductor beneath is asked for first.
 use mathlib.Core.Path.{sym, _∙_}
 use borrow.Author.Needs.{needs}
-use Rattle.room.specs.RoomLaws.{above-in}
-use Rattle.room.specs.MoveLaws.{beneath-in}
+use Rattle.room.specs.RoomLaws.{above-in, beneath-in}
 use Rattle.geometry.specs.PairLaws.{pair-here, pair-over}
 use Rattle.geometry.proofs.pair_with.Statement.{statement}
 use Rattle.geometry.proofs.pair_with.Tie as tie

@@ -28,10 +28,10 @@ wide-requires : tie.Need-wide-requires Inv-loop μ-loop
 wide-requires c κs = search needs
 
 slice-read-if1 : tie.Need-slice-read-if1 Inv-loop μ-loop
-slice-read-if1 c = walk-in _ _ (c .before .before .before .before .loop .inv) (c .before .before .before .before .before .before .before .pre) (c .before .before .before .loop-test .taken) _ (c .before .wide .ensures)
+slice-read-if1 c = walk-in _ _ (c .before .before .before .before .loop .inv) (c .before .before .before .before .before .before .before .pre) (c .before .before .before .loop-test .taken) _ (c .before .wide .ensures .0)
 
 slice-write-bytes : tie.Need-slice-write-bytes Inv-loop μ-loop
-slice-write-bytes c = walk-in _ _ (c .before .before .before .before .before .loop .inv) (c .before .before .before .before .before .before .before .before .pre) (c .before .before .before .before .loop-test .taken) _ (c .before .before .wide .ensures)
+slice-write-bytes c = walk-in _ _ (c .before .before .before .before .before .loop .inv) (c .before .before .before .before .before .before .before .before .pre) (c .before .before .before .before .loop-test .taken) _ (c .before .before .wide .ensures .0)
 
 add-i : tie.Need-add-i Inv-loop μ-loop
 add-i c = search needs
@@ -45,7 +45,7 @@ loop-again c =
     let bytes = c .before .before .before .before .before .loop .bytes in
     let walk = c .before .before .before .before .before .loop .inv in
     let more = c .before .before .before .before .loop-test .taken in
-    let cell = c .before .before .wide .ensures in
+    let cell = c .before .before .wide .ensures .0 in
     ⊎-elim
     (λ w. walk-next _ _ walk more _ (w .1 ∙ one-put _ (args .new) _ _ bytes cell (w .0 .taken)))
     (λ w. walk-next _ _ walk more _ (w .1 ∙ one-kept _ (args .new) _ _ bytes cell (w .0 .left)))

@@ -44,7 +44,7 @@ wide-requires-2 : tie.Need-wide-requires-2 Inv-loop μ-loop
 wide-requires-2 c κs = search needs
 
 stair-at-requires : tie.Need-stair-at-requires Inv-loop μ-loop
-stair-at-requires c κs = let s = c .before .before .before .before .before .before .before .before .before in (s .pre .0, (s .pre .1 .0, (rw (c .before .before .wide .ensures) (s .pre .1 .1 .0 .inside _ (omega arith)), rw (c .wide2 .ensures) (s .pre .1 .1 .0 .inside _ (c .before .before .before .before .loop-test .taken)))))
+stair-at-requires c κs = let s = c .before .before .before .before .before .before .before .before .before in (s .pre .0, (s .pre .1 .0, (rw (c .before .before .wide .ensures .0) (s .pre .1 .1 .0 .below _ (omega arith)), rw (c .wide2 .ensures .0) (s .pre .1 .1 .0 .below _ (c .before .before .before .before .loop-test .taken)))))
 
 enum-told : tie.Need-enum-told Inv-loop μ-loop
 enum-told c = search needs
@@ -54,7 +54,7 @@ returns c =
     let pre = c .before .before .before .before .before .before .before .before .before .before .before .before .pre in
     let i = c .before .before .before .before .before .before .before .before .loop .i in
     let more = c .before .before .before .before .before .before .before .loop-test .taken in
-    let read = c .before .before .stair-at .ensures ∙ stair-read _ (pre .0) _ _ _ (pre .1 .1 .0) (pre .1 .1 .1 .0) (pre .1 .1 .1 .1) i more _ _ (c .before .before .before .before .before .wide .ensures) (c .before .before .before .wide2 .ensures) in
+    let read = c .before .before .stair-at .ensures ∙ stair-read _ (pre .0) _ _ _ (pre .1 .1 .0) (pre .1 .1 .1 .0) (pre .1 .1 .1 .1) i more _ _ (c .before .before .before .before .before .wide .ensures .0) (c .before .before .before .wide2 .ensures .0) in
     read ∙ stairs-found _ _ _ _ _ i more _ (sym read ∙ c .enum-told .given .1) ∙ c .before .before .before .before .before .before .before .before .loop .inv .1
 
 enum-told-2 : tie.Need-enum-told-2 Inv-loop μ-loop
@@ -71,7 +71,7 @@ loop-again c =
     let pre = c .before .before .before .before .before .before .before .before .before .before .before .before .pre in
     let i = c .before .before .before .before .before .before .before .before .loop .i in
     let more = c .before .before .before .before .before .before .before .loop-test .taken in
-    let read = c .before .before .stair-at .ensures ∙ stair-read _ (pre .0) _ _ _ (pre .1 .1 .0) (pre .1 .1 .1 .0) (pre .1 .1 .1 .1) i more _ _ (c .before .before .before .before .before .wide .ensures) (c .before .before .before .wide2 .ensures) in
+    let read = c .before .before .stair-at .ensures ∙ stair-read _ (pre .0) _ _ _ (pre .1 .1 .0) (pre .1 .1 .1 .0) (pre .1 .1 .1 .1) i more _ _ (c .before .before .before .before .before .wide .ensures .0) (c .before .before .before .wide2 .ensures .0) in
     (omega arith, stairs-next _ _ _ _ _ i more (sym read ∙ c .enum-told2 .given .1) ∙ c .before .before .before .before .before .before .before .before .loop .inv .1)
 
 returns-2 : tie.Need-returns-2 Inv-loop μ-loop

@@ -1,13 +1,12 @@
 -- `cell_source_keepout` meets its contract: each turn marks the keepout that one block asks for.
 use Prim.Native.Nat.{_≤_, _-_}
 use native.Mathlib.Omega.{arith}
-use Rattle.routing_resources.specs.MarkLaws.{Turn, first-turn}
+use Rattle.routing_resources.specs.MarkLaws.{Turn, first-turn, restOf, turn-on, turn-done}
 use Rattle.job_sheet.specs.Places.{noBlock, blocksIn}
-use Rattle.blocks.specs.BlockLaws.{list-long}
 use Rattle.outset.specs.Outset.{sourceKeepout}
-use Rattle.outset.specs.OutsetLaws.{restOf, turn-on, turn-done}
 use borrow.Author.Needs.{needs}
 use Rattle.outset.proofs.cell_source_keepout.Statement.{statement}
+use Rattle.job_sheet.specs.RecordLaws.{blocks-long}
 use Rattle.outset.proofs.cell_source_keepout.Tie as tie
 
 abbrev Inv-loop : tie.InvT-loop
@@ -32,13 +31,13 @@ loop-less : tie.Need-loop-less Inv-loop μ-loop
 loop-less c = search needs
 
 loop-again : tie.Need-loop-again Inv-loop μ-loop
-loop-again c = (omega (arith, c .before .before .before .before .before .if1 .taken), turn-on (sourceKeepout _ _ _) _ (c .before .before .before .before .before .before .before .loop .inv .1) noBlock _ (c .before .before .before .before .block-at .ensures .is) (rw (list-long _ _) (c .before .before .before .before .before .if1 .taken)) (c .before .before .block-keepout .ensures))
+loop-again c = (omega (arith, c .before .before .before .before .before .if1 .taken), turn-on (sourceKeepout _ _ _) _ (c .before .before .before .before .before .before .before .loop .inv .1) noBlock _ (c .before .before .before .before .block-at .ensures .is) (rw (blocks-long _ _) (c .before .before .before .before .before .if1 .taken)) (c .before .before .block-keepout .ensures))
 
 same-length : tie.Need-same-length Inv-loop μ-loop
 same-length c = c .before .before .loop .inv .1 .long
 
 returns : tie.Need-returns Inv-loop μ-loop
-returns c = turn-done (sourceKeepout _ _ _) _ (c .before .before .loop .inv .1) (rw (list-long _ _) (c .if1 .left))
+returns c = turn-done (sourceKeepout _ _ _) _ (c .before .before .loop .inv .1) (rw (blocks-long _ _) (c .if1 .left))
 
 pub cell-source-keepout-spec : {M : Type 1} → statement M
 cell-source-keepout-spec =

@@ -2,12 +2,12 @@
 use Prim.Native.Nat.{_≤_, _-_}
 use native.Mathlib.Omega.{arith}
 use Rattle.room.specs.RoomLaws.{cell-in}
-use Rattle.routing_resources.specs.MarkLaws.{Turn, first-turn}
+use Rattle.routing_resources.specs.MarkLaws.{Turn, first-turn, restOf, turn-on, turn-done}
 use Rattle.job_sheet.specs.Places.{noPosition, positionsIn}
 use Rattle.outset.specs.Outset.{nearConductor}
-use Rattle.outset.specs.OutsetLaws.{positions-long, restOf, turn-on, turn-done}
 use borrow.Author.Needs.{needs}
 use Rattle.outset.proofs.mark_conductors.Statement.{statement}
+use Rattle.job_sheet.specs.RecordLaws.{positions-long}
 use Rattle.outset.proofs.mark_conductors.Tie as tie
 
 abbrev Inv-loop : tie.InvT-loop

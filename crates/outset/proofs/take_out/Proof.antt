@@ -1,9 +1,9 @@
 -- `take_out` meets its contract: the cell, then the one right beneath it.
 use mathlib.Core.Path.{sym, _∙_}
-use Rattle.room.specs.MoveLaws.{beneath-in}
 use Rattle.outset.specs.OutsetLaws.{out-cell}
 use borrow.Author.Needs.{needs}
 use Rattle.outset.proofs.take_out.Statement.{statement}
+use Rattle.room.specs.RoomLaws.{beneath-in}
 use Rattle.outset.proofs.take_out.Tie as tie
 
 unmark-requires : tie.Need-unmark-requires

@@ -3,10 +3,10 @@ use mathlib.Core.Path.{_∙_}
 use Prim.Native.Nat.{_≤_, _-_}
 use native.Mathlib.Omega.{arith}
 use Rattle.ends.specs.EndLaws.{taps-long, tap-is}
-use Rattle.routing_resources.specs.MarkLaws.{Turn, first-turn}
+use Rattle.routing_resources.specs.MarkLaws.{Turn, first-turn, restOf, turn-on, turn-done}
 use Rattle.ends.specs.Ends.{noTap, tapsIn}
 use Rattle.outset.specs.Outset.{tapCell}
-use Rattle.outset.specs.OutsetLaws.{restOf, turn-on, turn-done, out-ends}
+use Rattle.outset.specs.OutsetLaws.{out-ends}
 use Rattle.outset.proofs.take_out_ends.Statement.{statement}
 use Rattle.outset.proofs.take_out_ends.Tie as tie
 

@@ -11,9 +11,9 @@ use lib.Seq.{drop-cons}
 use borrow.Author.Needs.{needs}
 use Rattle.room.specs.declared.Room.{Room}
 use Rattle.room.specs.Room.{volume}
-use Rattle.routing_resources.specs.Marks.{isCell}
+use Rattle.routing_resources.specs.Marks.{isCell, AllCells}
 use Rattle.routing_resources.specs.MarkLaws.{Turn, first-turn, next-turn, last-turn}
-use Rattle.routing_resources.specs.Resources.{clearanceOf, isClearance, AllCells}
+use Rattle.routing_resources.specs.Resources.{clearanceOf, isClearance}
 use Rattle.routing_resources.specs.ResourceLaws.{clearance-in}
 use Rattle.routing_resources.proofs.branch_stair_clearances.Statement.{statement}
 use Rattle.routing_resources.proofs.branch_stair_clearances.Tie as tie
@@ -41,7 +41,7 @@ all-cleared R branch i h v = one-cell R (drop i branch) (rw (length-drop i branc
 
 ends-in : (R : Room) (branch : List ℕ) → AllCells R branch → (i : ℕ) → i + 1 < length branch → (a b : ℕ) → a ≡ getD branch i 0 → b ≡ getD branch (i + 1) 0
     → (a < volume R) × (b < volume R)
-ends-in R branch cells i h a b e f = (rw e (cells .inside i (omega arith)), rw f (cells .inside (i + 1) h))
+ends-in R branch cells i h a b e f = (rw e (cells .below i (omega arith)), rw f (cells .below (i + 1) h))
 
 abbrev Inv-loop : tie.InvT-loop
 Inv-loop room branch marks₀ i₀ marks i = (i ≤ length branch) × Turn 1 (clears room branch) marks₀ marks i
@@ -79,13 +79,13 @@ wide-requires-2 c κs = search needs
 clearance-requires : tie.Need-clearance-requires Inv-loop μ-loop
 clearance-requires c κs =
     let start = c .before .before .before .before .before .before .before .before in
-    let ends = ends-in _ _ (start .pre .1 .0) (c .before .before .before .before .before .loop .i) (c .before .before .before .before .loop-test .taken) _ _ (c .before .before .wide .ensures) (c .wide2 .ensures) in
+    let ends = ends-in _ _ (start .pre .1 .0) (c .before .before .before .before .before .loop .i) (c .before .before .before .before .loop-test .taken) _ _ (c .before .before .wide .ensures .0) (c .wide2 .ensures .0) in
     (start .pre .0, (ends .0, ends .1))
 
 put-mark-requires : tie.Need-put-mark-requires Inv-loop μ-loop
 put-mark-requires c κs =
     let start = c .before .before .before .before .before .before .before .before .before .before in
-    let ends = ends-in _ _ (start .pre .1 .0) (c .before .before .before .before .before .before .before .loop .i) (c .before .before .before .before .before .before .loop-test .taken) _ _ (c .before .before .before .before .wide .ensures) (c .before .before .wide2 .ensures) in
+    let ends = ends-in _ _ (start .pre .1 .0) (c .before .before .before .before .before .before .before .loop .i) (c .before .before .before .before .before .before .loop-test .taken) _ _ (c .before .before .before .before .wide .ensures .0) (c .before .before .wide2 .ensures .0) in
     λ v e. rw (c .before .before .before .before .before .before .before .loop .inv .1 .long, start .pre .1 .1) (clearance-in _ (start .pre .0) _ _ (ends .0) (ends .1) v (rw (c .before .clearance .ensures) at e))
 
 add-i : tie.Need-add-i Inv-loop μ-loop
@@ -96,7 +96,7 @@ loop-less c = search needs
 
 loop-again : tie.Need-loop-again Inv-loop μ-loop
 loop-again c =
-    (omega arith, let more = one-more _ _ (c .before .before .before .before .before .before .before .before .before .before .loop .i) (c .before .before .before .before .before .before .before .before .before .loop-test .taken) in next-turn (c .before .before .before .before .before .before .before .before .before .before .loop .inv .1) _ (c .before .before .put-mark .ensures) (rw (c .before .before .before .before .clearance .ensures, c .before .before .before .before .before .before .before .wide .ensures, c .before .before .before .before .before .wide2 .ensures) more))
+    (omega arith, let more = one-more _ _ (c .before .before .before .before .before .before .before .before .before .before .loop .i) (c .before .before .before .before .before .before .before .before .before .loop-test .taken) in next-turn (c .before .before .before .before .before .before .before .before .before .before .loop .inv .1) _ (c .before .before .put-mark .ensures) (rw (c .before .before .before .before .clearance .ensures, c .before .before .before .before .before .before .before .wide .ensures .0, c .before .before .before .before .before .wide2 .ensures .0) more))
 
 same-length : tie.Need-same-length Inv-loop μ-loop
 same-length c = c .before .loop .inv .1 .long

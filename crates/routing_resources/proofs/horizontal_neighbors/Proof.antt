@@ -1,44 +1,38 @@
 -- `horizontal_neighbors` meets its contract: each turn marks where one direction leads.
 use mathlib.Core.Path.{_≡_, refl, _∙_}
-use mathlib.Core.Bool.{Bool, false, _||_}
+use mathlib.Core.Bool.{Bool}
 use mathlib.Core.List.{List}
 use Prim.Native.Nat.{ℕ, zero, suc, _+_, _-_, _*_, _≤_, _<_}
-use native.Mathlib.Numerals.{add-one}
 use native.Mathlib.Omega.{arith}
-use lib.ListN.{length, getD, drop}
-use lib.Seq.{drop-cons}
+use lib.ListN.{length, getD}
 use borrow.Author.Needs.{needs}
 use Rattle.basics.specs.Lists.{any}
 use Rattle.room.specs.declared.Room.{Room}
 use Rattle.room.specs.declared.Pos.{Pos}
 use Rattle.room.specs.declared.Move.{Move}
-use Rattle.room.specs.Room.{posOf, by, moves, neighbourAt, neighbour}
+use Rattle.room.specs.Room.{posOf, by, moves, moveAt, neighbourAt, neighbour}
 use Rattle.room.specs.RoomLaws.{pos-in}
 use Rattle.room.specs.MoveLaws.{leads, move-small}
 use Rattle.routing_resources.specs.Marks.{markedBy, isCell}
-use Rattle.routing_resources.specs.MarkLaws.{Turn, first-turn, next-turn, last-turn}
+use Rattle.routing_resources.specs.MarkLaws.{Turn, first-turn, restOf, turn-on, turn-done}
 use Rattle.routing_resources.specs.Resources.{directions, isNeighbour}
 use Rattle.routing_resources.proofs.horizontal_neighbors.Statement.{statement}
 use Rattle.routing_resources.proofs.horizontal_neighbors.Tie as tie
 
--- where the moves from the k-th on lead from a position
-abbrev reached : Room → Pos → List Move → ℕ → ℕ → Bool
-reached R p ms k v = any (λ m. isCell (neighbourAt R p m) v) (drop k ms)
+-- cell v is where a move leads from a position
+abbrev leadsTo : Room → Pos → ℕ → Move → Bool
+leadsTo R p v m = isCell (neighbourAt R p m) v
 
-one-more : (R : Room) (p : Pos) (ms : List Move) (k : ℕ) (d : Move) → k < length ms → (v : ℕ)
-    → reached R p ms k v ≡ isCell (neighbourAt R p (getD ms k d)) v || reached R p ms (k + 1) v
-one-more R p ms k d h v = rw (add-one, drop-cons ms k d h)
-
-all-led : (R : Room) (p : Pos) (rise k : ℕ) → k ≤ 4 → 4 ≤ k → (v : ℕ) → reached R p (directions rise) k v ≡ false
+four : (rise k : ℕ) → 4 ≤ k → length (directions rise) ≤ k
 unfolding directions
-all-led R p rise k h l v = let e : k ≡ 4 = omega arith in rw e
+four rise k h = h
 
-beside : (R : Room) (cell rise : ℕ) (start : List ℕ) → markedBy (reached R (posOf R cell) (directions rise) 0) start ≡ markedBy (isNeighbour R cell rise) start
+beside : (R : Room) (cell rise : ℕ) (start : List ℕ) → markedBy (λ v. any (leadsTo R (posOf R cell) v) (directions rise)) start ≡ markedBy (isNeighbour R cell rise) start
 unfolding isNeighbour neighbour
 beside R cell rise start = refl
 
 -- the moves stand in threes: the k-th three has the k-th direction on each level
-in-threes : (k rise : ℕ) → k < 4 → rise < 3 → getD moves (3 * k + rise) (by 0 0 0) ≡ getD (directions rise) k (by 0 0 0)
+in-threes : (k rise : ℕ) → k < 4 → rise < 3 → moveAt (3 * k + rise) ≡ getD (directions rise) k (by 0 0 0)
 unfolding moves directions
 in-threes zero zero h l = refl
 in-threes zero (suc zero) h l = refl
@@ -59,7 +53,7 @@ in-threes (suc (suc (suc zero))) (suc (suc (suc rise))) h l = absurd (omega arit
 in-threes (suc (suc (suc (suc k)))) rise h l = absurd (omega arith)
 
 abbrev Inv-loop : tie.InvT-loop
-Inv-loop room marks₀ cell rise p k₀ marks k = (k ≤ 4) × Turn 1 (reached room p (directions rise)) marks₀ marks k
+Inv-loop room marks₀ cell rise p k₀ marks k = (k ≤ 4) × Turn 1 (restOf (leadsTo room p) (directions rise)) marks₀ marks k
 
 abbrev μ-loop : tie.MeasureT-loop
 μ-loop room marks₀ cell rise p k₀ marks k = 4 - k
@@ -101,13 +95,18 @@ loop-less c = search needs
 loop-again : tie.Need-loop-again Inv-loop μ-loop
 unfolding directions
 loop-again c =
-    (omega arith, let more = one-more _ _ (directions (c .before .before .before .before .before .before .before .before .before .before .args .rise)) (c .before .before .before .before .before .before .before .loop .k) (by 0 0 0) (c .before .before .before .before .before .before .loop-test .taken) in next-turn (c .before .before .before .before .before .before .before .loop .inv .1) _ (c .before .before .put-mark .ensures) (rw (c .before .before .before .before .neighbour-at .ensures, c .before .before .before .before .before .move-at .ensures, in-threes (c .before .before .before .before .before .before .before .loop .k) (c .before .before .before .before .before .before .before .before .before .before .args .rise) (c .before .before .before .before .before .before .loop-test .taken) (c .before .before .before .before .before .before .before .before .before .before .pre .1 .1 .0)) more))
+    let args = c .before .before .before .before .before .before .before .before .before .before .args in
+    let pre = c .before .before .before .before .before .before .before .before .before .before .pre in
+    let loop = c .before .before .before .before .before .before .before .loop in
+    let more = c .before .before .before .before .before .before .loop-test .taken in
+    let move = c .before .before .before .before .before .move-at .ensures ∙ in-threes (loop .k) (args .rise) more (pre .1 .1 .0) in
+    (omega arith, turn-on (leadsTo _ _) _ (loop .inv .1) (by 0 0 0) _ move more (c .before .before .put-mark .ensures ∙ rw (c .before .before .before .before .neighbour-at .ensures)))
 
 same-length : tie.Need-same-length Inv-loop μ-loop
 same-length c = c .before .loop .inv .1 .long
 
 returns : tie.Need-returns Inv-loop μ-loop
-returns c = last-turn (c .before .loop .inv .1) (all-led _ _ _ _ (c .before .loop .inv .0) (c .loop-test .left)) ∙ rw (c .before .before .pos .ensures) (beside _ _ _ _)
+returns c = turn-done (leadsTo _ _) _ (c .before .loop .inv .1) (four _ _ (c .loop-test .left)) ∙ rw (c .before .before .pos .ensures) (beside _ _ _ _)
 
 pub horizontal-neighbors-spec : {M : Type 1} → statement M
 horizontal-neighbors-spec =

@@ -172,7 +172,7 @@ fn drop_unreached(job: &mut Job, room: &Room) {
 fn tighten(rng: &mut Rng, job: &Job, room: &Room, sheet: &mut Sheet) {
     let net = route_net_tree(job, room, Limits::NONE);
     if rng.percent(45) {
-        let needed = net.as_ref().map_or(30, |net| net.measure.most_waiting);
+        let needed = net.as_ref().map_or(30, |net| net.most_waiting);
         sheet.queue = around(rng, needed).max(1) as u32;
     }
     if rng.percent(45) || net.is_err() {

@@ -8,12 +8,12 @@ use Rattle.goals.proofs.Tried as tried
 use Rattle.goals.specs.declared.Tried.{Tried}
 use Rattle.goals.specs.declared.Tried.the-variants.{Found, Failed, Full}
 use Rattle.goals.specs.Trials.{siteOf}
-use Rattle.goals.specs.AttemptLaws.{NoRoute, able-searchable, ended-search, ended-kept, ended-blocked, repeated, path-in, conflict-inside}
+use Rattle.goals.specs.AttemptLaws.{Routeless, able-searchable, ended-search, ended-kept, ended-blocked, repeated, path-in, conflict-inside}
 use borrow.Author.Needs.{needs}
 use Rattle.goals.proofs.attempts.attempt_once.Statement.{statement}
 use Rattle.goals.proofs.attempts.attempt_once.Tie as tie
 
-no-route : (r : Tried) → (tagOf tried.the-type r ≡ 1) ⊎ (tagOf tried.the-type r ≡ 2) → NoRoute r
+no-route : (r : Tried) → (tagOf tried.the-type r ≡ 1) ⊎ (tagOf tried.the-type r ≡ 2) → Routeless r
 no-route (Found n cost) (inl e) = omega arith
 no-route (Found n cost) (inr e) = omega arith
 no-route Failed e = tt

@@ -1,6 +1,6 @@
 -- `set_blocked` meets its contract: the classes are refreshed at the cell whose mark changed.
 use Rattle.goals.specs.AttemptLaws.{set-says}
-use Rattle.goals.specs.PathLaws.{same-cell}
+use Rattle.room.specs.RoomLaws.{same-cell}
 use borrow.Author.Needs.{needs}
 use Rattle.goals.proofs.attempts.set_blocked.Statement.{statement}
 use Rattle.goals.proofs.attempts.set_blocked.Tie as tie

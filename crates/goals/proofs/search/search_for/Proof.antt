@@ -1,9 +1,13 @@
 -- `search_for` meets its contract: an end that may not hold wire ends the goal, else the search is that of the class bytes.
 use mathlib.Core.Path.{sym, _∙_}
 use borrow.Author.Tests.{not-true, not-false}
-use Rattle.goals.specs.SearchLaws.{ran-showable, told-failed, told-searched}
+use Rattle.goals.specs.SearchLaws.{told-failed, told-searched}
 use borrow.Author.Needs.{needs}
 use Rattle.goals.proofs.search.search_for.Statement.{statement}
+use Rattle.room_search.specs.Routing.{graphOf}
+use Rattle.room_search.specs.RunLaws.{told-showable}
+use Rattle.room_search.specs.Turns.{graphIn}
+use Rattle.best_first.specs.Search.{bestFirst}
 use Rattle.goals.proofs.search.search_for.Tie as tie
 
 both-routeable-requires : tie.Need-both-routeable-requires
@@ -18,12 +22,15 @@ search-classes-requires : tie.Need-search-classes-requires
 search-classes-requires c κs = search needs
 
 tried-of-requires : tie.Need-tried-of-requires
+unfolding graphOf
 tried-of-requires c κs =
     let search-classes = c .before .before .before .before .before .before .before .before .before .search-classes in
     let pre = c .before .before .before .before .before .before .before .before .before .before .before .before .before .before .before .before .before .before .before .before .before .pre in
     let known = search-classes .kept .1 .1 .1 .0 ∙ pre .0 .known-long in
     let previous = search-classes .kept .1 .1 .1 .1 .0 ∙ pre .0 .previous-long in
-    ((rw (pre .1 .0) (pre .0 .goal-in), rw (pre .1 .0) (pre .0 .good .few), known ∙ sym (pre .1 .0), previous ∙ sym (pre .1 .0), pre .1 .1 ∙ sym (pre .1 .0)), ran-showable _ _ _ previous (search-classes .ensures))
+    let args = c .before .before .before .before .before .before .before .before .before .before .before .before .before .before .before .before .before .before .before .before .before .args in
+    let G = graphIn (args .room) (args .config) (args .classes .now) (args .start) (args .goal) (args .queue .now) in
+    ((rw (pre .1 .0) (pre .0 .goal-in), rw (pre .1 .0) (pre .0 .good .few), known ∙ sym (pre .1 .0), previous ∙ sym (pre .1 .0), pre .1 .1 ∙ sym (pre .1 .0)), told-showable G (bestFirst G (args .config .limit .0)) (search-classes .result) _ _ previous (search-classes .ensures .told))
 
 same-length : tie.Need-same-length
 same-length c = c .before .before .before .before .before .before .before .before .before .before .before .before .search-classes .kept .1 .1 .1 .0

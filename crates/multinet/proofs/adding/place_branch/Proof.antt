@@ -1,11 +1,11 @@
 -- `place_branch` meets its contract: the branch does not fit, or is added at its place.
 use mathlib.Core.Path.{sym, _∙_}
 use native.Mathlib.Omega.{arith}
-use lib.ListN.{length}
 use Rattle.branches.specs.WriteLaws.{branch-long}
-use Rattle.multinet.specs.AddingLaws.{branch-most, no-room-left, addable, branch-placed}
+use Rattle.multinet.specs.AddingLaws.{no-room-left, addable, branch-placed}
 use borrow.Author.Needs.{needs}
 use Rattle.multinet.proofs.adding.place_branch.Statement.{statement}
+use Rattle.branches.specs.BranchLaws.{branch-short}
 use Rattle.multinet.proofs.adding.place_branch.Tie as tie
 
 joined-length-requires : tie.Need-joined-length-requires
@@ -15,13 +15,13 @@ branch-length-requires : tie.Need-branch-length-requires
 branch-length-requires c κs = search needs
 
 add-if1 : tie.Need-add-if1
-add-if1 c = omega (arith, c .before .before .before .before .before .before .pre .used-short, c .before .joined-length .ensures, c .before .before .before .before .before .before .pre .short, branch-most (c .before .before .before .before .before .before .args .tap) (length (c .before .before .before .before .before .before .args .path .now)) (c .branch-length .ensures))
+add-if1 c = omega (arith, c .before .before .before .before .before .before .pre .used-short, c .before .joined-length .ensures, c .before .before .before .before .before .before .pre .short, c .branch-length .ensures, branch-long (c .before .before .before .before .before .before .args .tap) (c .before .before .before .before .before .before .args .path .now), branch-short (c .before .before .before .before .before .before .args .tap) (c .before .before .before .before .before .before .args .path .now))
 
 add-t15 : tie.Need-add-t15
 add-t15 c = search needs
 
 returns : tie.Need-returns
-returns c = no-room-left (c .before .before .before .before .before .before .before .pre) (c .before .before .joined-length .ensures) (c .before .branch-length .ensures ∙ sym (branch-long (c .before .before .before .before .before .before .before .args .tap) (c .before .before .before .before .before .before .before .args .path .now))) (c .if1 .taken)
+returns c = no-room-left (c .before .before .joined-length .ensures) (c .before .branch-length .ensures ∙ sym (branch-long (c .before .before .before .before .before .before .before .args .tap) (c .before .before .before .before .before .before .before .args .path .now))) (c .if1 .taken)
 
 joined-length-requires-2 : tie.Need-joined-length-requires-2
 joined-length-requires-2 c κs = search needs

@@ -3,9 +3,8 @@ use mathlib.Core.Path.{_∙_}
 use Prim.Native.Nat.{_≤_, _-_}
 use native.Mathlib.Omega.{arith}
 use Rattle.ends.specs.EndLaws.{taps-long, tap-is}
-use Rattle.routing_resources.specs.MarkLaws.{Turn, first-turn}
+use Rattle.routing_resources.specs.MarkLaws.{Turn, first-turn, restOf, turn-on, turn-done}
 use Rattle.ends.specs.Ends.{noTap, tapsIn}
-use Rattle.outset.specs.OutsetLaws.{restOf, turn-on, turn-done}
 use Rattle.multinet.specs.Tree.{endAt}
 use Rattle.multinet.specs.FinishingLaws.{ends-marked, source-there, tap-there}
 use Rattle.multinet.proofs.finishing.mark_ends.Statement.{statement}

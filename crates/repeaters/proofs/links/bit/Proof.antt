@@ -5,7 +5,7 @@ use Prim.Native.Nat.{ℕ, _^_}
 use lib.Dec.{eqb}
 use lib.ListN.{getD}
 use borrow.Author.Tests.{eqb-true}
-use Rattle.repeaters.specs.JoinLaws.{allBelow, below}
+use Rattle.basics.specs.Lists.{allBelow, below-all}
 use borrow.Author.Needs.{needs}
 use Rattle.repeaters.proofs.links.bit.Statement.{statement}
 use Rattle.repeaters.proofs.links.bit.Tie as tie
@@ -21,7 +21,7 @@ array-read-result c = search needs
 
 returns : tie.Need-returns
 unfolding values allBelow
-returns c = eqb-true (getD values (c .args .k) 0) (2 ^ c .args .k) (below (λ j. eqb (getD values j 0) (2 ^ j)) 12 refl (c .args .k) (c .pre))
+returns c = eqb-true (getD values (c .args .k) 0) (2 ^ c .args .k) (below-all (λ j. eqb (getD values j 0) (2 ^ j)) 12 refl (c .args .k) (c .pre))
 
 pub bit-spec : {M : Type 1} → statement M
 bit-spec = tie.close (tie.spec mul-result array-read-result returns)

@@ -44,7 +44,7 @@ wide-requires-2 : tie.Need-wide-requires-2 Inv-loop μ-loop
 wide-requires-2 c κs = search needs
 
 join-requires : tie.Need-join-requires Inv-loop μ-loop
-join-requires c κs = (c .before .before .before .before .before .before .before .before .before .pre .0, (rw (c .before .before .wide .ensures, c .wide2 .ensures) (c .before .before .before .before .before .before .before .before .before .pre .1 .0 .step (c .before .before .before .before .before .before .loop .i) (c .before .before .before .before .before .loop-test .taken)), adding-masked (c .before .before .before .before .before .before .loop .inv .2) (c .before .before .before .before .before .before .before .before .before .pre .1 .1)))
+join-requires c κs = (c .before .before .before .before .before .before .before .before .before .pre .0, (rw (c .before .before .wide .ensures .0, c .wide2 .ensures .0) (c .before .before .before .before .before .before .before .before .before .pre .1 .0 .step (c .before .before .before .before .before .before .loop .i) (c .before .before .before .before .before .loop-test .taken)), adding-masked (c .before .before .before .before .before .before .loop .inv .2) (c .before .before .before .before .before .before .before .before .before .pre .1 .1)))
 
 add-i : tie.Need-add-i Inv-loop μ-loop
 add-i c = search needs
@@ -53,7 +53,7 @@ loop-less : tie.Need-loop-less Inv-loop μ-loop
 loop-less c = search needs
 
 loop-again : tie.Need-loop-again Inv-loop μ-loop
-loop-again c = (omega arith, c .before .before .join .kept .1 .0 ∙ c .before .before .before .before .before .before .before .before .before .loop .inv .1, adding-next (c .before .before .before .before .before .before .before .before .before .loop .inv .2) (isStep (c .before .before .before .before .before .wide .result) (c .before .before .before .wide2 .result)) _ (c .before .before .join .ensures) (one-step _ (c .before .before .before .before .before .before .before .before .before .loop .i) (c .before .before .before .before .before .before .before .before .loop-test .taken) _ _ (c .before .before .before .before .before .wide .ensures) (c .before .before .before .wide2 .ensures)))
+loop-again c = (omega arith, c .before .before .join .kept .1 .0 ∙ c .before .before .before .before .before .before .before .before .before .loop .inv .1, adding-next (c .before .before .before .before .before .before .before .before .before .loop .inv .2) (isStep (c .before .before .before .before .before .wide .result) (c .before .before .before .wide2 .result)) _ (c .before .before .join .ensures) (one-step _ (c .before .before .before .before .before .before .before .before .before .loop .i) (c .before .before .before .before .before .before .before .before .loop-test .taken) _ _ (c .before .before .before .before .before .wide .ensures .0) (c .before .before .before .wide2 .ensures .0)))
 
 same-length : tie.Need-same-length Inv-loop μ-loop
 same-length c = c .before .loop .inv .1

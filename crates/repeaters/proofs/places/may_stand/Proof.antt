@@ -3,9 +3,10 @@ use native.Mathlib.Omega.{arith}
 use mathlib.Core.Path.{sym, _∙_}
 use Prim.Native.Nat.{_+_, _-_}
 use Rattle.repeaters.specs.Links.{linkedCells}
-use Rattle.repeaters.specs.PlaceLaws.{fits-not-first, fits-not-last, fits-not-taken, fits-not-joined, fits-if, read-in}
+use Rattle.repeaters.specs.PlaceLaws.{fits-not-first, fits-not-last, fits-not-taken, fits-not-joined, fits-if}
 use borrow.Author.Needs.{needs}
 use Rattle.repeaters.proofs.places.may_stand.Statement.{statement}
+use Rattle.routing_resources.specs.MarkLaws.{read-below}
 use Rattle.repeaters.proofs.places.may_stand.Tie as tie
 
 returns : tie.Need-returns
@@ -27,23 +28,23 @@ wide-requires : tie.Need-wide-requires
 wide-requires c κs = search needs
 
 shared-slice-read-if3 : tie.Need-shared-slice-read-if3
-shared-slice-read-if3 c = rw (c .before .before .before .before .before .before .before .before .pre .0 .forbidden-long) (read-in (c .before .before .before .before .before .before .before .before .pre .0 .cells) (c .before .before .before .before .before .before .before .before .args .i) (c .before .before .before .before .before .before .before .before .pre .1) _ (c .before .wide .ensures))
+shared-slice-read-if3 c = rw (c .before .before .before .before .before .before .before .before .pre .0 .forbidden-long) (read-below (c .before .before .before .before .before .before .before .before .pre .0 .cells) (c .before .before .before .before .before .before .before .before .args .i) (c .before .before .before .before .before .before .before .before .pre .1) _ (c .before .wide .ensures .0))
 
 returns-3 : tie.Need-returns-3
-returns-3 c = fits-not-taken _ _ _ _ _ (c .before .before .before .before .before .if1 .left) (c .before .before .before .before .if2 .left) (rw (c .before .before .wide .ensures) at (c .if3 .taken))
+returns-3 c = fits-not-taken _ _ _ _ _ (c .before .before .before .before .before .if1 .left) (c .before .before .before .before .if2 .left) (rw (c .before .before .wide .ensures .0) at (c .if3 .taken))
 
 mul-count-links : tie.Need-mul-count-links
-mul-count-links c = record { fits = omega (arith, read-in (c .before .before .before .before .before .before .before .before .before .pre .0 .cells) (c .before .before .before .before .before .before .before .before .before .args .i) (c .before .before .before .before .before .before .before .before .before .pre .1) _ (c .before .before .wide .ensures), c .before .before .before .before .before .before .before .before .before .pre .0 .good .few) }
+mul-count-links c = record { fits = omega (arith, read-below (c .before .before .before .before .before .before .before .before .before .pre .0 .cells) (c .before .before .before .before .before .before .before .before .before .args .i) (c .before .before .before .before .before .before .before .before .before .pre .1) _ (c .before .before .wide .ensures .0), c .before .before .before .before .before .before .before .before .before .pre .0 .good .few) }
 
 shared-slice-read-count-links : tie.Need-shared-slice-read-count-links
-shared-slice-read-count-links c = rw (c .before .before .before .before .before .before .before .before .before .before .pre .0 .links-long) (read-in (c .before .before .before .before .before .before .before .before .before .before .pre .0 .cells) (c .before .before .before .before .before .before .before .before .before .before .args .i) (c .before .before .before .before .before .before .before .before .before .before .pre .1) _ (c .before .before .before .wide .ensures))
+shared-slice-read-count-links c = rw (c .before .before .before .before .before .before .before .before .before .before .pre .0 .links-long) (read-below (c .before .before .before .before .before .before .before .before .before .before .pre .0 .cells) (c .before .before .before .before .before .before .before .before .before .before .args .i) (c .before .before .before .before .before .before .before .before .before .before .pre .1) _ (c .before .before .before .wide .ensures .0))
 
 count-links-requires : tie.Need-count-links-requires
-count-links-requires c κs = (c .before .before .before .before .before .before .before .before .before .before .pre .0 .good, read-in (c .before .before .before .before .before .before .before .before .before .before .pre .0 .cells) (c .before .before .before .before .before .before .before .before .before .before .args .i) (c .before .before .before .before .before .before .before .before .before .before .pre .1) _ (c .before .before .before .wide .ensures))
+count-links-requires c κs = (c .before .before .before .before .before .before .before .before .before .before .pre .0 .good, read-below (c .before .before .before .before .before .before .before .before .before .before .pre .0 .cells) (c .before .before .before .before .before .before .before .before .before .before .args .i) (c .before .before .before .before .before .before .before .before .before .before .pre .1) _ (c .before .before .before .wide .ensures .0))
 
 returns-4 : tie.Need-returns-4
 unfolding linkedCells
-returns-4 c = fits-not-joined _ _ _ _ _ (c .before .before .before .before .before .before .before .before .if1 .left) (c .before .before .before .before .before .before .before .if2 .left) (rw (c .before .before .before .before .before .wide .ensures) at (c .before .before .before .if3 .left)) (λ e. c .if4 .taken (c .before .count-links .ensures ∙ rw (c .before .before .before .before .before .wide .ensures) e))
+returns-4 c = fits-not-joined _ _ _ _ _ (c .before .before .before .before .before .before .before .before .if1 .left) (c .before .before .before .before .before .before .before .if2 .left) (rw (c .before .before .before .before .before .wide .ensures .0) at (c .before .before .before .if3 .left)) (λ e. c .if4 .taken (c .before .count-links .ensures ∙ rw (c .before .before .before .before .before .wide .ensures .0) e))
 
 sub-wide : tie.Need-sub-wide
 sub-wide c = search needs
@@ -70,14 +71,14 @@ wide-requires-3 : tie.Need-wide-requires-3
 wide-requires-3 c κs = search needs
 
 goes-straight-requires : tie.Need-goes-straight-requires
-goes-straight-requires c κs = (c .before .before .before .before .before .before .before .before .before .before .before .before .before .before .before .before .pre .0 .good, (read-in (c .before .before .before .before .before .before .before .before .before .before .before .before .before .before .before .before .pre .0 .cells) (c .before .before .before .before .before .before .before .before .before .before .before .before .before .before .before .before .args .i - 1) (omega (arith, c .before .before .before .before .before .before .before .before .before .before .before .before .before .before .before .before .pre .1)) _ (c .before .before .wide2 .ensures), (read-in (c .before .before .before .before .before .before .before .before .before .before .before .before .before .before .before .before .pre .0 .cells) (c .before .before .before .before .before .before .before .before .before .before .before .before .before .before .before .before .args .i) (c .before .before .before .before .before .before .before .before .before .before .before .before .before .before .before .before .pre .1) _ (c .before .before .before .before .before .before .before .before .before .wide .ensures), read-in (c .before .before .before .before .before .before .before .before .before .before .before .before .before .before .before .before .pre .0 .cells) (c .before .before .before .before .before .before .before .before .before .before .before .before .before .before .before .before .args .i + 1) (c .before .before .before .before .before .before .before .before .before .before .before .if2 .left) _ (c .wide3 .ensures))))
+goes-straight-requires c κs = (c .before .before .before .before .before .before .before .before .before .before .before .before .before .before .before .before .pre .0 .good, (read-below (c .before .before .before .before .before .before .before .before .before .before .before .before .before .before .before .before .pre .0 .cells) (c .before .before .before .before .before .before .before .before .before .before .before .before .before .before .before .before .args .i - 1) (omega (arith, c .before .before .before .before .before .before .before .before .before .before .before .before .before .before .before .before .pre .1)) _ (c .before .before .wide2 .ensures .0), (read-below (c .before .before .before .before .before .before .before .before .before .before .before .before .before .before .before .before .pre .0 .cells) (c .before .before .before .before .before .before .before .before .before .before .before .before .before .before .before .before .args .i) (c .before .before .before .before .before .before .before .before .before .before .before .before .before .before .before .before .pre .1) _ (c .before .before .before .before .before .before .before .before .before .wide .ensures .0), read-below (c .before .before .before .before .before .before .before .before .before .before .before .before .before .before .before .before .pre .0 .cells) (c .before .before .before .before .before .before .before .before .before .before .before .before .before .before .before .before .args .i + 1) (c .before .before .before .before .before .before .before .before .before .before .before .if2 .left) _ (c .wide3 .ensures .0))))
 
 returns-5 : tie.Need-returns-5
 unfolding linkedCells
 returns-5 c =
     let e = c .before .before .before .before .before .if4 .left in
     let s = c .goes-straight .ensures in
-    (rw (c .before .before .before .before .before .before .before .before .before .before .wide .ensures, c .before .before .before .wide2 .ensures, c .before .wide3 .ensures) at s) ∙ fits-if _ _ _ _ _ (c .before .before .before .before .before .before .before .before .before .before .before .before .before .if1 .left) (c .before .before .before .before .before .before .before .before .before .before .before .before .if2 .left) (rw (c .before .before .before .before .before .before .before .before .before .before .wide .ensures) at (c .before .before .before .before .before .before .before .before .if3 .left)) (rw (c .before .before .before .before .before .before .before .before .before .before .wide .ensures) at (sym (c .before .before .before .before .before .before .count-links .ensures) ∙ e))
+    (rw (c .before .before .before .before .before .before .before .before .before .before .wide .ensures .0, c .before .before .before .wide2 .ensures .0, c .before .wide3 .ensures .0) at s) ∙ fits-if _ _ _ _ _ (c .before .before .before .before .before .before .before .before .before .before .before .before .before .if1 .left) (c .before .before .before .before .before .before .before .before .before .before .before .before .if2 .left) (rw (c .before .before .before .before .before .before .before .before .before .before .wide .ensures .0) at (c .before .before .before .before .before .before .before .before .if3 .left)) (rw (c .before .before .before .before .before .before .before .before .before .before .wide .ensures .0) at (sym (c .before .before .before .before .before .before .count-links .ensures) ∙ e))
 
 pub may-stand-spec : {M : Type 1} → statement M
 may-stand-spec =

@@ -50,20 +50,20 @@ add-head : tie.Need-add-head Inv-loop μ-loop
 add-head c = record { fits = omega (arith, spreading-most (c .before .before .before .loop .inv), c .before .before .loop-test .taken, c .before .before .before .before .before .before .before .pre .0 .few) }
 
 mul-visit : tie.Need-mul-visit Inv-loop μ-loop
-mul-visit c = record { fits = omega (arith, spreading-in (c .before .before .before .loop .inv) (c .before .before .loop-test .taken) _ (c .wide .ensures), c .before .before .before .before .before .before .before .pre .0 .few) }
+mul-visit c = record { fits = omega (arith, spreading-in (c .before .before .before .loop .inv) (c .before .before .loop-test .taken) _ (c .wide .ensures .0), c .before .before .before .before .before .before .before .pre .0 .few) }
 
 shared-slice-read-visit : tie.Need-shared-slice-read-visit Inv-loop μ-loop
-shared-slice-read-visit c = rw (c .before .before .before .before .before .before .before .before .pre .1 .1 .0) (spreading-in (c .before .before .before .before .loop .inv) (c .before .before .before .loop-test .taken) _ (c .before .wide .ensures))
+shared-slice-read-visit c = rw (c .before .before .before .before .before .before .before .before .pre .1 .1 .0) (spreading-in (c .before .before .before .before .loop .inv) (c .before .before .before .loop-test .taken) _ (c .before .wide .ensures .0))
 
 visit-requires : tie.Need-visit-requires Inv-loop μ-loop
-visit-requires c κs = (c .before .before .before .before .before .before .before .before .before .before .pre .0, (c .before .before .before .before .before .before .loop .inv .long, (c .before .before .before .before .before .before .loop .inv .held, spreading-in (c .before .before .before .before .before .before .loop .inv) (c .before .before .before .before .before .loop-test .taken) _ (c .before .before .before .wide .ensures))))
+visit-requires c κs = (c .before .before .before .before .before .before .before .before .before .before .pre .0, (c .before .before .before .before .before .before .loop .inv .long, (c .before .before .before .before .before .before .loop .inv .held, spreading-in (c .before .before .before .before .before .before .loop .inv) (c .before .before .before .before .before .loop-test .taken) _ (c .before .before .before .wide .ensures .0))))
 
 loop-less : tie.Need-loop-less Inv-loop μ-loop
 loop-less c = omega (arith, spreading-most (c .before .before .before .before .before .before .before .before .before .before .before .loop .inv), c .before .before .before .before .before .before .before .before .before .before .loop-test .taken)
 
 loop-again : tie.Need-loop-again Inv-loop μ-loop
 unfolding linkedCells
-loop-again c = spreading-next (c .before .before .before .before .before .before .before .before .before .before .before .loop .inv) (c .before .before .before .before .before .before .before .before .before .before .loop-test .taken) _ (c .before .before .before .before .before .before .before .before .wide .ensures) (c .before .before .before .before .visit .ensures)
+loop-again c = spreading-next (c .before .before .before .before .before .before .before .before .before .before .before .loop .inv) (c .before .before .before .before .before .before .before .before .before .before .loop-test .taken) _ (c .before .before .before .before .before .before .before .before .wide .ensures .0) (c .before .before .before .before .visit .ensures)
 
 mul-parents-2 : tie.Need-mul-parents-2 Inv-loop μ-loop
 mul-parents-2 c = record { fits = omega (arith, c .before .before .before .before .before .pre .0 .few, c .before .before .before .before .before .pre .1 .0) }

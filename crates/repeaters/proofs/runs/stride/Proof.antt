@@ -1,10 +1,11 @@
--- `stride` meets its contract: each of its answers is one branch of a step.
+-- `stride` meets its contract: each of its answers is one branch of a step, and the last one both where the walk goes on.
 use native.Mathlib.Omega.{arith}
 use mathlib.Core.Path.{_∙_}
-use Rattle.repeaters.specs.PlaceLaws.{read-in}
+use mathlib.Core.Logic.{⊎-elim}
 use Rattle.repeaters.specs.RunLaws.{strode-met, strode-near, strode-none, strode-put, chosen-after}
 use borrow.Author.Needs.{needs}
 use Rattle.repeaters.proofs.runs.stride.Statement.{statement}
+use Rattle.routing_resources.specs.MarkLaws.{read-below}
 use Rattle.repeaters.proofs.runs.stride.Tie as tie
 
 mul-wide : tie.Need-mul-wide
@@ -17,13 +18,13 @@ wide-requires : tie.Need-wide-requires
 wide-requires c κs = search needs
 
 slice-read-if1 : tie.Need-slice-read-if1
-slice-read-if1 c = rw (c .before .before .before .before .before .before .before .pre .1 .0) (read-in (c .before .before .before .before .before .before .before .pre .0 .cells) _ (c .before .before .before .before .before .before .before .pre .1 .1 .1) _ (c .before .wide .ensures))
+slice-read-if1 c = rw (c .before .before .before .before .before .before .before .pre .1 .0) (read-below (c .before .before .before .before .before .before .before .pre .0 .cells) _ (c .before .before .before .before .before .before .before .pre .1 .1 .1) _ (c .before .wide .ensures .0))
 
 add-t19 : tie.Need-add-t19
 add-t19 c = search needs
 
 returns : tie.Need-returns
-returns c = strode-met _ _ _ _ _ (c .before .before .before .before .before .before .before .before .pre .1 .1 .0) (c .before .before .before .before .before .before .before .before .pre .1 .1 .1) (rw (c .before .before .wide .ensures) at (c .if1 .taken))
+returns c = strode-met _ _ _ _ _ (c .before .before .before .before .before .before .before .before .pre .1 .1 .0) (c .before .before .before .before .before .before .before .before .pre .1 .1 .1) (rw (c .before .before .wide .ensures .0) at (c .if1 .taken))
 
 may-stand-requires : tie.Need-may-stand-requires
 may-stand-requires c κs = search needs
@@ -34,38 +35,36 @@ later-requires c κs = search needs
 sub-if2 : tie.Need-sub-if2
 sub-if2 c = search needs
 
-add-t20 : tie.Need-add-t20
-add-t20 c = search needs
-
-returns-2 : tie.Need-returns-2
-returns-2 c = strode-near _ _ _ _ _ (c .before .before .before .before .before .before .before .before .before .before .before .before .pre .1 .1 .0) (c .before .before .before .before .before .before .before .before .before .before .before .before .pre .1 .1 .1) (rw (c .before .before .before .before .before .before .wide .ensures) at (c .before .before .before .before .if1 .left)) _ (c .before .before .later .ensures ∙ rw (c .before .before .before .may-stand .ensures)) (c .if2 .taken)
-
-add-t21 : tie.Need-add-t21
-add-t21 c = search needs
-
-returns-3 : tie.Need-returns-3
-returns-3 c = strode-none _ _ _ _ _ (c .before .before .before .before .before .before .before .before .before .before .before .before .before .pre .1 .1 .0) (c .before .before .before .before .before .before .before .before .before .before .before .before .before .pre .1 .1 .1) (rw (c .before .before .before .before .before .before .before .wide .ensures) at (c .before .before .before .before .before .if1 .left)) _ (c .before .before .before .later .ensures ∙ rw (c .before .before .before .before .may-stand .ensures)) (c .before .if2 .left) (c .if3 .taken)
-
 mul-wide-2 : tie.Need-mul-wide-2
-mul-wide-2 c = record { fits = omega (arith, chosen-after (c .before .before .before .before .before .before .before .before .before .before .before .before .before .pre .1 .1 .0) _ (c .before .before .before .later .ensures ∙ rw (c .before .before .before .before .may-stand .ensures)) (c .if3 .left) .1, c .before .before .before .before .before .before .before .before .before .before .before .before .before .pre .1 .1 .1) }
+mul-wide-2 c = record { fits = omega (arith, chosen-after (c .before .before .before .before .before .before .before .before .before .before .before .before .before .pre .1 .1 .0) _ (c .before .before .before .later .ensures ∙ rw (c .before .before .before .before .may-stand .ensures)) (c .if3 .taken) .1, c .before .before .before .before .before .before .before .before .before .before .before .before .before .pre .1 .1 .1) }
 
 shared-slice-read-wide-2 : tie.Need-shared-slice-read-wide-2
-shared-slice-read-wide-2 c = omega (arith, chosen-after (c .before .before .before .before .before .before .before .before .before .before .before .before .before .before .pre .1 .1 .0) _ (c .before .before .before .before .later .ensures ∙ rw (c .before .before .before .before .before .may-stand .ensures)) (c .before .if3 .left) .1, c .before .before .before .before .before .before .before .before .before .before .before .before .before .before .pre .1 .1 .1)
+shared-slice-read-wide-2 c = omega (arith, chosen-after (c .before .before .before .before .before .before .before .before .before .before .before .before .before .before .pre .1 .1 .0) _ (c .before .before .before .before .later .ensures ∙ rw (c .before .before .before .before .before .may-stand .ensures)) (c .before .if3 .taken) .1, c .before .before .before .before .before .before .before .before .before .before .before .before .before .before .pre .1 .1 .1)
 
 wide-requires-2 : tie.Need-wide-requires-2
 wide-requires-2 c κs = search needs
 
 slice-write-repeaters : tie.Need-slice-write-repeaters
-slice-write-repeaters c = rw (c .before .before .before .before .before .before .before .before .before .before .before .before .before .before .before .pre .1 .0) (read-in (c .before .before .before .before .before .before .before .before .before .before .before .before .before .before .before .pre .0 .cells) (c .before .before .before .before .before .later .result) (omega (arith, chosen-after (c .before .before .before .before .before .before .before .before .before .before .before .before .before .before .before .pre .1 .1 .0) _ (c .before .before .before .before .before .later .ensures ∙ rw (c .before .before .before .before .before .before .may-stand .ensures)) (c .before .before .if3 .left) .1, c .before .before .before .before .before .before .before .before .before .before .before .before .before .before .before .pre .1 .1 .1)) _ (c .wide2 .ensures))
+slice-write-repeaters c = rw (c .before .before .before .before .before .before .before .before .before .before .before .before .before .before .before .pre .1 .0) (read-below (c .before .before .before .before .before .before .before .before .before .before .before .before .before .before .before .pre .0 .cells) (c .before .before .before .before .before .later .result) (omega (arith, chosen-after (c .before .before .before .before .before .before .before .before .before .before .before .before .before .before .before .pre .1 .1 .0) _ (c .before .before .before .before .before .later .ensures ∙ rw (c .before .before .before .before .before .before .may-stand .ensures)) (c .before .before .if3 .taken) .1, c .before .before .before .before .before .before .before .before .before .before .before .before .before .before .before .pre .1 .1 .1)) _ (c .wide2 .ensures .0))
 
-add-t13 : tie.Need-add-t13
-add-t13 c = record { fits = omega (arith, chosen-after (c .before .before .before .before .before .before .before .before .before .before .before .before .before .before .before .pre .1 .1 .0) _ (c .before .before .before .before .before .later .ensures ∙ rw (c .before .before .before .before .before .before .may-stand .ensures)) (c .before .before .if3 .left) .1, c .before .before .before .before .before .before .before .before .before .before .before .before .before .before .before .pre .1 .1 .1) }
+add-t21 : tie.Need-add-t21
+add-t21 c = record { fits = omega (arith, chosen-after (c .before .before .before .before .before .before .before .before .before .before .before .before .before .before .before .pre .1 .1 .0) _ (c .before .before .before .before .before .later .ensures ∙ rw (c .before .before .before .before .before .before .may-stand .ensures)) (c .before .before .if3 .taken) .1, c .before .before .before .before .before .before .before .before .before .before .before .before .before .before .before .pre .1 .1 .1) }
 
 same-length : tie.Need-same-length
 same-length c = search needs
 
-returns-4 : tie.Need-returns-4
-returns-4 c = rw (c .wide2 .ensures) (strode-put _ _ _ _ _ (c .before .before .before .before .before .before .before .before .before .before .before .before .before .before .before .pre .1 .1 .0) (c .before .before .before .before .before .before .before .before .before .before .before .before .before .before .before .pre .1 .1 .1) (rw (c .before .before .before .before .before .before .before .before .before .wide .ensures) at (c .before .before .before .before .before .before .before .if1 .left)) _ (c .before .before .before .before .before .later .ensures ∙ rw (c .before .before .before .before .before .before .may-stand .ensures)) (c .before .before .before .if2 .left) (c .before .before .if3 .left))
+returns-2 : tie.Need-returns-2
+returns-2 c = rw (c .wide2 .ensures .0) (strode-put _ _ _ _ _ (c .before .before .before .before .before .before .before .before .before .before .before .before .before .before .before .pre .1 .1 .0) (c .before .before .before .before .before .before .before .before .before .before .before .before .before .before .before .pre .1 .1 .1) (rw (c .before .before .before .before .before .before .before .before .before .wide .ensures .0) at (c .before .before .before .before .before .before .before .if1 .left)) _ (c .before .before .before .before .before .later .ensures ∙ rw (c .before .before .before .before .before .before .may-stand .ensures)) (c .before .before .before .if2 .taken) (c .before .before .if3 .taken))
+
+add-t13 : tie.Need-add-t13
+add-t13 c = search needs
+
+returns-3 : tie.Need-returns-3
+returns-3 c =
+    ⊎-elim
+    (λ w. strode-none _ _ _ _ _ (c .before .before .before .before .before .before .before .before .before .before .before .before .pre .1 .1 .0) (c .before .before .before .before .before .before .before .before .before .before .before .before .pre .1 .1 .1) (rw (c .before .before .before .before .before .before .wide .ensures .0) at (c .before .before .before .before .if1 .left)) _ (c .before .before .later .ensures ∙ rw (c .before .before .before .may-stand .ensures)) (w .0 .taken) (w .1 .left))
+    (λ w. strode-near _ _ _ _ _ (c .before .before .before .before .before .before .before .before .before .before .before .before .pre .1 .1 .0) (c .before .before .before .before .before .before .before .before .before .before .before .before .pre .1 .1 .1) (rw (c .before .before .before .before .before .before .wide .ensures .0) at (c .before .before .before .before .if1 .left)) _ (c .before .before .later .ensures ∙ rw (c .before .before .before .may-stand .ensures)) (w .left))
+    (c .if2 .came)
 
 pub stride-spec : {M : Type 1} → statement M
 stride-spec =
@@ -80,14 +79,12 @@ stride-spec =
     may-stand-requires
     later-requires
     sub-if2
-    add-t20
-    returns-2
-    add-t21
-    returns-3
     mul-wide-2
     shared-slice-read-wide-2
     wide-requires-2
     slice-write-repeaters
-    add-t13
+    add-t21
     same-length
-    returns-4)
+    returns-2
+    add-t13
+    returns-3)

@@ -1,15 +1,14 @@
 -- `reinforce_path` meets its contract: each of its answers is one branch of the definition.
 use native.Mathlib.Omega.{arith}
 use mathlib.Core.Logic.{⊎-elim}
-use Prim.Native.Nat.{_-_}
-use Rattle.repeaters.specs.PlaceLaws.{read-in}
-use Rattle.repeaters.specs.TailLaws.{marked, last-in, reinforced-near, reinforced-none, reinforced-put, earliest-in}
+use Rattle.repeaters.specs.TailLaws.{last-in, reinforced-near, reinforced-none, reinforced-put, earliest-in}
 use borrow.Author.Needs.{needs}
 use Rattle.repeaters.proofs.tails.reinforce_path.Statement.{statement}
+use Rattle.routing_resources.specs.MarkLaws.{read-below}
 use Rattle.repeaters.proofs.tails.reinforce_path.Tie as tie
 
 last-reset-requires : tie.Need-last-reset-requires
-last-reset-requires c κs = marked (c .before .before .before .before .before .pre .0 .cells) (c .before .before .before .before .before .pre .1)
+last-reset-requires c κs = rw (c .before .before .before .before .before .pre .1) (c .before .before .before .before .before .pre .0 .cells)
 
 add-if1 : tie.Need-add-if1
 add-if1 c = record { fits = ⊎-elim (λ z. omega (arith, z)) (λ h. omega (arith, h)) (last-in (c .before .before .before .before .before .before .args .path .now) (c .before .before .before .before .before .before .args .repeaters .now) _ (c .last-reset .ensures)) }
@@ -48,13 +47,13 @@ wide-requires : tie.Need-wide-requires
 wide-requires c κs = search needs
 
 slice-write-repeaters : tie.Need-slice-write-repeaters
-slice-write-repeaters c = rw (c .before .before .before .before .before .before .before .before .before .before .before .before .before .pre .1) (read-in (c .before .before .before .before .before .before .before .before .before .before .before .before .before .pre .0 .cells) (c .before .before .before .tail-place .result) (omega (arith, earliest-in _ _ _ _ (c .before .before .before .tail-place .ensures) (c .before .before .if3 .taken), c .before .before .before .before .before .if2 .left)) _ (c .wide .ensures))
+slice-write-repeaters c = rw (c .before .before .before .before .before .before .before .before .before .before .before .before .before .pre .1) (read-below (c .before .before .before .before .before .before .before .before .before .before .before .before .before .pre .0 .cells) (c .before .before .before .tail-place .result) (omega (arith, earliest-in _ _ _ _ (c .before .before .before .tail-place .ensures) (c .before .before .if3 .taken), c .before .before .before .before .before .if2 .left)) _ (c .wide .ensures .0))
 
 same-length-3 : tie.Need-same-length-3
 same-length-3 c = search needs
 
 returns-3 : tie.Need-returns-3
-returns-3 c = rw (c .wide .ensures) (reinforced-put _ _ _ _ _ (c .before .before .before .before .before .before .before .last-reset .ensures) (c .before .before .before .before .before .if2 .left) _ (c .before .before .before .tail-place .ensures) (c .before .before .if3 .taken))
+returns-3 c = rw (c .wide .ensures .0) (reinforced-put _ _ _ _ _ (c .before .before .before .before .before .before .before .last-reset .ensures) (c .before .before .before .before .before .if2 .left) _ (c .before .before .before .tail-place .ensures) (c .before .before .if3 .taken))
 
 same-length-4 : tie.Need-same-length-4
 same-length-4 c = search needs

@@ -2,8 +2,8 @@
 use native.Mathlib.Omega.{arith}
 use mathlib.Core.Path.{sym, _∙_}
 use Prim.Native.Nat.{_-_}
+use Rattle.repeaters.specs.Repeaters.{tailFit}
 use Rattle.repeaters.specs.Links.{fitBy}
-use Rattle.repeaters.specs.Tails.{tailFit}
 use Rattle.repeaters.specs.TailLaws.{Seeking, seeking-none, seeking-found, seeking-next, seeking-all}
 use borrow.Author.Needs.{needs}
 use Rattle.repeaters.proofs.tails.tail_place.Statement.{statement}

@@ -1,6 +1,6 @@
 -- `work_holds` meets its contract, buffer by buffer.
-use Rattle.replay.specs.Verdicts.{workHolds}
-use Rattle.replay.specs.VerdictLaws.{test-fails, test-passes}
+use Rattle.stored.specs.Memory.{fourHold}
+use Rattle.stored.specs.TestLaws.{test-fails, test-passes}
 use borrow.Author.Needs.{needs}
 use Rattle.replay.proofs.compare.work_holds.Statement.{statement}
 use Rattle.replay.proofs.compare.work_holds.Tie as tie
@@ -12,7 +12,7 @@ words-hold-requires : tie.Need-words-hold-requires
 words-hold-requires c κs = search needs
 
 returns : tie.Need-returns
-unfolding workHolds
+unfolding fourHold
 returns c = rw (test-fails (c .before .words-hold .ensures) (c .if1 .taken))
 
 slice-aggregate-words-hold-2 : tie.Need-slice-aggregate-words-hold-2
@@ -22,7 +22,7 @@ words-hold-requires-2 : tie.Need-words-hold-requires-2
 words-hold-requires-2 c κs = search needs
 
 returns-2 : tie.Need-returns-2
-unfolding workHolds
+unfolding fourHold
 returns-2 c = rw (test-passes (c .before .before .before .before .words-hold .ensures) (c .before .before .before .if1 .left), test-fails (c .before .words-hold2 .ensures) (c .if2 .taken))
 
 slice-aggregate-bytes-hold : tie.Need-slice-aggregate-bytes-hold
@@ -32,14 +32,14 @@ bytes-hold-requires : tie.Need-bytes-hold-requires
 bytes-hold-requires c κs = search needs
 
 returns-3 : tie.Need-returns-3
-unfolding workHolds
+unfolding fourHold
 returns-3 c = rw (test-passes (c .before .before .before .before .before .before .before .words-hold .ensures) (c .before .before .before .before .before .before .if1 .left), test-passes (c .before .before .before .before .words-hold2 .ensures) (c .before .before .before .if2 .left), test-fails (c .before .bytes-hold .ensures) (c .if3 .taken))
 
 longs-hold-requires : tie.Need-longs-hold-requires
 longs-hold-requires c κs = search needs
 
 returns-4 : tie.Need-returns-4
-unfolding workHolds
+unfolding fourHold
 returns-4 c = rw (test-passes (c .before .before .before .before .before .before .before .before .words-hold .ensures) (c .before .before .before .before .before .before .before .if1 .left), test-passes (c .before .before .before .before .before .words-hold2 .ensures) (c .before .before .before .before .if2 .left), test-passes (c .before .before .bytes-hold .ensures) (c .before .if3 .left)) (c .longs-hold .ensures)
 
 pub work-holds-spec : {M : Type 1} → statement M

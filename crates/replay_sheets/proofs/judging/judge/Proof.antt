@@ -1,7 +1,7 @@
 -- `judge` meets its contract: as stored, or a buffer too short, or neither.
 use mathlib.Core.Path.{sym, _∙_}
 use Rattle.replay_sheets.specs.Verdicts.{verdictOf}
-use Rattle.replay_sheets.specs.VerdictLaws.{test-fails, test-passes}
+use Rattle.stored.specs.TestLaws.{test-fails, test-passes}
 use borrow.Author.Needs.{needs}
 use Rattle.replay_sheets.proofs.judging.judge.Statement.{statement}
 use Rattle.replay_sheets.proofs.judging.judge.Tie as tie
@@ -29,24 +29,15 @@ returns-2 : tie.Need-returns-2
 unfolding verdictOf
 returns-2 c = rw (sym (c .before .before .before .same-answer .ensures) ∙ c .before .before .if1 .left, test-fails (c .before .short-answer .ensures) (c .if2 .taken))
 
-slice-aggregate-memory-holds : tie.Need-slice-aggregate-memory-holds
-slice-aggregate-memory-holds c = search needs
-
-slice-aggregate-memory-holds-2 : tie.Need-slice-aggregate-memory-holds-2
-slice-aggregate-memory-holds-2 c = search needs
-
-slice-aggregate-memory-holds-3 : tie.Need-slice-aggregate-memory-holds-3
-slice-aggregate-memory-holds-3 c = search needs
-
-memory-holds-requires-2 : tie.Need-memory-holds-requires-2
-memory-holds-requires-2 c κs = search needs
+memory-emptied-requires : tie.Need-memory-emptied-requires
+memory-emptied-requires c κs = search needs
 
 full-if-requires : tie.Need-full-if-requires
 full-if-requires c κs = search needs
 
 returns-3 : tie.Need-returns-3
 unfolding verdictOf
-returns-3 c = rw (sym (c .before .before .before .before .before .before .before .before .same-answer .ensures) ∙ c .before .before .before .before .before .before .before .if1 .left, test-passes (c .before .before .before .before .before .before .short-answer .ensures) (c .before .before .before .before .before .if2 .left), ← (c .before .memory-holds2 .ensures)) (c .full-if .ensures)
+returns-3 c = rw (sym (c .before .before .before .before .before .same-answer .ensures) ∙ c .before .before .before .before .if1 .left, test-passes (c .before .before .before .short-answer .ensures) (c .before .before .if2 .left), ← (c .before .memory-emptied .ensures)) (c .full-if .ensures)
 
 pub judge-spec : {M : Type 1} → statement M
 judge-spec =
@@ -59,9 +50,6 @@ judge-spec =
     returns
     short-answer-requires
     returns-2
-    slice-aggregate-memory-holds
-    slice-aggregate-memory-holds-2
-    slice-aggregate-memory-holds-3
-    memory-holds-requires-2
+    memory-emptied-requires
     full-if-requires
     returns-3)

@@ -1,6 +1,6 @@
 -- `replay_kind` meets its contract: a kind that is not due, or one that is.
 use mathlib.Core.Path.{refl}
-use Rattle.replay_sheets.specs.VerdictLaws.{test-fails, test-passes}
+use Rattle.stored.specs.TestLaws.{test-fails, test-passes}
 use Rattle.replay_sheets.specs.Replays.{not-due, is-due}
 use borrow.Author.Needs.{needs}
 use Rattle.replay_sheets.proofs.replay.replay_kind.Statement.{statement}

@@ -2,6 +2,7 @@
 use mathlib.Core.Path.{sym, _∙_}
 use Prim.Native.Nat.{ℕ}
 use lib.ListN.{length-replicate}
+use Rattle.stored.specs.Memory.{ownRoom}
 use Rattle.replay_sheets.specs.Sheets.{zeros}
 use Rattle.replay_sheets.specs.SheetLaws.{sheet-starts, sheet-ends}
 use Rattle.replay_sheets.specs.ReplayLaws.{next-by}
@@ -13,13 +14,13 @@ sheet-at-requires : tie.Need-sheet-at-requires
 sheet-at-requires c κs = search needs
 
 slice-aggregate-answer-at : tie.Need-slice-aggregate-answer-at
-slice-aggregate-answer-at c = sym (length-replicate {0} {A = ℕ} 16600 0)
+slice-aggregate-answer-at c = sym (length-replicate {0} {A = ℕ} ownRoom 0)
 
 slice-aggregate-answer-at-2 : tie.Need-slice-aggregate-answer-at-2
-slice-aggregate-answer-at-2 c = sym (length-replicate {0} {A = ℕ} 16600 0)
+slice-aggregate-answer-at-2 c = sym (length-replicate {0} {A = ℕ} ownRoom 0)
 
 slice-aggregate-answer-at-3 : tie.Need-slice-aggregate-answer-at-3
-slice-aggregate-answer-at-3 c = sym (length-replicate {0} {A = ℕ} 16600 0)
+slice-aggregate-answer-at-3 c = sym (length-replicate {0} {A = ℕ} ownRoom 0)
 
 answer-at-requires : tie.Need-answer-at-requires
 answer-at-requires c κs = search needs
@@ -40,13 +41,13 @@ known-if-requires : tie.Need-known-if-requires
 known-if-requires c κs = search needs
 
 slice-aggregate-replay-kinds : tie.Need-slice-aggregate-replay-kinds
-slice-aggregate-replay-kinds c = sym (c .before .before .before .before .before .before .before .before .answer-at .kept .1 .1 .0 ∙ length-replicate {0} {A = ℕ} 16600 0)
+slice-aggregate-replay-kinds c = sym (c .before .before .before .before .before .before .before .before .answer-at .kept .1 .1 .0 ∙ length-replicate {0} {A = ℕ} ownRoom 0)
 
 slice-aggregate-replay-kinds-2 : tie.Need-slice-aggregate-replay-kinds-2
-slice-aggregate-replay-kinds-2 c = sym (c .before .before .before .before .before .before .before .before .before .answer-at .kept .1 .1 .1 .0 ∙ length-replicate {0} {A = ℕ} 16600 0)
+slice-aggregate-replay-kinds-2 c = sym (c .before .before .before .before .before .before .before .before .before .answer-at .kept .1 .1 .1 .0 ∙ length-replicate {0} {A = ℕ} ownRoom 0)
 
 slice-aggregate-replay-kinds-3 : tie.Need-slice-aggregate-replay-kinds-3
-slice-aggregate-replay-kinds-3 c = sym (c .before .before .before .before .before .before .before .before .before .before .answer-at .kept .1 .1 .1 .1 .0 ∙ length-replicate {0} {A = ℕ} 16600 0)
+slice-aggregate-replay-kinds-3 c = sym (c .before .before .before .before .before .before .before .before .before .before .answer-at .kept .1 .1 .1 .1 .0 ∙ length-replicate {0} {A = ℕ} ownRoom 0)
 
 replay-kinds-requires : tie.Need-replay-kinds-requires
 replay-kinds-requires c κs = search needs

@@ -2,7 +2,8 @@
 use mathlib.Core.Path.{refl, sym, ap, _∙_}
 use borrow.Author.Tests.{not-true, not-false}
 use Rattle.job_sheet.specs.Theorems.{accepted-by, usable}
-use Rattle.replay_sheets.specs.Runs.{lesserOf, refused, accepted}
+use Prim.Native.Nat.{min}
+use Rattle.replay_sheets.specs.Runs.{refused, accepted}
 use borrow.Author.Needs.{needs}
 use Rattle.replay_sheets.proofs.replay.size_of.Statement.{statement}
 use Rattle.replay_sheets.proofs.replay.size_of.Tie as tie
@@ -26,7 +27,7 @@ cast-t10 : tie.Need-cast-t10
 cast-t10 c = search needs
 
 returns-2 : tie.Need-returns-2
-returns-2 c = accepted _ (accepted-by (c .before .before .before .before .before .before .read-sheet .ensures) (sym (c .before .before .before .before .before .is-good .ensures) ∙ not-false _ (c .before .before .before .before .if1 .left))) (c .before .lesser .ensures ∙ ap (lesserOf (c .before .before .before .before .before .before .before .before .args .lent)) (c .before .before .volume .ensures)) refl
+returns-2 c = accepted _ (accepted-by (c .before .before .before .before .before .before .read-sheet .ensures) (sym (c .before .before .before .before .before .is-good .ensures) ∙ not-false _ (c .before .before .before .before .if1 .left))) (c .before .lesser .ensures ∙ ap (min (c .before .before .before .before .before .before .before .before .args .lent)) (c .before .before .volume .ensures)) refl
 
 pub size-of-spec : {M : Type 1} → statement M
 size-of-spec =

@@ -1,9 +1,10 @@
 -- `Room::good` meets its contract: each test is one of the definition's, and sides of at most 64 have a small product.
+use native.Mathlib.Nat.{mul-le-mul}
 use native.Mathlib.Omega.{arith}
 use mathlib.Core.Path.{sym, _∙_}
 use borrow.Author.Tests.{not-true, not-false}
 use Rattle.room.specs.Room.{sidesGood}
-use Rattle.room.specs.RoomLaws.{between-high, product-few}
+use Rattle.room.specs.RoomLaws.{between-high}
 use borrow.Author.Needs.{needs}
 use Rattle.room.proofs.Room.good.Statement.{statement}
 use Rattle.room.proofs.Room.good.Tie as tie
@@ -30,10 +31,10 @@ unfolding sidesGood
 returns-3 c = rw (sym (c .before .before .before .before .before .in-range .ensures) ∙ not-false _ (c .before .before .before .before .if1 .left), sym (c .before .before .before .in-range2 .ensures) ∙ not-false _ (c .before .before .if2 .left), sym (c .before .in-range3 .ensures) ∙ not-true _ (c .if3 .taken))
 
 mul-result : tie.Need-mul-result
-mul-result c = record { fits = omega (arith, product-few _ _ (between-high 1 _ 64 (sym (c .before .before .before .before .before .before .in-range .ensures) ∙ not-false _ (c .before .before .before .before .before .if1 .left))) (between-high 1 _ 64 (sym (c .before .before .before .before .in-range2 .ensures) ∙ not-false _ (c .before .before .before .if2 .left)))) }
+mul-result c = record { fits = omega (arith, mul-le-mul (between-high 1 _ 64 (sym (c .before .before .before .before .before .before .in-range .ensures) ∙ not-false _ (c .before .before .before .before .before .if1 .left))) (between-high 1 _ 64 (sym (c .before .before .before .before .in-range2 .ensures) ∙ not-false _ (c .before .before .before .if2 .left)))) }
 
 mul-result-2 : tie.Need-mul-result-2
-mul-result-2 c = record { fits = omega (arith, product-few _ _ (product-few _ _ (between-high 1 _ 64 (sym (c .before .before .before .before .before .before .before .in-range .ensures) ∙ not-false _ (c .before .before .before .before .before .before .if1 .left))) (between-high 1 _ 64 (sym (c .before .before .before .before .before .in-range2 .ensures) ∙ not-false _ (c .before .before .before .before .if2 .left)))) (between-high 1 _ 64 (sym (c .before .before .before .in-range3 .ensures) ∙ not-false _ (c .before .before .if3 .left)))) }
+mul-result-2 c = record { fits = omega (arith, mul-le-mul (mul-le-mul (between-high 1 _ 64 (sym (c .before .before .before .before .before .before .before .in-range .ensures) ∙ not-false _ (c .before .before .before .before .before .before .if1 .left))) (between-high 1 _ 64 (sym (c .before .before .before .before .before .in-range2 .ensures) ∙ not-false _ (c .before .before .before .before .if2 .left)))) (between-high 1 _ 64 (sym (c .before .before .before .in-range3 .ensures) ∙ not-false _ (c .before .before .if3 .left)))) }
 
 returns-4 : tie.Need-returns-4
 unfolding sidesGood

@@ -4,7 +4,7 @@ use borrow.Author.Needs.{needs}
 use mathlib.Core.Path.{refl, sym, _∙_}
 use mathlib.Core.Logic.{inl, inr}
 use Prim.Native.Nat.{_-_}
-use Rattle.room.specs.RoomLaws.{product-few}
+use native.Mathlib.Nat.{mul-le-mul}
 use Rattle.room_search.specs.ClassLaws.{Filling, layer-le, filling-none, filling-next, filling-all}
 use Rattle.room_search.proofs.classes.fill_classes.Statement.{statement}
 use Rattle.room_search.proofs.classes.fill_classes.Tie as tie
@@ -16,7 +16,7 @@ abbrev μ-loop : tie.MeasureT-loop
 μ-loop room kinds classes₀ n area v₀ layer₀ classes v layer = n - v
 
 mul-area : tie.Need-mul-area Inv-loop μ-loop
-mul-area c = let s = c .before .before .before in record { fits = omega (arith, product-few (s .args .room .high) (s .args .room .deep) (s .pre .0 .y-most) (s .pre .0 .z-most)) }
+mul-area c = let s = c .before .before .before in record { fits = omega (arith, mul-le-mul (s .pre .0 .y-most) (s .pre .0 .z-most)) }
 
 loop-holds : tie.Need-loop-holds Inv-loop μ-loop
 loop-holds c = let s = c .before .before .before in filling-none _ (s .pre .1 .1)

@@ -1,9 +1,9 @@
 -- `kind_beneath` meets its contract: inside it reads the kind, outside it is Solid.
 use native.Mathlib.Omega.{arith}
 use mathlib.Core.Path.{sym, _∙_}
-use Rattle.room.specs.MoveLaws.{beneath-in}
 use borrow.Author.Needs.{needs}
 use Rattle.room_search.proofs.classes.kind_beneath.Statement.{statement}
+use Rattle.room.specs.RoomLaws.{beneath-in}
 use Rattle.room_search.proofs.classes.kind_beneath.Tie as tie
 
 beneath-requires : tie.Need-beneath-requires

@@ -4,9 +4,11 @@ use mathlib.Core.Path.{refl, sym, ap, _∙_}
 use Prim.Native.Nat.{ℕ}
 use lib.ListN.{length, replicate}
 use Rattle.routing.specs.Entry.{searchTask}
-use Rattle.routing.specs.EntryLaws.{again, again-length, emptied-whole, lent-length, found-showable, searchable}
+use Rattle.routing.specs.EntryLaws.{again, again-length, emptied-whole, lent-length, searchable}
 use borrow.Author.Needs.{needs}
 use Rattle.routing.proofs.astar.answer_fit.Statement.{statement}
+use Rattle.room_search.specs.RunLaws.{told-showable}
+use Rattle.room_search.specs.Routing.{graphOf, graph, searched}
 use Rattle.routing.proofs.astar.answer_fit.Tie as tie
 
 volume-requires : tie.Need-volume-requires
@@ -49,7 +51,8 @@ slice-aggregate-answer-of-2 : tie.Need-slice-aggregate-answer-of-2
 slice-aggregate-answer-of-2 c = let s = c .before .before .before .before .before .before .before .before .before .before .before .before .before .before .before .before .before .before .before .before .before .before .before .before .before .before in let a = s .args in let p = s .pre in let v = c .before .before .before .before .before .before .before .before .before .before .before .before .before .before .before .before .before .before .before .volume .result in let e = c .before .before .before .before .before .before .before .before .before .before .before .before .before .before .before .before .before .before .before .volume .ensures in again-length (c .before .before .before .before .before .before .before .before .before .before .before .before .before .before .search-room .last .1 .1 .1 .1 .1 .1 .0) (a .previous .now) v (c .before .before .before .before .before .before .before .before .before .before .before .before .before .before .search-room .kept .1 .1 .1 .1 .1 .1 .0) (rw e (p .previous-room))
 
 answer-of-requires : tie.Need-answer-of-requires
-answer-of-requires c κs = let s = c .before .before .before .before .before .before .before .before .before .before .before .before .before .before .before .before .before .before .before .before .before .before .before .before .before .before .before in let a = s .args in let p = s .pre in let v = c .before .before .before .before .before .before .before .before .before .before .before .before .before .before .before .before .before .before .before .before .volume .result in let e = c .before .before .before .before .before .before .before .before .before .before .before .before .before .before .before .before .before .before .before .before .volume .ensures in let K = (c .before .before .before .before .before .before .before .before .before .before .before .before .before .before .before .search-room .last .1 .1 .1 .1 .1 .0) in let Q = (c .before .before .before .before .before .before .before .before .before .before .before .before .before .before .before .search-room .last .1 .1 .1 .1 .1 .1 .0) in let kk = again K (a .known .now) v (c .before .before .before .before .before .before .before .before .before .before .before .before .before .before .before .search-room .kept .1 .1 .1 .1 .1 .0) (rw e (p .known-room)) in let qq = again Q (a .previous .now) v (c .before .before .before .before .before .before .before .before .before .before .before .before .before .before .before .search-room .kept .1 .1 .1 .1 .1 .1 .0) (rw e (p .previous-room)) in let kl = (c .before .before .before .before .before .before .before .before .before .before .before .before .before .before .before .search-room .kept .1 .1 .1 .1 .1 .0) ∙ sym (lent-length (a .known .now) v (rw e (p .known-room))) in let ql = (c .before .before .before .before .before .before .before .before .before .before .before .before .before .before .before .search-room .kept .1 .1 .1 .1 .1 .1 .0) ∙ sym (lent-length (a .previous .now) v (rw e (p .previous-room))) in let F = c .before .before .before .before .before .before .before .before .before .before .before .before .before .before .before .search-room .ensures in let T = searchTask (a .room) (a .config) (a .kinds .now) (a .start) (a .goal) (a .queue .now) in ((rw e (p .goal-in), rw e (p .good .few), ap length kk ∙ kl, ap length qq ∙ ql, rw e (omega (arith, p .path-room, c .before .before .before .before .before .clear-words .kept .0))), (c .before .before .before .before .before .clear-words .ensures ∙ ap (λ (n : ℕ). replicate n 0) (sym (c .before .before .before .before .before .clear-words .kept .0)), rw (kk, qq) (found-showable T _ K Q (ql ∙ e) F)))
+unfolding graphOf
+answer-of-requires c κs = let s = c .before .before .before .before .before .before .before .before .before .before .before .before .before .before .before .before .before .before .before .before .before .before .before .before .before .before .before in let a = s .args in let p = s .pre in let v = c .before .before .before .before .before .before .before .before .before .before .before .before .before .before .before .before .before .before .before .before .volume .result in let e = c .before .before .before .before .before .before .before .before .before .before .before .before .before .before .before .before .before .before .before .before .volume .ensures in let K = (c .before .before .before .before .before .before .before .before .before .before .before .before .before .before .before .search-room .last .1 .1 .1 .1 .1 .0) in let Q = (c .before .before .before .before .before .before .before .before .before .before .before .before .before .before .before .search-room .last .1 .1 .1 .1 .1 .1 .0) in let kk = again K (a .known .now) v (c .before .before .before .before .before .before .before .before .before .before .before .before .before .before .before .search-room .kept .1 .1 .1 .1 .1 .0) (rw e (p .known-room)) in let qq = again Q (a .previous .now) v (c .before .before .before .before .before .before .before .before .before .before .before .before .before .before .before .search-room .kept .1 .1 .1 .1 .1 .1 .0) (rw e (p .previous-room)) in let kl = (c .before .before .before .before .before .before .before .before .before .before .before .before .before .before .before .search-room .kept .1 .1 .1 .1 .1 .0) ∙ sym (lent-length (a .known .now) v (rw e (p .known-room))) in let ql = (c .before .before .before .before .before .before .before .before .before .before .before .before .before .before .before .search-room .kept .1 .1 .1 .1 .1 .1 .0) ∙ sym (lent-length (a .previous .now) v (rw e (p .previous-room))) in let F = c .before .before .before .before .before .before .before .before .before .before .before .before .before .before .before .search-room .ensures in let T = searchTask (a .room) (a .config) (a .kinds .now) (a .start) (a .goal) (a .queue .now) in ((rw e (p .goal-in), rw e (p .good .few), ap length kk ∙ kl, ap length qq ∙ ql, rw e (omega (arith, p .path-room, c .before .before .before .before .before .clear-words .kept .0))), (c .before .before .before .before .before .clear-words .ensures ∙ ap (λ (n : ℕ). replicate n 0) (sym (c .before .before .before .before .before .clear-words .kept .0)), rw (kk, qq) (told-showable (graph T) (searched T) (c .before .before .before .before .before .before .before .before .before .before .before .before .before .before .before .search-room .result) K Q (ql ∙ e) (F .told))))
 
 clear-work-requires : tie.Need-clear-work-requires
 clear-work-requires c κs = search needs

@@ -1,13 +1,12 @@
 -- `behind` meets its contract: sizes and counts are small, so their product fits.
-use native.Mathlib.Nat.{le-of-lt}
+use native.Mathlib.Nat.{le-of-lt, mul-le-mul}
 use native.Mathlib.Omega.{arith}
-use Rattle.room.specs.RoomLaws.{product-few}
 use borrow.Author.Needs.{needs}
 use Rattle.sheet_reader.proofs.steps.behind.Statement.{statement}
 use Rattle.sheet_reader.proofs.steps.behind.Tie as tie
 
 mul-onward : tie.Need-mul-onward
-mul-onward c = record { fits = omega (arith, product-few _ _ (c .before .before .pre .0) (le-of-lt (c .before .before .pre .1))) }
+mul-onward c = record { fits = omega (arith, mul-le-mul (c .before .before .pre .0) (le-of-lt (c .before .before .pre .1))) }
 
 onward-requires : tie.Need-onward-requires
 onward-requires c κs = search needs

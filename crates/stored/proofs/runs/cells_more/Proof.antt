@@ -1,9 +1,9 @@
 -- `cells_more` meets its contract.
 use borrow.Author.Tests.{eq-eqb, ne-eqb}
-use Rattle.replay.specs.Runs.{cellsMore}
+use Rattle.stored.specs.Runs.{cellsMore}
 use borrow.Author.Needs.{needs}
-use Rattle.replay.proofs.replay.cells_more.Statement.{statement}
-use Rattle.replay.proofs.replay.cells_more.Tie as tie
+use Rattle.stored.proofs.runs.cells_more.Statement.{statement}
+use Rattle.stored.proofs.runs.cells_more.Tie as tie
 
 longer-requires : tie.Need-longer-requires
 longer-requires c κs = search needs

@@ -1,9 +1,9 @@
 -- `search_classes` meets its contract: memory is cleared, and the search runs over the class bytes.
 use mathlib.Core.Path.{_∙_}
-use Rattle.goals.specs.SearchLaws.{searchable-fresh}
+use Rattle.room_search.specs.RunLaws.{searchable-fresh}
 use borrow.Author.Needs.{needs}
-use Rattle.goals.proofs.search.search_classes.Statement.{statement}
-use Rattle.goals.proofs.search.search_classes.Tie as tie
+use Rattle.room_search.proofs.search.search_classes.Statement.{statement}
+use Rattle.room_search.proofs.search.search_classes.Tie as tie
 
 clear-words-requires : tie.Need-clear-words-requires
 clear-words-requires c κs = search needs
