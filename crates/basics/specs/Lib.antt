@@ -3,3 +3,4 @@ pub mod Lists
 pub mod Zeros
 pub mod Promises
 pub mod Copies
+pub mod Walks

@@ -1,7 +1,7 @@
 -- Tests: a choice by a Bool, a test asked with its outcome, what a conjunction says of its parts, and what follows where two different
 -- constructors would be equal.
 use mathlib.Core.Path.{_≡_, refl}
-use mathlib.Core.Bool.{Bool, true, false, _&&_}
+use mathlib.Core.Bool.{Bool, true, false, _&&_, _||_}
 use Prim.Native.Nat.{ℕ}
 use native.Mathlib.Omega.{arith}
 
@@ -9,9 +9,9 @@ abbrev pub either {ℓ} : {X : Type ℓ} → Bool → X → X → X
 either true x y = x
 either false x y = y
 
-pub either-true : (b : Bool) → either b true true ≡ true
-either-true true = refl
-either-true false = refl
+pub either-same {ℓ} : {X : Type ℓ} (b : Bool) (x : X) → either b x x ≡ x
+either-same true x = refl
+either-same false x = refl
 
 -- a test is passed or not, with the fact
 pub ask {ℓ} : {X : Type ℓ} (b : Bool) → (b ≡ true → X) → (b ≡ false → X) → X
@@ -28,6 +28,11 @@ and-right false b e = cc
 
 pub and-both : {a b : Bool} → a ≡ true → b ≡ true → a && b ≡ true
 and-both p q = rw (p, q)
+
+-- of two tests of which one passes, the first where the second does not
+pub or-left : (a b : Bool) → a || b ≡ true → b ≡ false → a ≡ true
+or-left true b e f = refl
+or-left false b e f = cc
 
 -- two different constructors are never equal: `never (cc)`, as `cc` shows that 0 would be 1
 pub never {ℓ} : {X : Type ℓ} → _≡_ {A = ℕ} 0 1 → X

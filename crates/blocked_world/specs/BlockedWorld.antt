@@ -15,8 +15,7 @@ use Rattle.room.specs.declared.Neighbour.the-variants.{Inside, Outside}
 use Rattle.room.specs.Room.{Good, volume, above}
 use Rattle.room.specs.Units.{air, solid}
 use Rattle.routing_resources.specs.Marks.{isMarked, withByte}
-use Rattle.room_search.specs.Routing.{Task, anEnd}
-use Rattle.room_search.specs.Classes.{classAt}
+use Rattle.room_search.specs.Routing.{Task, anEnd, classAt}
 
 -- a blocked Air cell other than start and goal
 unfoldable pub countsAsSolid : List ℕ → List ℕ → ℕ → ℕ → ℕ → Bool

@@ -31,6 +31,7 @@ use Rattle.multinet.specs.Tree.{planted, withBranch, afterSink, growSink, growF
 use Rattle.net_tree.specs.declared.Lengths.{Lengths}
 use Rattle.net_tree.specs.Answers as trees
 use Rattle.net_tree.specs.Answers.{Outcome, jobOutcome}
+use Rattle.basics.specs.Walks.{along}
 
 -- ---- what is answered
 
@@ -210,5 +211,5 @@ rows =
     ∷ []
 
 pub samples : map (λ s. said (s .ask)) rows ≡ map (λ s. s .answer) rows
-unfolding answerOf judged sidesGood configGood buffersGood endsInside fitAnswer routeable searched graphOf movesBy priceOf classFor bearing routeableKind posOf cellOf moves between stays neighbour beneath distance sooner least push offer expand trace turn run outset bestFirst growthOf growFrom growSink afterSink withBranch planted isEnd repeatersOf far goesBefore turnOf sinkAt routeToTree bestBelow triedGoal cheaper attempts afterSearch atConflict searchedFor countsAsSolid seenKinds standsIn conductor upperOfPair firstBelow firstPair atClearance stairConflict conflictAmong withByte clearanceOf isClearance branchOf allButLast above repeaters.cutInto repeaters.isStep repeaters.besideOn repeaters.neighbouring repeaters.cellsFrom repeaters.treeNeighbours repeaters.meet repeaters.meetAll repeaters.spread repeaters.parentsFrom repeaters.facingBy repeaters.straight repeaters.fits repeaters.latest repeaters.earliest repeaters.withRepeater repeaters.resume repeaters.candidate repeaters.step repeaters.steps repeaters.run repeaters.reinforced repeaters.inTurn repeaters.planned repeaters.repeaterMarks jobOutcome ofBlock tabulated endings.sourceAt endings.sinkAt endings.firstDue endings.tapOf endings.faultOf endings.endsOf terminalOf approachOf realizedOf outset-of.powers outset-of.solidOf outset-of.sourceKeepout outset-of.blockedBy outset-of.atOrBeneath outset-of.ownCell outset-of.blockedAtOutset facingMove ahead isNeighbour inKeepout directions
+unfolding answerOf judged sidesGood configGood buffersGood endsInside fitAnswer routeable searched graphOf movesBy priceOf classFor bearing routeableKind posOf cellOf moves between stays neighbour beneath distance sooner least push offer expand trace turn run outset bestFirst growthOf growFrom growSink afterSink withBranch planted isEnd repeatersOf far goesBefore turnOf sinkAt routeToTree bestBelow triedGoal cheaper attempts afterSearch atConflict searchedFor countsAsSolid seenKinds standsIn conductor upperOfPair firstBelow firstPair atClearance stairConflict conflictAmong withByte clearanceOf isClearance branchOf allButLast above repeaters.cutInto repeaters.isStep repeaters.besideOn repeaters.neighbouring repeaters.cellsFrom repeaters.treeNeighbours repeaters.meet repeaters.meetAll repeaters.spread repeaters.parentsFrom repeaters.facingBy repeaters.straight repeaters.fits repeaters.latest repeaters.earliest repeaters.withRepeater repeaters.resume repeaters.candidate repeaters.step repeaters.steps repeaters.run repeaters.reinforced along repeaters.planned repeaters.repeaterMarks jobOutcome ofBlock tabulated endings.sourceAt endings.sinkAt endings.firstDue endings.tapOf endings.faultOf endings.endsOf terminalOf approachOf realizedOf outset-of.powers outset-of.solidOf outset-of.sourceKeepout outset-of.blockedBy outset-of.atOrBeneath outset-of.ownCell outset-of.blockedAtOutset facingMove ahead isNeighbour inKeepout directions
 samples = refl

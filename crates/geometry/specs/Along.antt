@@ -1,14 +1,11 @@
--- What the code walks along the path for: a walk as a loop makes it, bytes replaced, the least upper cell of a pair, conductors told by their bytes.
-use mathlib.Core.Path.{_≡_, refl, sym, ap, _∙_}
+-- What the code walks along the path for: bytes replaced, the least upper cell of a pair, conductors told by their bytes.
+use mathlib.Core.Path.{_≡_}
 use mathlib.Core.Logic.{_⊎_}
 use mathlib.Core.Bool.{Bool, true, false, not}
-use mathlib.Core.List.{List, [], _∷_}
-use Prim.Native.Nat.{ℕ, _+_, _≤_, _<_}
-use native.Mathlib.Numerals.{add-one}
-use native.Mathlib.Omega.{arith}
+use mathlib.Core.List.{List}
+use Prim.Native.Nat.{ℕ, _<_}
 use lib.Dec.{eqb, ltb}
-use lib.ListN.{length, getD, set, drop, drop-of-length-le}
-use lib.Seq.{drop-cons}
+use lib.ListN.{getD, set}
 use Rattle.basics.specs.Tests.{either}
 use Rattle.basics.specs.Lists.{In}
 use Rattle.room.specs.declared.Room.{Room}
@@ -16,29 +13,7 @@ use Rattle.room.specs.declared.Neighbour.{Neighbour}
 use Rattle.room.specs.declared.Neighbour.the-variants.{Inside, Outside}
 use Rattle.room.specs.Room.{volume, holdsAt, beneath, above}
 use Rattle.geometry.specs.Geometry.{ifPassed}
-
--- what one cell after another makes of a value
-unfoldable pub along : {X : Type 0} → (ℕ → X → X) → List ℕ → X → X
-along step [] x = x
-along step (cell ∷ rest) x = along step rest (step cell x)
-
--- The walk after i cells: what is left, from the value of now, makes what the whole makes of the value at the start
-pub record Walk {X : Type 0} (step : ℕ → X → X) (path : List ℕ) (start x : X) (i : ℕ) : Type 0 where
-  pub within : i ≤ length path
-  pub left : along step (drop i path) x ≡ along step path start
-
-module _ {X : Type 0} (step : ℕ → X → X) (path : List ℕ) where
-  pub walk-first : (start : X) → Walk step path start start 0
-  walk-first start = record { within = omega arith; left = refl }
-
-  module _ {start x : X} {i : ℕ} (walk : Walk step path start x i) where
-    pub walk-next : i < length path → (y : X) → y ≡ step (getD path i 0) x → Walk step path start y (i + 1)
-    unfolding along
-    walk-next h y e = record { within = omega arith; left = rw (e, add-one) (sym (ap (λ (cells : List ℕ). along step cells x) (drop-cons path i 0 h)) ∙ walk .left) }
-
-    pub walk-last : length path ≤ i → x ≡ along step path start
-    unfolding along
-    walk-last h = rw (drop-of-length-le path h) at (walk .left)
+use Rattle.basics.specs.Walks.{along}
 
 -- the byte `old` at a cell is made `new`; any other byte there stays
 abbrev pub replacedAt : ℕ → ℕ → ℕ → List ℕ → List ℕ

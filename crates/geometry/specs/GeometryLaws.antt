@@ -8,7 +8,7 @@ use native.Mathlib.Omega.{arith}
 use lib.Dec.{leb}
 use lib.ListN.{length, getD, length-replicate, getD-replicate, List·getD-eq-default}
 use borrow.Author.Tests.{leb-true, leb-false}
-use Rattle.basics.specs.Tests.{ask, and-left, and-right, never}
+use Rattle.basics.specs.Tests.{ask, and-left, and-right, never, or-left}
 use Rattle.room.specs.declared.Room.{Room}
 use Rattle.room.specs.declared.Neighbour.{Neighbour}
 use Rattle.room.specs.declared.Neighbour.the-variants.{Inside, Outside}
@@ -74,20 +74,13 @@ module _ (R : Room) (kinds joinable path : List ℕ) (free : conflictOf R kinds 
   no-pair-after test part = no-pair-fewer R (conductor joinable path) (isMarked (markedBy test joinable)) was no-pair-among
     where
       marked : (v : ℕ) → test v || isMarked joinable v ≡ true → isMarked joinable v || standsIn path v ≡ true
-      marked v e = ask (isMarked joinable v) (λ t. rw t) (λ f. rw (f, part v (on (test v) (isMarked joinable v) e f)))
-        where
-          on : (a b : Bool) → a || b ≡ true → b ≡ false → a ≡ true
-          on true b p q = refl
-          on false b p q = cc
+      marked v e = ask (isMarked joinable v) (λ t. rw t) (λ f. rw (f, part v (or-left (test v) (isMarked joinable v) e f)))
 
       was : (v : ℕ) → isMarked (markedBy test joinable) v ≡ true → isMarked joinable v || standsIn path v ≡ true
       was v e =
           ask (leb (length joinable) v)
-          (λ t. none (rw (List·getD-eq-default (markedBy test joinable) 0 {n = v} (rw (with-length 1 test joinable) (leb-true _ _ t))) at e))
+          (λ t. never (cc (rw (List·getD-eq-default (markedBy test joinable) 0 {n = v} (rw (with-length 1 test joinable) (leb-true _ _ t))) at e)))
           (λ f. marked v (rw (marked-after test joinable v (leb-false _ _ f)) at e))
-        where
-          none : false ≡ true → isMarked joinable v || standsIn path v ≡ true
-          none q = never (cc)
 
 -- ---- each byte stays a mark or none
 

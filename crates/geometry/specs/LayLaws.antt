@@ -1,7 +1,7 @@
 -- Laws of the bytes: the path's cells laid among the joinable ones make the conductors, and taken up again leave the bytes as they were.
 use mathlib.Core.Path.{_≡_, refl, sym, ap, _∙_, fun-ext}
 use mathlib.Core.Logic.{_⊎_, inl, inr}
-use mathlib.Core.Bool.{Bool, true, false, not, _&&_, _||_, and-false, or-true, or-false}
+use mathlib.Core.Bool.{Bool, true, false, not, _&&_, _||_, and-false, or-true}
 use mathlib.Core.List.{List, [], _∷_}
 use Prim.Native.Nat.{ℕ, zero, suc, _≤_, _<_}
 use native.Mathlib.Omega.{arith}
@@ -9,14 +9,15 @@ use lib.Dec.{eqb, leb}
 use lib.ListN.{length, getD, set, drop, length-set, List·getD-eq-default}
 use lib.Seq.{getD-set-same, getD-set-other, ext-getD}
 use borrow.Author.Tests.{eqb-true, eqb-false, eq-eqb, ne-eqb, leb-true, leb-false}
-use Rattle.basics.specs.Tests.{either, ask, never}
+use Rattle.basics.specs.Tests.{either, ask, never, either-same, or-left}
 use Rattle.basics.specs.Lists.{In, in-at}
 use Rattle.room.specs.declared.Room.{Room}
 use Rattle.room.specs.declared.Neighbour.the-variants.{Inside}
 use Rattle.room.specs.Room.{volume, beneath}
 use Rattle.routing_resources.specs.Marks.{isMarked, AllCells}
 use Rattle.geometry.specs.Geometry.{standsIn, conductor, upperOfPair, NoPair, Marks}
-use Rattle.geometry.specs.Along.{along, Walk, replacedAt, replaced, laid, OnPath}
+use Rattle.geometry.specs.Along.{replacedAt, replaced, laid, OnPath}
+use Rattle.basics.specs.Walks.{along, Walk}
 
 -- ---- the path's cells
 
@@ -37,10 +38,6 @@ cells-in R (c ∷ cs) all v (inl e) = rw e (all .below 0 (omega arith))
 cells-in R (c ∷ cs) all v (inr i) = cells-in R cs (record { below = λ k h. all .below (suc k) (omega arith) }) v i
 
 -- ---- bytes replaced along the path
-
-either-same : (b : Bool) (n : ℕ) → either b n n ≡ n
-either-same true n = refl
-either-same false n = refl
 
 module _ (old new : ℕ) where
   -- one byte replaced, or kept
@@ -148,13 +145,10 @@ on-path R joinable path alone = record { conducting = λ v i. rw (in-stands path
     pair : (v u : ℕ) → v < volume R → beneath R v ≡ Inside u → isMarked joinable v ≡ true → isMarked joinable u ≡ true → ⊥
     pair v u h b p q = let n : true ≡ false = rw (p, b, q) at (alone .none v h) in never (cc)
 
-    marked : (cell : ℕ) → standsIn path cell ≡ false → isMarked joinable cell || standsIn path cell ≡ true → isMarked joinable cell ≡ true
-    marked cell f e = sym (or-false (isMarked joinable cell)) ∙ (rw f at e)
-
     met : (v u : ℕ) → v < volume R → beneath R v ≡ Inside u → isMarked joinable v || standsIn path v ≡ true → isMarked joinable u || standsIn path u ≡ true → In v path ⊎ In u path
     met v u h b p q =
         ask (standsIn path v) (λ t. inl (stands-in path v t))
-        (λ f. ask (standsIn path u) (λ t. inr (stands-in path u t)) (λ g. absurd (pair v u h b (marked v f p) (marked u g q))))
+        (λ f. ask (standsIn path u) (λ t. inr (stands-in path u t)) (λ g. absurd (pair v u h b (or-left (isMarked joinable v) (standsIn path v) p f) (or-left (isMarked joinable u) (standsIn path u) q g))))
 
 -- the bytes while the path is laid
 module _ (R : Room) (joinable path bytes : List ℕ) (long : length joinable ≡ volume R) (all : AllCells R path) (marks : Marks joinable) (e : bytes ≡ replaced 0 2 path joinable) where

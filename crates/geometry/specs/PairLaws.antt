@@ -16,9 +16,10 @@ use Rattle.room.specs.declared.Neighbour.{Neighbour}
 use Rattle.room.specs.declared.Neighbour.the-variants.{Inside, Outside}
 use Rattle.room.specs.Room.{Good, volume, inOrOut, holdsAt, beneath, above}
 use Rattle.geometry.specs.Geometry.{upperOfPair, orElse, firstBelow, firstPair, ifPassed}
-use Rattle.geometry.specs.Along.{along, pairWith, lesser, leastUpper, OnPath}
+use Rattle.geometry.specs.Along.{pairWith, lesser, leastUpper, OnPath}
 use Rattle.geometry.specs.RoomPairs.{above-beneath, beneath-above, beneath-lt}
 use Rattle.room.specs.RoomLaws.{inside-passed}
+use Rattle.basics.specs.Walks.{along}
 
 -- ---- the first that passes a test
 

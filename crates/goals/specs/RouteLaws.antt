@@ -10,15 +10,14 @@ use lib.Dec.{eqb, leb, ltb}
 use lib.ListN.{length, getD, List·getD-eq-default}
 use borrow.Author.Tests.{leb-true, leb-false}
 use Rattle.basics.specs.Tests.{ask, never}
-use Rattle.basics.specs.Lists.{In}
-use Rattle.room.specs.declared.Room.{Room}
 use Rattle.room.specs.declared.Move.{Move}
 use Rattle.room.specs.declared.Neighbour.{Neighbour}
 use Rattle.room.specs.declared.Neighbour.the-variants.{Inside, Outside}
-use Rattle.room.specs.Room.{volume, moves, neighbour}
+use Rattle.room.specs.Room.{volume, moves, Step}
 use Rattle.best_first.specs.Search
 use Rattle.best_first.specs.Search.{Graph}
-use Rattle.best_first.specs.Ways.{Step, Way}
+use Rattle.best_first.specs.Ways as Ways
+use Rattle.best_first.specs.Ways.{Way}
 use Rattle.best_first.specs.Statements.{Lawful}
 use Rattle.room_search.specs.Routing.{Task, entering, graphOf, graph}
 use Rattle.room_search.specs.GraphLaws.{made}
@@ -125,25 +124,19 @@ module _ {S : Site} {blocked : List ℕ} {start : ℕ} {path : List ℕ} {cost :
 
 -- ---- its cells one by one
 
--- one of the twelve moves leads from u to v
-pub record Beside (R : Room) (u v : ℕ) : Type 0 where
-  pub by : Move
-  pub listed : In by moves
-  pub leads : neighbour R u by ≡ Inside v
-
 -- the i-th step
-way-step : (G : Graph) (l : List ℕ) (u t d : ℕ) → Way G u l t d → (i : ℕ) → i < length l → (c : ℕ) × Step G (getD (u ∷ l) i 0) (getD l i 0) c
+way-step : (G : Graph) (l : List ℕ) (u t d : ℕ) → Way G u l t d → (i : ℕ) → i < length l → (c : ℕ) × Ways.Step G (getD (u ∷ l) i 0) (getD l i 0) c
 way-step G [] u t d w i h = absurd (omega arith)
 way-step G (v ∷ l) u t d w zero h = (w .0, w .2)
 way-step G (v ∷ l) u t d w (suc i) h = way-step G l v t (w .1) (w .3) i (omega arith)
 
 module _ (T : Task) where
-  step-made : (u v c : ℕ) → Step (graph T) u v c → Beside (T .room) u v
-  unfolding Step graphOf
-  step-made u v c s =
+  step-made : (u v c : ℕ) → u < volume (T .room) → Ways.Step (graph T) u v c → Step (T .room) u v
+  unfolding Ways.Step graphOf
+  step-made u v c h s =
       let m = made (T .room) (T .config) (entering T) u moves (s .0) (s .1) in
       let to : m .into ≡ v = ap (λ (g : Search.Move). g .to) (sym (m .is)) ∙ s .2 in
-      rw (← to) (record { by = m .by; listed = m .listed; leads = m .leads-in })
+      rw (← to) (record { from-in = h; move = m .by; listed = m .listed; leads = m .leads-in })
 
 module _ {S : Site} {blocked : List ℕ} {start : ℕ} {path : List ℕ} {cost : ℕ} (start-in : start < volume (S .room)) (J : Joins S blocked start path cost) where
   abbrev rest : List ℕ
@@ -154,9 +147,9 @@ module _ {S : Site} {blocked : List ℕ} {start : ℕ} {path : List ℕ} {cost :
   begins = joins-lawful start-in J .begins
 
   -- from each cell to the next leads one of the twelve moves
-  pub joins-steps : (i : ℕ) → i + 1 < length path → Beside (S .room) (getD path i 0) (getD path (i + 1) 0)
+  pub joins-steps : (i : ℕ) → i + 1 < length path → Step (S .room) (getD path i 0) (getD path (i + 1) 0)
   unfolding graphOf
   joins-steps i h =
       let l : i < length rest = omega (arith, ap length begins) in
       let s = way-step _ rest start (J .goal) cost (joins-lawful start-in J .way) i l in
-      rw (begins, add-one) (step-made (T start-in J) _ _ (s .0) (s .1))
+      rw (begins, add-one) (step-made (T start-in J) _ _ (s .0) (rw begins at (joins-cells start-in J .below i (omega arith))) (s .1))

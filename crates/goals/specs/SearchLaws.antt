@@ -8,7 +8,7 @@ use lib.Dec.{eqb}
 use lib.ListN.{length, getD, drop, length-append}
 use lib.Seq.{take-at}
 use borrow.Author.Tests.{eq-eqb}
-use Rattle.basics.specs.Tests.{either, never, and-left, and-right, either-true}
+use Rattle.basics.specs.Tests.{either, never, and-left, and-right, either-same}
 use Rattle.room.specs.declared.Room.{Room}
 use Rattle.room.specs.declared.RouterConfig.{RouterConfig}
 use Rattle.room.specs.declared.Cost.{Cost}
@@ -72,7 +72,7 @@ module _ (R : Room) (C : RouterConfig) (kinds blocked : List ℕ) (start goal pl
     start-free = end-free start start-in (rw (eq-eqb start start refl))
 
     goal-free : routeable T goal ≡ routeableKind true (getD kinds goal air)
-    goal-free = end-free goal goal-in (rw (eq-eqb goal goal refl) (either-true (eqb goal start)))
+    goal-free = end-free goal goal-in (rw (eq-eqb goal goal refl) (either-same (eqb goal start) true))
 
     pub not-routeable : bothRouteable kinds start goal ≡ false → searchedFor T ≡ failed
     unfolding searchedFor

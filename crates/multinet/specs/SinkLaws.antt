@@ -87,7 +87,7 @@ module _ {P : Plot} {turn : ℕ} {L : BranchLengths} {outset start-buffer joinab
         record {
           rest = w .rest;
           begins = w .begins;
-          steps = stepping-steps (P .room) path (λ j g. let b = joins-steps i J j g in record { from-in = joins-cells i J .below j (omega arith); move = b .by; listed = b .listed; leads = b .leads });
+          steps = stepping-steps (P .room) path (joins-steps i J);
           short = joins-short i J;
           cells-in = joins-cells i J;
           free = J .reaches .free;

@@ -10,10 +10,10 @@ use lib.ListN.{length, getD}
 use borrow.Author.Tests.{eqb-false}
 use Rattle.basics.specs.Tests.{ask}
 use Rattle.room.specs.declared.Room.{Room}
-use Rattle.room.specs.Room.{Good}
+use Rattle.room.specs.Room.{Good, Step}
 use Rattle.ends.specs.declared.Tap.{Tap}
 use Rattle.branches.specs.Branches.{branchOf}
-use Rattle.repeaters.specs.Joins.{Step, Stepping}
+use Rattle.repeaters.specs.Joins.{Stepping}
 use Rattle.repeaters.specs.JoinLaws.{step-back}
 
 -- each cell is one step from the next

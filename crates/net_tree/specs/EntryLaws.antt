@@ -2,11 +2,10 @@
 use mathlib.Core.Path.{_≡_, refl, sym, ap, _∙_}
 use mathlib.Core.Logic.{inl, inr}
 use mathlib.Core.Bool.{true}
-use mathlib.Core.List.{List, [], _∷_, _++_}
+use mathlib.Core.List.{List, [], _∷_}
 use Prim.Native.Nat.{ℕ, _/_, _≤_, _<_}
-use native.Mathlib.Omega.{arith}
 use lib.Dec.{leb}
-use lib.ListN.{length, take, drop, replicate, length-append, length-drop}
+use lib.ListN.{length, take, replicate}
 use lib.Seq.{length-take-le}
 use borrow.Author.Tests.{leb-true}
 use Rattle.basics.specs.Tests.{and-left, and-right}
@@ -105,9 +104,3 @@ lent-on {B = B} {B′ = B′} b q R = record {
   answer = R .answer;
   outputs = rw b (R .outputs);
 }
-
--- a buffer whose front was lent on keeps its length
-pub front-kept : (cells : ℕ) {n : ℕ} (front buffer : List ℕ) → length front ≡ length (take cells buffer) → n ≤ length buffer → cells ≡ n → length (front ++ drop cells buffer) ≡ length buffer
-front-kept cells front buffer k h e =
-    length-append front (drop cells buffer)
-    ∙ rw (k, length-take-le cells buffer (omega (arith, h, e)), length-drop cells buffer) (omega (arith, h, e))

@@ -4,11 +4,11 @@ use mathlib.Core.List.{List, [], _∷_, _++_, map}
 use Prim.Native.Nat.{ℕ, zero, suc, _-_, _≤_, _<_}
 use native.Mathlib.Omega.{arith}
 use lib.Dec.{eqb, ltb}
-use lib.ListN.{length, getD, drop, replicate, length-append, length-map, length-replicate, take-append-drop}
+use lib.ListN.{length, getD, drop, replicate, length-append, length-map, length-replicate, take-append-drop, List·getD-append, List·getD-map}
 use lib.Seq.{ext-getD}
 use borrow.Author.Tests.{ltb-true, ltb-false}
 use Rattle.basics.specs.Tests.{ask, never}
-use Rattle.basics.specs.Zeros.{drop-zeros}
+use Rattle.basics.specs.Zeros.{drop-zeros, zeros}
 use mathlib.Core.Bool.{true, false}
 use Rattle.lent.specs.Lent.{filled}
 use Rattle.room.specs.declared.Room.{Room}
@@ -32,14 +32,10 @@ use Rattle.net_tree.specs.Entry.{Harvestable, Harvested, Growable, TreeG
 -- ---- lists
 
 map-at : (bs : List (List ℕ)) (tail : List ℕ) (i : ℕ) → i < length bs → getD (map length bs ++ tail) i 0 ≡ length (getD bs i [])
-map-at [] tail i h = absurd (omega arith)
-map-at (b ∷ bs) tail zero h = refl
-map-at (b ∷ bs) tail (suc i) h = map-at bs tail i (omega arith)
+map-at bs tail i h = List·getD-append (map length bs) tail 0 i (rw (length-map bs length) h) ∙ List·getD-map length bs i []
 
 behind-map : (bs : List (List ℕ)) (n i : ℕ) → length bs ≤ i → _≡_ {A = ℕ} (getD (map length bs ++ replicate n 0) i 0) 0
-behind-map [] zero i h = refl
-behind-map [] (suc n) zero h = refl
-behind-map [] (suc n) (suc i) h = behind-map [] n i (omega arith)
+behind-map [] n i h = zeros n i
 behind-map (b ∷ bs) n zero h = absurd (omega arith)
 behind-map (b ∷ bs) n (suc i) h = behind-map bs n i (omega arith)
 
@@ -57,11 +53,11 @@ same-answer o p l = λ i. record { ended = Routed (markedCount (o i)) (markedCou
 -- ---- growing
 
 whole-skipped : (t : Turned) → isWhole t ≡ true → t ≡ Skipped
-whole-skipped (Grown k n) e = never cc
+whole-skipped (Grown k n) e = never (cc)
 whole-skipped Skipped e = refl
-whole-skipped (QueueFull x) e = never cc
-whole-skipped (NoGoal cell) e = never cc
-whole-skipped (NoRoom place) e = never cc
+whole-skipped (QueueFull x) e = never (cc)
+whole-skipped (NoGoal cell) e = never (cc)
+whole-skipped (NoRoom place) e = never (cc)
 
 module _ {P : Plot} {B : Lent} (A : Growable P B) where
   pub plantable : {joinable : List ℕ} → joinable ≡ markedBy (eqb (P .source)) (noMarks (length (B .joinable)))
@@ -87,7 +83,7 @@ module _ {P : Plot} {B : Lent} (A : Growable P B) where
     refused-grown : (t : Turned) → g .ended ≡ t → isWhole t ≡ false → {r : Answer} → r ≡ answerOf (refusedBy t) → {branches′ occupied′ repeaters′ : List ℕ}
         → TreeGrown P B r branches′ occupied′ repeaters′
     refused-grown (Grown k n) e f a = absurd (told-as e)
-    refused-grown Skipped e f a = never cc
+    refused-grown Skipped e f a = never (cc)
     refused-grown (QueueFull x) e f a = stopped-grown (told-as e) (omega arith) a
     refused-grown (NoGoal cell) e f a = stopped-grown (told-as e) (omega arith) a
     refused-grown (NoRoom place) e f a = stopped-grown (told-as e) (omega arith) a

@@ -16,13 +16,13 @@ use Rattle.room.specs.declared.Room.{Room}
 use Rattle.room.specs.declared.Pos.{Pos}
 use Rattle.room.specs.declared.Move.{Move}
 use Rattle.room.specs.declared.Neighbour.{Neighbour}
-use Rattle.room.specs.Room.{Good, Moved, volume, posOf, by, moves, moveAt, holdsAt, neighbour}
+use Rattle.room.specs.Room.{Good, Moved, volume, posOf, by, moves, moveAt, holdsAt, neighbour, Step}
 use Rattle.room.specs.RoomLaws.{small-pos}
 use Rattle.room.specs.MoveLaws.{leads, small, symmetric, opposite, opposite-in, sameMove, same-move}
 use Rattle.best_first.specs.Statements.{bit}
 use Rattle.repeaters.specs.Repeaters.{isStep}
 use Rattle.repeaters.specs.Links.{numberOrder, orderedMoves, orderedMove}
-use Rattle.repeaters.specs.Joins.{Step, maskOf, isLink, Masks, Masked, withLink, Joined, moveIndex, moveBetween, stepIndex}
+use Rattle.repeaters.specs.Joins.{maskOf, isLink, Masks, Masked, withLink, Joined, moveIndex, moveBetween, stepIndex}
 
 -- ---- bits
 

@@ -6,12 +6,10 @@ use Prim.Native.Nat.{ℕ, zero, suc, _+_, _-_, _*_, _/_, _≤_, _<_}
 use lib.Dec.{eqb}
 use lib.ListN.{length, getD}
 use Rattle.basics.specs.Tests.{either}
-use Rattle.basics.specs.Lists.{In}
 use Rattle.room.specs.declared.Room.{Room}
 use Rattle.room.specs.declared.Pos.{Pos}
 use Rattle.room.specs.declared.Move.{Move}
-use Rattle.room.specs.declared.Neighbour.{Neighbour}
-use Rattle.room.specs.Room.{volume, posOf, by, moves, holdsAt, neighbour}
+use Rattle.room.specs.Room.{volume, posOf, by, holdsAt, neighbour, Step}
 use Rattle.best_first.specs.Statements.{bit}
 use Rattle.branches.specs.declared.BranchLengths.{BranchLengths}
 use Rattle.branches.specs.Branches.{total, lengthsIn}
@@ -19,13 +17,6 @@ use Rattle.repeaters.specs.Repeaters.{branchesOf}
 use Rattle.repeaters.specs.Links.{orderedMove}
 
 -- ---- what is asked of the branches
-
--- one of the twelve moves leads from cell a to cell b
-pub record Step (R : Room) (a b : ℕ) : Type 0 where
-  pub from-in : a < volume R
-  pub move : Move
-  pub listed : In move moves
-  pub leads : neighbour R a move ≡ Neighbour.Inside b
 
 -- each cell of the branch is one step from the next
 pub record Stepping (R : Room) (branch : List ℕ) : Type 0 where

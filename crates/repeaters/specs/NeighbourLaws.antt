@@ -16,13 +16,13 @@ use Rattle.room.specs.declared.Room.{Room}
 use Rattle.room.specs.declared.Pos.{Pos}
 use Rattle.room.specs.declared.Move.{Move}
 use Rattle.room.specs.declared.Neighbour.{Neighbour}
-use Rattle.room.specs.Room.{Good, Moved, volume, posOf, by, moves, neighbourAt, neighbour}
+use Rattle.room.specs.Room.{Good, Moved, volume, posOf, by, moves, neighbourAt, neighbour, Step}
 use Rattle.room.specs.RoomLaws.{Before, order, cell-pos}
 use Rattle.room.specs.MoveLaws.{leads}
 use Rattle.best_first.specs.Statements.{bit}
 use Rattle.repeaters.specs.Repeaters.{cellsFrom, treeNeighbours, isStep, besideOn, neighbouring}
 use Rattle.repeaters.specs.Links.{orderedMoves, orderedMove, consPlace, cellsBy, linkedCells}
-use Rattle.repeaters.specs.Joins.{Step, AllStepping, maskOf, isLink, stepIndex, Masks, Joined}
+use Rattle.repeaters.specs.Joins.{AllStepping, maskOf, isLink, stepIndex, Masks, Joined}
 use Rattle.repeaters.specs.JoinLaws.{mask-low, mask-rest, masks-same, masks-none, step-back, step-in, step-ordered}
 
 -- ---- two ascending lists with the same members are one

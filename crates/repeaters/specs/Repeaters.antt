@@ -15,6 +15,7 @@ use Rattle.best_first.specs.Search.{trace}
 use Rattle.routing_resources.specs.Marks.{noMarks, isMarked}
 use Rattle.ends.specs.declared.Tap.{Tap}
 use Rattle.branches.specs.declared.BranchLengths.{BranchLengths}
+use Rattle.basics.specs.Walks.{along}
 
 -- ---- the tree
 
@@ -206,11 +207,6 @@ maxRun = 12
 abbrev pub maxTail : ℕ
 maxTail = 8
 
--- what one sink does to the marks is done for all, one after the other
-unfoldable pub inTurn : (Tap → List ℕ → List ℕ) → List Tap → List ℕ → List ℕ
-inTurn put [] marks = marks
-inTurn put (tap ∷ taps) marks = inTurn put taps (put tap marks)
-
 module _ (R : Room) (next : ℕ → List ℕ) (parents forbidden : List ℕ) where
   abbrev pub pathTo : Tap → List ℕ
   pathTo tap = rootPath parents (tap .terminal)
@@ -222,9 +218,9 @@ module _ (R : Room) (next : ℕ → List ℕ) (parents forbidden : List ℕ) whe
   abbrev pub tailOf : Tap → List ℕ → List ℕ
   tailOf tap marks = either (tap .wire) (reinforced maxTail (fits R next forbidden (pathTo tap)) (pathTo tap) marks) marks
 
-  -- the runs of all sinks, and then the tails
+  -- the runs of all sinks, one after the other, and then the tails
   unfoldable pub planned : List Tap → List ℕ → List ℕ
-  planned taps marks = inTurn tailOf taps (inTurn runOf taps marks)
+  planned taps marks = along tailOf taps (along runOf taps marks)
 
 -- one byte a cell: 1 where a repeater stands
 unfoldable pub repeaterMarks : Room → ℕ → List Tap → List (List ℕ) → List ℕ → List ℕ

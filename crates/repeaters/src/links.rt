@@ -10,10 +10,10 @@ ghost use mathlib.Core.Bool.{_&&_};
 ghost use Prim.Native.Nat.{_≤_, _<_, _^_};
 ghost use lib.Dec.{eqb};
 ghost use lib.ListN.{length, replicate};
-ghost use Rattle.room.specs.Room.{Good, Within, volume, posOf};
+ghost use Rattle.room.specs.Room.{Good, Within, volume, posOf, Step};
 ghost use Rattle.repeaters.specs.Links.{orderedMoves, orderedMove, linkedPlace, insideCount, cellsBy, linkedCells};
 ghost use Rattle.repeaters.specs.Repeaters.{branchesOf, isStep, besideOn, treeNeighbours};
-ghost use Rattle.repeaters.specs.Joins.{Step, Stepping, Laid, Masked, Joined, moveIndex, stepIndex};
+ghost use Rattle.repeaters.specs.Joins.{Stepping, Laid, Masked, Joined, moveIndex, stepIndex};
 
 // The places of the moves among Room::MOVES, in the number order of the cells that they lead to.
 const NUMBER_ORDER: [usize; 12] = [3, 4, 5, 9, 6, 10, 7, 11, 8, 0, 1, 2];

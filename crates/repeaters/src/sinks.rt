@@ -10,9 +10,10 @@ ghost use Prim.Native.Nat.{_<_};
 ghost use lib.ListN.{length};
 ghost use Rattle.ends.specs.Ends.{tapsIn};
 ghost use Rattle.room.specs.Room.{volume};
-ghost use Rattle.repeaters.specs.Repeaters.{inTurn, runOf, tailOf};
+ghost use Rattle.repeaters.specs.Repeaters.{runOf, tailOf};
 ghost use Rattle.repeaters.specs.Links.{linkedCells};
 ghost use Rattle.repeaters.specs.Sinks.{TerminalsIn, Grown};
+ghost use Rattle.basics.specs.Walks.{along};
 
 // "At a cell more than 12 steps past the last reset".
 const MAX_RUN: usize = 12;
@@ -54,7 +55,7 @@ pub fn plan_repeaters(
     requires { ⌜ TerminalsIn room taps ⌝ }
     requires { ⌜ length (now repeaters) ≡ volume room ⌝ }
     requires { ⌜ length (now line) ≡ volume room ⌝ }
-    ensures { λ _. ⌜ now (repeaters .exit) ≡ inTurn (runOf room (linkedCells room (now (links .entry))) (now (parents .entry)) (now (forbidden .entry))) (tapsIn taps) (now (repeaters .entry)) ⌝ }
+    ensures { λ _. ⌜ now (repeaters .exit) ≡ along (runOf room (linkedCells room (now (links .entry))) (now (parents .entry)) (now (forbidden .entry))) (tapsIn taps) (now (repeaters .entry)) ⌝ }
 {
     let count = taps.count;
     let mut k: usize = 0;
@@ -102,7 +103,7 @@ pub fn reinforce_wire_sink_tails(
     requires { ⌜ TerminalsIn room taps ⌝ }
     requires { ⌜ length (now repeaters) ≡ volume room ⌝ }
     requires { ⌜ length (now line) ≡ volume room ⌝ }
-    ensures { λ _. ⌜ now (repeaters .exit) ≡ inTurn (tailOf room (linkedCells room (now (links .entry))) (now (parents .entry)) (now (forbidden .entry))) (tapsIn taps) (now (repeaters .entry)) ⌝ }
+    ensures { λ _. ⌜ now (repeaters .exit) ≡ along (tailOf room (linkedCells room (now (links .entry))) (now (parents .entry)) (now (forbidden .entry))) (tapsIn taps) (now (repeaters .entry)) ⌝ }
 {
     let count = taps.count;
     let mut k: usize = 0;

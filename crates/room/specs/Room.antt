@@ -11,6 +11,7 @@ use Rattle.room.specs.declared.Pos.{Pos}
 use Rattle.room.specs.declared.Move.{Move}
 use Rattle.room.specs.declared.Neighbour.{Neighbour}
 use Rattle.room.specs.declared.Neighbour.the-variants.{Inside, Outside}
+use Rattle.basics.specs.Lists.{In}
 
 -- "Sides X, Y, Z are 1 to 64; the room has V = XYZ cells, at most 16,384."
 abbrev pub maxSide : ℕ
@@ -108,6 +109,13 @@ neighbourAt R p m = inOrOut (stays R p m) (cellOf R (shifted p m))
 
 unfoldable pub neighbour : Room → ℕ → Move → Neighbour
 neighbour R n m = neighbourAt R (posOf R n) m
+
+-- one of the twelve moves leads from cell a to cell b
+pub record Step (R : Room) (a b : ℕ) : Type 0 where
+  pub from-in : a < volume R
+  pub move : Move
+  pub listed : In move moves
+  pub leads : neighbour R a move ≡ Inside b
 
 -- the cell right beneath cell n, and right above it
 unfoldable pub beneath : Room → ℕ → Neighbour

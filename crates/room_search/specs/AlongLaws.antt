@@ -18,7 +18,7 @@ use Rattle.room_search.specs.declared.Line.{Line}
 use Rattle.room_search.specs.declared.Spot.{Spot}
 use Rattle.room_search.specs.declared.Step.the-variants.{On, Full}
 use Rattle.room_search.specs.Steps.{Ready, Placed, Able, Aside, Tried, setting, column}
-use Rattle.room_search.specs.TryLaws.{and-false, tried-out, tried-none, tried-then, tried-full}
+use Rattle.room_search.specs.TryLaws.{and-failed, tried-out, tried-none, tried-then, tried-full}
 
 module _ (R : Room) (C : RouterConfig) (classes : List ℕ) (goal from : Spot) (cost : ℕ) (known₀ previous₀ queue₀ : List ℕ) (line₀ : Line) where
   -- the moves `done` are tried, and the search goes on
@@ -110,7 +110,7 @@ module _ (R : Room) (C : RouterConfig) (classes : List ℕ) (goal from : Spot) (
         → Tried (setting R C classes goal queue from cost) (column m) known previous queue line (On line) known previous queue
     unfolding stays
     column-out-z e = all-out (λ y. not-stays R (from .cell) (by (m .x) y (m .z)) (rw (← P .is)
-        (and-false (between 1 (from .at .x + m .x) (R .wide)) _ (and-false (between 1 (from .at .y + y) (R .high)) _ e))))
+        (and-failed (between 1 (from .at .x + m .x) (R .wide)) _ (and-failed (between 1 (from .at .y + y) (R .high)) _ e))))
 
     pub column-west : from .at .x + m .x < 1 → Tried (setting R C classes goal queue from cost) (column m) known previous queue line (On line) known previous queue
     unfolding between
@@ -118,7 +118,7 @@ module _ (R : Room) (C : RouterConfig) (classes : List ℕ) (goal from : Spot) (
 
     pub column-east : R .wide < from .at .x + m .x → Tried (setting R C classes goal queue from cost) (column m) known previous queue line (On line) known previous queue
     unfolding between
-    column-east h = column-out-x (and-false (leb 1 (from .at .x + m .x)) _ (lt-leb (from .at .x + m .x) (R .wide) h))
+    column-east h = column-out-x (and-failed (leb 1 (from .at .x + m .x)) _ (lt-leb (from .at .x + m .x) (R .wide) h))
 
     pub column-north : from .at .z + m .z < 1 → Tried (setting R C classes goal queue from cost) (column m) known previous queue line (On line) known previous queue
     unfolding between
@@ -126,7 +126,7 @@ module _ (R : Room) (C : RouterConfig) (classes : List ℕ) (goal from : Spot) (
 
     pub column-south : R .deep < from .at .z + m .z → Tried (setting R C classes goal queue from cost) (column m) known previous queue line (On line) known previous queue
     unfolding between
-    column-south h = column-out-z (and-false (leb 1 (from .at .z + m .z)) _ (lt-leb (from .at .z + m .z) (R .deep) h))
+    column-south h = column-out-z (and-failed (leb 1 (from .at .z + m .z)) _ (lt-leb (from .at .z + m .z) (R .deep) h))
 
 -- the level cell of a column that is in the room
 module _ (R : Room) (G : Good R) (from : Spot) (P : Placed R from) (m : Move) (x-low : 1 ≤ from .at .x + m .x) (x-high : from .at .x + m .x ≤ R .wide)

@@ -16,8 +16,8 @@ use Rattle.basics.specs.Tests.{either}
 use Rattle.room.specs.declared.Room.{Room}
 use Rattle.room.specs.Room.{Good, volume, posOf, beneath}
 use Rattle.room.specs.Units.{solid}
-use Rattle.room_search.specs.Routing.{kindAt, classFor}
-use Rattle.room_search.specs.Classes.{classAt, Plain}
+use Rattle.room_search.specs.Routing.{kindAt, classFor, classAt}
+use Rattle.room_search.specs.Classes.{Plain}
 
 -- one more, counted around
 pub around-next : (v area : ℕ) → 0 < area → v % area + 1 < area → (v + 1) % area ≡ v % area + 1

@@ -1,17 +1,12 @@
 -- What the contracts of the functions that fill the class bytes cite.
 use mathlib.Core.Path.{_≡_}
-use mathlib.Core.Bool.{Bool, true, false}
+use mathlib.Core.Bool.{true, false}
 use mathlib.Core.List.{List}
 use Prim.Native.Nat.{ℕ, _<_}
 use lib.ListN.{length, getD, set}
 use Rattle.room.specs.declared.Room.{Room}
-use Rattle.room.specs.Room.{volume, beneath}
-use Rattle.room.specs.Units.{air}
-use Rattle.room_search.specs.Routing.{kindAt, classFor}
-
--- the class of a cell, as one of the ends or not
-abbrev pub classAt : Bool → Room → List ℕ → ℕ → ℕ
-classAt isEnd R kinds v = classFor isEnd (getD kinds v air) (kindAt kinds (beneath R v))
+use Rattle.room.specs.Room.{volume}
+use Rattle.room_search.specs.Routing.{classAt}
 
 -- each cell's class, where no cell is an end
 pub record Plain (R : Room) (kinds classes : List ℕ) : Type 0 where

@@ -20,6 +20,7 @@ use Rattle.room.specs.MoveLaws.{most, leads, nearer}
 use Rattle.best_first.specs.Search
 use Rattle.best_first.specs.Ways.{Sound, Consistent}
 use Rattle.room_search.specs.Routing.{total, priceOf, moveInto, movesBy, graphOf}
+use Rattle.room.specs.Units.{Fair}
 
 -- a move of the graph is one of the room's moves, which leads to a cell that can be entered
 pub record Made (R : Room) (C : RouterConfig) (class : ℕ → ℕ) (u : ℕ) (ms : List Move) (g : Search.Move) : Type 0 where
@@ -64,12 +65,16 @@ module _ (R : Room) (C : RouterConfig) (class : ℕ → ℕ) (u : ℕ) where
 unfoldable pub dearest : RouterConfig → ℕ
 dearest C = max (C .horizontal .0) (C .stair .0) + C .support .0
 
-price-low : (C : RouterConfig) (m : Move) (class : ℕ) → total (priceOf C m class) ≤ dearest C
+pub price-low : (C : RouterConfig) (m : Move) (class : ℕ) → total (priceOf C m class) ≤ dearest C
 unfolding priceOf dearest
 price-low C m class =
     let step : priceOf C m class .step ≤ max (C .horizontal .0) (C .stair .0) = ask (flat m) (λ t. rw t (omega arith)) (λ f. rw f (omega arith)) in
     let support : priceOf C m class .support ≤ C .support .0 = ask (eqb class 2) (λ t. rw t (omega arith)) (λ f. rw f (omega arith)) in
     omega arith
+
+pub dearest-most : {C : RouterConfig} → Fair C → dearest C ≤ 200000
+unfolding dearest
+dearest-most F = omega (arith, F .horizontal-most, F .stair-most, F .support-most)
 
 module _ (R : Room) (C : RouterConfig) (class : ℕ → ℕ) (start goal places : ℕ) where
   pub sound : start < volume R → goal < volume R → Sound (graphOf R C class start goal places) 12 (dearest C)

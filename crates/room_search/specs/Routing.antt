@@ -51,8 +51,12 @@ bearing kind =
 unfoldable pub classFor : Bool → ℕ → ℕ → ℕ
 classFor isEnd kind below = either (routeableKind isEnd kind) (bearing below) 0
 
+-- the class of a cell, as one of the ends or not
+abbrev pub classAt : Bool → Room → List ℕ → ℕ → ℕ
+classAt isEnd R kinds v = classFor isEnd (getD kinds v air) (kindAt kinds (beneath R v))
+
 abbrev pub entering : Task → ℕ → ℕ
-entering T v = classFor (anEnd (T .start) (T .goal) v) (getD (T .kinds) v air) (kindAt (T .kinds) (beneath (T .room) v))
+entering T v = classAt (anEnd (T .start) (T .goal) v) (T .room) (T .kinds) v
 
 -- "Flat step: horizontal cost. Otherwise: stair cost." The price of a step is a pair: the step, and the new support
 pub record Price : Type 0 where

@@ -22,7 +22,7 @@ use Rattle.room_search.specs.declared.Turn.the-variants.{GoesOn, Ended}
 use Rattle.room_search.specs.Routing.{graphOf}
 use Rattle.room_search.specs.Held.{entriesIn, held}
 use Rattle.room_search.specs.HeldLaws.{pushed-entries}
-use Rattle.room_search.specs.GraphLaws.{dearest, sound}
+use Rattle.room_search.specs.GraphLaws.{dearest, sound, dearest-most}
 use Rattle.room_search.specs.Steps.{maxKnown, estimateOf, placesOf, Ready, Placed}
 use Rattle.room_search.specs.Turns.{graphIn, Takeable, Told, Turned, Fresh, Searchable, Showable}
 use Rattle.room_search.specs.declared.Outcome.the-variants.{Arrived, NoRoute, LimitPassed, QueueFull}
@@ -89,12 +89,8 @@ module _ {R : Room} {C : RouterConfig} {classes queue₀ : List ℕ} {start : �
   bounds : Bounded G 12 (dearest C) (held known previous queue line expanded)
   bounds = going-bounded (sound R C (λ v. getD classes v 0) start (goal .cell) (placesOf queue₀) (A .start-in) (A .goal-placed .inside)) (I .going)
 
-  dear : dearest C ≤ 200000
-  unfolding dearest
-  dear = omega (arith, A .fair .horizontal-most, A .fair .stair-most, A .fair .support-most)
-
   known-most : (volume R - 1) * dearest C ≤ maxKnown
-  known-most = let v : volume R - 1 ≤ 16383 = omega (arith, A .good .few) in mul-le-mul v dear
+  known-most = let v : volume R - 1 ≤ 16383 = omega (arith, A .good .few) in mul-le-mul v (dearest-most (A .fair))
 
   pub running-within : expanded ≤ C .limit .0
   unfolding held

@@ -10,7 +10,7 @@ use lib.Dec.{eqb}
 use lib.ListN.{length, getD, length-set}
 use lib.Seq.{getD-set-same, getD-set-other}
 use borrow.Author.Tests.{eq-eqb, ne-eqb}
-use Rattle.basics.specs.Tests.{either-true}
+use Rattle.basics.specs.Tests.{either-same}
 use Rattle.room.specs.declared.Room.{Room}
 use Rattle.room.specs.declared.Move.{Move}
 use Rattle.room.specs.declared.RouterConfig.{RouterConfig}
@@ -19,8 +19,8 @@ use Rattle.room.specs.declared.Neighbour.the-variants.{Inside, Outside}
 use Rattle.room.specs.Room.{volume, moves, neighbour, distance}
 use Rattle.room.specs.MoveLaws.{leads}
 use Rattle.best_first.specs.Search
-use Rattle.room_search.specs.Routing.{Task, entering, moveInto, movesBy, graphOf, graph}
-use Rattle.room_search.specs.Classes.{classAt, Plain, withEnd}
+use Rattle.room_search.specs.Routing.{Task, entering, moveInto, movesBy, graphOf, graph, classAt}
+use Rattle.room_search.specs.Classes.{Plain, withEnd}
 
 module _ (R : Room) (C : RouterConfig) (f g : ℕ → ℕ) (same : (v : ℕ) → v < volume R → f v ≡ g v) where
   same-moves : (u : ℕ) (ms : List Move) → movesBy R C f u ms ≡ movesBy R C g u ms
@@ -60,7 +60,7 @@ module _ (T : Task) (classes : List ℕ) (P : Plain (T .room) (T .kinds) classes
       go : Dec (v ≡ T .goal) → Dec (v ≡ T .start) → getD made v 0 ≡ entering T v
       go (yes e) d =
           rw e (getD-set-same (withEnd (T .room) (T .kinds) (T .start) classes) (T .goal) (classAt true (T .room) (T .kinds) (T .goal)) 0 (rw length-set (omega (arith, P .long)))
-          ∙ rw (eq-eqb (T .goal) (T .goal) refl, either-true (eqb (T .goal) (T .start))))
+          ∙ rw (eq-eqb (T .goal) (T .goal) refl, either-same (eqb (T .goal) (T .start)) true))
       go (no n) d = other v h n d
 
   pub made-graph : graphOf (T .room) (T .config) (λ v. getD made v 0) (T .start) (T .goal) (T .places) ≡ graph T

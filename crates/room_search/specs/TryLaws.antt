@@ -1,12 +1,12 @@
 -- One move tried, as the code meets it: out of the room, into a cell that can't be entered, or offered; and moves tried one after another.
 use mathlib.Core.Path.{_≡_, refl, sym, ap, _∙_}
 use mathlib.Core.Logic.{_≢_}
-use mathlib.Core.Bool.{Bool, true, false, _&&_}
+use mathlib.Core.Bool.{Bool, false, _&&_, and-false}
 use mathlib.Core.List.{List, [], _∷_, _++_, append-assoc}
 use Prim.Native.Nat.{ℕ, suc, _+_, _-_, _*_, _≤_, _<_}
-use native.Mathlib.Nat.{mul-le-mul, add-mul, suc-mul, add-zero}
+use native.Mathlib.Nat.{mul-le-mul, add-mul, suc-mul, add-zero, lt-of-lt-of-le}
 use native.Mathlib.Omega.{arith}
-use lib.Dec.{leb, eqb}
+use lib.Dec.{leb}
 use lib.ListN.{getD, length-append}
 use borrow.Author.Tests.{eq-eqb, ne-eqb, lt-leb}
 use Rattle.room.specs.declared.Room.{Room}
@@ -14,11 +14,9 @@ use Rattle.room.specs.declared.Pos.{Pos}
 use Rattle.room.specs.declared.Move.{Move}
 use Rattle.room.specs.declared.RouterConfig.{RouterConfig}
 use Rattle.room.specs.declared.Neighbour.the-variants.{Inside, Outside}
-use Rattle.room.specs.Room.{Good, Within, Moved, at, volume, posOf, cellOf, between, stays, neighbour, distance, flat}
-use Rattle.room.specs.RoomLaws.{cell-pos, pos-cell, pos-in, cell-in}
+use Rattle.room.specs.Room.{Good, Within, Moved, at, volume, posOf, cellOf, between, stays, neighbour, distance}
+use Rattle.room.specs.RoomLaws.{cell-pos, pos-cell, pos-in, cell-in, small-pos}
 use Rattle.room.specs.MoveLaws.{leads-to, not-stays, one-less-in}
-use Rattle.basics.specs.Tests.{ask}
-use Rattle.room.specs.Units.{Fair}
 use Rattle.best_first.specs.Search
 use Rattle.best_first.specs.Search.{Graph}
 use Rattle.room_search.specs.declared.Line.{Line}
@@ -46,9 +44,8 @@ module _ (R : Room) (C : RouterConfig) (class : ℕ → ℕ) (u : ℕ) (m : Move
 
 -- ---- where the move leads
 
-pub and-false : (a b : Bool) → b ≡ false → a && b ≡ false
-and-false true b e = e
-and-false false b e = refl
+pub and-failed : (a b : Bool) → b ≡ false → a && b ≡ false
+and-failed a b e = rw e (and-false a)
 
 module _ (R : Room) (G : Good R) (from beside : Spot) (m : Move) (P : Placed R from) (B : Aside R from beside m) where
   out-high : between 1 (beside .at .y + m .y) (R .high) ≡ false → neighbour R (from .cell) m ≡ Outside
@@ -56,7 +53,7 @@ module _ (R : Room) (G : Good R) (from beside : Spot) (m : Move) (P : Placed R f
   out-high e =
       let y : between 1 (posOf R (from .cell) .y + m .y) (R .high) ≡ false = rw (← P .is, ← B .level) e in
       let p = posOf R (from .cell) in
-      not-stays R (from .cell) m (and-false (between 1 (p .x + m .x) (R .wide)) (between 1 (p .y + m .y) (R .high) && between 1 (p .z + m .z) (R .deep)) (rw y))
+      not-stays R (from .cell) m (and-failed (between 1 (p .x + m .x) (R .wide)) (between 1 (p .y + m .y) (R .high) && between 1 (p .z + m .z) (R .deep)) (rw y))
 
   pub out-below : beside .at .y + m .y < 1 → neighbour R (from .cell) m ≡ Outside
   unfolding between
@@ -64,7 +61,7 @@ module _ (R : Room) (G : Good R) (from beside : Spot) (m : Move) (P : Placed R f
 
   pub out-above : R .high < beside .at .y + m .y → neighbour R (from .cell) m ≡ Outside
   unfolding between
-  out-above h = out-high (and-false (leb 1 (beside .at .y + m .y)) _ (lt-leb (beside .at .y + m .y) (R .high) h))
+  out-above h = out-high (and-failed (leb 1 (beside .at .y + m .y)) _ (lt-leb (beside .at .y + m .y) (R .high) h))
 
   module _ (low : 1 ≤ beside .at .y + m .y) (high : beside .at .y + m .y ≤ R .high) where
     landing : Pos
@@ -116,19 +113,16 @@ module _ (R : Room) (G : Good R) (from beside : Spot) (m : Move) (P : Placed R f
           inside = rw e at (cell-in R landing w);
           leads = rw e at lands;
           place = sym (ap (posOf R) (sym e) ∙ pos-cell R landing w);
-          small = record { x-small = less (w .x-in) (G .x-most); y-small = less (w .y-in) (G .y-most); z-small = less (w .z-in) (G .z-most) };
+          small = record { x-small = lt-of-lt-of-le (w .x-in) (G .x-most); y-small = lt-of-lt-of-le (w .y-in) (G .y-most); z-small = lt-of-lt-of-le (w .z-in) (G .z-most) };
         }
-      where
-        less : {a b c : ℕ} → a < b → b ≤ c → a < c
-        less h k = omega arith
 
 -- ---- numbers on the way
 
 module _ (R : Room) (G : Good R) (s : Spot) (P : Placed R s) where
   pub placed-small : Small (s .at)
   placed-small =
-      let w : Within R (s .at) = rw (P .is) (pos-in R G (s .cell) (P .inside)) in
-      record { x-small = omega (arith, w .x-in, G .x-most); y-small = omega (arith, w .y-in, G .y-most); z-small = omega (arith, w .z-in, G .z-most) }
+      let t = small-pos R G (s .cell) (P .inside) (s .at) (P .is) in
+      record { x-small = t .0; y-small = t .1; z-small = t .2 }
 
 pub rise-few : (R : Room) → Good R → (k : ℕ) → k ≤ 2 → k * R .deep ≤ 128
 rise-few R G k h = mul-le-mul h (G .z-most)
@@ -203,13 +197,3 @@ module _ (C : RouterConfig) (m : Move) (class : ℕ) where
   pub price-bare : (step : ℕ) → class ≢ 2 → step ≡ priceOf C m class .step → step ≡ total (priceOf C m class)
   unfolding priceOf
   price-bare step e f = rw (ne-eqb class 2 e, add-zero) f
-
-  pub price-most : Fair C → total (priceOf C m class) ≤ 200000
-  unfolding priceOf
-  price-most F = omega (arith, step-most, support-most)
-    where
-      step-most : priceOf C m class .step ≤ 100000
-      step-most = ask (flat m) (λ t. rw t (F .horizontal-most)) (λ f. rw f (F .stair-most))
-
-      support-most : priceOf C m class .support ≤ 100000
-      support-most = ask (eqb class 2) (λ t. rw t (F .support-most)) (λ f. rw f (omega arith))

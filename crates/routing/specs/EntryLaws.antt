@@ -89,9 +89,6 @@ module _ (front whole : List ℕ) (v : ℕ) (kept : length front ≡ length (tak
   pub emptied-whole : (after : List ℕ) → after ≡ replicate (length (front ++ drop v whole)) 0 → Emptied whole after
   emptied-whole after e = e ∙ ap (λ (n : ℕ). replicate n 0) (length-front whole front v kept)
 
-pub lent-length : (whole : List ℕ) (v : ℕ) → v ≤ length whole → v ≡ length (take v whole)
-lent-length whole v h = sym (length-take-le v whole h)
-
 pub searchable : {R : Room} {C : RouterConfig} {kinds : List ℕ} {start goal : ℕ} (path known previous classes queue : List ℕ) {v : ℕ}
     → Roomy R C kinds start goal (lengthsOf path known previous classes queue) → v ≡ volume R
     → RoomSearchable R C kinds start goal (take v known) (take v previous) (take v classes) queue

@@ -7,7 +7,7 @@ use native.Mathlib.Nat.{sub-zero}
 use lib.Dec.{leb, ltb, eqb}
 use lib.ListN.{length, getD}
 use borrow.Author.Tests.{leb-true, ltb-true, eqb-true, eq-eqb}
-use Rattle.basics.specs.Tests.{ask, and-left, and-right, never, either-true}
+use Rattle.basics.specs.Tests.{ask, and-left, and-right, never, either-same}
 use Rattle.basics.specs.Lists.{every}
 use Rattle.basics.specs.Promises.{Determines}
 use Rattle.lent.specs.Lent.{touches, Emptied}
@@ -121,7 +121,7 @@ module _ (R : Room) (C : RouterConfig) (kinds : List ℕ) (start goal : ℕ) (pa
 
     goal-is : routeable (taskOf I) goal ≡ routeableKind true (getD kinds goal air)
     unfolding routeable
-    goal-is = rw (eq-eqb goal goal refl, either-true (eqb goal start))
+    goal-is = rw (eq-eqb goal goal refl, either-same (eqb goal start) true)
 
     -- number 10
     pub promise-end : (cell : ℕ) {path′ known′ previous′ classes′ queue′ : List ℕ} → EndsBad cell ≡ endsOf kinds start goal → Emptied path path′ → Emptied known known′ → Emptied previous previous′

@@ -2,10 +2,11 @@
 use Prim.Native.Nat.{_-_}
 use lib.ListN.{length}
 use borrow.Author.Needs.{needs}
-use Rattle.geometry.specs.Along.{Walk, walk-first, walk-next, walk-last, pairWith, laid, lesser}
+use Rattle.geometry.specs.Along.{pairWith, laid, lesser}
 use Rattle.geometry.specs.LayLaws.{cells-in}
 use Rattle.geometry.specs.PairLaws.{first-found, first-missing}
 use Rattle.geometry.proofs.first_pair.Statement.{statement}
+use Rattle.basics.specs.Walks.{Walk, walk-first, walk-next, walk-last}
 use Rattle.geometry.proofs.first_pair.Tie as tie
 
 abbrev Inv-loop : tie.InvT-loop
@@ -39,7 +40,7 @@ loop-less : tie.Need-loop-less Inv-loop μ-loop
 loop-less c = search needs
 
 loop-again : tie.Need-loop-again Inv-loop μ-loop
-loop-again c = walk-next _ _ (c .before .before .before .before .before .loop .inv) (c .before .before .before .before .loop-test .taken) _ (rw (c .before .pair-with .ensures, c .before .before .wide .ensures .0) at (c .lesser-of .ensures))
+loop-again c = walk-next _ _ (c .before .before .before .before .before .loop .inv) 0 (c .before .before .before .before .loop-test .taken) _ (rw (c .before .pair-with .ensures, c .before .before .wide .ensures .0) at (c .lesser-of .ensures))
 
 returns : tie.Need-returns Inv-loop μ-loop
 returns c = let s = c .before .before .before .before .before in first-found _ (s .pre .0) _ _ (cells-in _ _ (s .pre .1 .1 .0)) (s .pre .1 .1 .1) _ _ (s .pre .1 .0) (walk-last _ _ (c .before .before .loop .inv) (c .before .loop-test .left)) (c .if1 .taken)

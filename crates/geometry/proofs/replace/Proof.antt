@@ -4,9 +4,10 @@ use mathlib.Core.Logic.{⊎-elim}
 use Prim.Native.Nat.{_-_}
 use lib.ListN.{length}
 use borrow.Author.Needs.{needs}
-use Rattle.geometry.specs.Along.{Walk, walk-first, walk-next, walk-last, replacedAt}
+use Rattle.geometry.specs.Along.{replacedAt}
 use Rattle.geometry.specs.LayLaws.{one-put, one-kept, walk-length, walk-in}
 use Rattle.geometry.proofs.replace.Statement.{statement}
+use Rattle.basics.specs.Walks.{Walk, walk-first, walk-next, walk-last}
 use Rattle.geometry.proofs.replace.Tie as tie
 
 abbrev Inv-loop : tie.InvT-loop
@@ -47,8 +48,8 @@ loop-again c =
     let more = c .before .before .before .before .loop-test .taken in
     let cell = c .before .before .wide .ensures .0 in
     ⊎-elim
-    (λ w. walk-next _ _ walk more _ (w .1 ∙ one-put _ (args .new) _ _ bytes cell (w .0 .taken)))
-    (λ w. walk-next _ _ walk more _ (w .1 ∙ one-kept _ (args .new) _ _ bytes cell (w .0 .left)))
+    (λ w. walk-next _ _ walk 0 more _ (w .1 ∙ one-put _ (args .new) _ _ bytes cell (w .0 .taken)))
+    (λ w. walk-next _ _ walk 0 more _ (w .1 ∙ one-kept _ (args .new) _ _ bytes cell (w .0 .left)))
     (c .if1 .came)
 
 same-length : tie.Need-same-length Inv-loop μ-loop

@@ -44,7 +44,7 @@ same-length-2 : tie.Need-same-length-2 Inv-loop μ-loop
 same-length-2 c = c .before .loop .inv .0
 
 returns : tie.Need-returns Inv-loop μ-loop
-returns c = sown-all (c .before .loop .inv .1) (c .loop-test .left)
+returns c = sown-all (c .before .loop .inv .1) (omega (arith, c .before .before .before .before .before .before .before .pre .1 .0 .few, c .before .before .before .before .before .before .before .pre .1 .0 .full)) (c .loop-test .left)
 
 pub plan-repeaters-spec : {M : Type 1} → statement M
 plan-repeaters-spec =

@@ -1,9 +1,10 @@
 -- `price` meets its contract: its two cases are the definition's.
 use native.Mathlib.Omega.{arith}
 use Rattle.room_search.specs.Routing.{priceOf}
-use Rattle.room_search.specs.TryLaws.{price-laid, price-bare, price-most}
+use Rattle.room_search.specs.TryLaws.{price-laid, price-bare}
 use borrow.Author.Needs.{needs}
 use Rattle.room_search.proofs.expand.price.Statement.{statement}
+use Rattle.room_search.specs.GraphLaws.{price-low, dearest-most}
 use Rattle.room_search.proofs.expand.price.Tie as tie
 
 step-cost-requires : tie.Need-step-cost-requires
@@ -11,7 +12,7 @@ step-cost-requires c κs = search needs
 
 add-result : tie.Need-add-result
 unfolding priceOf
-add-result c = record { fits = omega (arith, price-most (c .before .before .before .args .config) (c .before .before .before .args .m) (c .before .before .before .args .class) (c .before .before .before .pre), price-laid (c .before .before .before .args .config) (c .before .before .before .args .m) (c .before .before .before .args .class) _ (c .before .if1 .taken) (c .before .before .step-cost .ensures)) }
+add-result c = record { fits = omega (arith, price-low (c .before .before .before .args .config) (c .before .before .before .args .m) (c .before .before .before .args .class), dearest-most (c .before .before .before .pre), price-laid (c .before .before .before .args .config) (c .before .before .before .args .m) (c .before .before .before .args .class) _ (c .before .if1 .taken) (c .before .before .step-cost .ensures)) }
 
 returns : tie.Need-returns
 unfolding priceOf

@@ -3,9 +3,10 @@ use native.Mathlib.Omega.{arith}
 use mathlib.Core.Path.{sym, _∙_}
 use Prim.Native.Nat.{_+_, _-_, _*_}
 use lib.ListN.{getD}
-use Rattle.room_search.specs.TryLaws.{out-below, out-above, landed, placed-small, rise-few, tried-out, tried-shut, tried-offered, price-most}
+use Rattle.room_search.specs.TryLaws.{out-below, out-above, landed, placed-small, rise-few, tried-out, tried-shut, tried-offered}
 use borrow.Author.Needs.{needs}
 use Rattle.room_search.proofs.expand.try_move.Statement.{statement}
+use Rattle.room_search.specs.GraphLaws.{price-low, dearest-most}
 use Rattle.room_search.proofs.expand.try_move.Tie as tie
 
 add-y : tie.Need-add-y
@@ -36,10 +37,10 @@ price-requires : tie.Need-price-requires
 price-requires c κs = search needs
 
 add-offer : tie.Need-add-offer
-add-offer c = let s = c .before .before .before .before .before .before .before .before .before .before .before .before .before .before .before .before .before .before .before in let a = s .args in let p = s .pre .0 in let q = s .pre .1 .0 in record { fits = omega (arith, c .price .ensures, price-most (a .config) (a .m) (getD (a .classes .now) (a .beside .cell + a .m .y * a .room .deep - a .room .deep) 0) (p .fair), p .cost-most) }
+add-offer c = let s = c .before .before .before .before .before .before .before .before .before .before .before .before .before .before .before .before .before .before .before in let a = s .args in let p = s .pre .0 in let q = s .pre .1 .0 in record { fits = omega (arith, c .price .ensures, price-low (a .config) (a .m) (getD (a .classes .now) (a .beside .cell + a .m .y * a .room .deep - a .room .deep) 0), dearest-most (p .fair), p .cost-most) }
 
 offer-requires : tie.Need-offer-requires
-offer-requires c κs = let s = c .before .before .before .before .before .before .before .before .before .before .before .before .before .before .before .before .before .before .before in let a = s .args in let p = s .pre .0 in let q = s .pre .1 .0 in let L = landed (a .room) (p .good) (a .from) (a .beside) (a .m) (p .from-placed) q (c .before .before .before .before .before .before .before .before .before .before .before .before .if1 .left) (c .before .before .before .before .before .before .before .before .before .before .if2 .left) in let most = price-most (a .config) (a .m) (getD (a .classes .now) (a .beside .cell + a .m .y * a .room .deep - a .room .deep) 0) (p .fair) in ((omega (arith, L .inside, p .known-length), p .previous-length ∙ sym (p .known-length), omega (arith, p .known-length, p .good .few)), ((omega (arith, p .from-placed .inside, p .good .few), omega (arith, c .price .ensures, p .cost-most), omega (arith, p .serial-most)), (p .ready, (L .small, placed-small (a .room) (p .good) (a .goal) (p .goal-placed)))))
+offer-requires c κs = let s = c .before .before .before .before .before .before .before .before .before .before .before .before .before .before .before .before .before .before .before in let a = s .args in let p = s .pre .0 in let q = s .pre .1 .0 in let L = landed (a .room) (p .good) (a .from) (a .beside) (a .m) (p .from-placed) q (c .before .before .before .before .before .before .before .before .before .before .before .before .if1 .left) (c .before .before .before .before .before .before .before .before .before .before .if2 .left) in let low = price-low (a .config) (a .m) (getD (a .classes .now) (a .beside .cell + a .m .y * a .room .deep - a .room .deep) 0) in let most = dearest-most (p .fair) in ((omega (arith, L .inside, p .known-length), p .previous-length ∙ sym (p .known-length), omega (arith, p .known-length, p .good .few)), ((omega (arith, p .from-placed .inside, p .good .few), omega (arith, c .price .ensures, p .cost-most), omega (arith, p .serial-most)), (p .ready, (L .small, placed-small (a .room) (p .good) (a .goal) (p .goal-placed)))))
 
 same-length : tie.Need-same-length
 same-length c = c .before .before .before .before .before .before .offer .kept .0

@@ -4,11 +4,12 @@ use mathlib.Core.Path.{refl, sym, ap, _∙_}
 use Prim.Native.Nat.{ℕ}
 use lib.ListN.{length, replicate}
 use Rattle.routing.specs.Entry.{searchTask}
-use Rattle.routing.specs.EntryLaws.{again, again-length, emptied-whole, lent-length, searchable}
+use Rattle.routing.specs.EntryLaws.{again, again-length, emptied-whole, searchable}
 use borrow.Author.Needs.{needs}
 use Rattle.routing.proofs.astar.answer_fit.Statement.{statement}
 use Rattle.room_search.specs.RunLaws.{told-showable}
 use Rattle.room_search.specs.Routing.{graphOf, graph, searched}
+use lib.Seq.{length-take-le}
 use Rattle.routing.proofs.astar.answer_fit.Tie as tie
 
 volume-requires : tie.Need-volume-requires
@@ -18,19 +19,19 @@ slice-relend-prefix-search-room : tie.Need-slice-relend-prefix-search-room
 slice-relend-prefix-search-room c = search needs
 
 slice-aggregate-search-room : tie.Need-slice-aggregate-search-room
-slice-aggregate-search-room c = let s = c .before .before .before .before .before .before .before .before in let a = s .args in let p = s .pre in let v = c .before .volume .result in let e = c .before .volume .ensures in lent-length (a .known .now) v (rw e (p .known-room))
+slice-aggregate-search-room c = let s = c .before .before .before .before .before .before .before .before in let a = s .args in let p = s .pre in let v = c .before .volume .result in let e = c .before .volume .ensures in sym (length-take-le v (a .known .now) (rw e (p .known-room)))
 
 slice-relend-prefix-search-room-2 : tie.Need-slice-relend-prefix-search-room-2
 slice-relend-prefix-search-room-2 c = search needs
 
 slice-aggregate-search-room-2 : tie.Need-slice-aggregate-search-room-2
-slice-aggregate-search-room-2 c = let s = c .before .before .before .before .before .before .before .before .before in let a = s .args in let p = s .pre in let v = c .before .before .volume .result in let e = c .before .before .volume .ensures in lent-length (a .previous .now) v (rw e (p .previous-room))
+slice-aggregate-search-room-2 c = let s = c .before .before .before .before .before .before .before .before .before in let a = s .args in let p = s .pre in let v = c .before .before .volume .result in let e = c .before .before .volume .ensures in sym (length-take-le v (a .previous .now) (rw e (p .previous-room)))
 
 slice-relend-prefix-search-room-3 : tie.Need-slice-relend-prefix-search-room-3
 slice-relend-prefix-search-room-3 c = search needs
 
 slice-aggregate-search-room-3 : tie.Need-slice-aggregate-search-room-3
-slice-aggregate-search-room-3 c = let s = c .before .before .before .before .before .before .before .before .before .before in let a = s .args in let p = s .pre in let v = c .before .before .before .volume .result in let e = c .before .before .before .volume .ensures in lent-length (a .classes .now) v (rw e (p .classes-room))
+slice-aggregate-search-room-3 c = let s = c .before .before .before .before .before .before .before .before .before .before in let a = s .args in let p = s .pre in let v = c .before .before .before .volume .result in let e = c .before .before .before .volume .ensures in sym (length-take-le v (a .classes .now) (rw e (p .classes-room)))
 
 search-room-requires : tie.Need-search-room-requires
 search-room-requires c κs = let s = c .before .before .before .before .before .before .before .before .before .before .before in let a = s .args in let p = s .pre in let v = c .before .before .before .before .volume .result in let e = c .before .before .before .before .volume .ensures in searchable (a .path .now) (a .known .now) (a .previous .now) (a .classes .now) (a .queue .now) p e
@@ -52,7 +53,7 @@ slice-aggregate-answer-of-2 c = let s = c .before .before .before .before .befor
 
 answer-of-requires : tie.Need-answer-of-requires
 unfolding graphOf
-answer-of-requires c κs = let s = c .before .before .before .before .before .before .before .before .before .before .before .before .before .before .before .before .before .before .before .before .before .before .before .before .before .before .before in let a = s .args in let p = s .pre in let v = c .before .before .before .before .before .before .before .before .before .before .before .before .before .before .before .before .before .before .before .before .volume .result in let e = c .before .before .before .before .before .before .before .before .before .before .before .before .before .before .before .before .before .before .before .before .volume .ensures in let K = (c .before .before .before .before .before .before .before .before .before .before .before .before .before .before .before .search-room .last .1 .1 .1 .1 .1 .0) in let Q = (c .before .before .before .before .before .before .before .before .before .before .before .before .before .before .before .search-room .last .1 .1 .1 .1 .1 .1 .0) in let kk = again K (a .known .now) v (c .before .before .before .before .before .before .before .before .before .before .before .before .before .before .before .search-room .kept .1 .1 .1 .1 .1 .0) (rw e (p .known-room)) in let qq = again Q (a .previous .now) v (c .before .before .before .before .before .before .before .before .before .before .before .before .before .before .before .search-room .kept .1 .1 .1 .1 .1 .1 .0) (rw e (p .previous-room)) in let kl = (c .before .before .before .before .before .before .before .before .before .before .before .before .before .before .before .search-room .kept .1 .1 .1 .1 .1 .0) ∙ sym (lent-length (a .known .now) v (rw e (p .known-room))) in let ql = (c .before .before .before .before .before .before .before .before .before .before .before .before .before .before .before .search-room .kept .1 .1 .1 .1 .1 .1 .0) ∙ sym (lent-length (a .previous .now) v (rw e (p .previous-room))) in let F = c .before .before .before .before .before .before .before .before .before .before .before .before .before .before .before .search-room .ensures in let T = searchTask (a .room) (a .config) (a .kinds .now) (a .start) (a .goal) (a .queue .now) in ((rw e (p .goal-in), rw e (p .good .few), ap length kk ∙ kl, ap length qq ∙ ql, rw e (omega (arith, p .path-room, c .before .before .before .before .before .clear-words .kept .0))), (c .before .before .before .before .before .clear-words .ensures ∙ ap (λ (n : ℕ). replicate n 0) (sym (c .before .before .before .before .before .clear-words .kept .0)), rw (kk, qq) (told-showable (graph T) (searched T) (c .before .before .before .before .before .before .before .before .before .before .before .before .before .before .before .search-room .result) K Q (ql ∙ e) (F .told))))
+answer-of-requires c κs = let s = c .before .before .before .before .before .before .before .before .before .before .before .before .before .before .before .before .before .before .before .before .before .before .before .before .before .before .before in let a = s .args in let p = s .pre in let v = c .before .before .before .before .before .before .before .before .before .before .before .before .before .before .before .before .before .before .before .before .volume .result in let e = c .before .before .before .before .before .before .before .before .before .before .before .before .before .before .before .before .before .before .before .before .volume .ensures in let K = (c .before .before .before .before .before .before .before .before .before .before .before .before .before .before .before .search-room .last .1 .1 .1 .1 .1 .0) in let Q = (c .before .before .before .before .before .before .before .before .before .before .before .before .before .before .before .search-room .last .1 .1 .1 .1 .1 .1 .0) in let kk = again K (a .known .now) v (c .before .before .before .before .before .before .before .before .before .before .before .before .before .before .before .search-room .kept .1 .1 .1 .1 .1 .0) (rw e (p .known-room)) in let qq = again Q (a .previous .now) v (c .before .before .before .before .before .before .before .before .before .before .before .before .before .before .before .search-room .kept .1 .1 .1 .1 .1 .1 .0) (rw e (p .previous-room)) in let kl = (c .before .before .before .before .before .before .before .before .before .before .before .before .before .before .before .search-room .kept .1 .1 .1 .1 .1 .0) ∙ length-take-le v (a .known .now) (rw e (p .known-room)) in let ql = (c .before .before .before .before .before .before .before .before .before .before .before .before .before .before .before .search-room .kept .1 .1 .1 .1 .1 .1 .0) ∙ length-take-le v (a .previous .now) (rw e (p .previous-room)) in let F = c .before .before .before .before .before .before .before .before .before .before .before .before .before .before .before .search-room .ensures in let T = searchTask (a .room) (a .config) (a .kinds .now) (a .start) (a .goal) (a .queue .now) in ((rw e (p .goal-in), rw e (p .good .few), ap length kk ∙ kl, ap length qq ∙ ql, rw e (omega (arith, p .path-room, c .before .before .before .before .before .clear-words .kept .0))), (c .before .before .before .before .before .clear-words .ensures ∙ ap (λ (n : ℕ). replicate n 0) (sym (c .before .before .before .before .before .clear-words .kept .0)), rw (kk, qq) (told-showable (graph T) (searched T) (c .before .before .before .before .before .before .before .before .before .before .before .before .before .before .before .search-room .result) K Q (ql ∙ e) (F .told))))
 
 clear-work-requires : tie.Need-clear-work-requires
 clear-work-requires c κs = search needs
@@ -73,7 +74,7 @@ same-length-5 : tie.Need-same-length-5
 same-length-5 c = search needs
 
 returns : tie.Need-returns
-returns c = let s = c .before .before .before .before .before .before .before .before .before .before .before .before .before .before .before .before .before .before .before .before .before .before .before .before .before .before .before .before .before .before .before .before .before .before .before .before .before .before .before .before .before .before .before in let a = s .args in let p = s .pre in let v = c .before .before .before .before .before .before .before .before .before .before .before .before .before .before .before .before .before .before .before .before .before .before .before .before .before .before .before .before .before .before .before .before .before .before .before .before .volume .result in let e = c .before .before .before .before .before .before .before .before .before .before .before .before .before .before .before .before .before .before .before .before .before .before .before .before .before .before .before .before .before .before .before .before .before .before .before .before .volume .ensures in let K = (c .before .before .before .before .before .before .before .before .before .before .before .before .before .before .before .before .before .before .before .before .before .before .before .before .before .before .before .before .before .before .before .search-room .last .1 .1 .1 .1 .1 .0) in let Q = (c .before .before .before .before .before .before .before .before .before .before .before .before .before .before .before .before .before .before .before .before .before .before .before .before .before .before .before .before .before .before .before .search-room .last .1 .1 .1 .1 .1 .1 .0) in let kk = again K (a .known .now) v (c .before .before .before .before .before .before .before .before .before .before .before .before .before .before .before .before .before .before .before .before .before .before .before .before .before .before .before .before .before .before .before .search-room .kept .1 .1 .1 .1 .1 .0) (rw e (p .known-room)) in let qq = again Q (a .previous .now) v (c .before .before .before .before .before .before .before .before .before .before .before .before .before .before .before .before .before .before .before .before .before .before .before .before .before .before .before .before .before .before .before .search-room .kept .1 .1 .1 .1 .1 .1 .0) (rw e (p .previous-room)) in let kl = (c .before .before .before .before .before .before .before .before .before .before .before .before .before .before .before .before .before .before .before .before .before .before .before .before .before .before .before .before .before .before .before .search-room .kept .1 .1 .1 .1 .1 .0) ∙ sym (lent-length (a .known .now) v (rw e (p .known-room))) in let ql = (c .before .before .before .before .before .before .before .before .before .before .before .before .before .before .before .before .before .before .before .before .before .before .before .before .before .before .before .before .before .before .before .search-room .kept .1 .1 .1 .1 .1 .1 .0) ∙ sym (lent-length (a .previous .now) v (rw e (p .previous-room))) in let F = c .before .before .before .before .before .before .before .before .before .before .before .before .before .before .before .before .before .before .before .before .before .before .before .before .before .before .before .before .before .before .before .search-room .ensures in let T = searchTask (a .room) (a .config) (a .kinds .now) (a .start) (a .goal) (a .queue .now) in let S = c .before .before .before .before .before .before .before .before .before .before .before .before .before .before .before .answer-of .ensures .shows T (sym e) refl (rw (kk, qq) F) in record { answer = S .0; path-is = rw (c .before .before .before .before .before .before .before .before .before .before .before .before .before .before .before .before .before .before .before .before .before .clear-words .kept .0) at (S .1); known-is = emptied-whole (c .before .before .before .before .before .before .before .before .before .before .before .before .before .before .before .before .before .before .before .before .before .before .before .before .before .before .before .before .before .before .before .search-room .last .1 .1 .1 .1 .1 .0) (a .known .now) v (c .before .before .before .before .before .before .before .before .before .before .before .before .before .before .before .before .before .before .before .before .before .before .before .before .before .before .before .before .before .before .before .search-room .kept .1 .1 .1 .1 .1 .0) _ (c .before .before .before .before .before .before .before .before .clear-work .ensures .0); previous-is = emptied-whole (c .before .before .before .before .before .before .before .before .before .before .before .before .before .before .before .before .before .before .before .before .before .before .before .before .before .before .before .before .before .before .before .search-room .last .1 .1 .1 .1 .1 .1 .0) (a .previous .now) v (c .before .before .before .before .before .before .before .before .before .before .before .before .before .before .before .before .before .before .before .before .before .before .before .before .before .before .before .before .before .before .before .search-room .kept .1 .1 .1 .1 .1 .1 .0) _ (c .before .before .before .before .before .before .before .before .clear-work .ensures .1); classes-is = emptied-whole (c .before .before .before .before .before .before .before .before .before .before .before .before .before .before .before .before .before .before .before .before .before .before .before .before .before .before .before .before .before .before .before .search-room .last .1 .1 .1 .1 .1 .1 .1 .0) (a .classes .now) v (c .before .before .before .before .before .before .before .before .before .before .before .before .before .before .before .before .before .before .before .before .before .before .before .before .before .before .before .before .before .before .before .search-room .kept .1 .1 .1 .1 .1 .1 .1 .0) _ (c .before .before .before .before .before .before .before .before .clear-work .ensures .2); queue-is = c .before .before .before .before .before .before .before .before .clear-work .ensures .3 ∙ ap (λ (n : ℕ). replicate n 0) (c .before .before .before .before .before .before .before .before .before .before .before .before .before .before .before .before .before .before .before .before .before .before .before .before .before .before .before .before .before .before .before .search-room .kept .1 .1 .1 .1 .1 .1 .1 .1 .0) }
+returns c = let s = c .before .before .before .before .before .before .before .before .before .before .before .before .before .before .before .before .before .before .before .before .before .before .before .before .before .before .before .before .before .before .before .before .before .before .before .before .before .before .before .before .before .before .before in let a = s .args in let p = s .pre in let v = c .before .before .before .before .before .before .before .before .before .before .before .before .before .before .before .before .before .before .before .before .before .before .before .before .before .before .before .before .before .before .before .before .before .before .before .before .volume .result in let e = c .before .before .before .before .before .before .before .before .before .before .before .before .before .before .before .before .before .before .before .before .before .before .before .before .before .before .before .before .before .before .before .before .before .before .before .before .volume .ensures in let K = (c .before .before .before .before .before .before .before .before .before .before .before .before .before .before .before .before .before .before .before .before .before .before .before .before .before .before .before .before .before .before .before .search-room .last .1 .1 .1 .1 .1 .0) in let Q = (c .before .before .before .before .before .before .before .before .before .before .before .before .before .before .before .before .before .before .before .before .before .before .before .before .before .before .before .before .before .before .before .search-room .last .1 .1 .1 .1 .1 .1 .0) in let kk = again K (a .known .now) v (c .before .before .before .before .before .before .before .before .before .before .before .before .before .before .before .before .before .before .before .before .before .before .before .before .before .before .before .before .before .before .before .search-room .kept .1 .1 .1 .1 .1 .0) (rw e (p .known-room)) in let qq = again Q (a .previous .now) v (c .before .before .before .before .before .before .before .before .before .before .before .before .before .before .before .before .before .before .before .before .before .before .before .before .before .before .before .before .before .before .before .search-room .kept .1 .1 .1 .1 .1 .1 .0) (rw e (p .previous-room)) in let kl = (c .before .before .before .before .before .before .before .before .before .before .before .before .before .before .before .before .before .before .before .before .before .before .before .before .before .before .before .before .before .before .before .search-room .kept .1 .1 .1 .1 .1 .0) ∙ length-take-le v (a .known .now) (rw e (p .known-room)) in let ql = (c .before .before .before .before .before .before .before .before .before .before .before .before .before .before .before .before .before .before .before .before .before .before .before .before .before .before .before .before .before .before .before .search-room .kept .1 .1 .1 .1 .1 .1 .0) ∙ length-take-le v (a .previous .now) (rw e (p .previous-room)) in let F = c .before .before .before .before .before .before .before .before .before .before .before .before .before .before .before .before .before .before .before .before .before .before .before .before .before .before .before .before .before .before .before .search-room .ensures in let T = searchTask (a .room) (a .config) (a .kinds .now) (a .start) (a .goal) (a .queue .now) in let S = c .before .before .before .before .before .before .before .before .before .before .before .before .before .before .before .answer-of .ensures .shows T (sym e) refl (rw (kk, qq) F) in record { answer = S .0; path-is = rw (c .before .before .before .before .before .before .before .before .before .before .before .before .before .before .before .before .before .before .before .before .before .clear-words .kept .0) at (S .1); known-is = emptied-whole (c .before .before .before .before .before .before .before .before .before .before .before .before .before .before .before .before .before .before .before .before .before .before .before .before .before .before .before .before .before .before .before .search-room .last .1 .1 .1 .1 .1 .0) (a .known .now) v (c .before .before .before .before .before .before .before .before .before .before .before .before .before .before .before .before .before .before .before .before .before .before .before .before .before .before .before .before .before .before .before .search-room .kept .1 .1 .1 .1 .1 .0) _ (c .before .before .before .before .before .before .before .before .clear-work .ensures .0); previous-is = emptied-whole (c .before .before .before .before .before .before .before .before .before .before .before .before .before .before .before .before .before .before .before .before .before .before .before .before .before .before .before .before .before .before .before .search-room .last .1 .1 .1 .1 .1 .1 .0) (a .previous .now) v (c .before .before .before .before .before .before .before .before .before .before .before .before .before .before .before .before .before .before .before .before .before .before .before .before .before .before .before .before .before .before .before .search-room .kept .1 .1 .1 .1 .1 .1 .0) _ (c .before .before .before .before .before .before .before .before .clear-work .ensures .1); classes-is = emptied-whole (c .before .before .before .before .before .before .before .before .before .before .before .before .before .before .before .before .before .before .before .before .before .before .before .before .before .before .before .before .before .before .before .search-room .last .1 .1 .1 .1 .1 .1 .1 .0) (a .classes .now) v (c .before .before .before .before .before .before .before .before .before .before .before .before .before .before .before .before .before .before .before .before .before .before .before .before .before .before .before .before .before .before .before .search-room .kept .1 .1 .1 .1 .1 .1 .1 .0) _ (c .before .before .before .before .before .before .before .before .clear-work .ensures .2); queue-is = c .before .before .before .before .before .before .before .before .clear-work .ensures .3 ∙ ap (λ (n : ℕ). replicate n 0) (c .before .before .before .before .before .before .before .before .before .before .before .before .before .before .before .before .before .before .before .before .before .before .before .before .before .before .before .before .before .before .before .search-room .kept .1 .1 .1 .1 .1 .1 .1 .1 .0) }
 
 pub answer-fit-spec : {M : Type 1} → statement M
 answer-fit-spec =

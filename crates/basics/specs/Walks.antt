@@ -1,0 +1,29 @@
+-- A loop over a list: what one member after another makes of a value.
+use mathlib.Core.Path.{_≡_, refl, sym, ap, _∙_}
+use mathlib.Core.List.{List, [], _∷_}
+use Prim.Native.Nat.{ℕ, _+_, _≤_, _<_}
+use native.Mathlib.Omega.{arith}
+use lib.ListN.{length, getD, drop, drop-of-length-le}
+use Rattle.basics.specs.Lists.{drop-next}
+
+unfoldable pub along : {A X : Type 0} → (A → X → X) → List A → X → X
+along step [] x = x
+along step (a ∷ rest) x = along step rest (step a x)
+
+-- The walk after i members: what is left, from the value of now, makes what the whole makes of the value at the start
+pub record Walk {A X : Type 0} (step : A → X → X) (list : List A) (start x : X) (i : ℕ) : Type 0 where
+  pub within : i ≤ length list
+  pub left : along step (drop i list) x ≡ along step list start
+
+module _ {A X : Type 0} (step : A → X → X) (list : List A) where
+  pub walk-first : (start : X) → Walk step list start start 0
+  walk-first start = record { within = omega arith; left = refl }
+
+  module _ {start x : X} {i : ℕ} (walk : Walk step list start x i) where
+    pub walk-next : (d : A) → i < length list → (y : X) → y ≡ step (getD list i d) x → Walk step list start y (i + 1)
+    unfolding along
+    walk-next d h y e = record { within = omega arith; left = rw e (sym (ap (λ (rest : List A). along step rest x) (drop-next list i d h)) ∙ walk .left) }
+
+    pub walk-last : length list ≤ i → x ≡ along step list start
+    unfolding along
+    walk-last h = rw (drop-of-length-le list h) at (walk .left)
