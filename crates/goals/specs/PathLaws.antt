@@ -20,7 +20,7 @@ use Rattle.best_first.specs.Reached.{Ending, empty, arrives, passes, fills, end
 use Rattle.best_first.specs.Theorems.{honest}
 use Rattle.room_search.specs.Routing.{Task, routeable, entering, graphOf, graph, searched}
 use Rattle.room_search.specs.GraphLaws.{sound}
-use Rattle.room_search.specs.Traces.{path-short}
+use Rattle.trace.specs.TraceLaws.{path-short}
 use Rattle.routing_resources.specs.Resources.{clearanceOf}
 use Rattle.routing_resources.specs.ResourceLaws.{clearance-in}
 use Rattle.geometry.specs.Geometry.{orElse, firstPair, ifPassed, atClearance, stairConflict, conflictAmong, conflictOf, upperOfPair, conductor, standsIn}

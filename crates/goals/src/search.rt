@@ -5,7 +5,7 @@ ghost use Prim.Native.Nat.{_≤_, _<_, pred};
 ghost use lib.ListN.{length, getD};
 ghost use Rattle.room.specs.Room.{volume};
 ghost use Rattle.best_first.specs.Search.{trace};
-ghost use Rattle.room_search.specs.Traces.{Linked};
+ghost use Rattle.trace.specs.Traces.{Linked};
 ghost use Rattle.room_search.specs.Turns.{Searchable, Showable};
 ghost use Rattle.goals.specs.Goals.{found};
 ghost use Rattle.goals.specs.Trials.{Tells, bothRouteable, Shown, SearchTold};
@@ -39,8 +39,7 @@ fn write_route(
     requires { ⌜ 0 < getD (now known) goal 0 ⌝ }
     ensures { λ r. ⌜ Tells (found (trace cells (now (previous .entry)) goal []) (pred (getD (now (known .entry)) goal 0))) r (now (path .exit)) ⌝ }
 {
-    let length = room_search::trace_length(previous, goal, cells);
-    room_search::trace_into(previous, goal, cells, path, length);
+    let length = trace::path_to(previous, goal, cells, path);
     Tried::Found {
         length: length,
         cost: Cost(known[goal] - 1),

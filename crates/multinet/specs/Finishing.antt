@@ -14,7 +14,7 @@ use Rattle.branches.specs.declared.BranchLengths.{BranchLengths}
 use Rattle.branches.specs.Branches.{SheetOrder, LengthsOf, Short}
 use Rattle.repeaters.specs.Repeaters.{repeaterMarks}
 use Rattle.multinet.specs.Tree.{endMarks, sourceMarks}
-use Rattle.multinet.specs.StepLaws.{Steps}
+use Rattle.repeaters.specs.Joins.{Steps}
 
 -- the net's ends are in a room that has these marks, one a cell
 pub record EndsIn (source : ℕ) (k : Taps) (marks : List ℕ) : Type 0 where

@@ -20,10 +20,9 @@ use Rattle.branches.specs.declared.BranchLengths.{BranchLengths}
 use Rattle.branches.specs.Branches.{lengthsIn}
 use Rattle.branches.specs.BranchLaws.{below-append, lengths-total}
 use Rattle.repeaters.specs.Repeaters.{cutInto, branchesOf, repeaterMarks}
-use Rattle.repeaters.specs.Joins.{AllStepping}
+use Rattle.repeaters.specs.Joins.{Steps, AllSteps}
 use Rattle.repeaters.specs.Sinks as repeating
 use Rattle.multinet.specs.Tree.{endAt, isEnd}
-use Rattle.multinet.specs.StepLaws.{Steps, steps-stepping}
 use Rattle.multinet.specs.Finishing.{EndsIn, Holds, Finishable, Finished}
 use Rattle.multinet.specs.Adding.{usedBy}
 
@@ -54,9 +53,9 @@ cut-joined (b ∷ bs) rest =
     let e : (b ++ joined bs) ++ rest ≡ b ++ (joined bs ++ rest) = append-assoc b (joined bs) rest in
     rw (e, take-at b (joined bs ++ rest) (length b) refl, drop-at b (joined bs ++ rest) (length b) refl) (ap (λ l. b ∷ l) (cut-joined bs rest))
 
-all-stepping : (R : Room) (bs : List (List ℕ)) → ((i : ℕ) → i < length bs → Steps R (getD bs i [])) → AllStepping R bs
-all-stepping R [] f = tt {0}
-all-stepping R (b ∷ bs) f = (steps-stepping R b (f 0 (omega arith)), all-stepping R bs (λ i h. f (suc i) (omega arith)))
+all-steps : (R : Room) (bs : List (List ℕ)) → ((i : ℕ) → i < length bs → Steps R (getD bs i [])) → AllSteps R bs
+all-steps R [] f = tt {0}
+all-steps R (b ∷ bs) f = (f 0 (omega arith), all-steps R bs (λ i h. f (suc i) (omega arith)))
 
 all-below : (R : Room) (bs : List (List ℕ)) → ((i : ℕ) → i < length bs → AllCells R (getD bs i [])) → CellsBelow (volume R) (joined bs)
 all-below R [] f = record { below = λ i h. absurd (omega arith) }
@@ -107,7 +106,7 @@ module _ {R : Room} {source : ℕ} {k : Taps} {L : BranchLengths} {branches occu
       full = F .lengths-short .whole;
       few = F .few;
       within = used-fits refl;
-      stepping = rw (branches-back (F .holds)) (all-stepping R (F .bs) (λ i h. F .steps i (omega (arith, F .holds .count-is))));
+      steps = rw (branches-back (F .holds)) (all-steps R (F .bs) (λ i h. F .steps i (omega (arith, F .holds .count-is))));
     };
     forbidden-long = rw f (with-length 1 (isEnd source k) forbidden ∙ none-long forbidden (F .forbidden-clear));
     unmarked = F .repeaters-clear;

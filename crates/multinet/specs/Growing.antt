@@ -12,8 +12,9 @@ use Rattle.geometry.specs.Geometry.{standsIn, conflictOf, NoPair, Marks}
 use Rattle.turns.specs.Turns.{far, turnOf}
 use Rattle.goals.specs.Goals.{Site}
 use Rattle.branches.specs.Branches.{SheetOrder, LengthsOf, longestBranch}
+use Rattle.repeaters.specs.Joins.{Steps}
 use Rattle.multinet.specs.Tree.{Plot, Tree, tapAt, growFrom, growthOf, sourceMarks}
-use Rattle.multinet.specs.StepLaws.{Steps, Near}
+use Rattle.multinet.specs.StepLaws.{Near}
 use Rattle.ends.specs.Ends.{NetIn}
 
 -- a plot that no number up to 9 refuses

@@ -26,8 +26,9 @@ use Rattle.turns.specs.TurnLaws.{its-turn}
 use Rattle.goals.specs.Goals.{Site, Trial, found, failed, full, routeToTree}
 use Rattle.branches.specs.Branches.{branchOf, allButLast, inserted, longestBranch}
 use Rattle.branches.specs.BranchLaws.{branch-short, branch-below, but-last-in, joined-none, joined-set, order-kept, behind-kept, inserted-long, lengths-set}
+use Rattle.repeaters.specs.Joins.{Steps}
 use Rattle.multinet.specs.Tree.{Plot, Tree, grown, stopped, tapAt, siteAt, sinkNow, withBranch, afterSink, growSink, growOn, growFrom, growthOf}
-use Rattle.multinet.specs.StepLaws.{Steps, branch-steps}
+use Rattle.multinet.specs.StepLaws.{branch-steps}
 use Rattle.multinet.specs.Growing.{Sound, Way, turnIn, branchIn, Sprouted, Growing}
 use Rattle.geometry.specs.PairLaws.{first-passed}
 use Rattle.room.specs.RoomLaws.{same-cell}

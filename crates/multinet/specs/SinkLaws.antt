@@ -20,7 +20,7 @@ use Rattle.multinet.specs.declared.Turned.{Turned}
 use Rattle.multinet.specs.declared.Turned.the-variants.{Skipped, QueueFull, NoGoal}
 use Rattle.multinet.specs.Adding.{beforeSink, usedBy, Placeable, BranchPlaced, no-room, placed}
 use Rattle.multinet.specs.Tree.{Plot, tapAt, siteAt, sinkNow}
-use Rattle.multinet.specs.StepLaws.{stepping-steps}
+use Rattle.multinet.specs.StepLaws.{steps-by-place}
 use Rattle.multinet.specs.Growing.{Sound, Way, Growing}
 use Rattle.multinet.specs.GrowingLaws.{way-some, sink-now, sink-in-tree, sink-empty, no-sink, sink-fails, sink-full, sink-no-room, sink-grows}
 use Rattle.multinet.specs.Sinks.{Findable, Turnable, TurnCame}
@@ -87,7 +87,7 @@ module _ {P : Plot} {turn : ℕ} {L : BranchLengths} {outset start-buffer joinab
         record {
           rest = w .rest;
           begins = w .begins;
-          steps = stepping-steps (P .room) path (joins-steps i J);
+          steps = steps-by-place (P .room) path (joins-steps i J);
           short = joins-short i J;
           cells-in = joins-cells i J;
           free = J .reaches .free;

@@ -2,7 +2,7 @@
 use mathlib.Core.Path.{_≡_}
 use mathlib.Core.Logic.{_⊎_, inl, inr}
 use mathlib.Core.List.{List, [], _∷_, _++_, reverse, reverse-cons, append-nil}
-use Prim.Native.Nat.{ℕ, zero, suc, _+_, _<_}
+use Prim.Native.Nat.{ℕ, suc, _+_, _<_}
 use native.Mathlib.Nat.{suc-add}
 use native.Mathlib.Omega.{arith}
 use lib.Dec.{eqb}
@@ -13,28 +13,13 @@ use Rattle.room.specs.declared.Room.{Room}
 use Rattle.room.specs.Room.{Good, Step}
 use Rattle.ends.specs.declared.Tap.{Tap}
 use Rattle.branches.specs.Branches.{branchOf}
-use Rattle.repeaters.specs.Joins.{Stepping}
+use Rattle.repeaters.specs.Joins.{Steps}
 use Rattle.repeaters.specs.JoinLaws.{step-back}
 
--- each cell is one step from the next
-abbrev pub Steps : Room → List ℕ → Type 0
-Steps R [] = Unit {0}
-Steps R (a ∷ []) = Unit {0}
-Steps R (a ∷ (b ∷ rest)) = Step R a b × Steps R (b ∷ rest)
-
-pub steps-stepping : (R : Room) (l : List ℕ) → Steps R l → Stepping R l
-steps-stepping R l s = record { step = λ i h. at l s i h }
-  where
-    at : (l : List ℕ) → Steps R l → (i : ℕ) → i + 1 < length l → Step R (getD l i 0) (getD l (i + 1) 0)
-    at [] s i h = absurd (omega arith)
-    at (a ∷ []) s i h = absurd (omega arith)
-    at (a ∷ (b ∷ rest)) s zero h = s .0
-    at (a ∷ (b ∷ rest)) s (suc i) h = rw (suc-add i 1) (at (b ∷ rest) (s .1) i (omega arith))
-
-pub stepping-steps : (R : Room) (l : List ℕ) → ((i : ℕ) → i + 1 < length l → Step R (getD l i 0) (getD l (i + 1) 0)) → Steps R l
-stepping-steps R [] f = tt {0}
-stepping-steps R (a ∷ []) f = tt {0}
-stepping-steps R (a ∷ (b ∷ rest)) f = (f 0 (omega arith), stepping-steps R (b ∷ rest) (λ i h. rw (suc-add i 1) at (f (suc i) (omega arith))))
+pub steps-by-place : (R : Room) (l : List ℕ) → ((i : ℕ) → i + 1 < length l → Step R (getD l i 0) (getD l (i + 1) 0)) → Steps R l
+steps-by-place R [] f = tt {0}
+steps-by-place R (a ∷ []) f = tt {0}
+steps-by-place R (a ∷ (b ∷ rest)) f = (f 0 (omega arith), steps-by-place R (b ∷ rest) (λ i h. rw (suc-add i 1) at (f (suc i) (omega arith))))
 
 -- one step more at the end
 one-more : (R : Room) (xs : List ℕ) (u v : ℕ) → Steps R (xs ++ (u ∷ [])) → Step R u v → Steps R ((xs ++ (u ∷ [])) ++ (v ∷ []))

@@ -19,19 +19,21 @@ use Rattle.repeaters.specs.Links.{orderedMove}
 -- ---- what is asked of the branches
 
 -- each cell of the branch is one step from the next
-pub record Stepping (R : Room) (branch : List ℕ) : Type 0 where
-  pub step : (i : ℕ) → i + 1 < length branch → Step R (getD branch i 0) (getD branch (i + 1) 0)
+abbrev pub Steps : Room → List ℕ → Type 0
+Steps R [] = Unit {0}
+Steps R (a ∷ []) = Unit {0}
+Steps R (a ∷ (b ∷ rest)) = Step R a b × Steps R (b ∷ rest)
 
-abbrev pub AllStepping : Room → List (List ℕ) → Type 0
-AllStepping R [] = Unit {0}
-AllStepping R (branch ∷ branches) = Stepping R branch × AllStepping R branches
+abbrev pub AllSteps : Room → List (List ℕ) → Type 0
+AllSteps R [] = Unit {0}
+AllSteps R (branch ∷ branches) = Steps R branch × AllSteps R branches
 
 -- the branches stand one behind the other in the buffer
 pub record Laid (R : Room) (L : BranchLengths) (cells : List ℕ) : Type 0 where
   pub full : length (L .each) ≡ 16
   pub few : L .count ≤ 16
   pub within : total (lengthsIn L) ≤ length cells
-  pub stepping : AllStepping R (branchesOf L cells)
+  pub steps : AllSteps R (branchesOf L cells)
 
 -- ---- the masks
 

@@ -22,7 +22,7 @@ use Rattle.room.specs.MoveLaws.{leads}
 use Rattle.best_first.specs.Statements.{bit}
 use Rattle.repeaters.specs.Repeaters.{cellsFrom, treeNeighbours, isStep, besideOn, neighbouring}
 use Rattle.repeaters.specs.Links.{orderedMoves, orderedMove, consPlace, cellsBy, linkedCells}
-use Rattle.repeaters.specs.Joins.{AllStepping, maskOf, isLink, stepIndex, Masks, Joined}
+use Rattle.repeaters.specs.Joins.{Steps, AllSteps, maskOf, isLink, stepIndex, Masks, Joined}
 use Rattle.repeaters.specs.JoinLaws.{mask-low, mask-rest, masks-same, masks-none, step-back, step-in, step-ordered}
 
 -- ---- two ascending lists with the same members are one
@@ -204,30 +204,27 @@ module _ {R : Room} (G : Good R) where
       (λ t. let q = both-eq b a u v t in rw (← q .0, ← q .1) (step-back s G))
       (or-cases (eqb a u && eqb b v) _ e)
 
-  beside-step : (branch : List ℕ) → ((i : ℕ) → i + 1 < length branch → Step R (getD branch i 0) (getD branch (i + 1) 0)) → (u v : ℕ) → besideOn branch u v ≡ true → Step R u v
+  beside-step : (branch : List ℕ) → Steps R branch → (u v : ℕ) → besideOn branch u v ≡ true → Step R u v
   unfolding besideOn
   beside-step [] s u v e = never (cc)
   beside-step (a ∷ []) s u v e = never (cc)
   beside-step (a ∷ (b ∷ rest)) s u v e =
       ⊎-elim {C = Step R u v}
-      (λ t. step-either a b u v (s 0 (omega arith)) t)
-      (λ t. beside-step (b ∷ rest) (λ i h. next i h) u v t)
+      (λ t. step-either a b u v (s .0) t)
+      (λ t. beside-step (b ∷ rest) (s .1) u v t)
       (or-cases (isStep a b u v) _ e)
-    where
-      next : (i : ℕ) → i + 1 < length (b ∷ rest) → Step R (getD (b ∷ rest) i 0) (getD (b ∷ rest) (i + 1) 0)
-      next i h = rw (add-one i) (rw (add-one (suc i)) at (s (suc i) (omega arith)))
 
-  neighbour-step : (branches : List (List ℕ)) → AllStepping R branches → (u v : ℕ) → neighbouring branches u v ≡ true → Step R u v
+  neighbour-step : (branches : List (List ℕ)) → AllSteps R branches → (u v : ℕ) → neighbouring branches u v ≡ true → Step R u v
   unfolding neighbouring
   neighbour-step [] s u v e = never (cc)
   neighbour-step (branch ∷ branches) s u v e =
       ⊎-elim {C = Step R u v}
-      (λ t. beside-step branch (s .0 .step) u v t)
+      (λ t. beside-step branch (s .0) u v t)
       (λ t. neighbour-step branches (s .1) u v t)
       (or-cases (besideOn branch u v) _ e)
 
   -- ---- and the masks lead to them
-  module _ (branches : List (List ℕ)) (S : AllStepping R branches) (links : List ℕ) (M : Masks R (neighbouring branches) links) where
+  module _ (branches : List (List ℕ)) (S : AllSteps R branches) (links : List ℕ) (M : Masks R (neighbouring branches) links) where
     module _ (u : ℕ) (u-in : u < volume R) where
       by-links : linkedCells R links u ≡ picked R (posOf R u) (isLink R (neighbouring branches) u) orderedMoves
       unfolding linkedCells orderedMoves moves
@@ -269,6 +266,6 @@ module _ {R : Room} (G : Good R) where
         all u = ask (ltb u (volume R)) (λ t. near u (ltb-true u (volume R) t)) (λ f. far u (ltb-false u (volume R) f))
 
 -- cells joined from none on are those of the branches
-pub tree-joined : {R : Room} → Good R → (branches : List (List ℕ)) → AllStepping R branches → {start links : List ℕ} → start ≡ replicate (volume R) 0
+pub tree-joined : {R : Room} → Good R → (branches : List (List ℕ)) → AllSteps R branches → {start links : List ℕ} → start ≡ replicate (volume R) 0
     → Joined R (neighbouring branches) start links → linkedCells R links ≡ treeNeighbours branches (volume R)
 tree-joined {R} G branches S e J = linked-neighbours G branches S _ (masks-same (λ u v. or-false (neighbouring branches u v)) (J .goes (λ u v. false) (rw e (masks-none R))))

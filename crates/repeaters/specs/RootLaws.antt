@@ -19,7 +19,7 @@ use Rattle.room.specs.Room.{volume}
 use Rattle.best_first.specs.Lists.{marked, marked-le, marked-none, marked-new}
 use Rattle.best_first.specs.Search.{trace}
 use Rattle.best_first.specs.Equations.{trace-start, trace-back}
-use Rattle.room_search.specs.Traces.{Linked, traceLength, trace-length}
+use Rattle.trace.specs.Traces.{Linked}
 use Rattle.repeaters.specs.Repeaters.{Wave, wave, meet, meetAll, spread, firstParents, parentsFrom, rootPath}
 use Rattle.repeaters.specs.Links.{orderedMoves, orderedMove, linkedPlace, consPlace, cellsBy, linkedCells}
 use Rattle.repeaters.specs.LinkLaws.{cellsLeft, cells-more, cells-none}
@@ -250,10 +250,10 @@ module _ {R : Room} {source : ℕ} {links : List ℕ} where
 
 -- ---- the path by parents
 
-pub traced : (parents line : List ℕ) {line′ : List ℕ} (cell : ℕ) {count : ℕ} → count ≡ traceLength (length parents) parents cell → count ≤ length line
+pub traced : (parents line : List ℕ) {line′ : List ℕ} (cell : ℕ) {count : ℕ} → count ≡ length (rootPath parents cell) → count ≤ length line
     → length line′ ≡ length line → line′ ≡ rootPath parents cell ++ drop count line → Traced parents cell line′ count
 traced parents line cell {count} e h k f = record {
-  is = ap (take count) f ∙ take-at (rootPath parents cell) (drop count line) count (trace-length (length parents) parents cell [] ∙ rw (← e) (omega arith));
+  is = ap (take count) f ∙ take-at (rootPath parents cell) (drop count line) count (sym e);
   room = omega arith;
 }
 

@@ -8,7 +8,7 @@ use lib.Seq.{slice}
 use Rattle.room.specs.declared.Room.{Room}
 use Rattle.room.specs.Room.{volume}
 use Rattle.best_first.specs.Lists.{marked}
-use Rattle.room_search.specs.Traces.{Linked}
+use Rattle.trace.specs.Traces.{Linked}
 use Rattle.repeaters.specs.Repeaters.{wave, meetAll, parentsFrom, rootPath}
 use Rattle.repeaters.specs.Links.{linkedCells}
 

@@ -5,7 +5,7 @@ use Prim.Native.Nat.{ℕ, _≤_, _<_}
 use lib.ListN.{length, getD}
 use Rattle.room.specs.declared.Room.{Room}
 use Rattle.room.specs.Room.{Good, volume}
-use Rattle.room_search.specs.Traces.{Linked}
+use Rattle.trace.specs.Traces.{Linked}
 use Rattle.routing_resources.specs.Marks.{noMarks}
 use Rattle.ends.specs.declared.Taps.{Taps}
 use Rattle.ends.specs.Ends.{noTap}

@@ -2,18 +2,19 @@
 use mathlib.Core.Path.{_≡_, refl}
 use mathlib.Core.Bool.{Bool, false, _||_}
 use mathlib.Core.List.{List, [], _∷_}
-use Prim.Native.Nat.{ℕ, _+_, _-_, _≤_, _<_}
-use native.Mathlib.Nat.{le-of-suc-le-suc, not-suc-le-zero}
+use Prim.Native.Nat.{ℕ, zero, suc, _+_, _-_, _≤_, _<_}
+use native.Mathlib.Nat.{le-of-suc-le-suc, not-suc-le-zero, suc-add}
 use native.Mathlib.Numerals.{add-one}
 use native.Mathlib.Omega.{arith}
 use lib.ListN.{length, getD, take, drop, length-drop}
 use lib.Seq.{drop-cons, drop-drop, slice-cons, slice-empty}
 use Rattle.basics.specs.Lists.{drop-next}
 use Rattle.room.specs.declared.Room.{Room}
+use Rattle.room.specs.Room.{Step}
 use Rattle.branches.specs.declared.BranchLengths.{BranchLengths}
 use Rattle.branches.specs.Branches.{total, lengthsIn}
 use Rattle.repeaters.specs.Repeaters.{cutInto, branchesOf, isStep, besideOn, neighbouring}
-use Rattle.repeaters.specs.Joins.{Stepping, AllStepping, Laid, Joined}
+use Rattle.repeaters.specs.Joins.{Steps, AllSteps, Laid, Joined}
 use Rattle.repeaters.specs.JoinLaws.{Adding, adding-none, adding-next, adding-all}
 
 -- ---- the steps of one branch
@@ -37,17 +38,23 @@ one-cell (a ∷ (b ∷ rest)) h u v = absurd (not-suc-le-zero (le-of-suc-le-suc 
 pub no-steps : (branch : List ℕ) (i : ℕ) → length branch ≤ i + 1 → (u v : ℕ) → stepsFrom branch i u v ≡ false
 no-steps branch i h u v = one-cell (drop i branch) (rw (length-drop i branch) (omega arith)) u v
 
+pub step-at : (R : Room) (branch : List ℕ) → Steps R branch → (i : ℕ) → i + 1 < length branch → Step R (getD branch i 0) (getD branch (i + 1) 0)
+step-at R [] s i h = absurd (omega arith)
+step-at R (a ∷ []) s i h = absurd (omega arith)
+step-at R (a ∷ (b ∷ rest)) s zero h = s .0
+step-at R (a ∷ (b ∷ rest)) s (suc i) h = rw (suc-add i 1) (step-at R (b ∷ rest) (s .1) i (omega arith))
+
 -- ---- the branches
 
 pub record Laying (R : Room) (L : BranchLengths) (cells start links : List ℕ) (from k : ℕ) : Type 0 where
   pub within : k ≤ L .count
   pub room : from + total (drop k (lengthsIn L)) ≤ length cells
-  pub stepping : AllStepping R (cutInto (drop k (lengthsIn L)) (drop from cells))
+  pub steps : AllSteps R (cutInto (drop k (lengthsIn L)) (drop from cells))
   pub adding : Adding R (neighbouring (cutInto (drop k (lengthsIn L)) (drop from cells))) (neighbouring (branchesOf L cells)) start links
 
 module _ {R : Room} {L : BranchLengths} {cells start : List ℕ} (D : Laid R L cells) where
   pub laying-none : Laying R L cells start start 0 0
-  laying-none = record { within = omega arith; room = omega (arith, D .within); stepping = D .stepping; adding = adding-none }
+  laying-none = record { within = omega arith; room = omega (arith, D .within); steps = D .steps; adding = adding-none }
 
   module _ {links : List ℕ} {from k : ℕ} (I : Laying R L cells start links from k) where
     module _ (h : k < L .count) (to : ℕ) (e : to ≡ from + getD (L .each) k 0) where
@@ -68,21 +75,21 @@ module _ {R : Room} {L : BranchLengths} {cells start : List ℕ} (D : Laid R L c
       unfolding total
       more = rw first
 
-      left-stepping : AllStepping R (take (to - from) (drop from cells) ∷ cutInto (drop (k + 1) (lengthsIn L)) (drop to cells))
-      left-stepping = rw cut at (I .stepping)
+      left-steps : AllSteps R (take (to - from) (drop from cells) ∷ cutInto (drop (k + 1) (lengthsIn L)) (drop to cells))
+      left-steps = rw cut at (I .steps)
 
       pub branch-in : to ≤ length cells
       branch-in = omega (arith, I .room, more)
 
-      pub branch-stepping : Stepping R (take (to - from) (drop from cells))
-      branch-stepping = left-stepping .0
+      pub branch-steps : Steps R (take (to - from) (drop from cells))
+      branch-steps = left-steps .0
 
       pub laying-next : {links′ : List ℕ} → Joined R (besideOn (take (to - from) (drop from cells))) links links′ → Laying R L cells start links′ to (k + 1)
       unfolding neighbouring
       laying-next J = record {
         within = omega arith;
         room = omega (arith, I .room, more);
-        stepping = left-stepping .1;
+        steps = left-steps .1;
         adding = adding-next (I .adding) (besideOn (take (to - from) (drop from cells))) _ J (λ u v. rw cut);
       }
 

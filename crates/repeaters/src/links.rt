@@ -13,7 +13,7 @@ ghost use lib.ListN.{length, replicate};
 ghost use Rattle.room.specs.Room.{Good, Within, volume, posOf, Step};
 ghost use Rattle.repeaters.specs.Links.{orderedMoves, orderedMove, linkedPlace, insideCount, cellsBy, linkedCells};
 ghost use Rattle.repeaters.specs.Repeaters.{branchesOf, isStep, besideOn, treeNeighbours};
-ghost use Rattle.repeaters.specs.Joins.{Stepping, Laid, Masked, Joined, moveIndex, stepIndex};
+ghost use Rattle.repeaters.specs.Joins.{Steps, Laid, Masked, Joined, moveIndex, stepIndex};
 
 // The places of the moves among Room::MOVES, in the number order of the cells that they lead to.
 const NUMBER_ORDER: [usize; 12] = [3, 4, 5, 9, 6, 10, 7, 11, 8, 0, 1, 2];
@@ -135,7 +135,7 @@ fn join(room: Room, links: &mut [u32], a: usize, b: usize)
 // Joins each cell of a branch to the next.
 fn link_branch(room: Room, branch: &[u32], links: &mut [u32])
     requires { ⌜ Good room ⌝ }
-    requires { ⌜ Stepping room (now branch) ⌝ }
+    requires { ⌜ Steps room (now branch) ⌝ }
     requires { ⌜ Masked room (now links) ⌝ }
     ensures { λ _. ⌜ Joined room (besideOn (now (branch .entry))) (now (links .entry)) (now (links .exit)) ⌝ }
 {

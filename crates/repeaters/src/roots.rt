@@ -9,7 +9,7 @@ ghost use mathlib.Core.List.{[], _∷_};
 ghost use Prim.Native.Nat.{ℕ, _≤_, _<_};
 ghost use lib.ListN.{length, replicate};
 ghost use Rattle.room.specs.Room.{Good, maxVolume, volume, posOf};
-ghost use Rattle.room_search.specs.Traces.{Linked};
+ghost use Rattle.trace.specs.Traces.{Linked};
 ghost use Rattle.repeaters.specs.Links.{orderedMoves, consPlace, cellsBy};
 ghost use Rattle.repeaters.specs.Roots.{Held, Met, Rooted, Traced};
 
@@ -112,8 +112,5 @@ pub fn root_path(parents: &[u32], cell: usize, line: &mut [u32]) -> usize
     requires { ⌜ length (now line) ≡ length (now parents) ⌝ }
     ensures { λ r. ⌜ Traced (now (parents .entry)) cell (now (line .exit)) r ⌝ }
 {
-    let most = parents.len();
-    let count = room_search::trace_length(parents, cell, most);
-    room_search::trace_into(parents, cell, most, line, count);
-    count
+    trace::path_to(parents, cell, parents.len(), line)
 }

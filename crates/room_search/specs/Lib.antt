@@ -12,5 +12,4 @@ pub mod TurnLaws
 pub mod RunLaws
 pub mod Classes
 pub mod ClassLaws
-pub mod Traces
 pub mod SameGraph

@@ -8,7 +8,7 @@ use Rattle.room.specs.declared.RouterConfig.{RouterConfig}
 use Rattle.room.specs.Room.{Good, volume, posOf}
 use Rattle.room.specs.Units.{Fair}
 use Rattle.basics.specs.Lists.{In}
-use Rattle.room_search.specs.Traces.{Linked}
+use Rattle.trace.specs.Traces.{Linked}
 use Rattle.best_first.specs.Search.{Graph, Answer, Entry, trace, route, no-route, limit-passed, queue-full, bestFirst}
 use Rattle.best_first.specs.Loops.{Going}
 use Rattle.room_search.specs.declared.Line.{Line}

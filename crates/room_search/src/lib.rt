@@ -1,17 +1,13 @@
-// The search over a room: what it takes to enter each cell, the moves tried from a cell, the takings one after another, and the
-// path by predecessors.
+// The search over a room: what it takes to enter each cell, the moves tried from a cell, and the takings one after another.
 mod classes; // classes.rt: which cells can be entered, and at which price
 mod expand; // expand.rt: the moves of a cell, each offered to the queue
 mod search; // search.rt: the takings
-mod trace; // trace.rt: the path
 
 pub use classes::class_for;
 pub use classes::fill_classes;
 pub use classes::make_end;
 pub use classes::routeable_kind;
 pub use search::search_classes;
-pub use trace::trace_into;
-pub use trace::trace_length;
 
 // How many entries wait, and the last serial given.
 pub struct Line {

@@ -5,7 +5,7 @@ ghost use Prim.Native.Nat.{_-_, _≤_, _<_};
 ghost use lib.ListN.{length, getD, replicate};
 ghost use Rattle.room_search.specs.Turns.{Showable};
 ghost use Rattle.lent.specs.Lent.{Emptied};
-ghost use Rattle.room_search.specs.Traces.{Linked};
+ghost use Rattle.trace.specs.Traces.{Linked};
 ghost use Rattle.room.specs.Room.{volume};
 ghost use Rattle.routing.specs.Answers.{input, lengthsOf, Promise};
 ghost use Rattle.routing.specs.Entry.{RoomSearchable, Found, searchTask, Shown, Written, endsOf, Roomy, Fitted};
@@ -25,8 +25,6 @@ use room_search::fill_classes;
 use room_search::make_end;
 use room_search::routeable_kind;
 use room_search::search_classes;
-use room_search::trace_into;
-use room_search::trace_length;
 
 // Searches over memory of exactly V cells, whatever it holds.
 fn search_room(
@@ -63,8 +61,7 @@ fn show_route(
     requires { ⌜ 0 < getD (now known) goal 0 ⌝ }
     ensures { λ r. ⌜ Written cells goal (now (known .entry)) (now (previous .entry)) (now (path .entry)) expanded r (now (path .exit)) ⌝ }
 {
-    let length = trace_length(previous, goal, cells);
-    trace_into(previous, goal, cells, path, length);
+    let length = trace::path_to(previous, goal, cells, path);
     Route {
         length: length,
         cost: Cost(known[goal] - 1),

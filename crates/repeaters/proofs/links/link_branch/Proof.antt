@@ -5,7 +5,7 @@ use Prim.Native.Nat.{_-_, _≤_}
 use lib.ListN.{length}
 use Rattle.repeaters.specs.Repeaters.{besideOn, isStep}
 use Rattle.repeaters.specs.JoinLaws.{Adding, adding-none, adding-next, adding-all, adding-masked}
-use Rattle.repeaters.specs.TreeLaws.{stepsFrom, one-step, no-steps}
+use Rattle.repeaters.specs.TreeLaws.{stepsFrom, one-step, no-steps, step-at}
 use borrow.Author.Needs.{needs}
 use Rattle.repeaters.proofs.links.link_branch.Statement.{statement}
 use Rattle.repeaters.proofs.links.link_branch.Tie as tie
@@ -44,7 +44,10 @@ wide-requires-2 : tie.Need-wide-requires-2 Inv-loop μ-loop
 wide-requires-2 c κs = search needs
 
 join-requires : tie.Need-join-requires Inv-loop μ-loop
-join-requires c κs = (c .before .before .before .before .before .before .before .before .before .pre .0, (rw (c .before .before .wide .ensures .0, c .wide2 .ensures .0) (c .before .before .before .before .before .before .before .before .before .pre .1 .0 .step (c .before .before .before .before .before .before .loop .i) (c .before .before .before .before .before .loop-test .taken)), adding-masked (c .before .before .before .before .before .before .loop .inv .2) (c .before .before .before .before .before .before .before .before .before .pre .1 .1)))
+join-requires c κs =
+    let s = c .before .before .before .before .before .before .before .before .before in
+    let loop = c .before .before .before .before .before .before .loop in
+    (s .pre .0, (rw (c .before .before .wide .ensures .0, c .wide2 .ensures .0) (step-at (s .args .room) (s .args .branch .now) (s .pre .1 .0) (loop .i) (c .before .before .before .before .before .loop-test .taken)), adding-masked (loop .inv .2) (s .pre .1 .1)))
 
 add-i : tie.Need-add-i Inv-loop μ-loop
 add-i c = search needs

@@ -4,7 +4,7 @@ use mathlib.Core.Path.{_≡_, refl, _∙_}
 use Prim.Native.Nat.{_-_}
 use lib.ListN.{length}
 use Rattle.repeaters.specs.JoinLaws.{adding-masked, masked-none}
-use Rattle.repeaters.specs.TreeLaws.{Laying, laying-none, laying-next, laying-all, branch-in, branch-stepping}
+use Rattle.repeaters.specs.TreeLaws.{Laying, laying-none, laying-next, laying-all, branch-in, branch-steps}
 use Rattle.repeaters.specs.NeighbourLaws.{tree-joined}
 use borrow.Author.Needs.{needs}
 use Rattle.repeaters.proofs.links.tree_adjacency.Statement.{statement}
@@ -41,7 +41,7 @@ part-link-branch-end : tie.Need-part-link-branch-end Inv-loop μ-loop
 part-link-branch-end c = branch-in (c .before .before .before .before .before .pre .1 .0) (c .before .before .loop .inv .1) (c .before .loop-test .taken) _ refl
 
 link-branch-requires : tie.Need-link-branch-requires Inv-loop μ-loop
-link-branch-requires c κs = (c .before .before .before .before .before .before .before .pre .0, (branch-stepping (c .before .before .before .before .before .before .before .pre .1 .0) (c .before .before .before .before .loop .inv .1) (c .before .before .before .loop-test .taken) _ refl, adding-masked (c .before .before .before .before .loop .inv .1 .adding) (masked-none (c .before .before .before .before .before .before .before .pre .1 .1))))
+link-branch-requires c κs = (c .before .before .before .before .before .before .before .pre .0, (branch-steps (c .before .before .before .before .before .before .before .pre .1 .0) (c .before .before .before .before .loop .inv .1) (c .before .before .before .loop-test .taken) _ refl, adding-masked (c .before .before .before .before .loop .inv .1 .adding) (masked-none (c .before .before .before .before .before .before .before .pre .1 .1))))
 
 add-k : tie.Need-add-k Inv-loop μ-loop
 add-k c = search needs
@@ -56,7 +56,7 @@ same-length : tie.Need-same-length Inv-loop μ-loop
 same-length c = c .before .loop .inv .0
 
 returns : tie.Need-returns Inv-loop μ-loop
-returns c = tree-joined (c .before .before .before .before .pre .0) _ (c .before .before .before .before .pre .1 .0 .stepping) (c .before .before .before .before .pre .1 .1) (laying-all (c .before .before .before .before .pre .1 .0) (c .before .loop .inv .1) (c .loop-test .left))
+returns c = tree-joined (c .before .before .before .before .pre .0) _ (c .before .before .before .before .pre .1 .0 .steps) (c .before .before .before .before .pre .1 .1) (laying-all (c .before .before .before .before .pre .1 .0) (c .before .loop .inv .1) (c .loop-test .left))
 
 pub tree-adjacency-spec : {M : Type 1} → statement M
 tree-adjacency-spec =

@@ -1,23 +1,24 @@
--- `root_path` meets its contract: the path's cells are counted, and then written to the front of the line.
+-- `root_path` meets its contract: the path by parents has at most as many cells as the room.
 use native.Mathlib.Omega.{arith}
 use lib.ListN.{length}
-use Rattle.room_search.specs.Traces.{path-short, counted-is}
+use Rattle.trace.specs.TraceLaws.{path-short}
 use Rattle.repeaters.specs.RootLaws.{traced}
 use borrow.Author.Needs.{needs}
 use Rattle.repeaters.proofs.roots.root_path.Statement.{statement}
 use Rattle.repeaters.proofs.roots.root_path.Tie as tie
 
-trace-length-requires : tie.Need-trace-length-requires
-trace-length-requires c κs = search needs
-
-trace-into-requires : tie.Need-trace-into-requires
-trace-into-requires c κs = (c .before .before .before .before .pre .0, (c .before .before .before .before .pre .1 .0, (c .before .before .before .before .pre .1 .1 .0, (c .before .trace-length .ensures, omega (arith, c .before .trace-length .ensures, counted-is (length (c .before .before .before .before .args .parents .now)) (c .before .before .before .before .args .parents .now) (c .before .before .before .before .args .cell), path-short (length (c .before .before .before .before .args .parents .now)) (c .before .before .before .before .args .parents .now) (c .before .before .before .before .args .cell), c .before .before .before .before .pre .1 .1 .1)))))
+path-to-requires : tie.Need-path-to-requires
+path-to-requires c κs = let pre = c .before .before .before .pre in (pre .0, (pre .1 .0, (pre .1 .1 .0, omega (arith, pre .1 .1 .1))))
 
 same-length : tie.Need-same-length
 same-length c = search needs
 
 returns : tie.Need-returns
-returns c = traced _ (c .before .before .before .before .before .before .before .args .line .now) _ (c .before .before .before .before .trace-length .ensures) (omega (arith, c .before .before .before .before .trace-length .ensures, counted-is (length (c .before .before .before .before .before .before .before .args .parents .now)) (c .before .before .before .before .before .before .before .args .parents .now) (c .before .before .before .before .before .before .before .args .cell), path-short (length (c .before .before .before .before .before .before .before .args .parents .now)) (c .before .before .before .before .before .before .before .args .parents .now) (c .before .before .before .before .before .before .before .args .cell), c .before .before .before .before .before .before .before .pre .1 .1 .1)) (c .before .before .trace-into .kept .1 .1 .1 .0) (c .before .before .trace-into .ensures)
+returns c =
+    let call = c .before .before .path-to in
+    let args = c .before .before .before .before .before .before .args in
+    let pre = c .before .before .before .before .before .before .pre in
+    traced _ (args .line .now) _ (call .ensures .0) (omega (arith, call .ensures .0, path-short (length (args .parents .now)) (args .parents .now) (args .cell), pre .1 .1 .1)) (call .kept .1 .1 .1 .0) (call .ensures .1)
 
 pub root-path-spec : {M : Type 1} → statement M
-root-path-spec = tie.close (tie.spec trace-length-requires trace-into-requires same-length returns)
+root-path-spec = tie.close (tie.spec path-to-requires same-length returns)

@@ -2,9 +2,9 @@
 use native.Mathlib.Omega.{arith}
 use borrow.Author.Needs.{needs}
 use Prim.Native.Nat.{_-_}
-use Rattle.room_search.specs.Traces.{Counting, counting-none, counting-start, counting-next, counting-all}
-use Rattle.room_search.proofs.trace.trace_length.Statement.{statement}
-use Rattle.room_search.proofs.trace.trace_length.Tie as tie
+use Rattle.trace.specs.TraceLaws.{Counting, counting-none, counting-start, counting-next, counting-all}
+use Rattle.trace.proofs.trace_length.Statement.{statement}
+use Rattle.trace.proofs.trace_length.Tie as tie
 
 abbrev Inv-loop : tie.InvT-loop
 Inv-loop previous to most cell₀ n₀ cell n = Counting previous most to n cell

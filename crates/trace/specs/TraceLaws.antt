@@ -1,4 +1,4 @@
--- The path by predecessors, as the code writes it: counted first, then written from its end.
+-- Laws of the path by predecessors, and of the loops that count and write it.
 use mathlib.Core.Path.{_≡_, refl, sym, ap, _∙_}
 use mathlib.Core.Logic.{_≢_}
 use mathlib.Core.List.{List, [], _∷_, _++_}
@@ -9,11 +9,7 @@ use lib.ListN.{length, getD, set, drop, length-set}
 use lib.Seq.{drop-cons, getD-set-same, drop-set-lt}
 use Rattle.best_first.specs.Search.{trace}
 use Rattle.best_first.specs.Equations.{trace-start, trace-back, trace-short}
-
--- how many cells the path has
-unfoldable pub traceLength : ℕ → List ℕ → ℕ → ℕ
-traceLength zero previous v = 0
-traceLength (suc n) previous v = elim (getD previous v 0) [ zero ↦ 1 | suc u ↦ suc (traceLength n previous u) ]
+use Rattle.trace.specs.Traces.{traceLength, Linked}
 
 length-start : (n : ℕ) (previous : List ℕ) (v : ℕ) → getD previous v 0 ≡ 0 → traceLength (suc n) previous v ≡ 1
 unfolding traceLength
@@ -44,10 +40,6 @@ trace-enough (suc n) previous v rest = go (getD previous v 0) refl (λ u. trace-
     go zero e ih = rw (length-start n previous v e, trace-start n previous v rest e, trace-start 0 previous v rest e)
     go (suc u) e ih =
         rw (length-back n previous v u e, trace-back n previous v u rest e, trace-back (traceLength n previous u) previous v u rest e) (ih u)
-
--- every cell's predecessor, if it has one, is a cell
-abbrev pub Linked : List ℕ → Type 0
-Linked previous = (v : ℕ) → getD previous v 0 ≤ length previous
 
 -- ---- the loop that counts
 
@@ -180,5 +172,6 @@ module _ {previous path₀ whole : List ℕ} {count : ℕ} where
 pub path-short : (cells : ℕ) (previous : List ℕ) (goal : ℕ) → length (trace cells previous goal []) ≤ cells
 path-short cells previous goal = omega (arith, trace-short cells previous goal [])
 
+-- as many are counted as it has
 pub counted-is : (cells : ℕ) (previous : List ℕ) (goal : ℕ) → traceLength cells previous goal ≡ length (trace cells previous goal [])
 counted-is cells previous goal = omega (arith, trace-length cells previous goal [])

@@ -4,9 +4,9 @@ use borrow.Author.Needs.{needs}
 use mathlib.Core.Path.{_≡_, refl}
 use mathlib.Core.List.{[]}
 use Rattle.best_first.specs.Search.{trace}
-use Rattle.room_search.specs.Traces.{Writing, writing-none, writing-first, writing-next, writing-all}
-use Rattle.room_search.proofs.trace.trace_into.Statement.{statement}
-use Rattle.room_search.proofs.trace.trace_into.Tie as tie
+use Rattle.trace.specs.TraceLaws.{Writing, writing-none, writing-first, writing-next, writing-all}
+use Rattle.trace.proofs.trace_into.Statement.{statement}
+use Rattle.trace.proofs.trace_into.Tie as tie
 
 abbrev Inv-loop : tie.InvT-loop
 Inv-loop previous to most path₀ count cell₀ left₀ path cell left =

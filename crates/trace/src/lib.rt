@@ -4,10 +4,10 @@ ghost use mathlib.Core.List.{[], _++_};
 ghost use Prim.Native.Nat.{_≤_, _<_};
 ghost use lib.ListN.{length, drop};
 ghost use Rattle.best_first.specs.Search.{trace};
-ghost use Rattle.room_search.specs.Traces.{Linked, traceLength};
+ghost use Rattle.trace.specs.Traces.{Linked, traceLength};
 
 // How many cells lead to a cell, itself included; at most so many are counted.
-pub fn trace_length(previous: &[u32], to: usize, most: usize) -> usize
+fn trace_length(previous: &[u32], to: usize, most: usize) -> usize
     requires { ⌜ to < length (now previous) ⌝ }
     requires { ⌜ Linked (now previous) ⌝ }
     ensures { λ r. ⌜ r ≡ traceLength most (now (previous .entry)) to ⌝ }
@@ -26,7 +26,7 @@ pub fn trace_length(previous: &[u32], to: usize, most: usize) -> usize
 }
 
 // Writes the cells that lead to a cell, of which there are `count`, to the front of the path.
-pub fn trace_into(previous: &[u32], to: usize, most: usize, path: &mut [u32], count: usize)
+fn trace_into(previous: &[u32], to: usize, most: usize, path: &mut [u32], count: usize)
     requires { ⌜ to < length (now previous) ⌝ }
     requires { ⌜ Linked (now previous) ⌝ }
     requires { ⌜ length (now previous) ≤ 16384 ⌝ }
@@ -44,4 +44,18 @@ pub fn trace_into(previous: &[u32], to: usize, most: usize, path: &mut [u32], co
             cell = (before - 1) as usize;
         }
     }
+}
+
+// Writes the cells that lead to a cell, at most so many, to the front of the path, and gives how many they are.
+pub fn path_to(previous: &[u32], to: usize, most: usize, path: &mut [u32]) -> usize
+    requires { ⌜ to < length (now previous) ⌝ }
+    requires { ⌜ Linked (now previous) ⌝ }
+    requires { ⌜ length (now previous) ≤ 16384 ⌝ }
+    requires { ⌜ most ≤ length (now path) ⌝ }
+    ensures { λ r. ⌜ r ≡ length (trace most (now (previous .entry)) to []) ⌝ }
+    ensures { λ r. ⌜ now (path .exit) ≡ trace most (now (previous .entry)) to [] ++ drop r (now (path .entry)) ⌝ }
+{
+    let count = trace_length(previous, to, most);
+    trace_into(previous, to, most, path, count);
+    count
 }
