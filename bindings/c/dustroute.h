@@ -17,7 +17,7 @@
  *
  * WHAT COMES BACK: a number, 0 for a route or a tree, else one of 1 to 15 below, whose detail is then values[0].
  *   Numbers 1 to 6 leave every buffer as it was, `values` included: read nothing from it.
- *   Any other number from 7 on leaves zeros in every other buffer, to its very end.
+ *   A number from 7 on leaves zeros in every buffer that can be written, to its very end, but for the detail in values[0].
  *   0 leaves the answer at the front of the outputs, zeros behind it, and zeros in the work memory. */
 #ifndef DUSTROUTE_H
 #define DUSTROUTE_H

@@ -7,7 +7,7 @@ use published::routing::{RouteNotFound, astar_route};
 use published::world::World;
 
 use crate::published_side::{cell_at, guarded, pos_of, router_config, world_of};
-use crate::{Disagreement, Refusal};
+use crate::{Disagreement, Refusal, agreed};
 
 /// The answer to a search, or how the published Rust and the plain search differ on it.
 pub fn check_search(case: &Search) -> Result<SearchAnswer, Disagreement> {
@@ -22,15 +22,8 @@ pub fn check_search(case: &Search) -> Result<SearchAnswer, Disagreement> {
         other => other.clone(),
     };
     let found = published_answer(case, &room, &expected);
-    if found.as_ref() == Ok(&expected) {
-        return Ok(answer);
-    }
-    let found = found.map_or_else(|error| error + "\n", |answer| search_answer_lines(&answer));
-    Err(Disagreement(format!(
-        "search:\n{}plain search:\n{}published Rust:\n{found}",
-        search_lines(case),
-        search_answer_lines(&expected)
-    )))
+    let lines = || search_lines(case);
+    agreed(answer, &expected, found, lines, search_answer_lines)
 }
 
 /// The published answer. The Rust doesn't tell the expanded count of a success: the expected count is pinned by runs at

@@ -6,14 +6,14 @@ use cases::room::{MOST_CELLS, Room};
 use cases::search::cells16;
 use cases::sheet::{Job, Sheet, TreeAnswer};
 use cases::text::{sheet_lines, tree_answer_lines};
-use cases::tree::{Limits, ROUTE_MOST_CELLS, route_net_tree};
+use cases::tree::{Limits, ROUTE_MOST_CELLS, plain_answer};
 use published::multinet::{MultiNetError, RoutedNet};
 use published::physical::PhysicalError;
 use published::port_realization::{realize_sink_endpoint, terminal_for_endpoint};
 use published::world::Pos;
 
 use crate::published_side::{PublishedJob, cell_at, endpoint, guarded};
-use crate::{Disagreement, Refusal};
+use crate::{Disagreement, Refusal, agreed};
 
 /// The answer to a sheet as the library's tree gives it, or how the published Rust and the plain router differ on it.
 pub fn check_sheet(case: &Sheet) -> Result<TreeAnswer, Disagreement> {
@@ -44,19 +44,8 @@ fn check(case: &Sheet, most_cells: usize) -> Result<TreeAnswer, Disagreement> {
         other => other.clone(),
     };
     let found = published_answer(&job, &room);
-    if found.as_ref() == Ok(&expected) {
-        return Ok(answer);
-    }
-    let found = found.map_or_else(|error| error + "\n", |answer| tree_answer_lines(&answer));
-    Err(Disagreement(format!(
-        "sheet:\n{}plain router:\n{}published Rust:\n{found}",
-        sheet_lines(case),
-        tree_answer_lines(&expected)
-    )))
-}
-
-fn plain_answer(job: &Job, room: &Room, limits: Limits) -> TreeAnswer {
-    route_net_tree(job, room, limits).map_or_else(TreeAnswer::Refused, |net| net.answer())
+    let lines = || sheet_lines(case);
+    agreed(answer, &expected, found, lines, tree_answer_lines)
 }
 
 /// The Rust keeps the later of two records of one node in one cell; document 01 refuses.

@@ -15,11 +15,30 @@ pub use cases::sheet::{Sheet, TreeAnswer};
 
 pub use compare_search::check_search;
 pub use compare_tree::{check_route, check_sheet};
-pub use published_side::PublishedJob;
+pub use published_side::{PublishedJob, cell_at, pos_of, router_config, world_of};
 
 /// The published Rust and the plain router differ on a case; the text shows the case and both answers.
 #[derive(Debug)]
-pub struct Disagreement(pub String);
+pub struct Disagreement(String);
+
+/// The answer, if what the published Rust gave is what the plain router expects of it; else the case and both, as lines.
+fn agreed<A: PartialEq>(
+    answer: A,
+    expected: &A,
+    published: Result<A, String>,
+    case: impl FnOnce() -> String,
+    lines: fn(&A) -> String,
+) -> Result<A, Disagreement> {
+    if published.as_ref() == Ok(expected) {
+        return Ok(answer);
+    }
+    let published = published.map_or_else(|error| error + "\n", |answer| lines(&answer));
+    Err(Disagreement(format!(
+        "{}plain router:\n{}published Rust:\n{published}",
+        case(),
+        lines(expected)
+    )))
+}
 
 impl Display for Disagreement {
     fn fmt(&self, f: &mut Formatter<'_>) -> std::fmt::Result {

@@ -3,8 +3,8 @@
 use cases::files::write_answered;
 use cases::samples::{HEX_SHEET, HEX_SHEET_LINES, Sample, default_job, samples};
 use cases::text::{parse_hex, tree_answer_lines};
-use cases::{answers, examples};
-use oracle::{Profile, Rng, answer_search, answer_sheet, check_route, random_search, random_sheet};
+use cases::{answers, examples, generate};
+use oracle::{Profile, answer_search, answer_sheet, check_route};
 
 #[test]
 fn samples_of_document_01() {
@@ -53,9 +53,7 @@ fn random_searches_agree() {
         (Profile::Small, 2_000),
         (Profile::Large, 5),
     ] {
-        for index in 0..count {
-            answer_search(&random_search(&mut Rng::for_case(21, index), profile));
-        }
+        answered(generate::searches(21, count, profile), answer_search);
     }
 }
 
@@ -66,27 +64,28 @@ fn random_sheets_agree() {
         (Profile::Small, 300),
         (Profile::Large, 5),
     ] {
-        for index in 0..count {
-            answer_sheet(&random_sheet(&mut Rng::for_case(22, index), profile));
-        }
+        answered(generate::sheets(22, count, profile), answer_sheet);
     }
+}
+
+/// The cases with their answers. Where the published Rust and the plain router differ, that panics.
+fn answered<C, A>(cases: Vec<C>, answer: fn(&C) -> A) -> Vec<(C, A)> {
+    let answered = |case| {
+        let answer = answer(&case);
+        (case, answer)
+    };
+    cases.into_iter().map(answered).collect()
 }
 
 /// The stored files are, byte for byte, what the generator and the published Rust make.
 #[test]
 fn stored_searches_are_made_again() {
-    let answered: Vec<_> = answers::searches()
-        .into_iter()
-        .map(|case| (case.clone(), answer_search(&case)))
-        .collect();
-    assert!(write_answered(&answered) == answers::SEARCHES.bytes());
+    let made = answered(answers::searches(), answer_search);
+    assert!(write_answered(&made) == answers::SEARCHES.bytes());
 }
 
 #[test]
 fn stored_sheets_are_made_again() {
-    let answered: Vec<_> = answers::sheets()
-        .into_iter()
-        .map(|case| (case.clone(), answer_sheet(&case)))
-        .collect();
-    assert!(write_answered(&answered) == answers::SHEETS.bytes());
+    let made = answered(answers::sheets(), answer_sheet);
+    assert!(write_answered(&made) == answers::SHEETS.bytes());
 }

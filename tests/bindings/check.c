@@ -60,9 +60,23 @@ static bool all(const uint8_t *bytes, size_t count, uint8_t byte) {
     return true;
 }
 
-static bool guarded(struct buffer lent) { return all(lent.elements - GUARD, GUARD, GUARD_BYTE); }
 static bool untouched(struct buffer lent) { return all(at(lent), lent.length * lent.size, RUBBISH); }
 static bool cleared(struct buffer lent) { return all(at(lent), lent.length * lent.size, 0); }
+
+/* An input, lent with just its length. */
+static struct buffer lend_copy(const uint8_t *bytes, size_t length) {
+    struct buffer copy = lend(length, 1);
+    memcpy(copy.elements, bytes, length);
+    return copy;
+}
+
+/* After a call an input is as it was, and no guard is touched. */
+static void expect_kept(struct buffer copy, const uint8_t *bytes, const struct buffer *lent, int count) {
+    EXPECT(memcmp(copy.elements, bytes, copy.length) == 0);
+    for (int i = 0; i < count; i++)
+        EXPECT(all(lent[i].elements - GUARD, GUARD, GUARD_BYTE));
+    give_back(copy);
+}
 
 /* ---- one search */
 
@@ -77,15 +91,15 @@ struct search {
 static struct search search_row(const uint8_t *kinds, size_t wide, const size_t lengths[SEARCH_BUFFERS]) {
     static const size_t sizes[SEARCH_BUFFERS] = {4, 4, 4, 1, 8, 8};
     struct search asked;
+    struct buffer copy = lend_copy(kinds, wide);
     for (int i = 0; i < SEARCH_BUFFERS; i++)
         asked.lent[i] = lend(lengths[i], sizes[i]);
     struct buffer *b = asked.lent;
     asked.number = dustroute_search(
-        wide, 1, 1, 30000, 10, 25, 15, kinds, wide, 0, wide - 1,
+        wide, 1, 1, 30000, 10, 25, 15, at(copy), wide, 0, wide - 1,
         at(b[PATH]), lengths[PATH], at(b[KNOWN]), lengths[KNOWN], at(b[PREVIOUS]), lengths[PREVIOUS],
         at(b[CLASSES]), lengths[CLASSES], at(b[SEARCH_QUEUE]), lengths[SEARCH_QUEUE], at(b[SEARCH_VALUES]), lengths[SEARCH_VALUES]);
-    for (int i = 0; i < SEARCH_BUFFERS; i++)
-        EXPECT(guarded(b[i]));
+    expect_kept(copy, kinds, b, SEARCH_BUFFERS);
     return asked;
 }
 
@@ -163,8 +177,7 @@ struct tree {
 static struct tree tree_of(const uint8_t *sheet, size_t sheet_length, const size_t n[TREE_BUFFERS]) {
     static const size_t sizes[TREE_BUFFERS] = {4, 1, 1, 1, 1, 1, 1, 4, 4, 4, 4, 8, 8};
     struct tree asked;
-    struct buffer copy = lend(sheet_length, 1);
-    memcpy(copy.elements, sheet, sheet_length);
+    struct buffer copy = lend_copy(sheet, sheet_length);
     for (int i = 0; i < TREE_BUFFERS; i++)
         asked.lent[i] = lend(n[i], sizes[i]);
     struct buffer *b = asked.lent;
@@ -173,10 +186,7 @@ static struct tree tree_of(const uint8_t *sheet, size_t sheet_length, const size
         at(b[KINDS]), n[KINDS], at(b[BLOCKED]), n[BLOCKED], at(b[TREE_CLASSES]), n[TREE_CLASSES], at(b[JOINABLE]), n[JOINABLE],
         at(b[TREE_KNOWN]), n[TREE_KNOWN], at(b[TREE_PREVIOUS]), n[TREE_PREVIOUS], at(b[TREE_PATH]), n[TREE_PATH],
         at(b[BEST]), n[BEST], at(b[TREE_QUEUE]), n[TREE_QUEUE], at(b[TREE_VALUES]), n[TREE_VALUES]);
-    EXPECT(memcmp(copy.elements, sheet, sheet_length) == 0);
-    for (int i = 0; i < TREE_BUFFERS; i++)
-        EXPECT(guarded(b[i]));
-    give_back(copy);
+    expect_kept(copy, sheet, b, TREE_BUFFERS);
     return asked;
 }
 

@@ -189,7 +189,7 @@ class Drawing:
                 start, goal = (wire, end.at) if place else (end.at, wire)
                 turn = TURNS[end.facing] + (180 if place else 0)
                 parts.append('<path class="power" d="M%d %dL%d %d"/>' % (*centre(start), *centre(goal)))
-                parts.append('<use href="#power" transform="translate(%g %g) rotate(%d)"/>' % (*middle(start, goal), turn))
+                parts.append(use("power", *middle(start, goal), turn))
         return parts
 
     def _ends(self, level: int) -> List[str]:

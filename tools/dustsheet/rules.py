@@ -2,7 +2,7 @@
 Document 01, "The tree of one net"."""
 from __future__ import annotations
 
-from typing import Dict, Iterator, List, Optional, Set, Tuple
+from typing import Iterator, List, Optional, Set, Tuple
 
 from .job import (AHEAD, BLOCK_POWER, LEVER, REDSTONE_BLOCK, REPEATER, SOLID, TORCH, Block, End, Fault, Job, Pos, spell)
 
@@ -41,13 +41,13 @@ def late_faults(job: Job) -> Iterator[Fault]:
 
 
 def _repeats(job: Job) -> Iterator[Fault]:
-    first: Dict[Pos, int] = {}
+    held: Set[Pos] = set()
     repeats = []
     for index in sorted(range(len(job.blocks)), key=lambda index: (job.blocks[index].node, index)):
         block = job.blocks[index]
-        if block.at in first:
+        if block.at in held:
             repeats.append((block.node, job.number(block.at), index))
-        first.setdefault(block.at, index)
+        held.add(block.at)
     for _, cell, index in sorted(repeats):
         words = "a second block in cell %s, number %d; a cell holds one block" % (spell(job.blocks[index].at), cell)
         yield Fault(7, "blocks", index, words)

@@ -1,6 +1,7 @@
 //! Routes a job sheet: `route FILE`, or document 01's hex sheet with no argument. Prints what program `route` prints: a tree's
 //! lines, or its refusal. Program `route` refuses rooms of over 4,096 cells; this doesn't.
 
+use std::path::Path;
 use std::process::ExitCode;
 use std::{env, fs};
 
@@ -18,7 +19,7 @@ fn main() -> ExitCode {
         Some(file) => match fs::read(&file) {
             Ok(bytes) => bytes,
             Err(error) => {
-                eprintln!("route: {}: {error}", file.display());
+                eprintln!("route: {}: {error}", Path::new(&file).display());
                 return ExitCode::from(2);
             }
         },

@@ -2,8 +2,9 @@
 //! [`route_tree`] makes the tree that a job sheet asks for.
 //!
 //! Every input gets an answer: a bad room, cost, position or sheet comes back as a [`Refusal`]. Both functions lend the router
-//! as much memory as its answer can need, so that [`Refusal::Buffer`], [`Refusal::QueueFull`] and [`Refusal::BranchesFull`] never
-//! come from them. Who wants to keep the memory, or to lend less, calls through [`lent`].
+//! as much memory as its answer can need, so that [`Refusal::QueueFull`] and [`Refusal::BranchesFull`] never come from them, and
+//! [`Refusal::Buffer`] only from a search whose `kinds` are not one for each cell. Who wants to keep the memory, or to lend less,
+//! calls through [`lent`].
 
 mod answer;
 mod ffi;

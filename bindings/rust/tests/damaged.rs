@@ -1,9 +1,7 @@
 //! Damaged sheets and short memory. The plain router, which states document 01 a second time, says what is due.
 
-mod common;
-
 use cases::sheet::TreeAnswer;
-use common::{dirty_search, dirty_tree, search_kept, tree_kept};
+use checks::{dirty_search, dirty_tree, tree_due};
 use dustroute::lent::{SearchMemory, TreeMemory};
 use dustroute::{Block, Config, Endpoint, Facing, Job, JobTooLong, Kind, Port, Position, Refusal, Room, Sheet, route_tree, search};
 
@@ -45,39 +43,44 @@ fn small() -> Sheet {
     small_job().sheet().unwrap()
 }
 
-/// What the plain router says, over memory that always suffices.
-fn plain(sheet: &Sheet) -> (u32, u32) {
-    let case = cases::sheet::Sheet {
+/// The sheet as a case, with memory that always suffices.
+fn case(sheet: &Sheet) -> cases::sheet::Sheet {
+    cases::sheet::Sheet {
         queue: 1 << 20,
         branch: 1 << 20,
         lent: 1 << 20,
         bytes: sheet.bytes().to_vec(),
-    };
-    match case.plain_answer() {
-        TreeAnswer::Tree { .. } => (0, 0),
-        TreeAnswer::Refused(refusal) => (refusal.number.into(), refusal.detail),
     }
 }
 
-fn ours(sheet: &Sheet) -> (u32, u32) {
+/// The number and detail of a sheet's answer. They and the memory are as the plain router's answer asks.
+fn answered(sheet: &Sheet) -> (u32, u32) {
     let mut memory = dirty_tree(TreeMemory::for_sheet(sheet), 0x77);
     let before = memory.clone();
-    let answer = memory.route_tree(sheet);
-    assert!(tree_kept(&before, &memory, &answer), "memory after {:?}", sheet.bytes());
-    answer.map_or_else(|refusal| (refusal.number(), refusal.detail()), |_| (0, 0))
+    let told = match memory.route_tree(sheet) {
+        Ok(_) => (0, 0),
+        Err(refusal) => (refusal.number(), refusal.detail()),
+    };
+    let due = case(sheet).plain_answer();
+    let due_numbers = match due {
+        TreeAnswer::Tree { .. } => (0, 0),
+        TreeAnswer::Refused(refusal) => (refusal.number.into(), refusal.detail),
+    };
+    assert_eq!(told, due_numbers, "{:?}", sheet.bytes());
+    assert!(memory == tree_due(&before, &case(sheet), &due), "memory after {:?}", sheet.bytes());
+    told
 }
 
 #[test]
 fn a_small_job_is_routed() {
-    assert_eq!(ours(&small()), (0, 0));
-    assert_eq!(plain(&small()), (0, 0));
+    assert_eq!(answered(&small()), (0, 0));
 }
 
 #[test]
 fn every_beginning_of_a_sheet_is_number_one() {
     let whole = small();
     for length in 0..whole.bytes().len() {
-        assert_eq!(ours(&Sheet::from_bytes(&whole.bytes()[..length])), (1, 0), "{length} bytes");
+        assert_eq!(answered(&Sheet::from_bytes(&whole.bytes()[..length])), (1, 0), "{length} bytes");
     }
 }
 
@@ -88,8 +91,7 @@ fn every_byte_changed() {
         for byte in [0, 1, 2, 3, 7, 13, 64, 65, 128, 255] {
             let mut bytes = whole.bytes().to_vec();
             bytes[place] = byte;
-            let sheet = Sheet::from_bytes(bytes);
-            assert_eq!(ours(&sheet), plain(&sheet), "byte {place} is {byte}");
+            answered(&Sheet::from_bytes(bytes));
         }
     }
 }
@@ -164,10 +166,10 @@ fn a_short_branch_buffer_names_its_sink() {
     assert_eq!(exact.route_tree(&small()), Ok(tree));
     let mut memory = dirty_tree(TreeMemory::new(30, 150, 0), 0x77);
     let before = memory.clone();
-    let answer = memory.route_tree(&small());
     // the nearer sink goes first: it is the second of the sheet
-    assert_eq!(answer, Err(Refusal::BranchesFull { sink: 2 }));
-    assert!(tree_kept(&before, &memory, &answer));
+    assert_eq!(memory.route_tree(&small()), Err(Refusal::BranchesFull { sink: 2 }));
+    let due = TreeAnswer::Refused(cases::Refusal::new(15, 2));
+    assert!(memory == tree_due(&before, &case(&small()), &due));
 }
 
 #[test]
@@ -215,8 +217,7 @@ fn a_search_with_a_short_buffer_touches_nothing() {
         let mut memory = dirty_search(SearchMemory::for_search(room, Config::default()), 0x77);
         shorten(&mut memory);
         let before = memory.clone();
-        let answer = memory.search(room, Config::default(), &[0; 3], 0, 2);
-        assert_eq!(answer, Err(Refusal::Buffer));
-        assert!(search_kept(&before, &memory, &answer));
+        assert_eq!(memory.search(room, Config::default(), &[0; 3], 0, 2), Err(Refusal::Buffer));
+        assert!(memory == before);
     }
 }

@@ -1,5 +1,7 @@
 //! Document 01's samples, a to l, and its hex sheet.
 
+use cases::samples::{HEX_SHEET, HEX_SHEET_LINES};
+use cases::text::parse_hex;
 use dustroute::lent::{SearchMemory, places_that_suffice};
 use dustroute::{Block, Config, Cost, Endpoint, Facing, Job, Kind, Nodes, Port, Position, Refusal, Room, Route, Sheet, route_tree, search};
 
@@ -24,6 +26,13 @@ fn route(path: &[u32], cost: u32, expanded: u32) -> Result<Route, Refusal> {
         cost: Cost(cost),
         expanded: Nodes(expanded),
     })
+}
+
+#[test]
+fn cells_are_numbered_by_x_then_y_then_z() {
+    let room = room(2, 3, 4);
+    let positions = (0..2).flat_map(|x| (0..3).flat_map(move |y| (0..4).map(move |z| Position { x, y, z })));
+    assert!(positions.map(|at| room.cell(at)).eq(0..24));
 }
 
 #[test]
@@ -127,15 +136,8 @@ fn l_power_through_a_block() {
 fn hex_sheet_prints_as_program_route() {
     let job = Job::new(room(10, 1, 1), Config::default(), wire(0), vec![wire(9)]);
     let sheet = job.sheet().unwrap();
-    let hex = "01000000280A0101000075300000000A000000190000000F00000000000000000000000000000001090000000 0".replace(' ', "");
-    let bytes: Vec<u8> = (0..hex.len() / 2)
-        .map(|place| u8::from_str_radix(&hex[2 * place..2 * place + 2], 16).unwrap())
-        .collect();
-    assert_eq!(sheet, Sheet::from_bytes(bytes));
-    assert_eq!(
-        route_tree(&sheet).unwrap().to_string(),
-        "net 1 10\nbranch 0 1 2 3 4 5 6 7 8 9\nrepeaters 1\n"
-    );
+    assert_eq!(sheet, Sheet::from_bytes(parse_hex(HEX_SHEET).unwrap()));
+    assert_eq!(route_tree(&sheet).unwrap().to_string(), HEX_SHEET_LINES);
 }
 
 #[test]

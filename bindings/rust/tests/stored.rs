@@ -1,15 +1,13 @@
 //! The stored searches and sheets, whose answers the published Rust gave: each is asked over memory with rubbish in it, of the lengths that
 //! the case names and longer.
 
-mod common;
-
 use cases::answers::{SEARCHES, SHEETS};
 use cases::search::{Search, SearchAnswer};
 use cases::sheet::TreeAnswer;
 use cases::{files, sheet};
-use common::{dirty_search, dirty_tree, search_kept, tree_kept};
+use checks::{config_of, dirty_search, dirty_tree, room_of, search_due, tree_due};
 use dustroute::lent::{SearchMemory, TreeMemory};
-use dustroute::{Config, Cost, Nodes, Refusal, Room, Route, Sheet, Tree};
+use dustroute::{Cost, Nodes, Refusal, Route, Sheet, Tree};
 
 fn refused(stored: cases::Refusal) -> (u32, u32) {
     (stored.number.into(), stored.detail)
@@ -48,61 +46,61 @@ fn same_tree(answer: &Result<Tree, Refusal>, stored: &TreeAnswer) -> bool {
 }
 
 /// Longer by this much, in every buffer but the queue and the branches, whose lengths decide.
-const LONGER: [usize; 2] = [0, 3];
+const LONGER: [u32; 2] = [0, 3];
 
-fn ask_search(case: &Search, longer: usize) -> (SearchMemory, SearchMemory, Result<Route, Refusal>) {
-    let [wide, high, deep] = case.sides;
-    let config = Config {
-        limit: case.config.node_limit,
-        horizontal: case.config.horizontal,
-        stair: case.config.stair,
-        support: case.config.support,
-    };
-    let mut memory = dirty_search(SearchMemory::new(case.lent as usize + longer, case.queue as usize), 0xA5);
-    let before = memory.clone();
-    let answer = memory.search(
-        Room { wide, high, deep },
-        config,
-        &case.kinds,
-        case.start as usize,
-        case.goal as usize,
-    );
-    (before, memory, answer)
+/// Asks a search over memory of the lengths that it names.
+fn ask_search(case: &Search, due: &SearchAnswer, name: &str) {
+    let before = dirty_search(SearchMemory::new(case.lent as usize, case.queue as usize), 0xA5);
+    let mut after = before.clone();
+    let (room, config) = (room_of(case.sides), config_of(&case.config));
+    let answer = after.search(room, config, &case.kinds, case.start as usize, case.goal as usize);
+    assert!(same_route(&answer, due), "{name}: {answer:?} for {due:?}");
+    assert!(after == search_due(&before, due), "{name}: memory");
 }
 
 #[test]
 fn stored_searches() {
     let cases = files::read::<Search>(&SEARCHES.bytes()).unwrap();
-    for (index, (case, stored)) in cases.iter().enumerate() {
-        let stored = stored.as_ref().unwrap();
+    for (index, (case, stored)) in cases.into_iter().enumerate() {
+        let stored = stored.unwrap();
         for longer in LONGER {
-            let (before, after, answer) = ask_search(case, longer);
+            let lent = case.lent + longer;
+            let case = Search { lent, ..case.clone() };
             // memory that was too short may now suffice
-            let same = same_route(&answer, stored) || longer > 0 && *stored == SearchAnswer::Refused(cases::Refusal::bare(6));
-            assert!(same, "search {index}, {longer} longer: {answer:?} for {stored:?}");
-            assert!(search_kept(&before, &after, &answer), "search {index}, {longer} longer: memory");
+            let due = if stored.number() == 6 {
+                case.plain_answer()
+            } else {
+                stored.clone()
+            };
+            ask_search(&case, &due, &format!("search {index}, {longer} longer"));
         }
     }
 }
 
-fn ask_tree(case: &sheet::Sheet, longer: usize) -> (TreeMemory, TreeMemory, Result<Tree, Refusal>) {
-    let memory = TreeMemory::new(case.lent as usize + longer, case.queue as usize, case.branch as usize);
-    let mut memory = dirty_tree(memory, 0x5A);
-    let before = memory.clone();
-    let answer = memory.route_tree(&Sheet::from_bytes(case.bytes.clone()));
-    (before, memory, answer)
+/// Asks a sheet over memory of the lengths that it names.
+fn ask_tree(case: &sheet::Sheet, due: &TreeAnswer, name: &str) {
+    let memory = TreeMemory::new(case.lent as usize, case.queue as usize, case.branch as usize);
+    let before = dirty_tree(memory, 0x5A);
+    let mut after = before.clone();
+    let answer = after.route_tree(&Sheet::from_bytes(case.bytes.clone()));
+    assert!(same_tree(&answer, due), "{name}: {answer:?} for {due:?}");
+    assert!(after == tree_due(&before, case, due), "{name}: memory");
 }
 
 #[test]
 fn stored_sheets() {
     let cases = files::read::<sheet::Sheet>(&SHEETS.bytes()).unwrap();
-    for (index, (case, stored)) in cases.iter().enumerate() {
-        let stored = stored.as_ref().unwrap();
+    for (index, (case, stored)) in cases.into_iter().enumerate() {
+        let stored = stored.unwrap();
         for longer in LONGER {
-            let (before, after, answer) = ask_tree(case, longer);
-            let same = same_tree(&answer, stored) || longer > 0 && *stored == TreeAnswer::Refused(cases::Refusal::bare(6));
-            assert!(same, "sheet {index}, {longer} longer: {answer:?} for {stored:?}");
-            assert!(tree_kept(&before, &after, &answer), "sheet {index}, {longer} longer: memory");
+            let lent = case.lent + longer;
+            let case = sheet::Sheet { lent, ..case.clone() };
+            let due = if stored.number() == 6 {
+                case.plain_answer()
+            } else {
+                stored.clone()
+            };
+            ask_tree(&case, &due, &format!("sheet {index}, {longer} longer"));
         }
     }
 }

@@ -1,6 +1,6 @@
 //! The room of document 01: sides, cell numbers, kinds, facings, the twelve moves, and the costs with their ranges.
 
-pub const MOST_SIDE: u8 = 64;
+const MOST_SIDE: u8 = 64;
 pub const MOST_CELLS: usize = 16_384;
 pub const MOST_COST: u32 = 100_000;
 pub const MOST_NODES: u32 = 200_000;

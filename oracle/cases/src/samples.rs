@@ -129,6 +129,16 @@ pub fn block_power(at: [u8; 3], facing: u8) -> Port {
     }
 }
 
+/// A block without facing.
+pub fn block(node: u16, at: [u8; 3], kind: u8) -> Block {
+    Block {
+        node,
+        at,
+        kind,
+        facing: facing::NONE,
+    }
+}
+
 /// Document 01's sheet in hex, and what program `route` prints for it.
 pub const HEX_SHEET: &str = "01 00000028 0A0101 00007530 0000000A 00000019 0000000F \
     0000 0000 0000 0000 0000 0000000000 01 0900000000";
@@ -146,12 +156,7 @@ fn line(last: u16, repeaters: &[u16]) -> TreeAnswer {
 fn sheets() -> Vec<(&'static str, Sample)> {
     let k = |x| default_job([20, 1, 1], &[wire([x, 0, 0], facing::NONE)]);
     let mut l = default_job([6, 1, 1], &[block_power([5, 0, 0], facing::WEST)]);
-    l.blocks.push(Block {
-        node: 0,
-        at: [5, 0, 0],
-        kind: kind::SOLID,
-        facing: facing::NONE,
-    });
+    l.blocks.push(block(0, [5, 0, 0], kind::SOLID));
     let hex = crate::text::parse_hex(HEX_SHEET).expect("a sheet in hex");
     let list = [
         ("k, sink at 8", k(8).bytes(), line(8, &[])),

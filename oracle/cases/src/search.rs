@@ -30,6 +30,16 @@ pub enum SearchAnswer {
     },
 }
 
+impl SearchAnswer {
+    /// The number of a refusal; 0 for a route.
+    pub fn number(&self) -> u8 {
+        match self {
+            Self::Refused(refusal) => refusal.number,
+            Self::Route { .. } => 0,
+        }
+    }
+}
+
 impl Search {
     /// The numbers judged before the search starts: 2, 3, 6, 5, 4, in this order. The Rust has none of them.
     pub fn judge(&self) -> Result<Room, Refusal> {

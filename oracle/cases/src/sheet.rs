@@ -3,7 +3,7 @@
 use crate::Refusal;
 use crate::room::{Config, Place, Room, facing, kind, port};
 
-pub const VERSION: u8 = 1;
+const VERSION: u8 = 1;
 pub const MOST_BYTES: usize = 60_000;
 pub const MOST_SINKS: usize = 16;
 /// The version byte and the four-byte length of the rest.
@@ -31,6 +31,16 @@ pub enum TreeAnswer {
         /// Ascending.
         repeaters: Vec<u16>,
     },
+}
+
+impl TreeAnswer {
+    /// The number of a refusal; 0 for a tree.
+    pub fn number(&self) -> u8 {
+        match self {
+            Self::Refused(refusal) => refusal.number,
+            Self::Tree { .. } => 0,
+        }
+    }
 }
 
 #[derive(Clone, Copy, Debug, Eq, PartialEq)]

@@ -9,7 +9,7 @@ use crate::search::{End, Question, Searched, cells16};
 use crate::sheet::{Block, Job, Port, Sheet, TreeAnswer};
 
 /// Searches that one goal gets at most.
-pub const ATTEMPTS: usize = 64;
+const ATTEMPTS: usize = 64;
 
 /// Room for a tree: the queue's places and the branch buffer's cells.
 #[derive(Clone, Copy, Debug, Eq, PartialEq)]
@@ -66,10 +66,16 @@ impl Sheet {
     }
 
     pub fn plain_answer_within(&self, most_cells: usize) -> TreeAnswer {
-        self.judge(most_cells)
-            .and_then(|(job, room)| route_net_tree(&job, &room, self.limits()))
-            .map_or_else(TreeAnswer::Refused, |net| net.answer())
+        match self.judge(most_cells) {
+            Err(refusal) => TreeAnswer::Refused(refusal),
+            Ok((job, room)) => plain_answer(&job, &room, self.limits()),
+        }
     }
+}
+
+/// The plain router's answer to a judged job.
+pub fn plain_answer(job: &Job, room: &Room, limits: Limits) -> TreeAnswer {
+    route_net_tree(job, room, limits).map_or_else(TreeAnswer::Refused, |net| net.answer())
 }
 
 /// A routed net, and how much room it took.

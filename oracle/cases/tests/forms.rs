@@ -2,8 +2,10 @@
 
 use cases::files::{Case, read, write_answered, write_bare};
 use cases::generate::{Profile, searches, sheets};
+use cases::room::Config;
+use cases::samples::HEX_SHEET;
 use cases::search::Search;
-use cases::sheet::{Job, Sheet};
+use cases::sheet::{Block, Job, Port, Sheet};
 use cases::text::{parse_hex, parse_search, search_lines, sheet_lines};
 
 fn some_searches() -> Vec<Search> {
@@ -88,7 +90,7 @@ fn a_search_in_text_has_defaults() {
     let case = parse_search("room 3 1 1\nends 0 2\nkind 1 3\n").unwrap();
     assert_eq!((case.queue, case.lent), (36, 3));
     assert_eq!(case.kinds, [0, 3, 0]);
-    assert_eq!(case.config, cases::room::Config::DEFAULT);
+    assert_eq!(case.config, Config::DEFAULT);
 }
 
 #[test]
@@ -127,10 +129,102 @@ fn accepted_sheets_give_their_bytes_back() {
 }
 
 #[test]
-fn sheets_are_shown() {
-    for sheet in some_sheets() {
-        assert!(sheet_lines(&sheet).starts_with("queue "));
+fn the_hex_sheet_is_shown() {
+    let sheet = Sheet::of_route(parse_hex(HEX_SHEET).unwrap());
+    assert_eq!(
+        sheet_lines(&sheet),
+        "queue 12288\nbranch 16384\nlent 4096\nbytes 45\nroom 10 1 1\nlimit 30000\ncosts 10 25 15\n\
+         source 0 0 0 port 0 facing 0\nsink 9 0 0 port 0 facing 0\n"
+    );
+}
+
+/// The numbers of each line that begins with this word.
+fn told(text: &str, word: &str) -> Vec<Vec<u32>> {
+    let lines = text.lines().filter_map(|line| line.split_once(' '));
+    lines
+        .filter(|(first, _)| *first == word)
+        .map(|(_, rest)| {
+            rest.split(' ')
+                .filter_map(|word| word.parse().ok())
+                .collect()
+        })
+        .collect()
+}
+
+fn place(numbers: &[u32]) -> [u8; 3] {
+    let place = <[u32; 3]>::try_from(numbers).unwrap();
+    place.map(|number| number as u8)
+}
+
+fn told_port(line: &[u32]) -> Port {
+    Port {
+        at: place(&line[..3]),
+        kind: line[3] as u8,
+        facing: line[4] as u8,
     }
+}
+
+fn told_block(line: &[u32]) -> Block {
+    Block {
+        node: line[0] as u16,
+        at: place(&line[1..4]),
+        kind: line[4] as u8,
+        facing: line[5] as u8,
+    }
+}
+
+/// The job that a shown sheet tells.
+fn told_job(text: &str) -> Job {
+    let one = |word| <[_; 1]>::try_from(told(text, word)).unwrap()[0].clone();
+    let places = |word| told(text, word).iter().map(|line| place(line)).collect();
+    let costs = one("costs");
+    Job {
+        sides: place(&one("room")),
+        config: Config {
+            node_limit: one("limit")[0],
+            horizontal: costs[0],
+            stair: costs[1],
+            support: costs[2],
+        },
+        blocks: told(text, "block")
+            .iter()
+            .map(|line| told_block(line))
+            .collect(),
+        conductors: places("conductor"),
+        clearances: places("clearance"),
+        terminals: places("terminal"),
+        reserved: places("reserved"),
+        source: told_port(&one("source")),
+        sinks: told(text, "sink")
+            .iter()
+            .map(|line| told_port(line))
+            .collect(),
+    }
+}
+
+/// A shown sheet tells its buffers, its length and its job; or, where it is none, its first bytes.
+#[test]
+fn sheets_are_shown() {
+    let (mut jobs, mut whole, mut cut) = (0, 0, 0);
+    for sheet in some_sheets() {
+        let text = sheet_lines(&sheet);
+        let length = sheet.bytes.len();
+        let head = ["queue", "branch", "lent", "bytes"].map(|word| told(&text, word).concat());
+        let due = [sheet.queue, sheet.branch, sheet.lent, length as u32];
+        assert_eq!(head, due.map(|number| vec![number]));
+        if let Ok(job) = Job::read(&sheet.bytes) {
+            assert_eq!(told_job(&text), job, "{text}");
+            jobs += 1;
+            continue;
+        }
+        let hex = text.lines().last().unwrap().strip_prefix("hex").unwrap();
+        let shown = parse_hex(hex.trim_end_matches(" ..")).unwrap();
+        assert_eq!(shown, sheet.bytes[..length.min(64)]);
+        assert_eq!(hex.ends_with(" .."), length > 64);
+        whole += usize::from(length <= 64);
+        cut += usize::from(length > 64);
+    }
+    assert!(jobs > 150 && whole > 0 && cut > 0, "{jobs} {whole} {cut}");
 }
 
 #[test]

@@ -9,9 +9,10 @@ use std::hint::black_box;
 use std::time::Duration;
 
 use cases::room::{Config, Room, kind};
-use oracle::{Rng, Search, SearchAnswer};
-use published::routing::{RouterConfig, astar_route};
-use published::world::{Block, BlockKind, Pos, World};
+use checks::search_due;
+use dustroute::lent::SEARCH_VALUES;
+use oracle::{Rng, Search, pos_of, router_config, world_of};
+use published::routing::astar_route;
 
 use crate::clock;
 use crate::flat::Flat;
@@ -134,15 +135,15 @@ pub fn best(runs: usize, mut all: impl FnMut()) -> Duration {
 /// Prints one line: each time, and that all answers are the same. The queue has `places` for each cell.
 fn measure(load: &Load, places: usize) {
     let cells = load.searches[0].kinds.len();
-    let mut lent = proved::search_memory(cells, 2 * places * cells, 4, 0);
+    let mut lent = proved::search_memory(cells, 2 * places * cells, SEARCH_VALUES, 0);
     let mut flat = Flat::default();
     let mut routes = 0;
     for case in &load.searches {
         let answer = flat.search(case, places * cells);
         let number = proved::search(case, &mut lent);
         routes += usize::from(number == 0);
-        let found = (number, [lent.values[0], lent.values[2], lent.values[3]]);
-        assert_eq!(found, numbers_of(&answer), "{}", load.name);
+        assert_eq!(number, u32::from(answer.number()), "{}", load.name);
+        assert!(lent == search_due(&lent, &answer), "{}", load.name);
     }
     let proved = best(load.runs, || {
         for case in &load.searches {
@@ -167,49 +168,19 @@ fn measure(load: &Load, places: usize) {
     );
 }
 
-/// The number, with detail, cost and expanded count.
-fn numbers_of(answer: &SearchAnswer) -> (u32, [u64; 3]) {
-    match answer {
-        SearchAnswer::Route { cost, expanded, .. } => (0, [0, (*cost).into(), (*expanded).into()]),
-        SearchAnswer::Refused(refusal) => (refusal.number.into(), [refusal.detail.into(), 0, 0]),
-    }
-}
-
 const RUNS_PUBLISHED: usize = 5;
 
 /// The published Rust's time; the worlds, each in its Solid shell, are built before.
 fn published_time(load: &Load) -> Duration {
-    let config = RouterConfig::default();
     let mut total = Duration::ZERO;
     for case in &load.searches {
         let room = Room::new(case.sides, case.kinds.len()).expect("a lawful room");
-        let pos = |cell: u32| {
-            let place = room.place(cell as usize);
-            Pos::new(place.x, place.y, place.z)
-        };
-        let world = world_of(case.sides, &case.kinds);
-        let [start, goal] = [pos(case.start), pos(case.goal)];
+        let world = world_of(&room, &case.kinds);
+        let [start, goal] = [case.start, case.goal].map(|cell| pos_of(&room, cell as usize));
+        let config = router_config(&case.config);
         total += best(RUNS_PUBLISHED, || {
             let _ = black_box(astar_route(black_box(&world), start, goal, config));
         });
     }
     total
-}
-
-fn world_of(sides: [u8; 3], kinds: &[u8]) -> World {
-    let [wide, high, deep] = sides.map(i32::from);
-    let mut world = World::new();
-    for x in -1..=wide {
-        for y in -1..=high {
-            for z in -1..=deep {
-                let inside =
-                    (0..wide).contains(&x) && (0..high).contains(&y) && (0..deep).contains(&z);
-                let cell = (x * high + y) * deep + z;
-                if !inside || kinds[cell as usize] == kind::SOLID {
-                    world.set(Pos::new(x, y, z), Block::new(BlockKind::Solid));
-                }
-            }
-        }
-    }
-    world
 }

@@ -8,13 +8,13 @@ use std::hint::black_box;
 use std::time::Duration;
 
 use cases::room::{MOST_CELLS, facing, kind};
-use cases::samples::{default_job, wire};
+use cases::samples::{block, default_job, wire};
 use cases::sheet::{Block, Job, Port};
+use dustroute::lent::{TREE_VALUES, TreeMemory};
 use oracle::{PublishedJob, Rng, Sheet, check_sheet};
 
 use crate::bench::best;
 use crate::proved;
-use dustroute::lent::{TREE_VALUES, TreeMemory};
 
 /// A job that is timed, and how often by each of the two.
 struct Load {
@@ -82,12 +82,7 @@ fn open(sides: [u8; 3], floor: u8) -> Job {
 }
 
 fn solid(node: u16, at: [u8; 3]) -> Block {
-    Block {
-        node,
-        at,
-        kind: kind::SOLID,
-        facing: facing::NONE,
-    }
+    block(node, at, kind::SOLID)
 }
 
 /// A floor of Solid, and a pillar to half the height at every fourth place, where no end stands.

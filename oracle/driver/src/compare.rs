@@ -1,11 +1,12 @@
 //! Random searches: the proved search and the plain Rust over flat arrays against the oracle's answers.
 
 use cases::text::{search_answer_lines, search_lines};
+use checks::search_due;
+use dustroute::lent::{SEARCH_VALUES, SearchMemory};
 use oracle::{Profile, Refusal, Rng, Search, SearchAnswer, check_search, random_search};
 
 use crate::flat::Flat;
 use crate::proved::{self, search_memory};
-use dustroute::lent::SearchMemory;
 
 pub struct Draw {
     pub seed: u64,
@@ -48,7 +49,7 @@ pub fn compare(draw: &Draw) -> bool {
     for index in 0..draw.count {
         let case = random_search(&mut Rng::for_case(draw.seed, index), draw.profile);
         let found = expected_answer(draw, &case).and_then(|expected| {
-            by_number[usize::from(values_of(&expected).0)] += 1;
+            by_number[usize::from(expected.number())] += 1;
             differs(&case, &expected, &mut flat, index as u8)
         });
         if let Err(what) = found {
@@ -76,20 +77,12 @@ fn expected_answer(draw: &Draw, case: &Search) -> Result<SearchAnswer, String> {
     Ok(case.plain_answer())
 }
 
-/// The number, and the four values that come with it.
-fn values_of(answer: &SearchAnswer) -> (u8, [u64; 4]) {
-    match answer {
-        SearchAnswer::Refused(Refusal { number, detail }) => {
-            (*number, [u64::from(*detail), 0, 0, 0])
-        }
-        SearchAnswer::Route {
-            path,
-            cost,
-            expanded,
-        } => (
-            0,
-            [0, path.len() as u64, u64::from(*cost), u64::from(*expanded)],
-        ),
+/// How much longer memory is lent than a case names. It must not turn a refusal by 6 into an answer.
+pub fn extra(number: u8, salt: u8) -> usize {
+    if number == 6 {
+        0
+    } else {
+        1 + usize::from(salt % 64)
     }
 }
 
@@ -102,30 +95,17 @@ fn differs(
     salt: u8,
 ) -> Result<(), String> {
     let [cells, queue] = [case.lent as usize, 2 * case.queue as usize];
-    let word = salt | 1;
-    proved_differs(case, expected, search_memory(cells, queue, 4, word))?;
-    // Longer memory must not turn a refusal by 6 into an answer, nor add a place to the queue.
-    let extra = if values_of(expected).0 == 6 {
-        0
-    } else {
-        1 + usize::from(salt % 64)
-    };
-    proved_differs(
-        case,
-        expected,
-        search_memory(cells + extra, queue + 1, 4 + extra, word),
-    )?;
-    let (number, _) = values_of(expected);
-    let short = SearchAnswer::Refused(Refusal::bare(if matches!(number, 2 | 3) {
-        number
-    } else {
-        6
-    }));
-    proved_differs(
-        case,
-        &short,
-        search_memory(cells, queue, usize::from(salt % 4), word),
-    )?;
+    let memory = |cells, queue, values| search_memory(cells, queue, values, salt | 1);
+    let number = expected.number();
+    proved_differs(case, expected, memory(cells, queue, SEARCH_VALUES))?;
+    let extra = extra(number, salt);
+    // One number more is no place of the queue.
+    let longer = memory(cells + extra, queue + 1, SEARCH_VALUES + extra);
+    proved_differs(case, expected, longer)?;
+    let few = if matches!(number, 2 | 3) { number } else { 6 };
+    let refused = SearchAnswer::Refused(Refusal::bare(few));
+    let short = memory(cells, queue, usize::from(salt) % SEARCH_VALUES);
+    proved_differs(case, &refused, short)?;
     if case.judge().is_ok() && flat.search(case, case.queue as usize) != *expected {
         return Err("the plain Rust over flat arrays differs".into());
     }
@@ -139,42 +119,34 @@ fn proved_differs(
 ) -> Result<(), String> {
     let mut after = before.clone();
     let number = proved::search(case, &mut after);
-    let (due, values) = values_of(expected);
-    let told = || {
-        format!(
-            "{number}, values {:?}, due\n{}",
-            after.values,
-            search_answer_lines(expected)
-        )
-    };
-    if number != u32::from(due) {
-        return Err(format!("number {}", told()));
+    let due = search_due(&before, expected);
+    let same = [
+        ("number", number == u32::from(expected.number())),
+        ("path", after.path == due.path),
+        ("known", after.known == due.known),
+        ("previous", after.previous == due.previous),
+        ("classes", after.classes == due.classes),
+        ("queue", after.queue == due.queue),
+        ("values", after.values == due.values),
+    ];
+    told_unless_same(&same, || {
+        let lines = search_answer_lines(expected);
+        format!("number {number}, values {:?}, due\n{lines}", after.values)
+    })
+}
+
+/// An error that names what is not the same and tells the rest, if anything is not.
+pub fn told_unless_same(
+    same: &[(&str, bool)],
+    told: impl FnOnce() -> String,
+) -> Result<(), String> {
+    let others: Vec<&str> = same
+        .iter()
+        .filter(|(_, same)| !same)
+        .map(|(name, _)| *name)
+        .collect();
+    if others.is_empty() {
+        return Ok(());
     }
-    if (2..=6).contains(&due) {
-        return if after == before {
-            Ok(())
-        } else {
-            Err(format!("touched at number {}", told()))
-        };
-    }
-    if after.values[..4] != values || after.values[4..].iter().any(|value| *value != 0) {
-        return Err(format!("the values differ: number {}", told()));
-    }
-    let path: &[u16] = match expected {
-        SearchAnswer::Route { path, .. } => path,
-        SearchAnswer::Refused(_) => &[],
-    };
-    let cells = after.path.iter().copied();
-    let due_cells = path.iter().map(|cell| u32::from(*cell));
-    if !cells.eq(due_cells.chain(std::iter::repeat_n(0, after.path.len() - path.len()))) {
-        return Err(format!(
-            "the path differs: {:?}, number {}",
-            after.path,
-            told()
-        ));
-    }
-    if !proved::search_work_is_zero(&after) {
-        return Err(format!("work memory is not zero: number {}", told()));
-    }
-    Ok(())
+    Err(format!("not as due: {}; {}", others.join(", "), told()))
 }

@@ -27,8 +27,10 @@ Status 0: done; 1: answers differ; 2: bad input.
 
 /// The value behind an option, if it is given.
 fn option<'a>(words: &'a [String], name: &str) -> Option<&'a str> {
-    let at = words.iter().position(|word| word == name)?;
-    words.get(at + 1).map(String::as_str)
+    let mut pairs = words.chunks_exact(2);
+    pairs
+        .find(|pair| pair[0] == name)
+        .map(|pair| pair[1].as_str())
 }
 
 fn number(words: &[String], name: &str) -> Result<u64, String> {
@@ -37,7 +39,17 @@ fn number(words: &[String], name: &str) -> Result<u64, String> {
         .map_err(|_| format!("{name} {word}: no number"))
 }
 
+const OPTIONS: [&str; 5] = ["--seed", "--count", "--profile", "--against", "--only"];
+
 fn draw(words: &[String]) -> Result<compare::Draw, String> {
+    for pair in words.chunks(2) {
+        if !OPTIONS.contains(&pair[0].as_str()) {
+            return Err(format!("unknown option {}", pair[0]));
+        }
+        if pair.len() < 2 {
+            return Err(format!("{} needs a value", pair[0]));
+        }
+    }
     let profile = option(words, "--profile").unwrap_or("mixed");
     Ok(compare::Draw {
         seed: number(words, "--seed")?,
@@ -59,7 +71,10 @@ fn draw(words: &[String]) -> Result<compare::Draw, String> {
 fn run(words: &[String]) -> Result<bool, String> {
     let command: Vec<&str> = words.iter().take(2).map(String::as_str).collect();
     match command[..] {
-        ["compare", "searches"] => Ok(compare::compare(&draw(&words[2..])?)),
+        ["compare", "searches"] => match draw(&words[2..])? {
+            draw if draw.rich => Err("--only rich is for sheets".into()),
+            draw => Ok(compare::compare(&draw)),
+        },
         ["compare", "sheets"] => Ok(compare_trees::compare(&draw(&words[2..])?)),
         ["bench", "searches"] => {
             bench::bench();

@@ -1,9 +1,10 @@
 //! Costs at which the published Rust's sums wrap in a release build, and what the proved search answers to them.
 
-use cases::room::{Config, Place, Room, kind};
+use cases::room::{Config, Room, kind};
 use cases::samples::default_search;
-use published::routing::{RouterConfig, astar_route};
-use published::world::{Block, BlockKind, Pos, World};
+use dustroute::lent::SEARCH_VALUES;
+use oracle::{Search, cell_at, pos_of, router_config, world_of};
+use published::routing::astar_route;
 
 use crate::proved;
 
@@ -20,41 +21,12 @@ pub fn show() {
         support: 0,
         ..Config::DEFAULT
     };
-    let room = Room::new(SIDES, case.kinds.len()).expect("a lawful room");
-    let pos = |cell: u32| {
-        let place = room.place(cell as usize);
-        Pos::new(place.x, place.y, place.z)
-    };
-    let cells = |path: Vec<Pos>| -> Vec<usize> {
-        path.iter()
-            .filter_map(|at| room.cell(Place::new(at.x, at.y, at.z)))
-            .collect()
-    };
-    let config = RouterConfig {
-        max_nodes: case.config.node_limit as usize,
-        horizontal_cost: case.config.horizontal,
-        stair_cost: case.config.stair,
-        new_support_cost: case.config.support,
-    };
     println!("room 3x2x1, Solid at cell 2, from cell 0 to cell 4, costs 10, {STAIR}, 0");
-    match astar_route(
-        &world(&room, &case.kinds),
-        pos(case.start),
-        pos(case.goal),
-        config,
-    ) {
-        Ok(route) => println!(
-            "published Rust, release build: cost {}, {:?}",
-            route.cost,
-            cells(route.path)
-        ),
-        Err(error) => println!("published Rust, release build: {error:?}"),
-    }
-    let mut lent = proved::search_memory(room.cells(), 24 * room.cells(), 4, 0);
-    println!(
-        "the proved search: number {}",
-        proved::search(&case, &mut lent)
-    );
+    println!("published Rust, release build: {}", published(&case));
+    let cells = case.kinds.len();
+    let mut lent = proved::search_memory(cells, 24 * cells, SEARCH_VALUES, 0);
+    let number = proved::search(&case, &mut lent);
+    println!("the proved search: number {number}");
     case.config.stair = 100_000;
     let number = proved::search(&case, &mut lent);
     println!(
@@ -64,18 +36,16 @@ pub fn show() {
     );
 }
 
-fn world(room: &Room, kinds: &[u8]) -> World {
-    let [wide, high, deep] = room.sides();
-    let mut world = World::new();
-    for x in -1..=wide {
-        for y in -1..=high {
-            for z in -1..=deep {
-                let cell = room.cell(Place::new(x, y, z));
-                if cell.is_none_or(|cell| kinds[cell] == kind::SOLID) {
-                    world.set(Pos::new(x, y, z), Block::new(BlockKind::Solid));
-                }
-            }
+fn published(case: &Search) -> String {
+    let room = Room::new(case.sides, case.kinds.len()).expect("a lawful room");
+    let world = world_of(&room, &case.kinds);
+    let [start, goal] = [case.start, case.goal].map(|cell| pos_of(&room, cell as usize));
+    match astar_route(&world, start, goal, router_config(&case.config)) {
+        Ok(route) => {
+            let cells = route.path.iter().filter_map(|at| cell_at(&room, *at));
+            let cells: Vec<usize> = cells.collect();
+            format!("cost {}, {cells:?}", route.cost)
         }
+        Err(error) => format!("{error:?}"),
     }
-    world
 }

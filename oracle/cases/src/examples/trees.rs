@@ -4,7 +4,7 @@ use super::{Mend, but};
 use crate::Refusal;
 use crate::generate::count_places;
 use crate::room::{Config, MOST_CELLS, MOST_COST, MOST_NODES, facing, kind};
-use crate::samples::{block_power, default_job, wire};
+use crate::samples::{block, block_power, default_job, wire};
 use crate::sheet::{Block, Job, MOST_SINKS, Port, Sheet, TreeAnswer};
 
 pub fn sheets() -> Vec<(&'static str, Sheet, TreeAnswer)> {
@@ -13,7 +13,10 @@ pub fn sheets() -> Vec<(&'static str, Sheet, TreeAnswer)> {
     list.extend(fork());
     list.extend(number_one());
     list.extend(record_refusals());
-    list.extend(tree_refusals());
+    list.extend(number_six());
+    list.extend(number_seven());
+    list.extend(numbers_eight_and_nine());
+    list.extend(numbers_thirteen_to_fifteen());
     list.extend(tree_order());
     list.extend(room_limits());
     list.extend(sink_limits());
@@ -36,15 +39,6 @@ fn refused(number: u8, detail: u32) -> TreeAnswer {
 
 fn sheet(job: &Job) -> Sheet {
     Sheet::of_route(job.bytes())
-}
-
-fn block(node: u16, at: [u8; 3], kind: u8) -> Block {
-    Block {
-        node,
-        at,
-        kind,
-        facing: facing::NONE,
-    }
 }
 
 fn blocked_by(sides: [u8; 3], sinks: &[Port], blocks: &[Block]) -> Job {
@@ -223,27 +217,10 @@ fn refused_for(
     (name, lent(job, change), refused(number, detail))
 }
 
-fn tree_refusals() -> Vec<(&'static str, Sheet, TreeAnswer)> {
+/// Buffers that are too short. The branch buffer may be.
+fn number_six() -> [(&'static str, Sheet, TreeAnswer); 2] {
     let none = default_job([3, 1, 1], &[]);
-    let line = default_job([3, 1, 1], &[plain_sink(2)]);
-    let twice = default_job([3, 1, 1], &[wire([1, 0, 0], facing::EAST)]);
-    let square = default_job([3, 1, 3], &[wire([1, 0, 1], facing::NONE)]);
-    let overlaps = |blocks: &[Block]| sheet(&blocked_by([4, 1, 1], &[], blocks));
-    let at = |node, x| block(node, [x, 0, 0], kind::SOLID);
-    let powered = |facing| {
-        sheet(&default_job(
-            [3, 1, 1],
-            &[plain_sink(1), block_power([1, 0, 0], facing)],
-        ))
-    };
-    let source = |facing| {
-        let job = but(default_job([3, 1, 1], &[]), |job| {
-            job.source = block_power([0; 3], facing)
-        });
-        sheet(&job)
-    };
-    let walled = blocked_by([4, 1, 1], &[plain_sink(1), plain_sink(3)], &[at(0, 2)]);
-    vec![
+    [
         refused_for("a buffer under V", &none, |sheet| sheet.lent = 2, 6, 0),
         refused_for(
             "no queue place, even with no sinks",
@@ -252,6 +229,14 @@ fn tree_refusals() -> Vec<(&'static str, Sheet, TreeAnswer)> {
             6,
             0,
         ),
+    ]
+}
+
+/// Two blocks in one cell.
+fn number_seven() -> [(&'static str, Sheet, TreeAnswer); 3] {
+    let at = |node, x| block(node, [x, 0, 0], kind::SOLID);
+    let overlaps = |blocks: &[Block]| sheet(&blocked_by([4, 1, 1], &[], blocks));
+    [
         (
             "two nodes in one cell",
             overlaps(&[at(0, 1), at(1, 1)]),
@@ -267,12 +252,27 @@ fn tree_refusals() -> Vec<(&'static str, Sheet, TreeAnswer)> {
             overlaps(&[at(9, 0), at(2, 3), at(2, 2), at(1, 3), at(1, 2), at(3, 0)]),
             refused(7, 2),
         ),
+    ]
+}
+
+/// Ports without horizontal facing, and those that look out of the room.
+fn numbers_eight_and_nine() -> [(&'static str, Sheet, TreeAnswer); 5] {
+    let sink = |facing| {
+        let sinks = [plain_sink(1), block_power([1, 0, 0], facing)];
+        sheet(&default_job([3, 1, 1], &sinks))
+    };
+    let source = |facing| {
+        sheet(&but(default_job([3, 1, 1], &[]), |job| {
+            job.source = block_power([0; 3], facing)
+        }))
+    };
+    [
         (
             "BlockPower source without facing",
             source(facing::NONE),
             refused(8, 0),
         ),
-        ("BlockPower sink facing Up", powered(5), refused(8, 2)),
+        ("BlockPower sink facing Up", sink(5), refused(8, 2)),
         (
             "the source's terminal outside",
             source(facing::WEST),
@@ -280,14 +280,26 @@ fn tree_refusals() -> Vec<(&'static str, Sheet, TreeAnswer)> {
         ),
         (
             "a sink's terminal outside",
-            powered(facing::NORTH),
+            sink(facing::NORTH),
             refused(9, 2),
         ),
         (
             "a sink's approach outside",
-            powered(facing::EAST),
+            sink(facing::EAST),
             refused(9, 2),
         ),
+    ]
+}
+
+/// A queue that is full, a sink without a goal, a branch buffer that is too short; and what just suffices.
+fn numbers_thirteen_to_fifteen() -> [(&'static str, Sheet, TreeAnswer); 7] {
+    let line = default_job([3, 1, 1], &[plain_sink(2)]);
+    let twice = default_job([3, 1, 1], &[wire([1, 0, 0], facing::EAST)]);
+    let square = default_job([3, 1, 3], &[wire([1, 0, 1], facing::NONE)]);
+    let wall = block(0, [2, 0, 0], kind::SOLID);
+    let walled = blocked_by([4, 1, 1], &[plain_sink(1), plain_sink(3)], &[wall]);
+    let short = |name, job, branch| refused_for(name, job, |sheet| sheet.branch = branch, 15, 1);
+    [
         (
             "in a corridor one queue place suffices",
             lent(&twice, |sheet| sheet.queue = 1),
@@ -299,27 +311,9 @@ fn tree_refusals() -> Vec<(&'static str, Sheet, TreeAnswer)> {
             lent(&line, |sheet| sheet.branch = 3),
             tree(&[&[0, 1, 2]], 3, &[]),
         ),
-        refused_for(
-            "a branch buffer one short",
-            &line,
-            |sheet| sheet.branch = 2,
-            15,
-            1,
-        ),
-        refused_for(
-            "the terminal counts",
-            &twice,
-            |sheet| sheet.branch = 3,
-            15,
-            1,
-        ),
-        refused_for(
-            "15 before a later sink's 14",
-            &walled,
-            |sheet| sheet.branch = 1,
-            15,
-            1,
-        ),
+        short("a branch buffer one short", &line, 2),
+        short("the terminal counts", &twice, 3),
+        short("15 before a later sink's 14", &walled, 1),
         refused_for("13 in a tree", &square, |sheet| sheet.queue = 4, 13, 2),
     ]
 }

@@ -7,7 +7,7 @@ use super::{Profile, around, random_config, random_room};
 use crate::Refusal;
 use crate::rng::Rng;
 use crate::room::{Room, facing, kind};
-use crate::samples::{default_job, wire};
+use crate::samples::{block, default_job, wire};
 use crate::sheet::{Block, Job, MOST_BYTES, MOST_SINKS, Sheet};
 use crate::tree::{Limits, ROUTE_LIMITS, realize, route_net_tree};
 
@@ -46,12 +46,7 @@ pub fn random_sheet(rng: &mut Rng, profile: Profile) -> Sheet {
 /// farthest have a block in the clearance, and each is met as a conflict before that one is tried.
 fn terrace(rng: &mut Rng) -> Sheet {
     let (wide, deep) = (rng.between(4, 6) as u8, rng.between(62, 64) as u8);
-    let solid = |at| Block {
-        node: 0,
-        at,
-        kind: kind::SOLID,
-        facing: facing::NONE,
-    };
+    let solid = |at| block(0, at, kind::SOLID);
     let mut job = default_job([wide, 2, deep], &[wire([0, 0, 0], facing::NONE)]);
     job.source.at = [wide - 1, 1, 0];
     for (x, z) in (1..wide).flat_map(|x| (0..deep - 1).map(move |z| (x, z))) {

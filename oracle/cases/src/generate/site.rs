@@ -2,7 +2,7 @@
 
 use crate::rng::Rng;
 use crate::room::{DOWN, Offset, Place, Room, SIDEWAYS, facing, kind, kind_at, port, sideways};
-use crate::samples::wire;
+use crate::samples::{block, wire};
 use crate::sheet::{Block, Job, Port};
 
 /// Rooms in which a tree takes the published Rust seconds, and in which blocks would fill the sheet.
@@ -28,12 +28,7 @@ const DEVICES: [u8; 8] = [
 
 /// A block that belongs to a port; its place comes later.
 fn port_block(rng: &mut Rng, kind: u8) -> Block {
-    Block {
-        node: rng.pick(&[0, 1, 9]),
-        at: [0; 3],
-        kind,
-        facing: facing::NONE,
-    }
+    block(rng.pick(&[0, 1, 9]), [0; 3], kind)
 }
 
 /// A room and what stands in it while a job is put together.

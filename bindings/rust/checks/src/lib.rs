@@ -1,0 +1,128 @@
+//! The oracle's cases as the wrapper takes them, memory full of rubbish for them, and what their answers leave in it: "Numbers 1 to 6
+//! touch nothing; 7 to 15 leave every lent writable buffer zero. A success writes the answer, zeros behind it, and zeroes work memory."
+//! The wrapper's tests and the oracle's driver share this.
+
+use cases::Refusal;
+use cases::room::MOST_CELLS;
+use cases::search::SearchAnswer;
+use cases::sheet::{Sheet, TreeAnswer};
+use cases::tree::realize;
+use dustroute::lent::{SearchMemory, TreeMemory};
+use dustroute::{Config, Room};
+
+pub fn room_of([wide, high, deep]: [u8; 3]) -> Room {
+    Room { wide, high, deep }
+}
+
+pub fn config_of(config: &cases::room::Config) -> Config {
+    Config {
+        limit: config.node_limit,
+        horizontal: config.horizontal,
+        stair: config.stair,
+        support: config.support,
+    }
+}
+
+fn words_of(byte: u8) -> (u32, u64) {
+    (u32::from_ne_bytes([byte; 4]), u64::from_ne_bytes([byte; 8]))
+}
+
+/// The memory with this in every byte.
+pub fn dirty_search(mut memory: SearchMemory, byte: u8) -> SearchMemory {
+    let (word, long) = words_of(byte);
+    for buffer in [&mut memory.path, &mut memory.known, &mut memory.previous] {
+        buffer.fill(word);
+    }
+    memory.classes.fill(byte);
+    for buffer in [&mut memory.queue, &mut memory.values] {
+        buffer.fill(long);
+    }
+    memory
+}
+
+/// The memory with this in every byte.
+pub fn dirty_tree(mut memory: TreeMemory, byte: u8) -> TreeMemory {
+    let (word, long) = words_of(byte);
+    for buffer in [
+        &mut memory.branches,
+        &mut memory.known,
+        &mut memory.previous,
+        &mut memory.path,
+        &mut memory.best,
+    ] {
+        buffer.fill(word);
+    }
+    for buffer in [
+        &mut memory.occupied,
+        &mut memory.repeaters,
+        &mut memory.kinds,
+        &mut memory.blocked,
+        &mut memory.classes,
+        &mut memory.joinable,
+    ] {
+        buffer.fill(byte);
+    }
+    for buffer in [&mut memory.queue, &mut memory.values] {
+        buffer.fill(long);
+    }
+    memory
+}
+
+/// Puts cells at the front of a buffer.
+fn put(buffer: &mut [u32], cells: &[u16]) {
+    for (place, cell) in buffer[..cells.len()].iter_mut().zip(cells) {
+        *place = u32::from(*cell);
+    }
+}
+
+fn mark(buffer: &mut [u8], cells: &[u16]) {
+    cells.iter().for_each(|cell| buffer[usize::from(*cell)] = 1);
+}
+
+/// The memory as this answer leaves it, given what it was before.
+pub fn search_due(before: &SearchMemory, answer: &SearchAnswer) -> SearchMemory {
+    let mut due = dirty_search(before.clone(), 0);
+    match answer {
+        SearchAnswer::Refused(Refusal { number: 1..=6, .. }) => return before.clone(),
+        SearchAnswer::Refused(refusal) => due.values[0] = refusal.detail.into(),
+        SearchAnswer::Route { path, cost, expanded } => {
+            put(&mut due.path, path);
+            due.values[1] = path.len() as u64;
+            due.values[2] = u64::from(*cost);
+            due.values[3] = u64::from(*expanded);
+        }
+    }
+    due
+}
+
+/// The memory as this answer to a sheet leaves it, given what it was before.
+pub fn tree_due(before: &TreeMemory, sheet: &Sheet, answer: &TreeAnswer) -> TreeMemory {
+    let mut due = dirty_tree(before.clone(), 0);
+    match answer {
+        TreeAnswer::Refused(Refusal { number: 1..=6, .. }) => return before.clone(),
+        TreeAnswer::Refused(refusal) => due.values[0] = refusal.detail.into(),
+        TreeAnswer::Tree {
+            branches,
+            occupied,
+            repeaters,
+        } => {
+            put(&mut due.branches, &branches.concat());
+            mark(&mut due.occupied, &branches.concat());
+            mark(&mut due.occupied, &[source_of(sheet)]);
+            mark(&mut due.repeaters, repeaters);
+            due.values[1] = branches.len() as u64;
+            due.values[2] = u64::from(*occupied);
+            due.values[3] = repeaters.len() as u64;
+            for (length, branch) in due.values[4..].iter_mut().zip(branches) {
+                *length = branch.len() as u64;
+            }
+        }
+    }
+    due
+}
+
+/// The source's terminal, of a sheet that has a tree.
+fn source_of(sheet: &Sheet) -> u16 {
+    let (job, room) = sheet.judge(MOST_CELLS).expect("it has a tree");
+    realize(&job, &room).expect("it has a tree").source as u16
+}
