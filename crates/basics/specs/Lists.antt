@@ -1,7 +1,7 @@
 -- Membership in a list, tests over a list, a rule that one computed test shows of every member, and a list from one of its members on.
-use mathlib.Core.Path.{_≡_, refl, ap}
+use mathlib.Core.Path.{_≡_, refl, sym, ap}
 use mathlib.Core.Logic.{_⊎_, inl, inr}
-use mathlib.Core.Bool.{Bool, true, false, _&&_, _||_}
+use mathlib.Core.Bool.{Bool, true, false, _&&_, _||_, and-assoc}
 use mathlib.Core.List.{List, [], _∷_, _++_, map}
 use Prim.Native.Nat.{ℕ, zero, suc, _+_, _≤_, _<_}
 use native.Mathlib.Numerals.{add-one}
@@ -52,11 +52,7 @@ every-all p f (x ∷ xs) = and-both (f x) (every-all p f xs)
 
 pub every-append : {X : Type 0} (p : X → Bool) (xs ys : List X) → every p (xs ++ ys) ≡ every p xs && every p ys
 every-append p [] ys = refl
-every-append p (x ∷ xs) ys = on (p x) (every-append p xs ys)
-  where
-    on : (b : Bool) → every p (xs ++ ys) ≡ every p xs && every p ys → b && every p (xs ++ ys) ≡ b && every p xs && every p ys
-    on true e = e
-    on false e = refl
+every-append p (x ∷ xs) ys = rw (every-append p xs ys) (sym (and-assoc (p x) (every p xs) (every p ys)))
 
 pub every-map : {X Y : Type 0} (p : Y → Bool) (f : X → Y) (xs : List X) → every p (map f xs) ≡ every (λ x. p (f x)) xs
 every-map p f [] = refl

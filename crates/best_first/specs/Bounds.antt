@@ -13,7 +13,7 @@ use Rattle.basics.specs.Zeros.{zeros}
 use Rattle.best_first.specs.Search.{Graph, Move, Entry, State, Taken, push, counted, outset}
 use Rattle.best_first.specs.Ways.{Sound}
 use Rattle.best_first.specs.Statements.{Taking, stored, costOf, Reached, at-outset, then, Bounded}
-use Rattle.best_first.specs.Lists.{After, hit, miss, after, in-reach, marked, marked-le, marked-none, marked-new, marked-old}
+use Rattle.best_first.specs.Lists.{After, hit, miss, after, in-reach, nonzeros, nonzeros-le, nonzeros-none, nonzeros-new, nonzeros-old}
 use Rattle.best_first.specs.Entries.{same-sym, same-in}
 use Rattle.best_first.specs.Equations.{offered, Gain, no-gain}
 use Rattle.best_first.specs.Reached.{through}
@@ -24,13 +24,13 @@ use Rattle.best_first.specs.Links.{lowered, start-placed, start-alone, o
 record Fits (G : Graph) (dearest : ℕ) (known : List ℕ) (e : Entry) : Type 0 where
   cell-in : e .cell < G .size
   reached : 0 < getD known (e .cell) 0
-  low : e .key + dearest ≤ dearest * marked known + G .estimate (e .cell)
+  low : e .key + dearest ≤ dearest * nonzeros known + G .estimate (e .cell)
 
 -- as `Bounded` of Statements, but with the cells counted that are known yet, and with the moves `due` still to be tried
 pub record Sane (G : Graph) (degree dearest : ℕ) (due : List Move) (s : State) : Type 0 where
   pub known-length : length (s .known) ≡ G .size
   pub previous-length : length (s .previous) ≡ G .size
-  low : (v : ℕ) → 0 < stored s v → stored s v + dearest ≤ suc (dearest * marked (s .known))
+  low : (v : ℕ) → 0 < stored s v → stored s v + dearest ≤ suc (dearest * nonzeros (s .known))
   pub previous-in : (v : ℕ) → getD (s .previous) v 0 ≤ G .size
   fits : (e : Entry) → In e (s .waiting) → Fits G dearest (s .known) e
   pub balance : s .expanded + length (s .waiting) ≡ suc (s .serial)
@@ -70,9 +70,9 @@ module _ {G : Graph} {degree dearest : ℕ} (S : Sound G degree dearest) where
     serial = omega (arith, A .serial);
   }
     where
-      most : dearest * marked (s .known) ≤ (G .size - 1) * dearest + dearest
+      most : dearest * nonzeros (s .known) ≤ (G .size - 1) * dearest + dearest
       most =
-          let k : marked (s .known) ≤ suc (G .size - 1) = omega (arith, marked-le (s .known), A .known-length) in
+          let k : nonzeros (s .known) ≤ suc (G .size - 1) = omega (arith, nonzeros-le (s .known), A .known-length) in
           omega (arith, mul-le-mul-left dearest k, mul-suc dearest (G .size - 1), mul-comm dearest (G .size - 1))
 
       cost : (v : ℕ) → (stored s v ≡ 0) ⊎ (0 < stored s v) → stored s v ≤ (G .size - 1) * dearest + 1
@@ -111,21 +111,21 @@ module _ {G : Graph} {degree dearest : ℕ} (S : Sound G degree dearest) where
       at v = after (s .known) (m .to) (suc (d + m .cost)) v to-placed
 
       -- a first known cell adds one to the count, and its cost is one move above that of u
-      more : (marked (s .known) ≤ marked (offered s d m))
-          × (suc (d + m .cost) + dearest ≤ suc (dearest * marked (offered s d m)))
+      more : (nonzeros (s .known) ≤ nonzeros (offered s d m))
+          × (suc (d + m .cost) + dearest ≤ suc (dearest * nonzeros (offered s d m)))
       more = go gain
         where
-          u-low : stored s u + dearest ≤ suc (dearest * marked (s .known))
+          u-low : stored s u + dearest ≤ suc (dearest * nonzeros (s .known))
           u-low = A .sane .low u (omega (arith, A .now))
 
           go : Gain (suc (d + m .cost)) (stored s (m .to))
-              → (marked (s .known) ≤ marked (offered s d m))
-              × (suc (d + m .cost) + dearest ≤ suc (dearest * marked (offered s d m)))
-          go (inl e) = rw (marked-new (s .known) (m .to) (d + m .cost) to-placed e, mul-suc)
+              → (nonzeros (s .known) ≤ nonzeros (offered s d m))
+              × (suc (d + m .cost) + dearest ≤ suc (dearest * nonzeros (offered s d m)))
+          go (inl e) = rw (nonzeros-new (s .known) (m .to) (d + m .cost) to-placed e, mul-suc)
               (omega (arith, u-low, A .now, S .dear u m lawful))
-          go (inr l) = rw (marked-old (s .known) (m .to) (d + m .cost) (omega arith)) (omega (arith, A .sane .low (m .to) (omega arith)))
+          go (inr l) = rw (nonzeros-old (s .known) (m .to) (d + m .cost) (omega arith)) (omega (arith, A .sane .low (m .to) (omega arith)))
 
-      rises : dearest * marked (s .known) ≤ dearest * marked (offered s d m)
+      rises : dearest * nonzeros (s .known) ≤ dearest * nonzeros (offered s d m)
       rises = mul-le-mul-left dearest (more .0)
 
       pub push-still : Still G degree dearest u d ms (push G u (m .to) (d + m .cost) s)
@@ -145,7 +145,7 @@ module _ {G : Graph} {degree dearest : ℕ} (S : Sound G degree dearest) where
       }
         where
           low : (v : ℕ) → 0 < getD (offered s d m) v 0 → After (s .known) (m .to) (suc (d + m .cost)) v
-              → getD (offered s d m) v 0 + dearest ≤ suc (dearest * marked (offered s d m))
+              → getD (offered s d m) v 0 + dearest ≤ suc (dearest * nonzeros (offered s d m))
           low v p (hit e q) = omega (arith, more)
           low v p (miss n q) = omega (arith, A .sane .low v (omega arith), rises)
 
@@ -186,7 +186,7 @@ module _ {G : Graph} {degree dearest : ℕ} (S : Sound G degree dearest) where
     lawful = λ m i. i;
   }
 
-  pub outset-sane : Sane G degree dearest [] (outset G)
+  outset-sane : Sane G degree dearest [] (outset G)
   unfolding outset
   outset-sane = record {
     known-length = outset-linked S .known-length;
@@ -198,8 +198,8 @@ module _ {G : Graph} {degree dearest : ℕ} (S : Sound G degree dearest) where
     serial = zero-le;
   }
     where
-      one : marked (set (replicate (G .size) 0) (G .start) 1) ≡ 1
-      one = marked-new (replicate (G .size) 0) (G .start) 0 (start-placed S) (zeros (G .size) (G .start)) ∙ ap suc (marked-none (G .size))
+      one : nonzeros (set (replicate (G .size) 0) (G .start) 1) ≡ 1
+      one = nonzeros-new (replicate (G .size) 0) (G .start) 0 (start-placed S) (zeros (G .size) (G .start)) ∙ ap suc (nonzeros-none (G .size))
 
   pub sane : {l : List ℕ} {s : State} → Reached G l s → Sane G degree dearest [] s
   sane at-outset = outset-sane

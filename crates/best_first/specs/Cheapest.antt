@@ -9,7 +9,7 @@ use native.Mathlib.Nat.{eq-zero-or-pos, add-zero, add-assoc}
 use lib.ListN.{getD}
 use Rattle.best_first.specs.Search.{Graph, State, Taken}
 use Rattle.best_first.specs.Ways.{Step, Way, Consistent}
-use Rattle.best_first.specs.Statements.{Taking, stored}
+use Rattle.best_first.specs.Statements.{Least, Taking, stored, costOf}
 use Rattle.best_first.specs.Base.{Base, all-loose, taken-fresh}
 
 -- x is known at no more than a (costs with 1 added)
@@ -50,8 +50,7 @@ module _ {G : Graph} (K : Consistent G) {closed ages : List ℕ} {w : ℕ} {s : 
   all-on [] x t d a W n = rw (W .1, add-zero, ← W .0) n
   all-on (v ∷ l) x t d a W n = rw (W .4, ← add-assoc) (all-on l v t (W .1) (a + W .0) (W .3) (one-on x v (W .0) a (W .2) n))
 
-  pub cheapest : {t : Taken} → Taking (s .waiting) t → t .next .cell ≡ G .goal
-      → (l : List ℕ) (d : ℕ) → Way G (G .start) l (G .goal) d → pred (stored s (G .goal)) ≤ d
+  pub cheapest : {t : Taken} → Taking (s .waiting) t → t .next .cell ≡ G .goal → Least G (costOf s (G .goal))
   cheapest {t} k e l d W =
       go (all-on l (G .start) (G .goal) d 1 W (inl (record { reached = omega (arith, B .linked .start-known); cheap = omega (arith, B .linked .start-known) })))
     where

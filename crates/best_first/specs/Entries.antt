@@ -3,15 +3,16 @@ use mathlib.Core.Path.{_≡_, refl, sym, ap, _∙_}
 use mathlib.Core.Logic.{inl, inr}
 use mathlib.Core.Bool.{Bool, true, false, _&&_}
 use mathlib.Core.List.{List, [], _∷_}
-use Prim.Native.Nat.{ℕ, suc, _+_, _≤_, _<_}
+use Prim.Native.Nat.{suc, _≤_, _<_}
 use native.Mathlib.Omega.{arith}
 use lib.ListN.{length}
 use lib.Dec.{ltb, eqb}
 use borrow.Author.Tests.{ltb-true, ltb-false, eqb-true, eqb-false, eq-eqb}
 use Rattle.basics.specs.Tests.{and-left, and-right, ask, never}
 use Rattle.basics.specs.Lists.{In}
+use Rattle.basics.specs.Counts.{bit, times}
 use Rattle.best_first.specs.Search.{Entry, least, sooner}
-use Rattle.best_first.specs.Statements.{bit, Taking}
+use Rattle.best_first.specs.Statements.{Taking}
 
 -- a is not taken before b
 pub data Late (a b : Entry) : Type 0 where
@@ -65,12 +66,8 @@ least-late e (x ∷ xs) y i =
 unfoldable pub equal : Entry → Entry → Bool
 equal a b = eqb (a .key) (b .key) && (eqb (a .serial) (b .serial) && eqb (a .cell) (b .cell))
 
-unfoldable pub count : Entry → List Entry → ℕ
-count a [] = 0
-count a (x ∷ xs) = bit (equal a x) + count a xs
-
-count-least : (a e : Entry) (xs : List Entry) → count a (e ∷ xs) ≡ count a (least e xs .next ∷ least e xs .left)
-unfolding least count
+count-least : (a e : Entry) (xs : List Entry) → times (equal a) (e ∷ xs) ≡ times (equal a) (least e xs .next ∷ least e xs .left)
+unfolding least times
 count-least a e [] = refl
 count-least a e (x ∷ xs) =
     ask (sooner x e) (λ t. rw t (omega (arith, count-least a x xs))) (λ f. rw f (omega (arith, count-least a e xs)))
@@ -94,14 +91,14 @@ equal-refl : (a : Entry) → equal a a ≡ true
 unfolding equal
 equal-refl a = rw (eq-eqb (a .key) (a .key) refl, eq-eqb (a .serial) (a .serial) refl, eq-eqb (a .cell) (a .cell) refl)
 
-in-count : (a : Entry) (l : List Entry) → In a l → 0 < count a l
-unfolding count
+in-count : (a : Entry) (l : List Entry) → In a l → 0 < times (equal a) l
+unfolding times
 in-count a [] i = absurd i
 in-count a (x ∷ l) (inl e) = omega (arith, ap bit (ap (equal a) (sym e) ∙ equal-refl a))
 in-count a (x ∷ l) (inr i) = omega (arith, in-count a l i)
 
-count-in : (a : Entry) (l : List Entry) → 0 < count a l → In a l
-unfolding count
+count-in : (a : Entry) (l : List Entry) → 0 < times (equal a) l → In a l
+unfolding times
 count-in a [] h = absurd (omega arith)
 count-in a (x ∷ l) h = ask (equal a x) (λ t. inl (equal-eq a x t)) (λ f. inr (count-in a l (omega (arith, ap bit f))))
 
@@ -109,7 +106,7 @@ count-in a (x ∷ l) h = ask (equal a x) (λ t. inl (equal-eq a x t)) (λ f. inr
 
 pub record Same (p q : List Entry) : Type 0 where
   pub many : length p ≡ length q
-  pub each : (a : Entry) → count a p ≡ count a q
+  pub each : (a : Entry) → times (equal a) p ≡ times (equal a) q
 
 pub same-refl : (p : List Entry) → Same p p
 same-refl p = record { many = refl; each = λ a. refl }
@@ -124,15 +121,15 @@ pub same-in : {p q : List Entry} → Same p q → (a : Entry) → In a p → In 
 same-in {p} {q} S a i = count-in a q (omega (arith, S .each a, in-count a p i))
 
 pub same-cons : {p q : List Entry} (e : Entry) → Same p q → Same (e ∷ p) (e ∷ q)
-unfolding count
+unfolding times
 same-cons e S = record { many = ap suc (S .many); each = λ a. omega (arith, S .each a) }
 
 pub same-swap : (a b : Entry) (p : List Entry) → Same (a ∷ b ∷ p) (b ∷ a ∷ p)
-unfolding count
+unfolding times
 same-swap a b p = record { many = refl; each = λ x. omega arith }
 
 same-rest : {p q : List Entry} (e : Entry) → Same (e ∷ p) (e ∷ q) → Same p q
-unfolding count
+unfolding times
 same-rest e S = record { many = omega (arith, S .many); each = λ a. omega (arith, S .each a) }
 
 same-least : (e : Entry) (xs : List Entry) → Same (e ∷ xs) (least e xs .next ∷ least e xs .left)

@@ -147,14 +147,3 @@ trace-start n previous v rest e = rw (e, trace)
 pub trace-back : (n : ℕ) (previous : List ℕ) (v u : ℕ) (rest : List ℕ) → getD previous v 0 ≡ suc u → trace (suc n) previous v rest ≡ trace n previous u (v ∷ rest)
 unfolding trace
 trace-back n previous v u rest e = rw (e, trace)
-
--- the path has at most n cells
-pub trace-short : (n : ℕ) (previous : List ℕ) (v : ℕ) (rest : List ℕ) → length (trace n previous v rest) ≤ n + length rest
-unfolding trace
-trace-short zero previous v rest = omega arith
-trace-short (suc n) previous v rest = go (getD previous v 0) refl (λ u. trace-short n previous u (v ∷ rest))
-  where
-    go : (k : ℕ) → getD previous v 0 ≡ k → ((u : ℕ) → length (trace n previous u (v ∷ rest)) ≤ n + suc (length rest))
-        → length (trace (suc n) previous v rest) ≤ suc n + length rest
-    go zero e ih = rw (e, trace) (omega arith)
-    go (suc u) e ih = rw (e, trace) (omega (arith, ih u))

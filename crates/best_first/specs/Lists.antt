@@ -33,36 +33,36 @@ after l i x j h =
 
 -- ---- how many elements are not 0
 
-unfoldable pub marked : List ℕ → ℕ
-marked [] = 0
-marked (zero ∷ l) = marked l
-marked (suc x ∷ l) = suc (marked l)
+unfoldable pub nonzeros : List ℕ → ℕ
+nonzeros [] = 0
+nonzeros (zero ∷ l) = nonzeros l
+nonzeros (suc x ∷ l) = suc (nonzeros l)
 
-pub marked-le : (l : List ℕ) → marked l ≤ length l
-unfolding marked
-marked-le [] = zero-le
-marked-le (zero ∷ l) = omega (arith, marked-le l)
-marked-le (suc x ∷ l) = suc-le-suc (marked-le l)
+pub nonzeros-le : (l : List ℕ) → nonzeros l ≤ length l
+unfolding nonzeros
+nonzeros-le [] = zero-le
+nonzeros-le (zero ∷ l) = omega (arith, nonzeros-le l)
+nonzeros-le (suc x ∷ l) = suc-le-suc (nonzeros-le l)
 
-pub marked-none : (n : ℕ) → marked (replicate n 0) ≡ 0
-unfolding marked
-marked-none zero = refl
-marked-none (suc n) = marked-none n
+pub nonzeros-none : (n : ℕ) → nonzeros (replicate n 0) ≡ 0
+unfolding nonzeros
+nonzeros-none zero = refl
+nonzeros-none (suc n) = nonzeros-none n
 
 -- a store where 0 stood
-pub marked-new : (l : List ℕ) (i x : ℕ) → i < length l → getD l i 0 ≡ 0 → marked (set l i (suc x)) ≡ suc (marked l)
-unfolding marked
-marked-new [] i x h e = absurd (not-suc-le-zero h)
-marked-new (zero ∷ l) zero x h e = refl
-marked-new (zero ∷ l) (suc i) x h e = marked-new l i x (le-of-suc-le-suc h) e
-marked-new (suc y ∷ l) zero x h e = omega arith
-marked-new (suc y ∷ l) (suc i) x h e = ap suc (marked-new l i x (le-of-suc-le-suc h) e)
+pub nonzeros-new : (l : List ℕ) (i x : ℕ) → i < length l → getD l i 0 ≡ 0 → nonzeros (set l i (suc x)) ≡ suc (nonzeros l)
+unfolding nonzeros
+nonzeros-new [] i x h e = absurd (not-suc-le-zero h)
+nonzeros-new (zero ∷ l) zero x h e = refl
+nonzeros-new (zero ∷ l) (suc i) x h e = nonzeros-new l i x (le-of-suc-le-suc h) e
+nonzeros-new (suc y ∷ l) zero x h e = omega arith
+nonzeros-new (suc y ∷ l) (suc i) x h e = ap suc (nonzeros-new l i x (le-of-suc-le-suc h) e)
 
 -- a store where another element stood
-pub marked-old : (l : List ℕ) (i x : ℕ) → 0 < getD l i 0 → marked (set l i (suc x)) ≡ marked l
-unfolding marked
-marked-old [] i x h = omega arith
-marked-old (zero ∷ l) zero x h = omega arith
-marked-old (zero ∷ l) (suc i) x h = marked-old l i x h
-marked-old (suc y ∷ l) zero x h = refl
-marked-old (suc y ∷ l) (suc i) x h = ap suc (marked-old l i x h)
+pub nonzeros-old : (l : List ℕ) (i x : ℕ) → 0 < getD l i 0 → nonzeros (set l i (suc x)) ≡ nonzeros l
+unfolding nonzeros
+nonzeros-old [] i x h = omega arith
+nonzeros-old (zero ∷ l) zero x h = omega arith
+nonzeros-old (zero ∷ l) (suc i) x h = nonzeros-old l i x h
+nonzeros-old (suc y ∷ l) zero x h = refl
+nonzeros-old (suc y ∷ l) (suc i) x h = ap suc (nonzeros-old l i x h)

@@ -61,7 +61,7 @@ module _ {G : Graph} {degree dearest : ℕ} (S : Sound G degree dearest) {u d : 
           go (on t) p = absurd p
 
   -- nothing is due any more: the outcome is this state, but for the order
-  pub trying-done : {s : State} → Trying G degree dearest u d x [] s → (t : State) × (x ≡ on t) × Alike s t
+  trying-done : {s : State} → Trying G degree dearest u d x [] s → (t : State) × (x ≡ on t) × Alike s t
   trying-done {s} T = go x (rw (expand-none G u d s) at (T .rest))
     where
       go : (y : Pushed) → Both (on s) y → (t : State) × (y ≡ on t) × Alike s t

@@ -91,7 +91,7 @@ Both full (on t) = ⊥
 Both (on s) full = ⊥
 Both (on s) (on t) = Apart s × Alike s t
 
-pub offer-both : (G : Graph) (u v c : ℕ) (s t : State) → Apart s → Alike s t → Both (offer G u v c s) (offer G u v c t)
+offer-both : (G : Graph) (u v c : ℕ) (s t : State) → Apart s → Alike s t → Both (offer G u v c s) (offer G u v c t)
 offer-both G u v c s t A L =
     ask (cheaper c (stored s v))
     (λ y. ask (ltb (length (s .waiting)) (G .places))
@@ -127,7 +127,7 @@ counted-apart s r q A P = record {
 
 -- the entry popped is the one that the definition takes, and the same are left
 module _ (G : Graph) (s : State) (r : Entry) (q : List Entry) (A : Apart s) (P : Popped (s .waiting) r q) where
-  pub turn-popped-goal : r .cell ≡ G .goal → turn G s ≡ ends (arrived G s)
+  turn-popped-goal : r .cell ≡ G .goal → turn G s ≡ ends (arrived G s)
   turn-popped-goal e = go (s .waiting) refl
     where
       go : (w : List Entry) → s .waiting ≡ w → turn G s ≡ ends (arrived G s)

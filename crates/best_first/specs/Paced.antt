@@ -5,7 +5,7 @@ use Prim.Native.Nat.{ℕ, suc, _+_, _≤_, _<_}
 use native.Mathlib.Omega.{arith}
 use lib.ListN.{length, getD, set, replicate}
 use Rattle.basics.specs.Tests.{never}
-use Rattle.best_first.specs.Search.{Graph, Move, Entry, State, Taken, full, push, counted, outset, Answer, queue-full, bestFirst}
+use Rattle.best_first.specs.Search.{Graph, Move, Entry, State, Taken, push, counted, outset, Answer, queue-full, bestFirst}
 use Rattle.best_first.specs.Ways.{Sound, Consistent}
 use Rattle.best_first.specs.Statements.{Taking, stored, pushes, Reached, expandedOf}
 use Rattle.best_first.specs.Equations.{Gain}

@@ -8,7 +8,7 @@ use Rattle.best_first.specs.Search.{Graph, State, Taken, bestFirst}
 use Rattle.best_first.specs.Ways.{Sound, Consistent}
 use Rattle.best_first.specs.Statements.{Taking}
 use Rattle.best_first.specs.Lists.{After, hit, miss, after}
-use Rattle.best_first.specs.Sums.{total, total-le, total-same, total-more, single, single-most, Single, there, elsewhere, at-single}
+use Rattle.best_first.specs.Sums.{sumBelow, sum-le, sum-same, sum-more, single, single-most, Single, there, elsewhere, at-single}
 use Rattle.best_first.specs.Base.{Base, due-lawful, taken-in, mark-taken}
 use Rattle.best_first.specs.Paced.{Measure, Frugal, frugal}
 
@@ -30,14 +30,14 @@ spent-le (suc c) n = omega arith
 
 -- how many moves the closed cells have
 spend : Graph → List ℕ → ℕ
-spend G closed = total (G .size) (λ u. spentBy (getD closed u 0) (length (G .moves u)))
+spend G closed = sumBelow (G .size) (λ u. spentBy (getD closed u 0) (length (G .moves u)))
 
 -- a cell is closed: its moves are due
 spend-more : {G : Graph} {closed ages : List ℕ} {w : ℕ} {s : State} {t : Taken} → Base G closed ages w [] s → Taking (s .waiting) t → getD closed (t .next .cell) 0 ≡ 0
     → spend G closed + length (G .moves (t .next .cell)) ≤ spend G (set closed (t .next .cell) 1)
 unfolding spend
 spend-more {G} {closed} {ages} {w} {s} {t} B k o =
-    total-more (G .size) (t .next .cell) (length (G .moves (t .next .cell))) _ _ (taken-in B k) (λ x _. at x (mark-taken B k x) (at-single _ _ x))
+    sum-more (G .size) (t .next .cell) (length (G .moves (t .next .cell))) _ _ (taken-in B k) (λ x _. at x (mark-taken B k x) (at-single _ _ x))
   where
     at : (x : ℕ) → After closed (t .next .cell) 1 x → Single (t .next .cell) (length (G .moves (t .next .cell))) x
         → spentBy (getD closed x 0) (length (G .moves x)) + single (t .next .cell) (length (G .moves (t .next .cell))) x
@@ -55,7 +55,7 @@ spend-more {G} {closed} {ages} {w} {s} {t} B k o =
 -- an open cell is marked open: nothing changes
 spend-same : (G : Graph) (closed : List ℕ) (w : ℕ) → w < length closed → getD closed w 0 ≡ 0 → spend G closed ≤ spend G (set closed w 0)
 unfolding spend
-spend-same G closed w h o = total-le (G .size) _ _ (λ x _. at x (after closed w 0 x h))
+spend-same G closed w h o = sum-le (G .size) _ _ (λ x _. at x (after closed w 0 x h))
   where
     at : (x : ℕ) → After closed w 0 x → spentBy (getD closed x 0) (length (G .moves x)) ≤ spentBy (getD (set closed w 0) x 0) (length (G .moves x))
     at x (hit e q) = rw (spent-open (getD closed x 0) (length (G .moves x)) (ap (λ (n : ℕ). getD closed n 0) e ∙ o)) zero-le
@@ -65,7 +65,7 @@ module _ {G : Graph} {degree dearest : ℕ} (S : Sound G degree dearest) where
   -- the goal's moves are never tried
   spend-few : (closed : List ℕ) → getD closed (G .goal) 0 ≡ 0 → spend G closed + degree ≤ G .size * degree
   unfolding spend
-  spend-few closed o = omega (arith, total-more (G .size) (G .goal) degree _ (λ x. degree) (S .goal-in) (λ x _. at x (at-single _ _ x)), total-same (G .size) degree)
+  spend-few closed o = omega (arith, sum-more (G .size) (G .goal) degree _ (λ x. degree) (S .goal-in) (λ x _. at x (at-single _ _ x)), sum-same (G .size) degree)
     where
       at : (x : ℕ) → Single (G .goal) degree x → spentBy (getD closed x 0) (length (G .moves x)) + single (G .goal) degree x ≤ degree
       at x (there e q) = omega (arith, spent-open (getD closed x 0) (length (G .moves x)) (ap (λ (n : ℕ). getD closed n 0) (sym e) ∙ o))

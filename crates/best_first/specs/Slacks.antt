@@ -12,10 +12,11 @@ use lib.Dec.{eqb, ltb}
 use borrow.Author.Tests.{eq-eqb, ne-eqb, ltb-true, lt-ltb, le-ltb}
 use Rattle.basics.specs.Tests.{ask}
 use Rattle.basics.specs.Lists.{In}
+use Rattle.basics.specs.Counts.{times, times-most}
 use Rattle.best_first.specs.Search.{Graph, Move, Entry, State, push, counted, bestFirst}
 use Rattle.best_first.specs.Ways.{Sound, Consistent}
-use Rattle.best_first.specs.Statements.{times, stored, pushes, slack, Slacks}
-use Rattle.best_first.specs.Sums.{total, total-same, total-more, single, single-most, Single, there, elsewhere, at-single}
+use Rattle.best_first.specs.Statements.{stored, pushes, slack, Slacks}
+use Rattle.best_first.specs.Sums.{sumBelow, sum-same, sum-more, single, single-most, Single, there, elsewhere, at-single}
 use Rattle.best_first.specs.Equations.{Gain, offered}
 use Rattle.best_first.specs.Links.{not-start}
 use Rattle.best_first.specs.Base.{Mid, due-lawful, same, now-known}
@@ -39,11 +40,6 @@ lesser-lt n m (x ∷ l) h (inl e) =
 lesser-lt n m (x ∷ l) h (inr i) =
     ask (ltb x n) (λ t. rw (t, lt-ltb x m (omega (arith, ltb-true x n t))) (omega (arith, lesser-lt n m l h i))) (λ f. rw f (omega (arith, lesser-lt n m l h i)))
 
-lesser-all : (n : ℕ) (l : List ℕ) → lesser n l ≤ length l
-unfolding times
-lesser-all n [] = zero-le
-lesser-all n (x ∷ l) = ask (ltb x n) (λ t. rw t (omega (arith, lesser-all n l))) (λ f. rw f (omega (arith, lesser-all n l)))
-
 -- the place of a move's slack among the values
 slot : {G : Graph} {k : ℕ} → Slacks G k → ℕ → Move → ℕ
 slot {G} Z u m = lesser (slack G u m) (Z .values (m .to))
@@ -52,7 +48,7 @@ module _ {G : Graph} {k : ℕ} (Z : Slacks G k) where
   slot-below : (u : ℕ) (m : Move) → In m (G .moves u) → slot Z u m < k
   unfolding slot
   slot-below u m i =
-      omega (arith, lesser-lt (slack G u m) (suc (slack G u m)) (Z .values (m .to)) (omega arith) (Z .among u m i), lesser-all (suc (slack G u m)) (Z .values (m .to)), Z .few (m .to))
+      omega (arith, lesser-lt (slack G u m) (suc (slack G u m)) (Z .values (m .to)) (omega arith) (Z .among u m i), times-most (λ x. ltb x (suc (slack G u m))) (Z .values (m .to)), Z .few (m .to))
 
   slot-order : (u v : ℕ) (m n : Move) → In m (G .moves u) → m .to ≡ n .to → slack G u m < slack G v n → slot Z u m < slot Z v n
   unfolding slot
@@ -72,7 +68,7 @@ record Last (G : Graph) (k : ℕ) (Z : Slacks G k) (top : ℕ) (pushed : List �
 pub record Slotted (G : Graph) (k : ℕ) (Z : Slacks G k) (top : ℕ) (pushed : List ℕ) (s : State) : Type 0 where
   last : (v : ℕ) → (times (eqb v) pushed ≡ 0) ⊎ Last G k Z top pushed s v
   start-never : times (eqb (G .start)) pushed ≡ 0
-  whole : length pushed ≤ total (G .size) (λ v. times (eqb v) pushed)
+  whole : length pushed ≤ sumBelow (G .size) (λ v. times (eqb v) pushed)
 
 -- ---- one push
 
@@ -111,7 +107,7 @@ module _ {G : Graph} {degree dearest : ℕ} (S : Sound G degree dearest) (K : Co
   push-slotted = record {
     last = λ v. last v (ℕ-discrete v (m .to)) (A .last v);
     start-never = away (G .start) (λ e. no-start (sym e)) ∙ A .start-never;
-    whole = omega (arith, A .whole, total-more (G .size) (m .to) 1 _ _ (S .inside u m (due-lawful M)) (λ v _. more v (at-single _ _ v)));
+    whole = omega (arith, A .whole, sum-more (G .size) (m .to) 1 _ _ (S .inside u m (due-lawful M)) (λ v _. more v (at-single _ _ v)));
   }
     where
       no-start : m .to ≢ G .start
@@ -148,8 +144,8 @@ module _ {G : Graph} {k : ℕ} {Z : Slacks G k} {top : ℕ} {pushed : List ℕ} 
   slot-all h = omega (
     arith,
     A .whole,
-    total-more (G .size) (G .start) k _ (λ v. k) h (λ v _. at v (at-single _ _ v)),
-    total-same (G .size) k,
+    sum-more (G .size) (G .start) k _ (λ v. k) h (λ v _. at v (at-single _ _ v)),
+    sum-same (G .size) k,
     mul-comm (G .size - 1) k,
     suc-mul (G .size - 1) k,
     ap (λ (n : ℕ). n * k) size,

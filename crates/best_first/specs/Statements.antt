@@ -1,7 +1,7 @@
 -- What the theorems speak of besides the search and its ways: definitions only.
 use mathlib.Core.Path.{_≡_}
 use mathlib.Core.Logic.{_⊎_, _≢_}
-use mathlib.Core.Bool.{Bool, true, false}
+use mathlib.Core.Bool.{true, false}
 use mathlib.Core.List.{List, [], _∷_}
 use Prim.Native.Nat.{ℕ, zero, suc, pred, _+_, _-_, _*_, _≤_, _<_}
 use lib.ListN.{length, getD}
@@ -127,15 +127,6 @@ pushedBy G (suc b) s l =
 -- the cells that the search pushes at a node limit
 abbrev pub pushes : Graph → ℕ → List ℕ
 pushes G limit = pushedBy G limit (outset G) []
-
-abbrev pub bit : Bool → ℕ
-bit true = 1
-bit false = 0
-
--- how many of the cells pass a test
-unfoldable pub times : (ℕ → Bool) → List ℕ → ℕ
-times p [] = 0
-times p (x ∷ xs) = bit (p x) + times p xs
 
 -- by how much a move out of u raises cost and estimate together
 unfoldable pub slack : Graph → ℕ → Move → ℕ

@@ -9,24 +9,24 @@ use borrow.Author.Tests.{eqb-true, eqb-false}
 use Rattle.basics.specs.Tests.{ask, either}
 
 -- f 0 + .. + f (n - 1)
-unfoldable pub total : ℕ → (ℕ → ℕ) → ℕ
-total zero f = 0
-total (suc n) f = total n f + f n
+unfoldable pub sumBelow : ℕ → (ℕ → ℕ) → ℕ
+sumBelow zero f = 0
+sumBelow (suc n) f = sumBelow n f + f n
 
-pub total-le : (n : ℕ) (f g : ℕ → ℕ) → ((x : ℕ) → x < n → f x ≤ g x) → total n f ≤ total n g
-unfolding total
-total-le zero f g h = zero-le
-total-le (suc n) f g h = omega (arith, total-le n f g (λ x l. h x (omega arith)), h n (omega arith))
+pub sum-le : (n : ℕ) (f g : ℕ → ℕ) → ((x : ℕ) → x < n → f x ≤ g x) → sumBelow n f ≤ sumBelow n g
+unfolding sumBelow
+sum-le zero f g h = zero-le
+sum-le (suc n) f g h = omega (arith, sum-le n f g (λ x l. h x (omega arith)), h n (omega arith))
 
-pub total-add : (n : ℕ) (f g : ℕ → ℕ) → total n (λ x. f x + g x) ≡ total n f + total n g
-unfolding total
-total-add zero f g = refl
-total-add (suc n) f g = omega (arith, total-add n f g)
+sum-add : (n : ℕ) (f g : ℕ → ℕ) → sumBelow n (λ x. f x + g x) ≡ sumBelow n f + sumBelow n g
+unfolding sumBelow
+sum-add zero f g = refl
+sum-add (suc n) f g = omega (arith, sum-add n f g)
 
-pub total-same : (n k : ℕ) → total n (λ x. k) ≡ n * k
-unfolding total
-total-same zero k = rw zero-mul
-total-same (suc n) k = rw suc-mul (omega (arith, total-same n k))
+pub sum-same : (n k : ℕ) → sumBelow n (λ x. k) ≡ n * k
+unfolding sumBelow
+sum-same zero k = rw zero-mul
+sum-same (suc n) k = rw suc-mul (omega (arith, sum-same n k))
 
 -- a at v, and 0 elsewhere
 abbrev pub single : ℕ → ℕ → ℕ → ℕ
@@ -42,24 +42,24 @@ at-single v a x = ask (eqb v x) (λ t. there (eqb-true v x t) (rw t)) (λ f. els
 pub single-most : (v a x : ℕ) → single v a x ≤ a
 single-most v a x = elim (at-single v a x) [ there e q ↦ omega arith | elsewhere d q ↦ omega arith ]
 
-single-past : (v a n : ℕ) → n ≤ v → total n (single v a) ≡ 0
-unfolding total
+single-past : (v a n : ℕ) → n ≤ v → sumBelow n (single v a) ≡ 0
+unfolding sumBelow
 single-past v a zero h = refl
 single-past v a (suc n) h = go (at-single v a n) (single-past v a n (omega arith))
   where
-    go : Single v a n → total n (single v a) ≡ 0 → total n (single v a) + single v a n ≡ 0
+    go : Single v a n → sumBelow n (single v a) ≡ 0 → sumBelow n (single v a) + single v a n ≡ 0
     go (there e q) ih = absurd (omega arith)
     go (elsewhere d q) ih = omega arith
 
-total-single : (v a n : ℕ) → v < n → total n (single v a) ≡ a
-unfolding total
+total-single : (v a n : ℕ) → v < n → sumBelow n (single v a) ≡ a
+unfolding sumBelow
 total-single v a zero h = absurd (omega arith)
 total-single v a (suc n) h = go (at-single v a n) (total-single v a n)
   where
-    go : Single v a n → (v < n → total n (single v a) ≡ a) → total n (single v a) + single v a n ≡ a
+    go : Single v a n → (v < n → sumBelow n (single v a) ≡ a) → sumBelow n (single v a) + single v a n ≡ a
     go (there e q) ih = omega (arith, single-past v a n (omega arith))
     go (elsewhere d q) ih = omega (arith, ih (omega arith))
 
 -- g is at least f everywhere below n, and at least a more at v
-pub total-more : (n v a : ℕ) (f g : ℕ → ℕ) → v < n → ((x : ℕ) → x < n → f x + single v a x ≤ g x) → total n f + a ≤ total n g
-total-more n v a f g h k = omega (arith, total-le n (λ x. f x + single v a x) g k, total-add n f (single v a), total-single v a n h)
+pub sum-more : (n v a : ℕ) (f g : ℕ → ℕ) → v < n → ((x : ℕ) → x < n → f x + single v a x ≤ g x) → sumBelow n f + a ≤ sumBelow n g
+sum-more n v a f g h k = omega (arith, sum-le n (λ x. f x + single v a x) g k, sum-add n f (single v a), total-single v a n h)

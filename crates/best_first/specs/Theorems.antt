@@ -8,9 +8,10 @@ use native.Mathlib.Omega.{arith}
 use native.Mathlib.Nat.{eq-zero-or-pos}
 use lib.ListN.{getD}
 use lib.Dec.{eqb}
+use Rattle.basics.specs.Counts.{times}
 use Rattle.best_first.specs.Search.{Graph, State, Taken, on, counted, Answer, route, no-route, limit-passed, queue-full, bestFirst}
 use Rattle.best_first.specs.Ways.{NoWay, Sound, Consistent}
-use Rattle.best_first.specs.Statements.{stored, Taking, outcome, Reached, Honest, Right, Decided, by-route, by-no-route, expandedOf, Bounded, pushes, times, Slacks}
+use Rattle.best_first.specs.Statements.{stored, Taking, outcome, Reached, Honest, Right, Decided, by-route, by-no-route, expandedOf, Bounded, pushes, Slacks}
 use Rattle.best_first.specs.Reached.{ending}
 use Rattle.best_first.specs.Bounds.{bounded, sane}
 use Rattle.best_first.specs.Base.{taken-fresh, again-outcome}

@@ -12,11 +12,12 @@ use lib.Dec.{ltb}
 use borrow.Author.Tests.{ltb-true, lt-ltb, le-ltb}
 use Rattle.basics.specs.Tests.{ask}
 use Rattle.basics.specs.Lists.{In}
+use Rattle.basics.specs.Counts.{bit, bit-small}
 use Rattle.best_first.specs.Search.{Graph, Move, trace}
 use Rattle.best_first.specs.Ways.{Step, Way}
-use Rattle.best_first.specs.Statements.{bit, Lawful}
+use Rattle.best_first.specs.Statements.{Lawful}
 use Rattle.best_first.specs.Lists.{in-reach}
-use Rattle.best_first.specs.Sums.{total, total-le, total-same, total-more, single, Single, there, elsewhere, at-single}
+use Rattle.best_first.specs.Sums.{sumBelow, sum-le, sum-same, sum-more, single, Single, there, elsewhere, at-single}
 use Rattle.best_first.specs.Equations.{trace-start, trace-back}
 use Rattle.best_first.specs.Links.{Linked, Link, Origin}
 
@@ -25,7 +26,7 @@ pub data Up (previous : List ℕ) (a : ℕ) : ℕ → Type 0 where
   here : {x : ℕ} → x ≡ a → Up previous a x
   above : {x y : ℕ} → getD previous x 0 ≡ suc y → Up previous a y → Up previous a x
 
-pub up-more : {previous : List ℕ} {a x : ℕ} (b : ℕ) → Up previous a x → getD previous a 0 ≡ suc b → Up previous b x
+up-more : {previous : List ℕ} {a x : ℕ} (b : ℕ) → Up previous a x → getD previous a 0 ≡ suc b → Up previous b x
 up-more {previous} b (here e) f = above (ap (λ (n : ℕ). getD previous n 0) e ∙ f) (here refl)
 up-more b (above q r) f = above q (up-more b r f)
 
@@ -46,11 +47,11 @@ module _ {G : Graph} {ages known previous : List ℕ} {serial : ℕ} (L : Linked
 
   -- how many cells have a lower weight than n
   below : ℕ → ℕ
-  below n = total (G .size) (λ x. bit (ltb (weight x) n))
+  below n = sumBelow (G .size) (λ x. bit (ltb (weight x) n))
 
   below-more : (v n : ℕ) → v < G .size → weight v < n → below (weight v) < below n
   unfolding below
-  below-more v n h l = omega (arith, total-more (G .size) v 1 (λ x. bit (ltb (weight x) (weight v))) (λ x. bit (ltb (weight x) n)) h (λ x _. at x (at-single v 1 x)))
+  below-more v n h l = omega (arith, sum-more (G .size) v 1 (λ x. bit (ltb (weight x) (weight v))) (λ x. bit (ltb (weight x) n)) h (λ x _. at x (at-single v 1 x)))
     where
       at : (x : ℕ) → Single v 1 x → bit (ltb (weight x) (weight v)) + single v 1 x ≤ bit (ltb (weight x) n)
       at x (there e q) = rw (q, lt-ltb (weight x) n (omega (arith, ap weight e)), le-ltb (weight x) (weight v) (omega (arith, ap weight e))) (omega arith)
@@ -59,10 +60,7 @@ module _ {G : Graph} {ages known previous : List ℕ} {serial : ℕ} (L : Linked
 
   below-size : (v : ℕ) → v < G .size → below (weight v) < G .size
   unfolding below
-  below-size v h = omega (arith, below-more v (suc (weight v)) h (omega arith), total-le (G .size) (λ x. bit (ltb (weight x) (suc (weight v)))) (λ x. 1) (λ x _. one x), total-same (G .size) 1)
-    where
-      one : (x : ℕ) → bit (ltb (weight x) (suc (weight v))) ≤ 1
-      one x = ask (ltb (weight x) (suc (weight v))) (λ t. rw t (omega arith)) (λ f. rw f (omega arith))
+  below-size v h = omega (arith, below-more v (suc (weight v)) h (omega arith), sum-le (G .size) (λ x. bit (ltb (weight x) (suc (weight v)))) (λ x. 1) (λ x _. bit-small (ltb (weight x) (suc (weight v)))), sum-same (G .size) 1)
 
   module _
       (tight : (a : ℕ) → Up previous a (G .goal) → a ≢ G .goal → (m : Move) → In m (G .moves a) → getD known (m .to) 0 ≤ getD known a 0 + m .cost) where

@@ -4,7 +4,7 @@
 use mathlib.Core.Path.{_≡_, sym, ap, _∙_}
 use mathlib.Core.Logic.{_⊎_, inl, inr, _≢_}
 use mathlib.Core.List.{List, [], _∷_}
-use Prim.Native.Nat.{ℕ, suc, pred, _+_, _≤_, _<_, max}
+use Prim.Native.Nat.{ℕ, suc, _+_, _≤_, _<_, max}
 use native.Mathlib.Omega.{arith}
 use native.Mathlib.Decide.{decLe, ℕ-discrete}
 use native.Mathlib.Nat.{eq-zero-or-pos}
@@ -14,7 +14,7 @@ use Rattle.basics.specs.Lists.{In}
 use Rattle.basics.specs.Zeros.{zeros}
 use Rattle.best_first.specs.Search.{Graph, Move, State, Taken, push, outset, trace}
 use Rattle.best_first.specs.Ways.{Sound}
-use Rattle.best_first.specs.Statements.{Taking, stored, Reached, Lawful}
+use Rattle.best_first.specs.Statements.{Taking, stored, costOf, Reached, Lawful}
 use Rattle.best_first.specs.Lists.{After, hit, miss}
 use Rattle.best_first.specs.Equations.{Gain, no-gain, offered}
 use Rattle.best_first.specs.Links.{Linked, Link, Origin, start-alone}
@@ -280,7 +280,7 @@ tree {G} S = record {
 -- ---- the goal is taken
 
 pub taken-lawful : {G : Graph} {degree dearest : ℕ} → Sound G degree dearest → {l : List ℕ} {s : State} {t : Taken} → Reached G l s → Taking (s .waiting) t
-    → t .next .cell ≡ G .goal → Lawful G (trace (G .size) (s .previous) (G .goal) []) (pred (stored s (G .goal)))
+    → t .next .cell ≡ G .goal → Lawful G (trace (G .size) (s .previous) (G .goal) []) (costOf s (G .goal))
 unfolding tree
 taken-lawful {G} S {l} {s} {t} R k e =
     goal-trail (H .base .linked) (λ a up n m i. tight a up n m i (eq-zero-or-pos (getD (H .closed) a 0))) (S .goal-in) (goal-open .reached)

@@ -1,7 +1,6 @@
 -- The room as a search sees it: "For a search, each blocked Air cell other than its start and goal counts as Solid, as a support too."
 -- Definitions alone; their laws are in the files named Laws.
 use mathlib.Core.Path.{_≡_}
-use mathlib.Core.Logic.{_≢_}
 use mathlib.Core.Bool.{Bool, not, _&&_}
 use mathlib.Core.List.{List}
 use Prim.Native.Nat.{ℕ, _<_}
@@ -50,7 +49,7 @@ pub record Says (R : Room) (kinds blocked : List ℕ) (start goal : ℕ) (classe
   pub each : (v : ℕ) → v < volume R → getD classes v 0 ≡ classSeen R kinds blocked start goal v
 
 -- the room, the kinds and the blocked marks fit together
-pub record Fitting (R : Room) (kinds blocked : List ℕ) : Type 0 where
+pub record WorldFits (R : Room) (kinds blocked : List ℕ) : Type 0 where
   pub good : Good R
   pub kinds-long : length kinds ≡ volume R
   pub blocked-long : length blocked ≡ volume R
@@ -66,8 +65,3 @@ renewedAt R kinds blocked start goal Outside classes = classes
 unfoldable pub refreshed : Room → List ℕ → List ℕ → ℕ → ℕ → ℕ → List ℕ → List ℕ
 refreshed R kinds blocked start goal cell classes =
     renewedAt R kinds blocked start goal (above R cell) (renewed R kinds blocked start goal cell classes)
-
--- two settings, each of blocked marks, start and goal, that show the same of every cell but one, and have the same ends but for that one
-pub record SameBut (cell : ℕ) (kinds blocked : List ℕ) (start goal : ℕ) (blocked′ : List ℕ) (start′ goal′ : ℕ) : Type 0 where
-  pub seen : (v : ℕ) → v ≢ cell → seenKind kinds blocked start goal v ≡ seenKind kinds blocked′ start′ goal′ v
-  pub ends : (v : ℕ) → v ≢ cell → anEnd start goal v ≡ anEnd start′ goal′ v

@@ -1,32 +1,37 @@
 -- Laws of refreshing: class bytes that say one setting, refreshed at the one cell at which another differs, say the other.
 use mathlib.Core.Path.{_≡_, refl, sym, ap, _∙_}
 use mathlib.Core.Logic.{_≢_}
-use mathlib.Core.Bool.{Bool, true, false}
+use mathlib.Core.Bool.{or-false, or-self}
 use mathlib.Core.List.{List}
 use Prim.Native.Nat.{ℕ, _<_}
 use native.Mathlib.Decide.{ℕ-discrete}
 use native.Mathlib.Omega.{arith}
 use lib.Dec.{eqb}
-use lib.ListN.{length, getD}
-use lib.Seq.{getD-set-other}
+use lib.ListN.{length, getD, length-set}
+use lib.Seq.{getD-set-same, getD-set-other}
 use borrow.Author.Tests.{ne-eqb}
-use Rattle.basics.specs.Tests.{either, never}
+use Rattle.basics.specs.Tests.{never}
 use Rattle.room.specs.declared.Room.{Room}
 use Rattle.room.specs.declared.Neighbour.{Neighbour}
 use Rattle.room.specs.declared.Neighbour.the-variants.{Inside, Outside}
 use Rattle.room.specs.Room.{Good, volume, beneath, above}
 use Rattle.routing_resources.specs.Marks.{isMarked, withByte}
 use Rattle.routing_resources.specs.MarkLaws.{with-set}
-use Rattle.geometry.specs.RoomPairs.{beneath-above}
+use Rattle.room.specs.AboveLaws.{beneath-above}
 use Rattle.room_search.specs.Routing.{kindAt, anEnd}
-use Rattle.blocked_world.specs.BlockedWorld.{countsAsSolid, seenKind, seenKinds, classSeen, Says, renewed, renewedAt, refreshed, SameBut}
-use Rattle.blocked_world.specs.SeenLaws.{seen-at, renewed-length, renewed-there, renewed-other, renewed-right}
+use Rattle.blocked_world.specs.BlockedWorld.{countsAsSolid, seenKind, seenKinds, classSeen, Says, renewed, renewedAt, refreshed}
+use Rattle.blocked_world.specs.SeenLaws.{seen-at, renewed-right}
 use Rattle.room.specs.RoomLaws.{beneath-in}
 
 -- ---- settings that differ at one cell
 
+-- two settings, each of blocked marks, start and goal, that show the same of every cell but one, and have the same ends but for that one
+pub record SameBut (cell : ℕ) (kinds blocked : List ℕ) (start goal : ℕ) (blocked′ : List ℕ) (start′ goal′ : ℕ) : Type 0 where
+  seen : (v : ℕ) → v ≢ cell → seenKind kinds blocked start goal v ≡ seenKind kinds blocked′ start′ goal′ v
+  ends : (v : ℕ) → v ≢ cell → anEnd start goal v ≡ anEnd start′ goal′ v
+
 -- marks and ends that are the same but for one cell show the same but for it
-pub same-but : (cell : ℕ) (kinds blocked : List ℕ) (start goal : ℕ) (blocked′ : List ℕ) (start′ goal′ : ℕ)
+same-but : (cell : ℕ) (kinds blocked : List ℕ) (start goal : ℕ) (blocked′ : List ℕ) (start′ goal′ : ℕ)
     → ((v : ℕ) → v ≢ cell → isMarked blocked v ≡ isMarked blocked′ v)
     → ((v : ℕ) → v ≢ cell → anEnd start goal v ≡ anEnd start′ goal′ v)
     → SameBut cell kinds blocked start goal blocked′ start′ goal′
@@ -37,32 +42,17 @@ pub same-back : {cell : ℕ} {kinds blocked : List ℕ} {start goal : ℕ} {bloc
     → SameBut cell kinds blocked start goal blocked′ start′ goal′ → SameBut cell kinds blocked′ start′ goal′ blocked start goal
 same-back same = record { seen = λ v n. sym (same .seen v n); ends = λ v n. sym (same .ends v n) }
 
--- one mark has changed
-pub mark-changed : (cell : ℕ) (kinds blocked blocked′ : List ℕ) (start goal : ℕ)
-    → ((v : ℕ) → v ≢ cell → getD blocked v 0 ≡ getD blocked′ v 0)
-    → SameBut cell kinds blocked start goal blocked′ start goal
-mark-changed cell kinds blocked blocked′ start goal marks =
-    same-but cell kinds blocked start goal blocked′ start goal (λ v n. rw (marks v n)) (λ v n. refl)
-
 -- a byte is put at the cell, as a mark is made or taken away
 pub mark-put : (byte cell : ℕ) (kinds blocked : List ℕ) (start goal : ℕ) → SameBut cell kinds blocked start goal (withByte byte (eqb cell) blocked) start goal
 mark-put byte cell kinds blocked start goal =
-    mark-changed cell kinds blocked (withByte byte (eqb cell) blocked) start goal
-    (λ v n. sym (rw (← with-set byte blocked cell) (getD-set-other blocked cell v byte 0 n)))
+    same-but cell kinds blocked start goal (withByte byte (eqb cell) blocked) start goal
+    (λ v n. rw (← with-set byte blocked cell, getD-set-other blocked cell v byte 0 n)) (λ v n. refl)
 
 -- one end leaves its cell for the other end's. An end that moves from one cell to another leaves the first, and then, the other way round, comes
 -- to the second, with a refresh at each
 module _ (kinds blocked : List ℕ) (start goal : ℕ) where
-  twice : (b : Bool) → either b true b ≡ b
-  twice true = refl
-  twice false = refl
-
   no-goal : (v : ℕ) → v ≢ goal → anEnd start goal v ≡ anEnd start start v
-  no-goal v n = rw (ne-eqb v goal n, twice (eqb v start)) (either-false (eqb v start))
-    where
-      either-false : (b : Bool) → either b true false ≡ b
-      either-false true = refl
-      either-false false = refl
+  no-goal v n = rw (ne-eqb v goal n, or-false (eqb v start), or-self (eqb v start))
 
   pub goal-left : SameBut goal kinds blocked start goal blocked start start
   goal-left = same-but goal kinds blocked start goal blocked start start (λ v n. refl) no-goal
@@ -91,14 +81,14 @@ module _ (R : Room) (G : Good R) (cell : ℕ) (kinds blocked : List ℕ) (start 
     first = renewed R kinds blocked′ start′ goal′ cell classes
 
     first-length : length first ≡ volume R
-    first-length = renewed-length R kinds blocked′ start′ goal′ cell classes ∙ says .long
+    first-length = length-set classes cell (classSeen R kinds blocked′ start′ goal′ cell) ∙ says .long
 
     first-each : (v : ℕ) → v < volume R → (beneath R v ≡ Inside cell → ⊥) → getD first v 0 ≡ classSeen R kinds blocked′ start′ goal′ v
     first-each v h o = go (ℕ-discrete v cell)
       where
         go : Dec (v ≡ cell) → getD first v 0 ≡ classSeen R kinds blocked′ start′ goal′ v
-        go (yes q) = rw q (renewed-there R kinds blocked′ start′ goal′ cell classes (omega (arith, says .long)))
-        go (no n) = renewed-other R kinds blocked′ start′ goal′ cell classes v n ∙ says .each v h ∙ class-same v n o h
+        go (yes q) = rw q (getD-set-same classes cell (classSeen R kinds blocked′ start′ goal′ cell) 0 (omega (arith, says .long)))
+        go (no n) = getD-set-other classes cell v (classSeen R kinds blocked′ start′ goal′ cell) 0 n ∙ says .each v h ∙ class-same v n o h
 
     pub refreshed-says : Says R kinds blocked′ start′ goal′ (refreshed R kinds blocked′ start′ goal′ cell classes)
     unfolding refreshed
@@ -113,7 +103,7 @@ module _ (R : Room) (G : Good R) (cell : ℕ) (kinds blocked : List ℕ) (start 
             clash : (v : ℕ) → above R cell ≡ Inside v → ⊥
             clash v q = never (cc)
         go (Inside u) e = record {
-          long = renewed-length R kinds blocked′ start′ goal′ u first ∙ first-length;
+          long = length-set first u (classSeen R kinds blocked′ start′ goal′ u) ∙ first-length;
           each = λ v h. one v h (ℕ-discrete v u);
         }
           where
@@ -121,5 +111,5 @@ module _ (R : Room) (G : Good R) (cell : ℕ) (kinds blocked : List ℕ) (start 
             other v h n b = let q = beneath-above R G v cell h b in let z : u ≡ v = cc in n (sym z)
 
             one : (v : ℕ) → v < volume R → Dec (v ≡ u) → getD (renewed R kinds blocked′ start′ goal′ u first) v 0 ≡ classSeen R kinds blocked′ start′ goal′ v
-            one v h (yes q) = rw q (renewed-there R kinds blocked′ start′ goal′ u first (omega (arith, first-length)))
+            one v h (yes q) = rw q (getD-set-same first u (classSeen R kinds blocked′ start′ goal′ u) 0 (omega (arith, first-length)))
             one v h (no n) = renewed-right R kinds blocked′ start′ goal′ u first v (omega (arith, first-length)) (first-each v h (other v h n))

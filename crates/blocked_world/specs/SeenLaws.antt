@@ -16,7 +16,7 @@ use Rattle.room.specs.Room.{volume, beneath}
 use Rattle.room.specs.Units.{air, solid}
 use Rattle.routing_resources.specs.MarkLaws.{with-at}
 use Rattle.room_search.specs.Routing.{kindAt, classFor, graphOf, graph, entering, anEnd}
-use Rattle.room_search.specs.SameGraph.{same-graph}
+use Rattle.room_search.specs.SameGraphLaws.{same-graph}
 use Rattle.blocked_world.specs.BlockedWorld.{countsAsSolid, seenKind, seenKinds, seenTask, classSeen, Says, renewed}
 
 module _ (kinds blocked : List ℕ) (start goal : ℕ) where
@@ -54,46 +54,34 @@ module _ (R : Room) (kinds blocked : List ℕ) (start goal : ℕ) where
 
   -- ---- one class written anew
 
-  module _ (u : ℕ) (classes : List ℕ) where
-    pub renewed-length : length (renewed R kinds blocked start goal u classes) ≡ length classes
-    renewed-length = length-set classes u (classSeen R kinds blocked start goal u)
-
-    pub renewed-there : u < length classes → getD (renewed R kinds blocked start goal u classes) u 0 ≡ classSeen R kinds blocked start goal u
-    renewed-there h = getD-set-same classes u (classSeen R kinds blocked start goal u) 0 h
-
-    pub renewed-other : (v : ℕ) → v ≢ u → getD (renewed R kinds blocked start goal u classes) v 0 ≡ getD classes v 0
-    renewed-other v n = getD-set-other classes u v (classSeen R kinds blocked start goal u) 0 n
-
-    -- a class that was right stays right
-    pub renewed-right : (v : ℕ) → v < length classes → getD classes v 0 ≡ classSeen R kinds blocked start goal v
-        → getD (renewed R kinds blocked start goal u classes) v 0 ≡ classSeen R kinds blocked start goal v
-    renewed-right v h e = go (ℕ-discrete v u)
-      where
-        go : Dec (v ≡ u) → getD (renewed R kinds blocked start goal u classes) v 0 ≡ classSeen R kinds blocked start goal v
-        go (yes q) = rw q (renewed-there (omega arith))
-        go (no n) = renewed-other v n ∙ e
+  -- a class that was right stays right
+  pub renewed-right : (u : ℕ) (classes : List ℕ) (v : ℕ) → v < length classes → getD classes v 0 ≡ classSeen R kinds blocked start goal v
+      → getD (renewed R kinds blocked start goal u classes) v 0 ≡ classSeen R kinds blocked start goal v
+  renewed-right u classes v h e = go (ℕ-discrete v u)
+    where
+      go : Dec (v ≡ u) → getD (renewed R kinds blocked start goal u classes) v 0 ≡ classSeen R kinds blocked start goal v
+      go (yes q) = rw q (getD-set-same classes u (classSeen R kinds blocked start goal u) 0 (omega arith))
+      go (no n) = getD-set-other classes u v (classSeen R kinds blocked start goal u) 0 n ∙ e
 
   -- ---- all of them
 
   -- the first v cells have their class
   pub record Filled (v : ℕ) (classes : List ℕ) : Type 0 where
-    pub within : v ≤ volume R
     pub long : length classes ≡ volume R
     pub each : (k : ℕ) → k < v → getD classes k 0 ≡ classSeen R kinds blocked start goal k
 
   pub filled-none : (classes : List ℕ) → length classes ≡ volume R → Filled 0 classes
-  filled-none classes l = record { within = omega arith; long = l; each = λ k h. absurd (omega arith) }
+  filled-none classes l = record { long = l; each = λ k h. absurd (omega arith) }
 
   module _ {v : ℕ} {classes : List ℕ} (I : Filled v classes) where
     pub filled-next : v < volume R → (classes′ : List ℕ) → classes′ ≡ renewed R kinds blocked start goal v classes → Filled (v + 1) classes′
     filled-next h classes′ e = record {
-      within = omega arith;
-      long = ap length e ∙ renewed-length v classes ∙ I .long;
+      long = ap length e ∙ length-set classes v (classSeen R kinds blocked start goal v) ∙ I .long;
       each = λ k l. rw e (go k l (ℕ-discrete k v));
     }
       where
         go : (k : ℕ) → k < v + 1 → Dec (k ≡ v) → getD (renewed R kinds blocked start goal v classes) k 0 ≡ classSeen R kinds blocked start goal k
-        go k l (yes q) = rw q (renewed-there v classes (omega (arith, I .long)))
+        go k l (yes q) = rw q (getD-set-same classes v (classSeen R kinds blocked start goal v) 0 (omega (arith, I .long)))
         go k l (no n) = renewed-right v classes k (omega (arith, I .long)) (I .each k (omega arith))
 
     pub filled-all : volume R ≤ v → Says R kinds blocked start goal classes

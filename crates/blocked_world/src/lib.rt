@@ -8,9 +8,10 @@ ghost use Prim.Native.Nat.{_<_};
 ghost use lib.ListN.{length};
 ghost use Rattle.room.specs.Room.{volume, beneath};
 ghost use Rattle.room_search.specs.Routing.{kindAt, anEnd};
-ghost use Rattle.blocked_world.specs.BlockedWorld.{seenKind, seenKinds, classSeen, Says, Fitting, renewed, refreshed};
+ghost use Rattle.blocked_world.specs.BlockedWorld.{seenKind, seenKinds, classSeen, Says, WorldFits, renewed, refreshed};
 
-fn is_end(start: usize, goal: usize, cell: usize) -> bool
+// Whether a cell is the start or the goal of a search.
+pub fn is_end(start: usize, goal: usize, cell: usize) -> bool
     ensures { λ r. ⌜ r ≡ anEnd start goal cell ⌝ }
 {
     if cell == start {
@@ -46,7 +47,7 @@ fn seen_beneath(
     goal: usize,
     cell: usize,
 ) -> u8
-    requires { ⌜ Fitting room (now kinds) (now blocked) ⌝ }
+    requires { ⌜ WorldFits room (now kinds) (now blocked) ⌝ }
     requires { ⌜ cell < volume room ⌝ }
     ensures { λ r. ⌜ r ≡ kindAt (seenKinds (now (kinds .entry)) (now (blocked .entry)) start goal) (beneath room cell) ⌝ }
 {
@@ -65,7 +66,7 @@ fn class_seen(
     goal: usize,
     cell: usize,
 ) -> u8
-    requires { ⌜ Fitting room (now kinds) (now blocked) ⌝ }
+    requires { ⌜ WorldFits room (now kinds) (now blocked) ⌝ }
     requires { ⌜ cell < volume room ⌝ }
     ensures { λ r. ⌜ r ≡ classSeen room (now (kinds .entry)) (now (blocked .entry)) start goal cell ⌝ }
 {
@@ -84,7 +85,7 @@ fn renew(
     classes: &mut [u8],
     cell: usize,
 )
-    requires { ⌜ Fitting room (now kinds) (now blocked) ⌝ }
+    requires { ⌜ WorldFits room (now kinds) (now blocked) ⌝ }
     requires { ⌜ length (now classes) ≡ volume room ⌝ }
     requires { ⌜ cell < volume room ⌝ }
     ensures { λ _. ⌜ now (classes .exit) ≡ renewed room (now (kinds .entry)) (now (blocked .entry)) start goal cell (now (classes .entry)) ⌝ }
@@ -94,7 +95,7 @@ fn renew(
 
 // Fills in each cell's class, whatever the bytes held.
 pub fn fill(room: Room, kinds: &[u8], blocked: &[u8], start: usize, goal: usize, classes: &mut [u8])
-    requires { ⌜ Fitting room (now kinds) (now blocked) ⌝ }
+    requires { ⌜ WorldFits room (now kinds) (now blocked) ⌝ }
     requires { ⌜ length (now classes) ≡ volume room ⌝ }
     ensures { λ _. ⌜ Says room (now (kinds .entry)) (now (blocked .entry)) start goal (now (classes .exit)) ⌝ }
 {
@@ -117,7 +118,7 @@ pub fn refresh(
     classes: &mut [u8],
     cell: usize,
 )
-    requires { ⌜ Fitting room (now kinds) (now blocked) ⌝ }
+    requires { ⌜ WorldFits room (now kinds) (now blocked) ⌝ }
     requires { ⌜ length (now classes) ≡ volume room ⌝ }
     requires { ⌜ cell < volume room ⌝ }
     ensures { λ _. ⌜ now (classes .exit) ≡ refreshed room (now (kinds .entry)) (now (blocked .entry)) start goal cell (now (classes .entry)) ⌝ }

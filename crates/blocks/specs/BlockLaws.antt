@@ -13,16 +13,16 @@ use borrow.Author.Tests.{eqb-true, eqb-false, ltb-true, ltb-false}
 use Rattle.basics.specs.Tests.{ask}
 use Rattle.basics.specs.Promises.{Determines}
 use Rattle.room.specs.declared.Room.{Room}
-use Rattle.room.specs.Room.{volume}
+use Rattle.room.specs.Room.{Within, volume}
 use Rattle.room.specs.RoomLaws.{cell-in}
 use Rattle.job_sheet.specs.declared.Block.{Block}
 use Rattle.job_sheet.specs.declared.Part.{Part}
-use Rattle.job_sheet.specs.Accepted.{SoundBlock, BlockList}
+use Rattle.job_sheet.specs.Accepted.{BlockList}
 use Rattle.job_sheet.specs.Places.{noBlock, blocksIn}
 use Rattle.job_sheet.specs.RecordLaws.{blocks-long}
 use Rattle.blocks.specs.declared.Placement.{Placement}
 use Rattle.blocks.specs.declared.Placement.the-variants.{RepeatAt}
-use Rattle.blocks.specs.Blocks.{blockCell, ofBlock, tabulated, cellAt, nodeAt, Repeat, NotAfter, Placing, placed, repeated, BlocksLaid}
+use Rattle.blocks.specs.Blocks.{blockCell, ofBlock, tabulated, recordCell, recordNode, Repeat, NotAfter, Placing, placed, repeated, BlocksLaid}
 
 -- ---- a table has one entry for each number
 
@@ -31,7 +31,7 @@ unfolding tabulated
 tabulated-long zero f = refl
 tabulated-long (suc n) f = ap suc (tabulated-long n (λ v. f (suc v)))
 
-pub tabulated-at : (n : ℕ) (f : ℕ → ℕ) (v : ℕ) → v < n → getD (tabulated n f) v 0 ≡ f v
+tabulated-at : (n : ℕ) (f : ℕ → ℕ) (v : ℕ) → v < n → getD (tabulated n f) v 0 ≡ f v
 unfolding tabulated
 tabulated-at zero f v h = absurd (not-suc-le-zero h)
 tabulated-at (suc n) f zero h = refl
@@ -46,8 +46,8 @@ tabulated-is n f l e same =
 
 -- what f says of the block in a cell is what it says of a record of that cell, or there is no such record
 pub data OfCell {X : Type 0} (f : Block → X) (none : X) (R : Room) (bs : List Block) (v : ℕ) (x : X) : Type 0 where
-  of-record : (i : ℕ) → i < length bs → cellAt R bs i ≡ v → x ≡ f (getD bs i noBlock) → OfCell f none R bs v x
-  of-none : ((i : ℕ) → i < length bs → cellAt R bs i ≡ v → ⊥) → x ≡ none → OfCell f none R bs v x
+  of-record : (i : ℕ) → i < length bs → recordCell R bs i ≡ v → x ≡ f (getD bs i noBlock) → OfCell f none R bs v x
+  of-none : ((i : ℕ) → i < length bs → recordCell R bs i ≡ v → ⊥) → x ≡ none → OfCell f none R bs v x
 
 module _ {X : Type 0} (f : Block → X) (none : X) (R : Room) where
   pub of-cell : (bs : List Block) (v : ℕ) → OfCell f none R bs v (ofBlock f none R bs v)
@@ -63,7 +63,7 @@ module _ {X : Type 0} (f : Block → X) (none : X) (R : Room) where
       later other e (of-record i h c x) = of-record (suc i) (omega arith) c (e ∙ x)
       later other e (of-none n x) = of-none nowhere (e ∙ x)
         where
-          nowhere : (i : ℕ) → i < length (b ∷ bs) → cellAt R (b ∷ bs) i ≡ v → ⊥
+          nowhere : (i : ℕ) → i < length (b ∷ bs) → recordCell R (b ∷ bs) i ≡ v → ⊥
           nowhere zero h c = other c
           nowhere (suc i) h c = n i (le-of-suc-le-suc h) c
 
@@ -71,60 +71,60 @@ module _ {X : Type 0} (f : Block → X) (none : X) (R : Room) where
 
 -- of two records of one cell one is a repeat
 module _ (R : Room) (bs : List Block) (n : ℕ) where
-  earlier-repeats : (i j : ℕ) → i < j → j < n → cellAt R bs i ≡ cellAt R bs j → ((k : ℕ) → Repeat R bs n k → ⊥) → ⊥
+  earlier-repeats : (i j : ℕ) → i < j → j < n → recordCell R bs i ≡ recordCell R bs j → ((k : ℕ) → Repeat R bs n k → ⊥) → ⊥
   earlier-repeats i j h k c free =
-      ask (ltb (nodeAt bs j) (nodeAt bs i))
-      (λ t. free i record { repeat-in = omega arith; holder = j; holder-in = k; same-cell = sym c; held = inl (ltb-true (nodeAt bs j) (nodeAt bs i) t) })
-      (λ t. free j record { repeat-in = k; holder = i; holder-in = omega arith; same-cell = c; held = not-higher (ltb-false (nodeAt bs j) (nodeAt bs i) t) })
+      ask (ltb (recordNode bs j) (recordNode bs i))
+      (λ t. free i record { repeat-in = omega arith; holder = j; holder-in = k; same-cell = sym c; held = inl (ltb-true (recordNode bs j) (recordNode bs i) t) })
+      (λ t. free j record { repeat-in = k; holder = i; holder-in = omega arith; same-cell = c; held = not-higher (ltb-false (recordNode bs j) (recordNode bs i) t) })
     where
-      not-higher : nodeAt bs i ≤ nodeAt bs j → (nodeAt bs i < nodeAt bs j) ⊎ ((nodeAt bs i ≡ nodeAt bs j) × (i < j))
+      not-higher : recordNode bs i ≤ recordNode bs j → (recordNode bs i < recordNode bs j) ⊎ ((recordNode bs i ≡ recordNode bs j) × (i < j))
       not-higher le =
-          ask (ltb (nodeAt bs i) (nodeAt bs j))
-          (λ t. inl (ltb-true (nodeAt bs i) (nodeAt bs j) t))
-          (λ t. inr (omega (arith, ltb-false (nodeAt bs i) (nodeAt bs j) t), h))
+          ask (ltb (recordNode bs i) (recordNode bs j))
+          (λ t. inl (ltb-true (recordNode bs i) (recordNode bs j) t))
+          (λ t. inr (omega (arith, ltb-false (recordNode bs i) (recordNode bs j) t), h))
 
   module _ (free : (k : ℕ) → Repeat R bs n k → ⊥) where
-    pub cell-once : (i j : ℕ) → i < n → j < n → cellAt R bs i ≡ cellAt R bs j → i ≡ j
+    cell-once : (i j : ℕ) → i < n → j < n → recordCell R bs i ≡ recordCell R bs j → i ≡ j
     cell-once i j h k c =
         ask (ltb i j)
         (λ t. absurd (earlier-repeats i j (ltb-true i j t) k c free))
         (λ t. ask (ltb j i) (λ u. absurd (earlier-repeats j i (ltb-true j i u) h (sym c) free)) (λ u. omega (arith, ltb-false i j t, ltb-false j i u)))
 
 module _ {X : Type 0} (f : Block → X) (none : X) (R : Room) (bs : List Block) (free : (k : ℕ) → Repeat R bs (length bs) k → ⊥) where
-  pub of-its-cell : (i : ℕ) → i < length bs → ofBlock f none R bs (cellAt R bs i) ≡ f (getD bs i noBlock)
-  of-its-cell i h = go (of-cell f none R bs (cellAt R bs i))
+  pub of-its-cell : (i : ℕ) → i < length bs → ofBlock f none R bs (recordCell R bs i) ≡ f (getD bs i noBlock)
+  of-its-cell i h = go (of-cell f none R bs (recordCell R bs i))
     where
-      go : OfCell f none R bs (cellAt R bs i) (ofBlock f none R bs (cellAt R bs i)) → ofBlock f none R bs (cellAt R bs i) ≡ f (getD bs i noBlock)
+      go : OfCell f none R bs (recordCell R bs i) (ofBlock f none R bs (recordCell R bs i)) → ofBlock f none R bs (recordCell R bs i) ≡ f (getD bs i noBlock)
       go (of-record j k c x) = x ∙ ap (λ n. f (getD bs n noBlock)) (cell-once R bs (length bs) free j i k h c)
       go (of-none n x) = absurd (n i h refl)
 
--- ---- blocks of a sound list
+-- ---- blocks whose positions are in the room
 
-module _ (R : Room) (bs : List Block) (sound : (i : ℕ) → i < length bs → SoundBlock R (getD bs i noBlock)) where
-  pub cells-in : (i : ℕ) → i < length bs → cellAt R bs i < volume R
-  cells-in i h = cell-in R (getD bs i noBlock .at) (sound i h .within)
+module _ (R : Room) (bs : List Block) (within : (i : ℕ) → i < length bs → Within R (getD bs i noBlock .at)) where
+  pub cells-in : (i : ℕ) → i < length bs → recordCell R bs i < volume R
+  cells-in i h = cell-in R (getD bs i noBlock .at) (within i h)
 
 module _ {sheet : List ℕ} {R : Room} {p : Part} {bs : List Block} (L : BlockList sheet R p bs) where
   -- the list as the contract of `place_blocks` asks for it, and what that contract says of the list
   pub own-list : BlockList sheet R p (blocksIn sheet p)
-  own-list = record { inside = L .inside; are = refl; sound = L .sound }
+  own-list = record { inside = L .inside; are = refl; within = L .within }
 
   pub blocks-laid-for : {kinds nodes : List ℕ} {r : Placement} → BlocksLaid R (blocksIn sheet p) kinds nodes r → BlocksLaid R bs kinds nodes r
   blocks-laid-for O = rw (L .are) at O
 
-  pub list-sound : (i : ℕ) → i < length bs → SoundBlock R (getD bs i noBlock)
-  list-sound i h = rw (L .are) at (L .sound i (rw (← blocks-long sheet p, L .are) h))
+  pub list-within : (i : ℕ) → i < length bs → Within R (getD bs i noBlock .at)
+  list-within i h = rw (L .are) at (L .within i (rw (← blocks-long sheet p, L .are) h))
 
 -- ---- what laying out comes to is determined
 
-same-place : (R : Room) (bs : List Block) (i j : ℕ) → NotAfter R bs i j → NotAfter R bs j i → cellAt R bs i ≡ cellAt R bs j
+same-place : (R : Room) (bs : List Block) (i j : ℕ) → NotAfter R bs i j → NotAfter R bs j i → recordCell R bs i ≡ recordCell R bs j
 same-place R bs i j (inl h) (inl k) = absurd (omega arith)
 same-place R bs i j (inl h) (inr k) = absurd (omega (arith, k .0))
 same-place R bs i j (inr h) (inl k) = absurd (omega (arith, h .0))
 same-place R bs i j (inr h) (inr k) = omega (arith, h .1, k .1)
 
 module _ {R : Room} {bs : List Block} where
-  pub placing-one : {n : ℕ} {r s : Placement} → Placing R bs n r → Placing R bs n s → r ≡ s
+  placing-one : {n : ℕ} {r s : Placement} → Placing R bs n r → Placing R bs n s → r ≡ s
   placing-one (placed free e) (placed free′ e′) = cc
   placing-one (placed free e) (repeated i at least e′) = absurd (free i at)
   placing-one (repeated i at least e) (placed free e′) = absurd (free i at)

@@ -48,31 +48,31 @@ nodesOf R bs = tabulated (volume R) (nodeOf R bs)
 -- ---- number 7, "two blocks in one cell"
 
 -- cell, node and kind of record i
-abbrev pub cellAt : Room → List Block → ℕ → ℕ
-cellAt R bs i = blockCell R (getD bs i noBlock)
+abbrev pub recordCell : Room → List Block → ℕ → ℕ
+recordCell R bs i = blockCell R (getD bs i noBlock)
 
-abbrev pub nodeAt : List Block → ℕ → ℕ
-nodeAt bs i = getD bs i noBlock .node
+abbrev pub recordNode : List Block → ℕ → ℕ
+recordNode bs i = getD bs i noBlock .node
 
-abbrev pub kindAt : List Block → ℕ → ℕ
-kindAt bs i = getD bs i noBlock .kind
+abbrev pub recordKind : List Block → ℕ → ℕ
+recordKind bs i = getD bs i noBlock .kind
 
 -- of the first n records, i is one "whose cell a lower node or an earlier record of the same node holds"
 pub record Repeat (R : Room) (bs : List Block) (n i : ℕ) : Type 0 where
   pub repeat-in : i < n
   pub holder : ℕ
   pub holder-in : holder < n
-  pub same-cell : cellAt R bs holder ≡ cellAt R bs i
-  pub held : (nodeAt bs holder < nodeAt bs i) ⊎ ((nodeAt bs holder ≡ nodeAt bs i) × (holder < i))
+  pub same-cell : recordCell R bs holder ≡ recordCell R bs i
+  pub held : (recordNode bs holder < recordNode bs i) ⊎ ((recordNode bs holder ≡ recordNode bs i) × (holder < i))
 
 -- "least node, then least cell": record j does not come before record i
 abbrev pub NotAfter : Room → List Block → ℕ → ℕ → Type 0
-NotAfter R bs i j = (nodeAt bs i < nodeAt bs j) ⊎ ((nodeAt bs i ≡ nodeAt bs j) × (cellAt R bs i ≤ cellAt R bs j))
+NotAfter R bs i j = (recordNode bs i < recordNode bs j) ⊎ ((recordNode bs i ≡ recordNode bs j) × (recordCell R bs i ≤ recordCell R bs j))
 
 -- what the first n records come to: each has a cell of its own, or "cell of the repeat: of all [repeats] the one of least node, then least cell"
 pub data Placing (R : Room) (bs : List Block) (n : ℕ) (r : Placement) : Type 0 where
   placed : ((i : ℕ) → Repeat R bs n i → ⊥) → r ≡ Placed → Placing R bs n r
-  repeated : (i : ℕ) → Repeat R bs n i → ((j : ℕ) → Repeat R bs n j → NotAfter R bs i j) → r ≡ RepeatAt (cellAt R bs i) → Placing R bs n r
+  repeated : (i : ℕ) → Repeat R bs n i → ((j : ℕ) → Repeat R bs n j → NotAfter R bs i j) → r ≡ RepeatAt (recordCell R bs i) → Placing R bs n r
 
 -- what a buffer of the room holds in the end: this, or zeros, as "7 to 15 leave every lent writable buffer zero"
 abbrev pub leftBy : Placement → Room → List ℕ → List ℕ

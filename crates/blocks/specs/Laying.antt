@@ -9,7 +9,7 @@ use Rattle.room.specs.declared.Room.{Room}
 use Rattle.room.specs.Room.{volume}
 use Rattle.room.specs.Units.{air}
 use Rattle.job_sheet.specs.declared.Block.{Block}
-use Rattle.blocks.specs.Blocks.{blockCell, cellAt, nodeAt, kindAt, Repeat}
+use Rattle.blocks.specs.Blocks.{blockCell, recordCell, recordNode, recordKind, Repeat}
 
 -- the lesser of two numbers of which 0 stands for none
 unfoldable pub lesser : ℕ → ℕ → ℕ
@@ -33,20 +33,20 @@ pub record Added (R : Room) (b : Block) (kinds nodes : List ℕ) (found : ℕ) (
 -- what is kept of a cell's node is that of a block in the cell, or none
 pub data Noted (R : Room) (bs : List Block) (k v : ℕ) (kept : ℕ) : Type 0 where
   no-block : kept ≡ 0 → Noted R bs k v kept
-  of-block : (j : ℕ) → j < k → cellAt R bs j ≡ v → kept ≡ nodeAt bs j + 1 → Noted R bs k v kept
+  of-block : (j : ℕ) → j < k → recordCell R bs j ≡ v → kept ≡ recordNode bs j + 1 → Noted R bs k v kept
 
 -- what is kept of a repeat is that of a repeat, or none
 pub data Found (R : Room) (bs : List Block) (k : ℕ) (found : ℕ) : Type 0 where
   no-repeat : found ≡ 0 → Found R bs k found
-  of-repeat : (i : ℕ) → Repeat R bs k i → found ≡ numbered (nodeAt bs i) (cellAt R bs i) → Found R bs k found
+  of-repeat : (i : ℕ) → Repeat R bs k i → found ≡ numbered (recordNode bs i) (recordCell R bs i) → Found R bs k found
 
 -- what is kept of the first k blocks
 pub record Kept (R : Room) (bs : List Block) (k : ℕ) (kinds nodes : List ℕ) (found : ℕ) : Type 0 where
   pub kinds-long : length kinds ≡ volume R
   pub nodes-long : length nodes ≡ volume R
   pub noted : (v : ℕ) → v < volume R → Noted R bs k v (getD nodes v 0)
-  pub least-node : (j : ℕ) → j < k → (1 ≤ getD nodes (cellAt R bs j) 0) × (getD nodes (cellAt R bs j) 0 ≤ nodeAt bs j + 1)
+  pub least-node : (j : ℕ) → j < k → (1 ≤ getD nodes (recordCell R bs j) 0) × (getD nodes (recordCell R bs j) 0 ≤ recordNode bs j + 1)
   pub bare : (v : ℕ) → v < volume R → getD nodes v 0 ≡ 0 → getD kinds v 0 ≡ air
-  pub kinds-are : found ≡ 0 → (j : ℕ) → j < k → getD kinds (cellAt R bs j) 0 ≡ kindAt bs j
+  pub kinds-are : found ≡ 0 → (j : ℕ) → j < k → getD kinds (recordCell R bs j) 0 ≡ recordKind bs j
   pub repeat : Found R bs k found
-  pub least-repeat : (j : ℕ) → Repeat R bs k j → (1 ≤ found) × (found ≤ numbered (nodeAt bs j) (cellAt R bs j))
+  pub least-repeat : (j : ℕ) → Repeat R bs k j → (1 ≤ found) × (found ≤ numbered (recordNode bs j) (recordCell R bs j))

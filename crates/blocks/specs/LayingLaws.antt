@@ -16,7 +16,7 @@ use Rattle.room.specs.Units.{air}
 use Rattle.job_sheet.specs.declared.Block.{Block}
 use Rattle.job_sheet.specs.Places.{noBlock}
 use Rattle.blocks.specs.declared.Placement.the-variants.{Placed, RepeatAt}
-use Rattle.blocks.specs.Blocks.{kindOf, nodeOf, kindsOf, nodesOf, cellAt, nodeAt, kindAt, Repeat, NotAfter, Placing, placed, repeated, BlocksLaid}
+use Rattle.blocks.specs.Blocks.{kindOf, nodeOf, kindsOf, nodesOf, recordCell, recordNode, recordKind, Repeat, NotAfter, Placing, placed, repeated, BlocksLaid}
 use Rattle.blocks.specs.Laying.{lesser, numbered, repeatNumber, Added, Noted, no-block, of-block, Found, no-repeat, of-repeat, Kept}
 use Rattle.blocks.specs.BlockLaws.{tabulated-is, OfCell, of-record, of-none, of-cell, of-its-cell}
 
@@ -153,8 +153,8 @@ module _ (R : Room) (bs : List Block) (k : ℕ) where
   -- a repeat among one block more: one of before, or the new block is the repeat, or holds the cell of one
   data RepeatOfMore (j : ℕ) : Type 0 where
     of-before : Repeat R bs k j → RepeatOfMore j
-    is-new : (h : ℕ) → h < k → j ≡ k → cellAt R bs h ≡ cellAt R bs k → nodeAt bs h ≤ nodeAt bs k → RepeatOfMore j
-    held-by-new : j < k → cellAt R bs j ≡ cellAt R bs k → nodeAt bs k < nodeAt bs j → RepeatOfMore j
+    is-new : (h : ℕ) → h < k → j ≡ k → recordCell R bs h ≡ recordCell R bs k → recordNode bs h ≤ recordNode bs k → RepeatOfMore j
+    held-by-new : j < k → recordCell R bs j ≡ recordCell R bs k → recordNode bs k < recordNode bs j → RepeatOfMore j
 
   below-or-new : (j : ℕ) → j < k + 1 → (j < k) ⊎ (j ≡ k)
   below-or-new j h = ask (ltb j k) (λ t. inl (ltb-true j k t)) (λ f. inr (omega (arith, ltb-false j k f)))
@@ -162,59 +162,59 @@ module _ (R : Room) (bs : List Block) (k : ℕ) where
   repeat-of-more : (j : ℕ) → Repeat R bs (k + 1) j → RepeatOfMore j
   repeat-of-more j r = go (below-or-new j (r .repeat-in)) (below-or-new (r .holder) (r .holder-in)) (r .held)
     where
-      go : (j < k) ⊎ (j ≡ k) → (r .holder < k) ⊎ (r .holder ≡ k) → (nodeAt bs (r .holder) < nodeAt bs j) ⊎ ((nodeAt bs (r .holder) ≡ nodeAt bs j) × (r .holder < j))
+      go : (j < k) ⊎ (j ≡ k) → (r .holder < k) ⊎ (r .holder ≡ k) → (recordNode bs (r .holder) < recordNode bs j) ⊎ ((recordNode bs (r .holder) ≡ recordNode bs j) × (r .holder < j))
           → RepeatOfMore j
       go (inl a) (inl b) held = of-before record { repeat-in = a; holder = r .holder; holder-in = b; same-cell = r .same-cell; held = held }
-      go (inl a) (inr e) (inl l) = held-by-new a (sym (r .same-cell) ∙ ap (cellAt R bs) e) (rw e at l)
+      go (inl a) (inr e) (inl l) = held-by-new a (sym (r .same-cell) ∙ ap (recordCell R bs) e) (rw e at l)
       go (inl a) (inr e) (inr l) = absurd (omega (arith, l .1))
-      go (inr e) (inl b) (inl l) = is-new (r .holder) b e (r .same-cell ∙ ap (cellAt R bs) e) (let n = ap (nodeAt bs) e in omega arith)
-      go (inr e) (inl b) (inr l) = is-new (r .holder) b e (r .same-cell ∙ ap (cellAt R bs) e) (let n = ap (nodeAt bs) e in omega (arith, l .0))
-      go (inr e) (inr f) (inl l) = absurd (let n = ap (nodeAt bs) (f ∙ sym e) in omega arith)
+      go (inr e) (inl b) (inl l) = is-new (r .holder) b e (r .same-cell ∙ ap (recordCell R bs) e) (let n = ap (recordNode bs) e in omega arith)
+      go (inr e) (inl b) (inr l) = is-new (r .holder) b e (r .same-cell ∙ ap (recordCell R bs) e) (let n = ap (recordNode bs) e in omega (arith, l .0))
+      go (inr e) (inr f) (inl l) = absurd (let n = ap (recordNode bs) (f ∙ sym e) in omega arith)
       go (inr e) (inr f) (inr l) = absurd (omega (arith, l .1))
 
-  module _ (kinds nodes : List ℕ) (found : ℕ) (K : Kept R bs k kinds nodes found) (cell-in : cellAt R bs k < volume R) where
+  module _ (kinds nodes : List ℕ) (found : ℕ) (K : Kept R bs k kinds nodes found) (cell-in : recordCell R bs k < volume R) where
     abbrev here : ℕ
-    here = cellAt R bs k
+    here = recordCell R bs k
 
     abbrev known : ℕ
     known = getD nodes here 0
 
     abbrev nodes-now : List ℕ
-    nodes-now = set nodes here (lesser known (nodeAt bs k + 1))
+    nodes-now = set nodes here (lesser known (recordNode bs k + 1))
 
     abbrev kinds-now : List ℕ
-    kinds-now = set kinds here (kindAt bs k)
+    kinds-now = set kinds here (recordKind bs k)
 
     abbrev new : ℕ
-    new = repeatNumber known (nodeAt bs k + 1) here
+    new = repeatNumber known (recordNode bs k + 1) here
 
     abbrev found-now : ℕ
     found-now = lesser found new
 
-    least : Lesser known (nodeAt bs k + 1) (lesser known (nodeAt bs k + 1))
-    least = lesser-is known (nodeAt bs k + 1)
+    least : Lesser known (recordNode bs k + 1) (lesser known (recordNode bs k + 1))
+    least = lesser-is known (recordNode bs k + 1)
 
-    there : getD nodes-now here 0 ≡ lesser known (nodeAt bs k + 1)
+    there : getD nodes-now here 0 ≡ lesser known (recordNode bs k + 1)
     there = getD-set-same nodes here _ 0 (rw (K .nodes-long) cell-in)
 
     elsewhere : (v : ℕ) → (here ≡ v → ⊥) → getD nodes-now v 0 ≡ getD nodes v 0
     elsewhere v other = getD-set-other nodes here v _ 0 (λ e. other (sym e))
 
-    kind-there : getD kinds-now here 0 ≡ kindAt bs k
+    kind-there : getD kinds-now here 0 ≡ recordKind bs k
     kind-there = getD-set-same kinds here _ 0 (rw (K .kinds-long) cell-in)
 
     kind-elsewhere : (v : ℕ) → (here ≡ v → ⊥) → getD kinds-now v 0 ≡ getD kinds v 0
     kind-elsewhere v other = getD-set-other kinds here v _ 0 (λ e. other (sym e))
 
     -- what is kept of a cell, if a block so far takes it
-    known-least : (j : ℕ) → j < k → cellAt R bs j ≡ here → (1 ≤ known) × (known ≤ nodeAt bs j + 1)
+    known-least : (j : ℕ) → j < k → recordCell R bs j ≡ here → (1 ≤ known) × (known ≤ recordNode bs j + 1)
     known-least j h e = rw e at (K .least-node j h)
 
-    noted-here : Noted R bs (k + 1) here (lesser known (nodeAt bs k + 1))
+    noted-here : Noted R bs (k + 1) here (lesser known (recordNode bs k + 1))
     noted-here = go (least .one-of) (K .noted here cell-in)
       where
-        go : (lesser known (nodeAt bs k + 1) ≡ known) ⊎ (lesser known (nodeAt bs k + 1) ≡ nodeAt bs k + 1) → Noted R bs k here known
-            → Noted R bs (k + 1) here (lesser known (nodeAt bs k + 1))
+        go : (lesser known (recordNode bs k + 1) ≡ known) ⊎ (lesser known (recordNode bs k + 1) ≡ recordNode bs k + 1) → Noted R bs k here known
+            → Noted R bs (k + 1) here (lesser known (recordNode bs k + 1))
         go (inl e) (no-block z) = absurd (omega (arith, least .to-second (omega arith) .0))
         go (inl e) (of-block j h c n) = of-block j (omega arith) c (e ∙ n)
         go (inr e) n = of-block k (omega arith) refl e
@@ -229,17 +229,17 @@ module _ (R : Room) (bs : List Block) (k : ℕ) where
         lift (no-block z) = no-block z
         lift (of-block j h c n) = of-block j (omega arith) c n
 
-    least-node-more : (j : ℕ) → j < k + 1 → (1 ≤ getD nodes-now (cellAt R bs j) 0) × (getD nodes-now (cellAt R bs j) 0 ≤ nodeAt bs j + 1)
+    least-node-more : (j : ℕ) → j < k + 1 → (1 ≤ getD nodes-now (recordCell R bs j) 0) × (getD nodes-now (recordCell R bs j) 0 ≤ recordNode bs j + 1)
     least-node-more j h = go (below-or-new j h)
       where
-        go : (j < k) ⊎ (j ≡ k) → (1 ≤ getD nodes-now (cellAt R bs j) 0) × (getD nodes-now (cellAt R bs j) 0 ≤ nodeAt bs j + 1)
+        go : (j < k) ⊎ (j ≡ k) → (1 ≤ getD nodes-now (recordCell R bs j) 0) × (getD nodes-now (recordCell R bs j) 0 ≤ recordNode bs j + 1)
         go (inr e) = rw (e, there) (least .to-second (omega arith))
         go (inl l) =
-            ask (eqb here (cellAt R bs j))
-            (λ t. same (eqb-true here (cellAt R bs j) t))
-            (λ f. rw (elsewhere (cellAt R bs j) (eqb-false here (cellAt R bs j) f)) (K .least-node j l))
+            ask (eqb here (recordCell R bs j))
+            (λ t. same (eqb-true here (recordCell R bs j) t))
+            (λ f. rw (elsewhere (recordCell R bs j) (eqb-false here (recordCell R bs j) f)) (K .least-node j l))
           where
-            same : here ≡ cellAt R bs j → (1 ≤ getD nodes-now (cellAt R bs j) 0) × (getD nodes-now (cellAt R bs j) 0 ≤ nodeAt bs j + 1)
+            same : here ≡ recordCell R bs j → (1 ≤ getD nodes-now (recordCell R bs j) 0) × (getD nodes-now (recordCell R bs j) 0 ≤ recordNode bs j + 1)
             same e =
                 let a = known-least j l (sym e) in
                 let b = least .to-first (a .0) in
@@ -253,9 +253,9 @@ module _ (R : Room) (bs : List Block) (k : ℕ) where
 
     -- while nothing repeats, no block so far takes the new block's cell
     not-known : found-now ≡ 0 → (found ≡ 0) × (known ≡ 0)
-    not-known z = go (lesser-is found new) (made known (nodeAt bs k) here)
+    not-known z = go (lesser-is found new) (made known (recordNode bs k) here)
       where
-        go : Lesser found new found-now → Made known (nodeAt bs k) here new → (found ≡ 0) × (known ≡ 0)
+        go : Lesser found new found-now → Made known (recordNode bs k) here new → (found ≡ 0) × (known ≡ 0)
         go l (none-made e n) = (none (l .to-first), e)
           where
             none : (1 ≤ found → (1 ≤ found-now) × (found-now ≤ found)) → found ≡ 0
@@ -263,24 +263,24 @@ module _ (R : Room) (bs : List Block) (k : ℕ) where
         go l (by-new a b n) = absurd (omega (arith, z, l .to-second (omega arith) .0))
         go l (by-old m a b n) = absurd (omega (arith, z, l .to-second (omega arith) .0))
 
-    kinds-more : found-now ≡ 0 → (j : ℕ) → j < k + 1 → getD kinds-now (cellAt R bs j) 0 ≡ kindAt bs j
+    kinds-more : found-now ≡ 0 → (j : ℕ) → j < k + 1 → getD kinds-now (recordCell R bs j) 0 ≡ recordKind bs j
     kinds-more z j h = go (not-known z) (below-or-new j h)
       where
-        go : (found ≡ 0) × (known ≡ 0) → (j < k) ⊎ (j ≡ k) → getD kinds-now (cellAt R bs j) 0 ≡ kindAt bs j
+        go : (found ≡ 0) × (known ≡ 0) → (j < k) ⊎ (j ≡ k) → getD kinds-now (recordCell R bs j) 0 ≡ recordKind bs j
         go q (inr e) = rw (e, kind-there)
-        go q (inl l) = kind-elsewhere (cellAt R bs j) (λ e. omega (arith, q .1, known-least j l (sym e) .0)) ∙ K .kinds-are (q .0) j l
+        go q (inl l) = kind-elsewhere (recordCell R bs j) (λ e. omega (arith, q .1, known-least j l (sym e) .0)) ∙ K .kinds-are (q .0) j l
 
     repeat-more : Found R bs (k + 1) found-now
     repeat-more = go (lesser-is found new .one-of) (K .repeat)
       where
-        fresh : found-now ≡ new → Made known (nodeAt bs k) here new → Noted R bs k here known → Found R bs (k + 1) found-now
+        fresh : found-now ≡ new → Made known (recordNode bs k) here new → Noted R bs k here known → Found R bs (k + 1) found-now
         fresh e (none-made z n) t = no-repeat (e ∙ n)
         fresh e (by-new a b n) (no-block z) = absurd (omega arith)
         fresh e (by-new a b n) (of-block h l c m) =
             of-repeat k record { repeat-in = omega arith; holder = h; holder-in = omega arith; same-cell = c; held = lower } (e ∙ n)
           where
-            lower : (nodeAt bs h < nodeAt bs k) ⊎ ((nodeAt bs h ≡ nodeAt bs k) × (h < k))
-            lower = ask (ltb (nodeAt bs h) (nodeAt bs k)) (λ t. inl (ltb-true _ _ t)) (λ f. inr (omega (arith, ltb-false (nodeAt bs h) (nodeAt bs k) f), l))
+            lower : (recordNode bs h < recordNode bs k) ⊎ ((recordNode bs h ≡ recordNode bs k) × (h < k))
+            lower = ask (ltb (recordNode bs h) (recordNode bs k)) (λ t. inl (ltb-true _ _ t)) (λ f. inr (omega (arith, ltb-false (recordNode bs h) (recordNode bs k) f), l))
         fresh e (by-old x a b n) (no-block z) = absurd (omega arith)
         fresh e (by-old x a b n) (of-block h l c m) =
             of-repeat h record { repeat-in = omega arith; holder = k; holder-in = omega arith; same-cell = sym c; held = inl (omega arith) } (omega (arith, e, n, c))
@@ -288,25 +288,25 @@ module _ (R : Room) (bs : List Block) (k : ℕ) where
         go : (found-now ≡ found) ⊎ (found-now ≡ new) → Found R bs k found → Found R bs (k + 1) found-now
         go (inl e) (no-repeat z) = no-repeat (e ∙ z)
         go (inl e) (of-repeat i r n) = of-repeat i (more r) (e ∙ n)
-        go (inr e) f = fresh e (made known (nodeAt bs k) here) (K .noted here cell-in)
+        go (inr e) f = fresh e (made known (recordNode bs k) here) (K .noted here cell-in)
 
-    least-repeat-more : (j : ℕ) → Repeat R bs (k + 1) j → (1 ≤ found-now) × (found-now ≤ numbered (nodeAt bs j) (cellAt R bs j))
+    least-repeat-more : (j : ℕ) → Repeat R bs (k + 1) j → (1 ≤ found-now) × (found-now ≤ numbered (recordNode bs j) (recordCell R bs j))
     least-repeat-more j r = go (repeat-of-more j r)
       where
         bound : (x v : ℕ) → here ≡ v → (1 ≤ new) × (new ≤ numbered x here) → (1 ≤ found-now) × (found-now ≤ numbered x v)
         bound x v e n = let l = lesser-is found new .to-second (n .0) in (l .0, omega arith)
 
-        go : RepeatOfMore j → (1 ≤ found-now) × (found-now ≤ numbered (nodeAt bs j) (cellAt R bs j))
+        go : RepeatOfMore j → (1 ≤ found-now) × (found-now ≤ numbered (recordNode bs j) (recordCell R bs j))
         go (of-before b) =
             let f = K .least-repeat j b in
             let l = lesser-is found new .to-first (f .0) in
             (l .0, omega arith)
         go (is-new h l e c n) =
             let a = known-least h l c in
-            rw e (bound (nodeAt bs k) here refl (made-least (made known (nodeAt bs k) here) (nodeAt bs k) (a .0) (omega arith) (omega arith)))
+            rw e (bound (recordNode bs k) here refl (made-least (made known (recordNode bs k) here) (recordNode bs k) (a .0) (omega arith) (omega arith)))
         go (held-by-new l c n) =
             let a = known-least j l c in
-            bound (nodeAt bs j) (cellAt R bs j) (sym c) (made-least (made known (nodeAt bs k) here) (nodeAt bs j) (a .0) (a .1) (omega arith))
+            bound (recordNode bs j) (recordCell R bs j) (sym c) (made-least (made known (recordNode bs k) here) (recordNode bs j) (a .0) (a .1) (omega arith))
 
     kept-more : Kept R bs (k + 1) kinds-now nodes-now found-now
     kept-more = record {
@@ -336,7 +336,7 @@ module _ {R : Room} {bs : List Block} {kinds nodes : List ℕ} {found : ℕ} whe
     kept-placed : found ≡ 0 → Placing R bs n Placed
     kept-placed z = placed (nothing-repeats z) refl
 
-    kept-repeated : (found ≡ 0 → ⊥) → ((i : ℕ) → i < n → cellAt R bs i < 65536) → Placing R bs n (RepeatAt ((found - 1) % 65536))
+    kept-repeated : (found ≡ 0 → ⊥) → ((i : ℕ) → i < n → recordCell R bs i < 65536) → Placing R bs n (RepeatAt ((found - 1) % 65536))
     kept-repeated some small = go (K .repeat)
       where
         go : Found R bs n found → Placing R bs n (RepeatAt ((found - 1) % 65536))
@@ -345,12 +345,12 @@ module _ {R : Room} {bs : List Block} {kinds nodes : List ℕ} {found : ℕ} whe
           where
             first : (j : ℕ) → Repeat R bs n j → NotAfter R bs i j
             first j q =
-                numbered-least (nodeAt bs i) (cellAt R bs i) (nodeAt bs j) (cellAt R bs j) (small i (r .repeat-in)) (small j (q .repeat-in)) (rw e at (K .least-repeat j q .1))
+                numbered-least (recordNode bs i) (recordCell R bs i) (recordNode bs j) (recordCell R bs j) (small i (r .repeat-in)) (small j (q .repeat-in)) (rw e at (K .least-repeat j q .1))
 
-            cell : (found - 1) % 65536 ≡ cellAt R bs i
+            cell : (found - 1) % 65536 ≡ recordCell R bs i
             cell =
-                let d : found - 1 ≡ nodeAt bs i * 65536 + cellAt R bs i = omega (arith, e) in
-                rw d (digits-mod (nodeAt bs i) (small i (r .repeat-in)))
+                let d : found - 1 ≡ recordNode bs i * 65536 + recordCell R bs i = omega (arith, e) in
+                rw d (digits-mod (recordNode bs i) (small i (r .repeat-in)))
 
   module _ (K : Kept R bs (length bs) kinds nodes found) (z : found ≡ 0) where
     kept-kind : (v : ℕ) → v < volume R → getD kinds v 0 ≡ kindOf R bs v
@@ -378,7 +378,7 @@ module _ {R : Room} {bs : List Block} {kinds nodes : List ℕ} {found : ℕ} whe
     pub kept-all : BlocksLaid R bs kinds nodes Placed
     kept-all = record { placing = kept-placed K z; kinds-are = kept-kinds; nodes-are = kept-nodes }
 
-  module _ (K : Kept R bs (length bs) kinds nodes found) (some : found ≡ 0 → ⊥) (small : (i : ℕ) → i < length bs → cellAt R bs i < 65536) where
+  module _ (K : Kept R bs (length bs) kinds nodes found) (some : found ≡ 0 → ⊥) (small : (i : ℕ) → i < length bs → recordCell R bs i < 65536) where
     pub kept-refused : {kinds′ nodes′ : List ℕ} → kinds′ ≡ replicate (length kinds) 0 → nodes′ ≡ replicate (length nodes) 0
         → BlocksLaid R bs kinds′ nodes′ (RepeatAt ((found - 1) % 65536))
     kept-refused e f = record {

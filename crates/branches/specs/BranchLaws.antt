@@ -1,7 +1,7 @@
 -- Laws of branches: their cells and their length, what all but the last cell are, sheet order kept, and where a branch stands by the lengths.
 use mathlib.Core.Path.{_≡_, refl, sym, ap, _∙_}
 use mathlib.Core.Logic.{inl, inr}
-use mathlib.Core.List.{List, [], _∷_, _++_, reverse, append-assoc, append-nil, reverse-cons}
+use mathlib.Core.List.{List, [], _∷_, _++_, map, reverse, append-assoc, append-nil, reverse-cons}
 use Prim.Native.Nat.{ℕ, zero, suc, _+_, _-_, _≤_, _<_}
 use native.Mathlib.Omega.{arith}
 use lib.Dec.{eqb, ltb}
@@ -13,8 +13,8 @@ use Rattle.basics.specs.Lists.{In}
 use Rattle.job_sheet.specs.Sheet.{joined}
 use Rattle.ends.specs.declared.Tap.{Tap}
 use Rattle.branches.specs.declared.BranchLengths.{BranchLengths}
-use Rattle.branches.specs.Branches.{branchOf, allButLast, inserted, total, lengthsIn, SheetOrder, LengthsOf}
-use Rattle.branches.specs.LoopLaws.{total-append}
+use Rattle.branches.specs.Branches.{branchOf, allButLast, inserted, sum, lengthsIn, cutInto, SheetOrder, LengthsOf}
+use Rattle.branches.specs.LoopLaws.{sum-append}
 use Rattle.branches.specs.WriteLaws.{branch-long}
 use Rattle.routing_resources.specs.Marks.{CellsBelow}
 
@@ -77,7 +77,7 @@ but-last-in (last ∷ []) v i = absurd i
 but-last-in (cell ∷ (next ∷ rest)) v (inl e) = inl e
 but-last-in (cell ∷ (next ∷ rest)) v (inr i) = inr (but-last-in (next ∷ rest) v i)
 
-pub but-last-take : (cells : List ℕ) → take (length cells - 1) cells ≡ allButLast cells
+but-last-take : (cells : List ℕ) → take (length cells - 1) cells ≡ allButLast cells
 unfolding allButLast
 but-last-take [] = refl
 but-last-take (last ∷ []) = refl
@@ -165,20 +165,20 @@ module _ (b buffer : List ℕ) (at used : ℕ) (h : at ≤ length buffer) where
 
 -- ---- the lengths
 
-pub joined-place : (bs : List (List ℕ)) (each : List ℕ) → LengthsOf bs each → (k : ℕ) → k ≤ length bs → total (take k each) ≡ length (joined (take k bs))
-unfolding total
+pub joined-place : (bs : List (List ℕ)) (each : List ℕ) → LengthsOf bs each → (k : ℕ) → k ≤ length bs → sum (take k each) ≡ length (joined (take k bs))
+unfolding sum
 joined-place bs each L zero h = refl
 joined-place bs each L (suc k) h =
     let a : take (suc k) each ≡ take k each ++ (getD each k 0 ∷ []) = take-suc each k 0 (omega (arith, L .all)) in
     let b : take (suc k) bs ≡ take k bs ++ (getD bs k [] ∷ []) = take-suc bs k [] h in
-    let s : total (take (suc k) each) ≡ total (take k each) + (getD each k 0 + 0) = ap total a ∙ total-append (take k each) (getD each k 0 ∷ []) in
+    let s : sum (take (suc k) each) ≡ sum (take k each) + (getD each k 0 + 0) = ap sum a ∙ sum-append (take k each) (getD each k 0 ∷ []) in
     let j : joined (take (suc k) bs) ≡ joined (take k bs) ++ (getD bs k [] ++ []) = ap joined b ∙ joined-append (take k bs) (getD bs k [] ∷ []) in
     let l : length (getD bs k [] ++ []) ≡ length (getD bs k []) = ap length (append-nil (getD bs k [])) in
     omega (arith, ap length j, length-append (joined (take k bs)) (getD bs k [] ++ []), L .each-is k h, joined-place bs each L k (omega arith))
 
 -- all branches together
-pub lengths-total : (bs : List (List ℕ)) (L : BranchLengths) → LengthsOf bs (L .each) → length bs ≡ L .count → total (lengthsIn L) ≡ length (joined bs)
-lengths-total bs L H n = rw (← n) (joined-place bs (L .each) H (length bs) (omega arith) ∙ ap (λ l. length (joined l)) (take-length bs))
+pub lengths-sum : (bs : List (List ℕ)) (L : BranchLengths) → LengthsOf bs (L .each) → length bs ≡ L .count → sum (lengthsIn L) ≡ length (joined bs)
+lengths-sum bs L H n = rw (← n) (joined-place bs (L .each) H (length bs) (omega arith) ∙ ap (λ l. length (joined l)) (take-length bs))
 
 pub lengths-set : {bs : List (List ℕ)} {each : List ℕ} → LengthsOf bs each → (k : ℕ) → k < length bs → (b : List ℕ) → LengthsOf (set bs k b) (set each k (length b))
 lengths-set {bs = bs} {each = each} L k h b = record {
@@ -193,6 +193,14 @@ lengths-set {bs = bs} {each = each} L k h b = record {
         rw e (getD-set-same each k (length b) 0 (omega (arith, L .all)) ∙ ap length (sym (getD-set-same bs k b [] h))))
         (λ f. let d : i ≡ k → ⊥ = eqb-false i k f in
         getD-set-other each k i (length b) 0 d ∙ L .each-is i g ∙ ap length (sym (getD-set-other bs k i b [] d)))
+
+-- branches one after another, cut by their lengths
+pub cut-joined : (bs : List (List ℕ)) (rest : List ℕ) → cutInto (map length bs) (joined bs ++ rest) ≡ bs
+unfolding cutInto
+cut-joined [] rest = refl
+cut-joined (b ∷ bs) rest =
+    let e : (b ++ joined bs) ++ rest ≡ b ++ (joined bs ++ rest) = append-assoc b (joined bs) rest in
+    rw (e, take-at b (joined bs ++ rest) (length b) refl, drop-at b (joined bs ++ rest) (length b) refl) (ap (λ l. b ∷ l) (cut-joined bs rest))
 
 -- ---- no sink has a branch yet
 

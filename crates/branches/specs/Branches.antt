@@ -1,11 +1,12 @@
 -- A sink's branch, as "The tree of one net" of the requirement has it. Definitions alone; their laws are in the files named Laws. A tree's branches
 -- are a list in sheet order, with [] for a sink that has no branch yet; `joined` of the sheet's crate puts them one after another.
 use mathlib.Core.Path.{_≡_}
-use mathlib.Core.List.{List, [], _∷_, _++_, reverse}
+use mathlib.Core.List.{List, [], _∷_, _++_, map, reverse, dropLast}
 use Prim.Native.Nat.{ℕ, _+_, _-_, _≤_, _<_}
 use lib.Dec.{eqb}
-use lib.ListN.{length, getD, take, drop}
+use lib.ListN.{length, getD, take, drop, replicate}
 use Rattle.basics.specs.Tests.{either}
+use Rattle.basics.specs.Counts.{times}
 use Rattle.room.specs.Room.{maxVolume}
 use Rattle.job_sheet.specs.Sheet.{maxSinks, joined}
 use Rattle.ends.specs.declared.Tap.{Tap}
@@ -25,9 +26,7 @@ branchLength t count = count + length (terminalAdded t)
 
 -- "All but the last cell become joinable"
 unfoldable pub allButLast : List ℕ → List ℕ
-allButLast [] = []
-allButLast (last ∷ []) = []
-allButLast (cell ∷ (next ∷ rest)) = cell ∷ allButLast (next ∷ rest)
+allButLast cells = dropLast cells
 
 -- a branch put in at `at` of a buffer whose first `used` cells are in use: those from `at` on move behind it
 abbrev pub inserted : ℕ → ℕ → List ℕ → List ℕ → List ℕ
@@ -45,21 +44,38 @@ pub record LengthsOf (branches : List (List ℕ)) (each : List ℕ) : Type 0 whe
 
 -- how many cells are marked
 unfoldable pub markedCount : List ℕ → ℕ
-markedCount [] = 0
-markedCount (m ∷ ms) = either (eqb m 1) 1 0 + markedCount ms
+markedCount marks = times (λ m. eqb m 1) marks
 
 -- these numbers added up
-unfoldable pub total : List ℕ → ℕ
-total [] = 0
-total (n ∷ ns) = n + total ns
+unfoldable pub sum : List ℕ → ℕ
+sum [] = 0
+sum (n ∷ ns) = n + sum ns
 
 -- a path has at most the cells of a room, and a branch one more
 abbrev pub longestBranch : ℕ
 longestBranch = maxVolume + 1
 
+-- the branches' lengths in sheet order, then places that hold nothing
+abbrev pub branchLengths : List (List ℕ) → BranchLengths
+branchLengths bs = record { count = length bs; each = map length bs ++ replicate (maxSinks - length bs) 0 }
+
 -- the lengths of the branches, as many as there are
 abbrev pub lengthsIn : BranchLengths → List ℕ
 lengthsIn L = take (L .count) (L .each)
+
+-- branches that stand one behind the other in one list of cells, by their lengths
+unfoldable pub cutInto : List ℕ → List ℕ → List (List ℕ)
+cutInto [] cells = []
+cutInto (n ∷ ns) cells = take n cells ∷ cutInto ns (drop n cells)
+
+abbrev pub branchesOf : BranchLengths → List ℕ → List (List ℕ)
+branchesOf L cells = cutInto (lengthsIn L) cells
+
+-- so many branches, of these lengths, stand in the buffer
+pub record Branched (L : BranchLengths) (cells : List ℕ) : Type 0 where
+  pub whole : length (L .each) ≡ maxSinks
+  pub few : L .count ≤ maxSinks
+  pub within : sum (lengthsIn L) ≤ length cells
 
 -- each of the lengths can be that of a branch
 pub record Short (lengths : BranchLengths) : Type 0 where

@@ -1,33 +1,16 @@
--- Laws of the loops: cells marked one after another, the marks counted so far, the lengths summed so far.
+-- Laws of the loops: the marks counted so far, the lengths summed so far.
 use mathlib.Core.Path.{_≡_, refl, sym, ap, _∙_}
-use mathlib.Core.Bool.{Bool, false, _||_}
 use mathlib.Core.List.{List, [], _∷_, _++_}
-use Prim.Native.Nat.{ℕ, _+_, _*_, _≤_, _<_}
+use Prim.Native.Nat.{ℕ, zero, suc, _+_, _*_, _≤_, _<_}
 use native.Mathlib.Numerals.{add-one}
 use native.Mathlib.Omega.{arith}
 use lib.Dec.{eqb}
 use lib.ListN.{length, getD, take, drop, drop-of-length-le}
 use lib.Seq.{take-suc}
 use borrow.Author.Tests.{eq-eqb, ne-eqb}
-use Rattle.basics.specs.Tests.{either}
+use Rattle.basics.specs.Counts.{bit, times}
 use Rattle.basics.specs.Lists.{drop-next}
-use Rattle.geometry.specs.Geometry.{standsIn}
-use Rattle.branches.specs.Branches.{markedCount, total}
-
--- ---- cells marked
-
--- the cells from the i-th on
-abbrev pub cellsFrom : List ℕ → ℕ → ℕ → Bool
-cellsFrom cells i = standsIn (drop i cells)
-
-module _ (cells : List ℕ) (i : ℕ) where
-  pub cells-next : i < length cells → (v : ℕ) → cellsFrom cells i v ≡ eqb (getD cells i 0) v || cellsFrom cells (i + 1) v
-  unfolding standsIn
-  cells-next h v = ap (λ l. standsIn l v) (drop-next cells i 0 h)
-
-  pub cells-end : length cells ≤ i → (v : ℕ) → cellsFrom cells i v ≡ false
-  unfolding standsIn
-  cells-end h v = ap (λ l. standsIn l v) (drop-of-length-le cells h)
+use Rattle.branches.specs.Branches.{markedCount, sum}
 
 -- ---- marks counted
 
@@ -41,8 +24,8 @@ pub counted-none : (marks : List ℕ) → Counted marks 0 0
 counted-none marks = record { so-far = omega arith; few = omega arith; same = omega arith }
 
 module _ {marks : List ℕ} {count i : ℕ} (C : Counted marks count i) where
-  one-more : i < length marks → markedCount (drop i marks) ≡ either (eqb (getD marks i 0) 1) 1 0 + markedCount (drop (i + 1) marks)
-  unfolding markedCount
+  one-more : i < length marks → markedCount (drop i marks) ≡ bit (eqb (getD marks i 0) 1) + markedCount (drop (i + 1) marks)
+  unfolding markedCount times
   one-more h = ap markedCount (drop-next marks i 0 h)
 
   pub counted-marked : i < length marks → getD marks i 0 ≡ 1 → Counted marks (count + 1) (i + 1)
@@ -56,33 +39,44 @@ module _ {marks : List ℕ} {count i : ℕ} (C : Counted marks count i) where
       record { so-far = omega arith; few = omega (arith, C .few); same = omega (arith, C .same) }
 
   pub counted-all : length marks ≤ i → count ≡ markedCount marks
-  unfolding markedCount
+  unfolding markedCount times
   counted-all h =
       let z : markedCount (drop i marks) ≡ 0 = ap markedCount (drop-of-length-le marks h) in
       omega (arith, C .same)
 
 -- ---- lengths summed
 
-pub total-append : (xs ys : List ℕ) → total (xs ++ ys) ≡ total xs + total ys
-unfolding total
-total-append [] ys = omega arith
-total-append (x ∷ xs) ys = omega (arith, total-append xs ys)
+pub sum-append : (xs ys : List ℕ) → sum (xs ++ ys) ≡ sum xs + sum ys
+unfolding sum
+sum-append [] ys = omega arith
+sum-append (x ∷ xs) ys = omega (arith, sum-append xs ys)
 
--- the first i of the numbers are summed, each at most `most`
-pub record Summed (each : List ℕ) (most sum i : ℕ) : Type 0 where
-  pub is : sum ≡ total (take i each)
-  pub low : sum ≤ most * i
+-- numbers of which none is above this one
+pub sum-most : (most : ℕ) (each : List ℕ) (n : ℕ) → ((i : ℕ) → i < n → getD each i 0 ≤ most) → sum (take n each) ≤ n * most
+unfolding sum
+sum-most most each zero f = omega arith
+sum-most most [] (suc n) f = omega arith
+sum-most most (x ∷ each) (suc n) f =
+    let a : x ≤ most = f 0 (omega arith) in
+    let b : sum (take n each) ≤ n * most = sum-most most each n (λ i h. f (suc i) (omega arith)) in
+    omega (arith, a, b)
 
-pub summed-none : (each : List ℕ) (most : ℕ) → Summed each most 0 0
-unfolding total
-summed-none each most = record { is = refl; low = omega arith }
+-- the first i of the numbers are summed
+pub record Summed (each : List ℕ) (so-far i : ℕ) : Type 0 where
+  pub is : so-far ≡ sum (take i each)
 
-pub summed-next : {each : List ℕ} {most sum i : ℕ} → Summed each most sum i → i < length each → getD each i 0 ≤ most → Summed each most (sum + getD each i 0) (i + 1)
-unfolding total
-summed-next {each = each} {most = most} {sum = sum} {i = i} S h l = record {
+pub summed-none : (each : List ℕ) → Summed each 0 0
+unfolding sum
+summed-none each = record { is = refl }
+
+pub summed-next : {each : List ℕ} {so-far i : ℕ} → Summed each so-far i → i < length each → Summed each (so-far + getD each i 0) (i + 1)
+unfolding sum
+summed-next {each = each} {i = i} S h = record {
   is =
       rw add-one
       (ap (λ n. n + getD each i 0) (S .is)
-      ∙ sym (ap total (take-suc each i 0 h) ∙ total-append (take i each) (getD each i 0 ∷ []) ∙ omega arith));
-  low = omega (arith, S .low);
+      ∙ sym (ap sum (take-suc each i 0 h) ∙ sum-append (take i each) (getD each i 0 ∷ []) ∙ omega arith));
 }
+
+pub summed-most : {each : List ℕ} {so-far i : ℕ} → Summed each so-far i → (most : ℕ) → ((j : ℕ) → j < i → getD each j 0 ≤ most) → so-far ≤ i * most
+summed-most {each = each} {i = i} S most f = rw (S .is) (sum-most most each i f)

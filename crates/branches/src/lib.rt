@@ -8,7 +8,7 @@ ghost use lib.ListN.{length, take, drop};
 ghost use Rattle.job_sheet.specs.Sheet.{maxSinks};
 ghost use Rattle.routing_resources.specs.Marks.{markedBy, CellsBelow};
 ghost use Rattle.geometry.specs.Geometry.{standsIn};
-ghost use Rattle.branches.specs.Branches.{branchOf, branchLength, inserted, markedCount, total, Short};
+ghost use Rattle.branches.specs.Branches.{branchOf, branchLength, inserted, markedCount, sum, Short};
 
 // How long each sink's branch is, in sheet order, 0 for a sink that has none yet; as one value with the sinks' count.
 pub struct BranchLengths {
@@ -123,7 +123,7 @@ pub fn count_marks(marks: &[u8]) -> usize
 pub fn joined_length(lengths: BranchLengths, k: usize) -> usize
     requires { ⌜ Short lengths ⌝ }
     requires { ⌜ k ≤ maxSinks ⌝ }
-    ensures { λ r. ⌜ r ≡ total (take k (lengths .each)) ⌝ }
+    ensures { λ r. ⌜ r ≡ sum (take k (lengths .each)) ⌝ }
 {
     let mut sum: usize = 0;
     let mut i: usize = 0;

@@ -3,7 +3,7 @@ use mathlib.Core.Path.{_≡_, refl, sym, ap, _∙_}
 use mathlib.Core.Logic.{inl, inr}
 use mathlib.Core.Bool.{true}
 use mathlib.Core.List.{List, [], _∷_, _++_}
-use Prim.Native.Nat.{ℕ, _+_, _-_, _≤_, _<_}
+use Prim.Native.Nat.{ℕ, _+_, _-_, _≤_}
 use native.Mathlib.Omega.{arith}
 use lib.Dec.{eqb}
 use borrow.Author.Tests.{eqb-true, eqb-false, eq-eqb, ne-eqb}
@@ -14,10 +14,10 @@ use Rattle.room.specs.declared.Move.{Move}
 use Rattle.room.specs.declared.RouterConfig.{RouterConfig}
 use Rattle.room.specs.declared.Neighbour.{Neighbour}
 use Rattle.room.specs.declared.Neighbour.the-variants.{Inside, Outside}
-use Rattle.room.specs.Room.{Good, Moved, volume, posOf, by, moves, neighbour, apart}
+use Rattle.room.specs.Room.{Good, posOf, by, moves, neighbour, apart}
 use Rattle.room.specs.Units.{air, solid, transparent, redstoneBlock}
 use Rattle.room.specs.RoomLaws.{cell-pos, pos-in}
-use Rattle.room.specs.MoveLaws.{Small, small, listed, leads, leads-to}
+use Rattle.room.specs.MoveLaws.{Moved, Small, small, listed, leads, leads-to}
 use Rattle.best_first.specs.Search
 use Rattle.best_first.specs.Ways.{Step, Way}
 use Rattle.room_search.specs.Routing.{Task, routeable, bearing, classFor, entering, total, priceOf, moveInto, movesBy, graphOf, graph}
@@ -90,38 +90,36 @@ module _ (T : Task) where
   unfolding priceOf stepCost
   price-exactly u v m k e = rw (class-is T v e, support-laid (supportOf T v), unmoved-exactly _ _ _ (k .y-by))
 
-  module _ (u : ℕ) (from-in : u < volume (T .room)) where
-    move-lawful : (m : Move) (v : ℕ) → In m moves → neighbour (T .room) u m ≡ Inside v → (entering T v ≡ 0 → ⊥)
-        → LawfulStep T u v × (total (priceOf (T .config) m (entering T v)) ≡ stepCost T u v)
-    move-lawful m v i e n =
-        let l = leads (T .room) u m v e in
-        let s = small m i in
-        let free = class-free T v n in
-        let k : bearing (supportOf T v) ≡ 0 → ⊥ = λ z. n (class-is T v free ∙ z) in (
-          record {
-            from-in = from-in;
-            to-in = l .inside;
-            aside = rw (apart-by _ _ _ (l .moved .x-by), apart-by _ _ _ (l .moved .z-by)) (s .aside);
-            rise = rw (apart-by _ _ _ (l .moved .y-by)) (at-most-one (m .y) (s .y-small));
-            enters = free;
-            stands = omega arith;
-          },
-          price-exactly u v m (l .moved) free,
-        )
+  move-lawful : (u : ℕ) (m : Move) (v : ℕ) → In m moves → neighbour (T .room) u m ≡ Inside v → (entering T v ≡ 0 → ⊥)
+      → LawfulStep T u v × (total (priceOf (T .config) m (entering T v)) ≡ stepCost T u v)
+  move-lawful u m v i e n =
+      let l = leads (T .room) u m v e in
+      let s = small m i in
+      let free = class-free T v n in
+      let k : bearing (supportOf T v) ≡ 0 → ⊥ = λ z. n (class-is T v free ∙ z) in (
+        record {
+          to-in = l .inside;
+          aside = rw (apart-by _ _ _ (l .moved .x-by), apart-by _ _ _ (l .moved .z-by)) (s .aside);
+          rise = rw (apart-by _ _ _ (l .moved .y-by)) (at-most-one (m .y) (s .y-small));
+          enters = free;
+          stands = omega arith;
+        },
+        price-exactly u v m (l .moved) free,
+      )
 
-    pub step-lawful : (v c : ℕ) → Step (graph T) u v c → LawfulStep T u v × (c ≡ stepCost T u v)
-    unfolding Step graphOf
-    step-lawful v c s =
-        let a = made (T .room) (T .config) (entering T) u moves (s .0) (s .1) in
-        let to : a .into ≡ v = ap (λ (g : Search.Move). g .to) (sym (a .is)) ∙ s .2 in
-        let cost : total (priceOf (T .config) (a .by) (entering T (a .into))) ≡ c = ap (λ (g : Search.Move). g .cost) (sym (a .is)) ∙ s .3 in
-        rw (← to, ← cost) (move-lawful (a .by) (a .into) (a .listed) (a .leads-in) (a .entered))
+  pub step-lawful : (u v c : ℕ) → Step (graph T) u v c → LawfulStep T u v × (c ≡ stepCost T u v)
+  unfolding Step graphOf
+  step-lawful u v c s =
+      let a = made (T .room) (T .config) (entering T) u moves (s .0) (s .1) in
+      let to : a .into ≡ v = ap (λ (g : Search.Move). g .to) (sym (a .is)) ∙ s .2 in
+      let cost : total (priceOf (T .config) (a .by) (entering T (a .into))) ≡ c = ap (λ (g : Search.Move). g .cost) (sym (a .is)) ∙ s .3 in
+      rw (← to, ← cost) (move-lawful u (a .by) (a .into) (a .listed) (a .leads-in) (a .entered))
 
-  pub way-lawful : (l : List ℕ) (u t d : ℕ) → u < volume (T .room) → Way (graph T) u l t d → Leads T u l t × (d ≡ costFrom T u l)
-  way-lawful [] u t d h w = w
-  way-lawful (v ∷ l) u t d h w =
-      let s = step-lawful u h v (w .0) (w .2) in
-      let r = way-lawful l v t (w .1) (s .0 .to-in) (w .3) in
+  pub way-lawful : (l : List ℕ) (u t d : ℕ) → Way (graph T) u l t d → Leads T u l t × (d ≡ costFrom T u l)
+  way-lawful [] u t d w = w
+  way-lawful (v ∷ l) u t d w =
+      let s = step-lawful u v (w .0) (w .2) in
+      let r = way-lawful l v t (w .1) (w .3) in
       ((s .0, r .0), omega (arith, w .4, s .1, r .1))
 
   module _ (good : Good (T .room)) where

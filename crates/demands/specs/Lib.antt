@@ -6,3 +6,4 @@ pub mod Slackness
 pub mod Numbers
 pub mod TreeStatements
 pub mod Trees
+pub mod QueueLaws

@@ -5,11 +5,11 @@ use Prim.Native.Nat.{ℕ, zero, suc, _*_}
 use lib.ListN.{replicate, set}
 use Rattle.room.specs.declared.Room.{Room}
 use Rattle.room.specs.declared.RouterConfig.{RouterConfig}
-use Rattle.room.specs.Room.{volume, at, posOf, cellOf, moves, between, sidesGood, stays, neighbour, beneath, above, distance}
+use Rattle.room.specs.Room.{volume, at, posOf, cellOf, moves, between, sidesGood, stays, neighbour, beneath, above, distance, firstBelow}
 use Rattle.room.specs.Units.{air, solid, redstoneWire, lever, facingMove, ahead, usualConfig, configGood}
 use Rattle.best_first.specs.Search.{sooner, least, push, offer, expand, trace, turn, run, outset, bestFirst}
 use Rattle.room_search.specs.Routing.{routeableKind, routeable, bearing, classFor, priceOf, movesBy, graphOf, searched}
-use Rattle.routing.specs.Answers.{Input, buffersGood, endsInside, judged, fitAnswer, answerOf, numberOf, detailOf, costOf, expandedOf, cellsFor}
+use Rattle.routing.specs.Answers.{Input, buffersGood, endsInside, judged, fitAnswer, answerOf, numberOf, detailOf, routeCost, routeExpanded, cellsFor}
 use Rattle.routing_resources.specs.Marks.{withByte}
 use Rattle.routing_resources.specs.Resources.{directions, isNeighbour, inKeepout, clearanceOf, isClearance}
 use Rattle.port_realization.specs.Ports.{terminalOf, approachOf, realizedOf}
@@ -21,10 +21,10 @@ use Rattle.blocks.specs.Blocks.{ofBlock, tabulated, kindsOf, nodesOf}
 use Rattle.ends.specs.declared.Ends.{Ends}
 use Rattle.ends.specs.Ends as endings
 use Rattle.outset.specs.Outset as outset-of
-use Rattle.geometry.specs.Geometry.{standsIn, conductor, upperOfPair, firstBelow, firstPair, atClearance, stairConflict, conflictAmong}
+use Rattle.geometry.specs.Geometry.{standsIn, conductor, upperOfPair, firstPair, atClearance, stairConflict, conflictAmong}
 use Rattle.blocked_world.specs.BlockedWorld.{countsAsSolid, seenKinds}
 use Rattle.turns.specs.Turns.{far, goesBefore, turnOf, sinkAt}
-use Rattle.goals.specs.Goals.{searchedFor, atConflict, afterSearch, attempts, cheaper, triedGoal, bestBelow, routeToTree}
+use Rattle.goals.specs.Goals.{searchedFor, atConflict, afterSearch, attempts, cheaperRoute, triedGoal, bestBelow, routeToTree}
 use Rattle.branches.specs.Branches.{branchOf, allButLast}
 use Rattle.repeaters.specs.Repeaters as repeaters
 use Rattle.multinet.specs.Tree.{planted, withBranch, afterSink, growSink, growFrom, growthOf, isEnd, repeatersOf}
@@ -48,8 +48,8 @@ told I = record {
   number = numberOf (answerOf I);
   detail = detailOf (answerOf I);
   path = cellsFor (answerOf I) I;
-  cost = costOf (answerOf I);
-  expanded = expandedOf (answerOf I);
+  cost = routeCost (answerOf I);
+  expanded = routeExpanded (answerOf I);
 }
 
 -- of a job: its branches in sheet order and its repeaters' marks; or a number with its detail
@@ -211,5 +211,5 @@ rows =
     ∷ []
 
 pub samples : map (λ s. said (s .ask)) rows ≡ map (λ s. s .answer) rows
-unfolding answerOf judged sidesGood configGood buffersGood endsInside fitAnswer routeable searched graphOf movesBy priceOf classFor bearing routeableKind posOf cellOf moves between stays neighbour beneath distance sooner least push offer expand trace turn run outset bestFirst growthOf growFrom growSink afterSink withBranch planted isEnd repeatersOf far goesBefore turnOf sinkAt routeToTree bestBelow triedGoal cheaper attempts afterSearch atConflict searchedFor countsAsSolid seenKinds standsIn conductor upperOfPair firstBelow firstPair atClearance stairConflict conflictAmong withByte clearanceOf isClearance branchOf allButLast above repeaters.cutInto repeaters.isStep repeaters.besideOn repeaters.neighbouring repeaters.cellsFrom repeaters.treeNeighbours repeaters.meet repeaters.meetAll repeaters.spread repeaters.parentsFrom repeaters.facingBy repeaters.straight repeaters.fits repeaters.latest repeaters.earliest repeaters.withRepeater repeaters.resume repeaters.candidate repeaters.step repeaters.steps repeaters.run repeaters.reinforced along repeaters.planned repeaters.repeaterMarks jobOutcome ofBlock tabulated endings.sourceAt endings.sinkAt endings.firstDue endings.tapOf endings.faultOf endings.endsOf terminalOf approachOf realizedOf outset-of.powers outset-of.solidOf outset-of.sourceKeepout outset-of.blockedBy outset-of.atOrBeneath outset-of.ownCell outset-of.blockedAtOutset facingMove ahead isNeighbour inKeepout directions
+unfolding answerOf judged sidesGood configGood buffersGood endsInside fitAnswer routeable searched graphOf movesBy priceOf classFor bearing routeableKind posOf cellOf moves between stays neighbour beneath distance sooner least push offer expand trace turn run outset bestFirst growthOf growFrom growSink afterSink withBranch planted isEnd repeatersOf far goesBefore turnOf sinkAt routeToTree bestBelow triedGoal cheaperRoute attempts afterSearch atConflict searchedFor countsAsSolid seenKinds standsIn conductor upperOfPair firstBelow firstPair atClearance stairConflict conflictAmong withByte clearanceOf isClearance branchOf allButLast above repeaters.isStep repeaters.besideOn repeaters.neighbouring repeaters.cellsFrom repeaters.treeNeighbours repeaters.meet repeaters.spread repeaters.parentsFrom repeaters.facingBy repeaters.straight repeaters.fits repeaters.latest repeaters.earliest repeaters.withRepeater repeaters.resume repeaters.candidate repeaters.step repeaters.steps repeaters.run repeaters.reinforced along repeaters.planned repeaters.repeaterMarks jobOutcome ofBlock tabulated endings.sourceEnd endings.sinkEnd endings.firstDue endings.tapOf endings.faultOf endings.endsOf terminalOf approachOf realizedOf outset-of.powers outset-of.solidOf outset-of.sourceKeepout outset-of.blockedBy outset-of.atOrBeneath outset-of.ownCell outset-of.blockedAtOutset facingMove ahead isNeighbour inKeepout directions
 samples = refl

@@ -14,8 +14,8 @@ use Rattle.room.specs.declared.Room.{Room}
 use Rattle.room.specs.declared.Pos.{Pos}
 use Rattle.room.specs.declared.Move.{Move}
 use Rattle.room.specs.declared.RouterConfig.{RouterConfig}
-use Rattle.room.specs.Room.{Moved, posOf, moves, apart, distance, flat}
-use Rattle.room.specs.MoveLaws.{Small, small, leads}
+use Rattle.room.specs.Room.{posOf, moves, apart, distance, flat}
+use Rattle.room.specs.MoveLaws.{Moved, Small, small, leads}
 use Rattle.best_first.specs.Search
 use Rattle.best_first.specs.Statements.{slack, Slacks}
 use Rattle.room_search.specs.Routing.{priceOf, total, graphOf}

@@ -9,7 +9,9 @@ use Rattle.room.specs.declared.RouterConfig.{RouterConfig}
 use Rattle.room.specs.Room.{Good, volume}
 use Rattle.room_search.specs.Routing.{Task, routeable}
 use Rattle.room_search.specs.Lawful.{LawfulWay, wayCost}
-use Rattle.routing.specs.Answers.{Input, taskOf, answerOf, numberOf, costOf, cellsFor}
+use Rattle.routing.specs.declared.Answer.{Answer}
+use Rattle.routing.specs.declared.Answer.the-variants.{Routed, Refused, NotRouteable, NoRoute, LimitPassed, QueueFull}
+use Rattle.routing.specs.Answers.{Input, taskOf, answerOf, numberOf, routeCost, cellsFor}
 
 -- ---- of which tasks
 
@@ -47,10 +49,20 @@ Cheapest T cost = (after : List ℕ) → LawfulWay T after → cost ≤ wayCost 
 abbrev pub NoLawfulWay : Task → Type 0
 NoLawfulWay T = (after : List ℕ) → LawfulWay T after → ⊥
 
--- what the numbers of the public search say: 0 a route, 11 no route
+-- how many cells were expanded: a route's count, and the detail of 11, 12 and 13; with any other number nothing was searched
+abbrev pub expandedFor : Answer → ℕ
+expandedFor (Routed r) = r .expanded .0
+expandedFor (Refused why) = 0
+expandedFor (NotRouteable cell) = 0
+expandedFor (NoRoute x) = x .0
+expandedFor (LimitPassed x) = x .0
+expandedFor (QueueFull x) = x .0
+
+-- what the numbers of the public search say: 0 a route, 11 no route; and "The search expands at most 12 cells per cell of the room", whatever its number
 pub record Meaning (I : Input) : Type 0 where
-  pub route-lawful : numberOf (answerOf I) ≡ 0 → Lawful (taskOf I) (cellsFor (answerOf I) I) (costOf (answerOf I))
+  pub route-lawful : numberOf (answerOf I) ≡ 0 → Lawful (taskOf I) (cellsFor (answerOf I) I) (routeCost (answerOf I))
   pub no-route-true : numberOf (answerOf I) ≡ 11 → NoLawfulWay (taskOf I)
-  pub route-cheapest : Priced (I .config) → numberOf (answerOf I) ≡ 0 → Cheapest (taskOf I) (costOf (answerOf I))
+  pub route-cheapest : Priced (I .config) → numberOf (answerOf I) ≡ 0 → Cheapest (taskOf I) (routeCost (answerOf I))
+  pub expands-few : Priced (I .config) → expandedFor (answerOf I) ≤ 12 * volume (I .room)
   pub settled : Priced (I .config) → Ample (taskOf I) → (numberOf (answerOf I) ≡ 0) ⊎ (numberOf (answerOf I) ≡ 11)
   pub no-route-due : Priced (I .config) → Ample (taskOf I) → NoLawfulWay (taskOf I) → numberOf (answerOf I) ≡ 11

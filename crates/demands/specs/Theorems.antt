@@ -4,22 +4,23 @@ use mathlib.Core.Path.{_≡_, refl, sym, ap, subst}
 use mathlib.Core.Logic.{_≢_, _↔_}
 use mathlib.Core.Bool.{true}
 use mathlib.Core.List.{List}
-use Prim.Native.Nat.{ℕ, suc, _+_, _-_, _*_, _≤_, _<_, max}
+use Prim.Native.Nat.{ℕ, suc, _+_, _-_, _*_, _≤_, max}
 use native.Mathlib.Omega.{arith}
 use lib.Dec.{eqb}
 use Rattle.room.specs.Room.{volume}
+use Rattle.basics.specs.Counts.{times}
 use Rattle.best_first.specs.Search.{State, Taken, on, counted, Answer, route, no-route, limit-passed, queue-full}
 use Rattle.best_first.specs.Ways.{Step, Way, Sound, Consistent}
-use Rattle.best_first.specs.Statements.{Honest, Right, Decided, expandedOf, stored, Taking, outcome, Reached, pushes, times, Slacks}
+use Rattle.best_first.specs.Statements.{Honest, Right, Decided, expandedOf, stored, Taking, outcome, Reached, pushes, Slacks}
 use Rattle.best_first.specs.Theorems as any-graph
 use Rattle.routing.specs.declared.Judgement.the-variants.{Fit}
 use Rattle.room_search.specs.Routing.{Task, routeable, entering, graphOf, graph, searched}
 use Rattle.room_search.specs.GraphLaws.{dearest, sound, consistent}
 use Rattle.room_search.specs.Lawful.{LawfulStep, stepCost, LawfulWay, wayCost}
-use Rattle.routing.specs.Answers.{Input, taskOf, judged, answered, fitAnswer, answerOf, costOf, cellsFor}
+use Rattle.routing.specs.Answers.{Input, taskOf, judged, answered, fitAnswer, answerOf, routeCost, cellsFor}
 use Rattle.routing.specs.PromiseLaws.{roomy}
 use Rattle.demands.specs.Statements.{Ready, Priced, Ample, Lawful, Cheapest, NoLawfulWay, Meaning}
-use Rattle.demands.specs.Numbers.{number-route, number-no-route, number-settled}
+use Rattle.demands.specs.Numbers.{number-route, number-no-route, number-settled, same-expanded}
 use Rattle.demands.specs.Bridge.{step-lawful, lawful-step, way-lawful, lawful-way}
 use Rattle.demands.specs.Slackness.{slacks}
 
@@ -27,8 +28,8 @@ module _ {T : Task} (P : Ready T) where
   -- ---- the graph that is searched is the room's
 
   -- a move of the graph is a lawful step, and its cost is that of the step
-  pub steps-exactly : (u v c : ℕ) → u < volume (T .room) → Step (graph T) u v c ↔ (LawfulStep T u v × (c ≡ stepCost T u v))
-  steps-exactly u v c h = (step-lawful T u h v c, λ s. rw (s .1) (lawful-step T (P .good) u v (s .0)))
+  pub steps-exactly : (u v c : ℕ) → Step (graph T) u v c ↔ (LawfulStep T u v × (c ≡ stepCost T u v))
+  steps-exactly u v c = (step-lawful T u v c, λ s. rw (s .1) (lawful-step T (P .good) u v (s .0)))
 
   -- so is a way
   pub ways-exactly : (after : List ℕ) (d : ℕ) → Way (graph T) (T .start) after (T .goal) d ↔ (LawfulWay T after × (d ≡ wayCost T after))
@@ -36,8 +37,8 @@ module _ {T : Task} (P : Ready T) where
     where
       there : Way (graph T) (T .start) after (T .goal) d → LawfulWay T after × (d ≡ wayCost T after)
       there w =
-          let l = way-lawful T after (T .start) (T .goal) d (P .start-in) w in
-          (record { start-free = P .start-free; goal-free = P .goal-free; leads = l .0 }, l .1)
+          let l = way-lawful T after (T .start) (T .goal) d w in
+          (record { start-in = P .start-in; start-free = P .start-free; goal-free = P .goal-free; leads = l .0 }, l .1)
 
   -- ---- at any costs
 
@@ -142,15 +143,17 @@ module _ (I : Input) (fit : judged I ≡ Fit) (start-free : routeable (taskOf I)
   said = rw (fit, start-free, goal-free)
 
   as-route : {path : List ℕ} {cost x : ℕ} → searched (taskOf I) ≡ route path cost x
-      → Lawful (taskOf I) (cellsFor (answerOf I) I) (costOf (answerOf I)) × (Priced (I .config) → Cheapest (taskOf I) (costOf (answerOf I)))
+      → Lawful (taskOf I) (cellsFor (answerOf I) I) (routeCost (answerOf I)) × (Priced (I .config) → Cheapest (taskOf I) (routeCost (answerOf I)))
   as-route e = (rw (said, e, e) (route-lawful ready e), λ D. rw (said, e) (route-cheapest ready D e))
 
-  -- number 0 is a lawful route, at those costs a cheapest one; number 11 says truly that there is none; with that limit and queue it is 0 or 11
+  -- number 0 is a lawful route, at those costs a cheapest one; number 11 says truly that there is none; the expanded count is small; with that limit and
+  -- queue it is 0 or 11
   pub third-demand : Meaning I
   third-demand = record {
     route-lawful = λ z. as-route (number-route (searched (taskOf I)) (rw said at z) .3) .0;
     no-route-true = λ z. no-route-true ready (number-no-route (searched (taskOf I)) (rw said at z) .1);
     route-cheapest = λ D z. as-route (number-route (searched (taskOf I)) (rw said at z) .3) .1 D;
+    expands-few = λ D. rw (said, same-expanded (searched (taskOf I))) (expanded-twelve ready D);
     settled = λ D A. rw said (number-settled (settled ready D A));
     no-route-due = λ D A n. rw (said, no-route-exactly ready D A .1 n .1);
   }

@@ -1,12 +1,14 @@
--- THE THIRD DEMAND IN A TREE: what TreeStatements claims of each search made there, of a sink's route, of number 14 and of every branch.
-use mathlib.Core.Path.{_≡_, refl, sym, _∙_}
+-- THE THIRD DEMAND IN A TREE: what TreeStatements claims of each search made there, of a sink's route, of number 14, of every branch, and of the branches
+-- that the public tree gives out.
+use mathlib.Core.Path.{_≡_, refl, sym, ap, _∙_}
 use mathlib.Core.Logic.{_≢_}
 use mathlib.Core.Bool.{true, false}
 use mathlib.Core.List.{List, []}
 use Prim.Native.Nat.{ℕ, zero, suc, _+_, _*_, _≤_, _<_}
+use native.Mathlib.Numerals.{add-one}
 use native.Mathlib.Omega.{arith}
-use lib.Dec.{eqb, ltb}
-use lib.ListN.{length, length-set, length-replicate}
+use lib.Dec.{eqb}
+use lib.ListN.{length}
 use lib.Seq.{getD-set-same, getD-set-other}
 use borrow.Author.Tests.{eqb-true, eqb-false}
 use Rattle.basics.specs.Tests.{ask, never}
@@ -18,18 +20,27 @@ use Rattle.best_first.specs.Statements.{Decided}
 use Rattle.room_search.specs.Routing.{Task, routeable, searched}
 use Rattle.routing_resources.specs.Marks.{isMarked, markedBy}
 use Rattle.geometry.specs.Geometry.{conflictOf}
-use Rattle.goals.specs.Goals.{Site, Trial, found, failed, full, trialOf, searchedFor, atConflict, afterSearch, maxAttempts, attempts, cheaper, triedGoal, bestBelow, routeToTree, taskSeen, endsGoal}
+use Rattle.goals.specs.Goals.{Site, Trial, found, failed, full, trialOf, searchedFor, atConflict, afterSearch, maxAttempts, attempts, triedGoal, routeToTree, taskSeen, endsGoal}
 use Rattle.goals.specs.PathLaws.{found-by}
-use Rattle.goals.specs.RouteLaws.{tree-joins}
+use Rattle.goals.specs.Routes.{as-blocked, one-more}
+use Rattle.goals.specs.RouteLaws.{tree-joins, below-failed}
+use Rattle.ends.specs.Ends.{endsOf}
 use Rattle.turns.specs.Turns.{far}
 use Rattle.turns.specs.TurnLaws.{turn-in}
 use Rattle.branches.specs.Branches.{branchOf}
 use Rattle.multinet.specs.Tree.{Plot, Tree, Growth, grown, stopped, tapAt, siteAt, sinkNow, planted, withBranch, fitsIn, afterSink, growSink, growOn, growFrom, growthOf}
-use Rattle.multinet.specs.Growing.{Sound, turnIn, branchIn}
+use Rattle.multinet.specs.Growing.{SoundPlot, turnIn, branchIn}
+use Rattle.multinet.specs.GrowthLaws.{same-tree, turn-more, turns-count, growth-count}
 use Rattle.multinet.specs.GrowingLaws.{sink-now, other-turn, no-turn}
+use Rattle.net_tree.specs.declared.Lengths.{Lengths}
+use Rattle.net_tree.specs.declared.Answer as trees
+use Rattle.net_tree.specs.declared.Ended.the-variants.{Routed, Refused}
+use Rattle.net_tree.specs.Answers.{Lent, lengthsOf, plotFor, Outcome, routed, refused, Comes, answerOf, lentAfter, Promise}
+use Rattle.net_tree.specs.Trees.{TreeOf}
+use Rattle.net_tree.specs.TreeLaws.{tree-of}
 use Rattle.demands.specs.Statements.{Ready, Priced, Ample, NoLawfulWay}
 use Rattle.demands.specs.Theorems.{route-lawful, route-cheapest, no-route-true, settled}
-use Rattle.demands.specs.TreeStatements.{SearchMeans, RouteMeans, as-blocked, one-more, GoalEnds, no-way, conflict-stays, attempts-over, BranchMeans}
+use Rattle.demands.specs.TreeStatements.{SearchMeans, RouteMeans, GoalEnds, no-way, conflict-stays, attempts-over, BranchMeans, TreeMeans, AnswerMeans}
 
 -- ---- one search
 
@@ -48,9 +59,6 @@ module _ (T : Task) (G : Good (T .room)) (start-in : T .start < volume (T .room)
   no-end f after w = let z : false ≡ true = sym f ∙ w .goal-free in never (cc)
 
   module _ (D : Priced (T .config)) (A : Ample T) where
-    decided : (s : routeable T (T .start) ≡ true) (g : routeable T (T .goal) ≡ true) → (a : Answer) → searched T ≡ a → Decided a
-    decided s g a e = rw (← e) (settled (ready s g) D A)
-
     failed-search : searchedFor T ≡ failed → NoLawfulWay T
     unfolding searchedFor
     failed-search e =
@@ -91,19 +99,8 @@ module _ (S : Site) (G : Good (S .room)) (start : ℕ) (start-in : start < volum
   pub route-means : (blocked path : List ℕ) (cost : ℕ) → routeToTree S start blocked ≡ found path cost → RouteMeans S start blocked path cost
   route-means blocked path cost e =
       let J = tree-joins S start blocked path cost e in
-      let T = taskSeen S (J .reaches .blocked-last) start (J .goal) in
-      let F = J .reaches .by in
-      let R : Ready T = ready T G start-in (J .goal-in) (F .start-free) (F .goal-free) in
-      record {
-        goal = J .goal;
-        goal-in = J .goal-in;
-        joinable = J .joinable;
-        seen-blocked = J .reaches .blocked-last;
-        all-seen = J .reaches .more;
-        lawful = route-lawful R (F .is);
-        cheapest = λ D. route-cheapest R D (F .is);
-        free = J .reaches .free;
-      }
+      let M = search-means (taskSeen S (J .reaches .blocked-last) start (J .goal)) G start-in (J .goal-in) in
+      record { joins = J; lawful = M .found-lawful path cost (J .reaches .found-so); cheapest = λ D. M .found-cheapest D path cost (J .reaches .found-so) }
 
   -- ---- number 14
 
@@ -116,10 +113,11 @@ module _ (S : Site) (G : Good (S .room)) (start : ℕ) (start-in : start < volum
     ample blocked goal = record { limit-wide = limit-wide; queue-wide = queue-wide }
 
     prepend : {goal n : ℕ} {blocked path : List ℕ} {cost v : ℕ} → searchedFor (taskSeen S blocked start goal) ≡ found path cost
-        → conflictOf (S .room) (S .kinds) (S .joinable) path ≡ Inside v → GoalEnds S start goal n (markedBy (eqb v) blocked) → GoalEnds S start goal (suc n) blocked
-    prepend w f (no-way m later r q) = no-way (suc m) later (one-more w f r) q
-    prepend w f (conflict-stays m later path cost v r s c e) = conflict-stays (suc m) later path cost v (one-more w f r) s c e
-    prepend w f (attempts-over later r) = attempts-over later (one-more w f r)
+        → conflictOf (S .room) (S .kinds) (S .joinable) path ≡ Inside v → endsGoal blocked start goal v ≡ false
+        → GoalEnds S start goal n (markedBy (eqb v) blocked) → GoalEnds S start goal (suc n) blocked
+    prepend w f g (no-way m later r q) = no-way (suc m) later (one-more w f g r) q
+    prepend w f g (conflict-stays m later path cost v r s c e) = conflict-stays (suc m) later path cost v (one-more w f g r) s c e
+    prepend w f g (attempts-over later r) = attempts-over later (one-more w f g r)
 
     module _ (goal : ℕ) (goal-in : goal < volume (S .room)) where
       goal-ends : (n : ℕ) (blocked : List ℕ) → attempts n S start goal blocked ≡ failed → GoalEnds S start goal n blocked
@@ -136,7 +134,7 @@ module _ (S : Site) (G : Good (S .room)) (start : ℕ) (start-in : start < volum
           at p c w (Inside v) f q later =
               ask (endsGoal blocked start goal v)
               (λ t. conflict-stays 0 blocked p c v as-blocked w f t)
-              (λ no. prepend w f (later (markedBy (eqb v) blocked) (rw no at q)))
+              (λ g. prepend w f g (later (markedBy (eqb v) blocked) (rw g at q)))
 
           after : (trial : Trial) → searchedFor (taskSeen S blocked start goal) ≡ trial
               → afterSearch S blocked start goal (attempts n S start goal) trial ≡ failed
@@ -146,99 +144,120 @@ module _ (S : Site) (G : Good (S .room)) (start : ℕ) (start-in : start < volum
           after failed w q later = no-way 0 blocked as-blocked (means blocked goal goal-in .failed-true D (ample blocked goal) w)
           after (full x) w q later = absurd (means blocked goal goal-in .never-full D (ample blocked goal) x w)
 
-    both-failed : (a b : Trial) → cheaper a b ≡ failed → (a ≡ failed) × (b ≡ failed)
-    unfolding cheaper
-    both-failed (full x) b e = never (cc)
-    both-failed failed b e = (refl, e)
-    both-failed (found p c) (found q d) e = ask (ltb d c) (λ t. other (rw t at e)) (λ f. other (rw f at e))
-      where
-        other : {p′ : List ℕ} {c′ : ℕ} → found p′ c′ ≡ failed → (found p c ≡ failed) × (found q d ≡ failed)
-        other z = never (cc)
-    both-failed (found p c) failed e = never (cc)
-    both-failed (found p c) (full x) e = never (cc)
-
-    below-failed : (blocked : List ℕ) (n : ℕ) → bestBelow n S start blocked ≡ failed → (goal : ℕ) → goal < n → triedGoal S start blocked goal ≡ failed
-    unfolding bestBelow
-    below-failed blocked zero e goal h = absurd (omega arith)
-    below-failed blocked (suc n) e goal h =
-        let both = both-failed (bestBelow n S start blocked) (triedGoal S start blocked n) e in
-        ask (eqb goal n)
-        (λ t. rw (eqb-true goal n t) (both .1))
-        (λ f. below-failed blocked n (both .0) goal (omega (arith, h, eqb-false goal n f)))
-
     -- number 14: every joinable cell was tried, and each has its reason
     pub no-goal-means : (blocked : List ℕ) → routeToTree S start blocked ≡ failed → (goal : ℕ) → goal < volume (S .room) → isMarked (S .joinable) goal ≡ true
         → GoalEnds S start goal maxAttempts blocked
     unfolding routeToTree triedGoal
-    no-goal-means blocked e goal h j = goal-ends goal h maxAttempts blocked (rw j at (below-failed blocked (volume (S .room)) e goal h))
+    no-goal-means blocked e goal h j = goal-ends goal h maxAttempts blocked (rw j at (below-failed S start blocked (volume (S .room)) e goal h))
 
 -- ---- every branch of a grown tree
 
-module _ (P : Plot) (S : Sound P) where
-  -- the sinks whose turn is over have their branches
+module _ (P : Plot) (S : SoundPlot P) (blocked : List ℕ) where
+  -- the tree after these turns, and the branches of the sinks whose turns they were
   record Meant (turn : ℕ) (T : Tree) : Type 0 where
-    count-is : length (T .branches) ≡ P .taps .count
-    each : (k : ℕ) → k < P .taps .count → turnIn P k < turn → BranchMeans P k (branchIn T k)
+    so-far : growFrom turn P 0 (planted P blocked) ≡ grown T
+    each : (k : ℕ) → k < P .taps .count → turnIn P k < turn → BranchMeans P blocked k (branchIn T k)
 
-  module _ {turn : ℕ} {T : Tree} (M : Meant turn T) where
-    with-meant : (j : ℕ) → sinkNow P turn ≡ Inside j → (branch : List ℕ) → BranchMeans P j branch → Meant (turn + 1) (withBranch (P .room) j branch T)
+  module _ {turn : ℕ} {T T′ : Tree} (M : Meant turn T) (e : growSink P (sinkNow P turn) T ≡ grown T′) where
+    next-so-far : growFrom (turn + 1) P 0 (planted P blocked) ≡ grown T′
+    next-so-far = let z : 0 + turn ≡ turn = omega arith in rw add-one (turn-more P turn 0 (planted P blocked) T (M .so-far) ∙ rw z e)
+
+    with-meant : (j : ℕ) → sinkNow P turn ≡ Inside j → (branch : List ℕ) → BranchMeans P blocked j branch → T′ ≡ withBranch (P .room) j branch T → Meant (turn + 1) T′
     unfolding withBranch
-    with-meant j e branch B = record {
-      count-is = length-set (T .branches) j branch ∙ M .count-is;
-      each = λ k h g. ask (eqb k j)
-          (λ t. rw (eqb-true k j t, getD-set-same (T .branches) j branch [] (omega (arith, sink-now P turn j e .0, M .count-is))) B)
-          (λ f. rw (getD-set-other (T .branches) j k branch [] (eqb-false k j f)) (M .each k h (earlier k h g f)));
+    with-meant j s branch B w = record {
+      so-far = next-so-far;
+      each = λ k h g. rw w (ask (eqb k j)
+          (λ t. rw (eqb-true k j t, getD-set-same (T .branches) j branch [] (omega (arith, sink-now P turn j s .0, turns-count P turn blocked T (M .so-far)))) B)
+          (λ f. rw (getD-set-other (T .branches) j k branch [] (eqb-false k j f)) (M .each k h (earlier k h g f))));
     }
       where
         earlier : (k : ℕ) → k < P .taps .count → turnIn P k < turn + 1 → eqb k j ≡ false → turnIn P k < turn
-        earlier k h g f = let d = other-turn P turn j k e h (eqb-false k j f) in omega (arith, g, d)
+        earlier k h g f = let d = other-turn P turn j k s h (eqb-false k j f) in omega (arith, g, d)
 
     routed-meant : (j : ℕ) → sinkNow P turn ≡ Inside j → (trial : Trial) → routeToTree (siteAt P (T .joinable)) (tapAt P j .approach) (T .blocked) ≡ trial
-        → (T′ : Tree) → afterSink P j T trial ≡ grown T′ → Meant (turn + 1) T′
+        → afterSink P j T trial ≡ grown T′ → Meant (turn + 1) T′
     unfolding afterSink
-    routed-meant j e (found path cost) w T′ q = ask (fitsIn P T (branchOf (tapAt P j) path)) (λ t. same (rw t at q)) (λ f. other (rw f at q))
+    routed-meant j s (found path cost) w q =
+        ask (fitsIn P T (branchOf (tapAt P j) path))
+        (λ t. with-meant j s (branchOf (tapAt P j) path) meant (sym (same-tree (rw t at q))))
+        (λ f. never (cc (rw f at q)))
       where
-        meant : BranchMeans P j (branchOf (tapAt P j) path)
-        meant = record {
-          before = T;
-          path = path;
-          cost = cost;
-          branch-is = refl;
-          means = route-means (siteAt P (T .joinable)) (S .good) (tapAt P j .approach) (S .net .approach-in j (sink-now P turn j e .0)) (T .blocked) path cost w;
-        }
+        meant : BranchMeans P blocked j (branchOf (tapAt P j) path)
+        meant =
+            let now = sink-now P turn j s in
+            record {
+              before = T;
+              at-turn = rw (now .1) (M .so-far);
+              path = path;
+              cost = cost;
+              branch-is = refl;
+              means = route-means (siteAt P (T .joinable)) (S .good) (tapAt P j .approach) (S .net .taps-in .approach-in j (now .0)) (T .blocked) path cost w;
+            }
+    routed-meant j s failed w q = never (cc)
+    routed-meant j s (full x) w q = never (cc)
 
-        same : grown (withBranch (P .room) j (branchOf (tapAt P j) path) T) ≡ grown T′ → Meant (turn + 1) T′
-        same z = let y : withBranch (P .room) j (branchOf (tapAt P j) path) T ≡ T′ = cc in rw (← y) (with-meant j e (branchOf (tapAt P j) path) meant)
-
-        other : stopped 15 (j + 1) ≡ grown T′ → Meant (turn + 1) T′
-        other z = never (cc)
-    routed-meant j e failed w T′ q = never (cc)
-    routed-meant j e (full x) w T′ q = never (cc)
-
-    turn-meant : (T′ : Tree) → growSink P (sinkNow P turn) T ≡ grown T′ → Meant (turn + 1) T′
+    turn-meant : Meant (turn + 1) T′
     unfolding growSink
-    turn-meant T′ q = go (sinkNow P turn) refl q
+    turn-meant = go (sinkNow P turn) refl e
       where
         go : (s : Neighbour) → sinkNow P turn ≡ s → growSink P s T ≡ grown T′ → Meant (turn + 1) T′
-        go (Inside j) e z = routed-meant j e (routeToTree (siteAt P (T .joinable)) (tapAt P j .approach) (T .blocked)) refl T′ z
-        go Outside e z = let y : T ≡ T′ = cc in rw (← y) (record { count-is = M .count-is; each = λ k h g. M .each k h (earlier k h g) })
+        go (Inside j) s z = routed-meant j s (routeToTree (siteAt P (T .joinable)) (tapAt P j .approach) (T .blocked)) refl z
+        go Outside s z = record { so-far = next-so-far; each = λ k h g. rw (← same-tree z) (M .each k h (earlier k h g)) }
           where
             earlier : (k : ℕ) → k < P .taps .count → turnIn P k < turn + 1 → turnIn P k < turn
-            earlier k h g = let d = no-turn P turn k e h in omega (arith, g, d)
+            earlier k h g = let d = no-turn P turn k s h in omega (arith, g, d)
 
   all-meant : (n turn : ℕ) (T T′ : Tree) → Meant turn T → growFrom n P turn T ≡ grown T′ → Meant (turn + n) T′
   unfolding growFrom
-  all-meant zero turn T T′ M q = let y : T ≡ T′ = cc in let z : turn + 0 ≡ turn = omega arith in rw (z, ← y) M
+  all-meant zero turn T T′ M q = let z : turn + 0 ≡ turn = omega arith in rw (z, ← same-tree q) M
   all-meant (suc n) turn T T′ M q = go (growSink P (sinkNow P turn) T) refl q (all-meant n (turn + 1))
     where
       go : (g : Growth) → growSink P (sinkNow P turn) T ≡ g → growOn (growFrom n P (turn + 1)) g ≡ grown T′
           → ((T₁ T₂ : Tree) → Meant (turn + 1) T₁ → growFrom n P (turn + 1) T₁ ≡ grown T₂ → Meant (turn + 1 + n) T₂) → Meant (turn + suc n) T′
-      go (grown T₁) e z later = let s : turn + suc n ≡ turn + 1 + n = omega arith in rw s (later T₁ T′ (turn-meant M T₁ e) z)
+      go (grown T₁) e z later = let s : turn + suc n ≡ turn + 1 + n = omega arith in rw s (later T₁ T′ (turn-meant M e) z)
       go (stopped number detail) e z later = never (cc)
 
+  at-outset : Meant 0 (planted P blocked)
+  unfolding growFrom
+  at-outset = record { so-far = refl; each = λ k h g. absurd (omega arith) }
+
   -- every sink's branch is its route to the tree as it was at that sink's turn, and demand 3 speaks of that route
-  pub tree-means : (blocked : List ℕ) (T : Tree) → growthOf P blocked ≡ grown T → (k : ℕ) → k < P .taps .count → BranchMeans P k (branchIn T k)
-  unfolding growthOf planted
-  tree-means blocked T e k h =
-      let first : Meant 0 (planted P blocked) = record { count-is = length-replicate (P .taps .count) []; each = λ k h g. absurd (omega arith) } in
-      all-meant (P .taps .count) 0 (planted P blocked) T first e .each k h (omega (arith, turn-in (far (P .room) (P .source) (P .taps .taps)) (P .taps .count) k h))
+  pub tree-means : (T : Tree) → growthOf P blocked ≡ grown T → (k : ℕ) → k < P .taps .count → BranchMeans P blocked k (branchIn T k)
+  unfolding growthOf
+  tree-means T e k h =
+      all-meant (P .taps .count) 0 (planted P blocked) T at-outset e .each k h (omega (arith, turn-in (far (P .room) (P .source) (P .taps .taps)) (P .taps .count) k h))
+
+-- ---- the public tree
+
+module _ {sheet : List ℕ} {L : Lengths} {branches : List (List ℕ)} (T : TreeOf sheet L branches) where
+  abbrev P : Plot
+  P = plotFor (T .contents) L (T .outset) (T .kinds)
+
+  taps-count : length branches ≡ P .taps .count
+  taps-count = ap length (T .branches-are) ∙ growth-count P (T .blocked) (T .tree) (T .grows)
+
+  sinks-count : P .taps .count ≡ length (T .contents .sinks)
+  unfolding endsOf
+  sinks-count = ap (λ e. e .taps .count) (T .is-set .ends-are)
+
+  tree-branches : TreeMeans sheet L branches
+  tree-branches = record {
+    tree-of = T;
+    count-is = taps-count ∙ sinks-count;
+    each = λ k h. rw (T .branches-are) (tree-means P (T .sound) (T .blocked) (T .tree) (T .grows) k (omega (arith, h, taps-count)));
+  }
+
+-- where `route_net_tree` promises a tree, every branch that it gives out has its meaning
+pub answer-means : {sheet : List ℕ} {B : Lent} {r : trees.Answer} {B′ : Lent} → Promise sheet B r B′ → {cells marks : ℕ} → r .ended ≡ Routed cells marks → AnswerMeans sheet B r B′
+answer-means {sheet} {B} {r} {B′} K {cells} {marks} e = go (K .outcome) (K .comes) (K .answer) (K .lent-is)
+  where
+    go : (o : Outcome) → Comes sheet (lengthsOf B) o → r ≡ answerOf o → B′ ≡ lentAfter o B → AnswerMeans sheet B r B′
+    go (routed branches occupied repeaters) c a l = record {
+      branches = branches;
+      occupied = occupied;
+      repeaters = repeaters;
+      answer = a;
+      lent-is = l;
+      means = tree-branches (tree-of c);
+    }
+    go (refused number detail) c a l = let z : Refused number detail ≡ Routed cells marks = sym (ap (λ x. x .ended) a) ∙ e in never (cc)

@@ -11,10 +11,10 @@ use Rattle.room.specs.declared.RouterConfig.{RouterConfig}
 use Rattle.room.specs.Room.{sidesGood}
 use Rattle.room.specs.Units.{configGood}
 use Rattle.routing.specs.declared.Answer.{Answer}
-use Rattle.routing.specs.declared.Answer.the-variants.{Routed, Refused, NotRouteable, NoRoute, LimitPassed, QueueFull}
-use Rattle.routing.specs.declared.Route.{Route}
+use Rattle.routing.specs.declared.Answer.the-variants.{Refused}
 use Rattle.routing.specs.declared.Refusal.{Refusal}
 use Rattle.routing.specs.declared.Refusal.the-variants.{Sides, Config, Buffer}
+use Rattle.reply.specs.Replies.{routeOf}
 use Rattle.routing.specs.Answers.{Input, answerOf, numberOf, detailOf, cellsFor}
 
 abbrev pub roomOf : ℕ → ℕ → ℕ → Room
@@ -34,18 +34,6 @@ shortRefusal R C = either (sidesGood R) (either (configGood C) Buffer Config) Si
 
 unfoldable pub exported : Input → List ℕ → Answer
 exported I values = either (leb 4 (length values)) (answerOf I) (Refused (shortRefusal (I .room) (I .config)))
-
--- the route of an answer, all zero where there is none
-abbrev pub noRoute : Route
-noRoute = record { length = 0; cost = record { 0 = 0 }; expanded = record { 0 = 0 } }
-
-abbrev pub routeOf : Answer → Route
-routeOf (Routed r) = r
-routeOf (Refused why) = noRoute
-routeOf (NotRouteable cell) = noRoute
-routeOf (NoRoute x) = noRoute
-routeOf (LimitPassed x) = noRoute
-routeOf (QueueFull x) = noRoute
 
 -- the four values: the detail, then a route's length, cost and expanded count, zero where there is no route
 abbrev pub valuesOf : Answer → List ℕ

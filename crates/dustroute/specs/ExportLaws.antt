@@ -12,7 +12,8 @@ use Rattle.routing.specs.declared.Answer.{Answer}
 use Rattle.routing.specs.declared.Route.{Route}
 use Rattle.routing.specs.Answers.{Input, numberOf, detailOf, refusalNumber, Promise}
 use Rattle.routing.specs.PromiseLaws.{untouched}
-use Rattle.dustroute.specs.Export.{shortRefusal, exported, routeOf, valuesOf, Exported}
+use Rattle.dustroute.specs.Export.{shortRefusal, exported, valuesOf, Exported}
+use Rattle.reply.specs.Replies.{routeOf}
 
 -- four values written to a cleared buffer
 pub four-written : (a b c d n : ℕ) → 4 ≤ n

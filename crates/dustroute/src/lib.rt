@@ -9,14 +9,13 @@ ghost use Prim.Native.Nat.{_-_, _≤_};
 ghost use lib.ListN.{length, replicate};
 ghost use Rattle.lent.specs.Lent.{outputAfter};
 ghost use Rattle.routing.specs.Answers.{numberOf, input, lengthsOf};
-ghost use Rattle.dustroute.specs.Export.{roomOf, configOf, shortRefusal, routeOf, valuesOf, Exported};
+ghost use Rattle.dustroute.specs.Export.{roomOf, configOf, shortRefusal, valuesOf, Exported};
 use room::Cost;
 use room::Nodes;
 use room::Room;
 use room::RouterConfig;
 use routing::Answer;
 use routing::Refusal;
-use routing::Route;
 
 // Fewer than four values are lent: 6, unless 2 or 3 comes before it.
 fn short_refusal(room: Room, config: RouterConfig) -> Refusal
@@ -43,25 +42,6 @@ fn write_four(values: &mut [u64], detail: u64, second: u64, third: u64, fourth: 
     values[3] = fourth;
 }
 
-// The route of an answer, all zero where there is none.
-fn route_of(answer: Answer) -> Route
-    ensures { λ r. ⌜ r ≡ routeOf answer ⌝ }
-{
-    let none = Route {
-        length: 0,
-        cost: Cost(0),
-        expanded: Nodes(0),
-    };
-    match answer {
-        Answer::Routed(route) => route,
-        Answer::Refused(_) => none,
-        Answer::NotRouteable(_) => none,
-        Answer::NoRoute(_) => none,
-        Answer::LimitPassed(_) => none,
-        Answer::QueueFull(_) => none,
-    }
-}
-
 // Writes an answer's values and returns its number. A refusal by 2 to 6 writes nothing.
 fn tell(answer: Answer, values: &mut [u64]) -> u32
     requires { ⌜ 4 ≤ length (now values) ⌝ }
@@ -71,7 +51,7 @@ fn tell(answer: Answer, values: &mut [u64]) -> u32
     let number = reply::number_of(answer);
     if lent::touches(number) {
         let detail = reply::detail_of(answer);
-        let route = route_of(answer);
+        let route = reply::route_of(answer);
         write_four(
             values,
             detail as u64,

@@ -1,22 +1,24 @@
 -- Laws of the ends: how the loops over them go, and that a net's cells are in the room.
 use mathlib.Core.Path.{_≡_, refl, sym, ap, _∙_}
 use mathlib.Core.Logic.{_≢_}
-use mathlib.Core.List.{List, [], _∷_, _++_, map, map-append, append-assoc}
+use mathlib.Core.List.{List, [], _∷_, _++_, map, map-append}
 use Prim.Native.Nat.{ℕ, zero, suc, _+_, _-_, _≤_, _<_}
+use native.Mathlib.Nat.{suc-ne-zero}
 use native.Mathlib.Numerals.{add-one, unary-clauses}
 use native.Mathlib.Omega.{arith}
 use lib.Dec.{eqb}
 use borrow.Author.Tests.{eq-eqb, ne-eqb, eqb-false}
-use lib.ListN.{length, getD, take, drop, set, replicate, length-map, length-replicate, length-append, List·getD-append}
-use lib.Seq.{slice-cons, slice-empty, getD-take, take-suc, length-take-le, set-at}
+use lib.ListN.{length, getD, take, drop, set, replicate, length-map, List·getD-append}
+use lib.Seq.{slice-cons, slice-empty, getD-take, take-suc, length-take-le}
 use Rattle.basics.specs.Tests.{ask, never}
+use Rattle.basics.specs.Padding.{padded-long, padded-next}
 use Rattle.room.specs.declared.Room.{Room}
 use Rattle.room.specs.Room.{Within, volume}
 use Rattle.room.specs.Units.{wire}
 use Rattle.port_realization.specs.declared.Terminal.{Terminal}
 use Rattle.port_realization.specs.declared.Realized.{Realized}
 use Rattle.port_realization.specs.Ports.{terminalOf}
-use Rattle.port_realization.specs.PortLaws.{terminal-in, ends}
+use Rattle.port_realization.specs.PortLaws.{terminal-in, sink-inside}
 use Rattle.job_sheet.specs.declared.Endpoint.{Endpoint}
 use Rattle.job_sheet.specs.declared.Sinks.{Sinks}
 use Rattle.job_sheet.specs.Sheet.{maxSinks, noEndpoint}
@@ -25,10 +27,10 @@ use Rattle.ends.specs.declared.Taps.{Taps}
 use Rattle.ends.specs.declared.Fault.{Fault}
 use Rattle.ends.specs.declared.Fault.the-variants.{Good, NoFacing, Outside}
 use Rattle.ends.specs.declared.Ends.{Ends}
-use Rattle.ends.specs.Ends.{sinksIn, sourceAt, sinkAt, dueFor, firstDue, endsAt, noTap, tapOf, tapsOf, tapFrom, alone, terminalIn, faultBy, faultOf, endsOf, tapsIn, SinksWithin, NetIn}
+use Rattle.ends.specs.Ends.{sinksIn, sourceEnd, sinkEnd, dueFor, firstDue, endsAt, noTap, tapOf, tapsOf, tapFrom, withoutApproach, terminalIn, faultBy, faultOf, endsOf, tapsIn, SinksWithin, TapsIn, NetIn}
 
 module _ {R : Room} {k : Sinks} (S : SinksWithin R k) where
-  sinks-long : length (sinksIn k) ≡ k .count
+  pub sinks-long : length (sinksIn k) ≡ k .count
   sinks-long = length-take-le (k .count) (k .ends) (omega (arith, S .few, S .whole))
 
   -- the sinks from the i-th on
@@ -39,20 +41,20 @@ module _ {R : Room} {k : Sinks} (S : SinksWithin R k) where
 
 -- the number is due for none of the first i sinks
 pub record Passed (R : Room) (number : ℕ) (k : Sinks) (i : ℕ) : Type 0 where
-  pub same : firstDue number (i + 1) (map (sinkAt R) (drop i (sinksIn k))) ≡ firstDue number 1 (map (sinkAt R) (sinksIn k))
+  pub same : firstDue number (i + 1) (map (sinkEnd R) (drop i (sinksIn k))) ≡ firstDue number 1 (map (sinkEnd R) (sinksIn k))
   pub so-far : i ≤ k .count
 
 pub none-passed : (R : Room) (number : ℕ) (k : Sinks) → Passed R number k 0
 none-passed R number k = record { same = refl; so-far = omega arith }
 
 module _ (R : Room) (number : ℕ) (source : Endpoint) {k : Sinks} (S : SinksWithin R k) where
-  pub due-source : dueFor (sourceAt R source) ≡ number → 1 ≡ firstDue number 0 (endsAt R source (sinksIn k))
+  pub due-source : dueFor (sourceEnd R source) ≡ number → 1 ≡ firstDue number 0 (endsAt R source (sinksIn k))
   unfolding firstDue
   due-source e = rw (eq-eqb _ _ e)
 
   -- it is not due for the source
-  module _ (n : dueFor (sourceAt R source) ≢ number) {i : ℕ} (P : Passed R number k i) where
-    pub due-sink : i < k .count → dueFor (sinkAt R (getD (k .ends) i noEndpoint)) ≡ number → i + 2 ≡ firstDue number 0 (endsAt R source (sinksIn k))
+  module _ (n : dueFor (sourceEnd R source) ≢ number) {i : ℕ} (P : Passed R number k i) where
+    pub due-sink : i < k .count → dueFor (sinkEnd R (getD (k .ends) i noEndpoint)) ≡ number → i + 2 ≡ firstDue number 0 (endsAt R source (sinksIn k))
     unfolding firstDue
     due-sink h e = let p = P .same in rw (ne-eqb _ _ n, ← p, from-sink S i h, eq-eqb _ _ e) (omega arith)
 
@@ -64,11 +66,11 @@ module _ (R : Room) (number : ℕ) (source : Endpoint) {k : Sinks} (S : SinksWit
         rw (ne-eqb _ _ n, ← p, none)
 
 pub sink-passed : {R : Room} {number : ℕ} {k : Sinks} → SinksWithin R k → {i : ℕ} → Passed R number k i → i < k .count
-    → (dueFor (sinkAt R (getD (k .ends) i noEndpoint)) ≢ number) → Passed R number k (i + 1)
+    → (dueFor (sinkEnd R (getD (k .ends) i noEndpoint)) ≢ number) → Passed R number k (i + 1)
 unfolding firstDue
 sink-passed {R = R} {number = number} {k = k} S {i = i} P h n = record { same = step ∙ P .same; so-far = omega arith }
   where
-    step : firstDue number (i + 1 + 1) (map (sinkAt R) (drop (i + 1) (sinksIn k))) ≡ firstDue number (i + 1) (map (sinkAt R) (drop i (sinksIn k)))
+    step : firstDue number (i + 1 + 1) (map (sinkEnd R) (drop (i + 1) (sinksIn k))) ≡ firstDue number (i + 1) (map (sinkEnd R) (drop i (sinksIn k)))
     step = rw (from-sink S i h, ne-eqb _ _ n, add-one (i + 1))
 
 -- ---- the taps gathered so far
@@ -81,17 +83,14 @@ module _ {R : Room} {k : Sinks} (S : SinksWithin R k) {taps : List Tap} {i : ℕ
   pub tap-on : i < k .count → (t : Tap) → t ≡ tapOf R (getD (k .ends) i noEndpoint) → Tapped R k (set taps i t) (i + 1)
   tap-on h t e =
       let p = map (tapOf R) (take i (k .ends)) in
-      let r : List Tap = replicate (maxSinks - (i + 1)) noTap in
-      let a : maxSinks - i ≡ suc (maxSinks - (i + 1)) = omega (arith, S .few) in
       let n : length p ≡ i = length-map (take i (k .ends)) (tapOf R) ∙ length-take-le i (k .ends) (omega (arith, S .few, S .whole)) in
       let m : map (tapOf R) (take (i + 1) (k .ends)) ≡ p ++ (t ∷ []) =
       rw (add-one i, e) (ap (map (tapOf R)) (take-suc (k .ends) i noEndpoint (omega (arith, S .few, S .whole))) ∙ map-append (tapOf R) (take i (k .ends)) (getD (k .ends) i noEndpoint ∷ [])) in
       record {
         same =
-            ap (λ x. set x i t) (T .same ∙ ap (λ x. p ++ replicate x noTap) a)
-            ∙ set-at p noTap r t i n
-            ∙ sym (append-assoc p (t ∷ []) r)
-            ∙ ap (λ x. x ++ r) (sym m);
+            ap (λ x. set x i t) (T .same)
+            ∙ padded-next p maxSinks i noTap n (omega (arith, S .few)) t
+            ∙ ap (λ x. x ++ replicate (maxSinks - (i + 1)) noTap) (sym m);
         so-far = omega arith;
       }
 
@@ -134,52 +133,49 @@ module _ (R : Room) (source : Endpoint) (sinks : List Endpoint) {n : ℕ} (e : n
     fault-none h = by-none n m p h ∙ ap (faultBy n) f ∙ ap (λ x. faultBy x (firstDue 9 0 (endsAt R source sinks))) e
 
 pub ends-is : (R : Room) (e : Endpoint) (es : List Endpoint) {f : Fault} {t : ℕ} {k : Taps}
-    → f ≡ faultOf R e es → t ≡ terminalIn (sourceAt R e) → k ≡ tapsOf R es → _≡_ {A = Ends} (record { fault = f; source = t; taps = k }) (endsOf R e es)
+    → f ≡ faultOf R e es → t ≡ terminalIn (sourceEnd R e) → k ≡ tapsOf R es → _≡_ {A = Ends} (record { fault = f; source = t; taps = k }) (endsOf R e es)
 unfolding endsOf
 ends-is R e es p q r = λ i. record { fault = p i; source = q i; taps = r i }
 
 -- ---- a net whose ends no number refuses
 
 -- the taps in use are as many as are counted
-pub taps-long : {R : Room} {source : ℕ} {k : Taps} → NetIn R source k → length (tapsIn k) ≡ k .count
-taps-long {k = k} N = length-take-le (k .count) (k .taps) (omega (arith, N .few, N .whole))
+pub taps-long : {R : Room} {k : Taps} → TapsIn R k → length (tapsIn k) ≡ k .count
+taps-long {k = k} T = length-take-le (k .count) (k .taps) (omega (arith, T .few, T .whole))
 
 pub tap-is : (k : Taps) (i : ℕ) → i < k .count → getD (k .taps) i noTap ≡ getD (tapsIn k) i noTap
 tap-is k i h = sym (getD-take (k .count) (k .taps) i noTap h)
-
-later-zero : (place : ℕ) → suc place ≡ 0 → ⊥
-later-zero place e = omega arith
 
 -- where a number is due for none of the ends, it is not for any of them
 none-due : (number place : ℕ) (rs : List Realized) → firstDue number place rs ≡ 0 → (i : ℕ) → i < length rs → (d : Realized) → dueFor (getD rs i d) ≢ number
 unfolding firstDue
 none-due number place [] e i h d = absurd (omega arith)
-none-due number place (r ∷ rs) e zero h d = ask (eqb (dueFor r) number) (λ t. absurd (later-zero place (rw t at e))) (λ f. eqb-false _ _ f)
+none-due number place (r ∷ rs) e zero h d = ask (eqb (dueFor r) number) (λ t. absurd (suc-ne-zero place (rw t at e))) (λ f. eqb-false _ _ f)
 none-due number place (r ∷ rs) e (suc i) h d =
-    ask (eqb (dueFor r) number) (λ t. absurd (later-zero place (rw t at e))) (λ f. none-due number (suc place) rs (rw f at e) i (omega arith) d)
+    ask (eqb (dueFor r) number) (λ t. absurd (suc-ne-zero place (rw t at e))) (λ f. none-due number (suc place) rs (rw f at e) i (omega arith) d)
 
 by-good : (n m : ℕ) → faultBy n m ≡ Good → (n ≡ 0) × (m ≡ 0)
 by-good zero zero e = (refl, refl)
 by-good zero (suc m) e = never (cc)
 by-good (suc n) m e = never (cc)
 
-source-inside : (R : Room) (e : Endpoint) → Within R (e .at) → (dueFor (sourceAt R e) ≢ 8) → (dueFor (sourceAt R e) ≢ 9) → terminalIn (sourceAt R e) < volume R
-unfolding sourceAt
+source-inside : (R : Room) (e : Endpoint) → Within R (e .at) → (dueFor (sourceEnd R e) ≢ 8) → (dueFor (sourceEnd R e) ≢ 9) → terminalIn (sourceEnd R e) < volume R
+unfolding sourceEnd
 source-inside R e w n m = go (terminalOf R (e .at) (e .port) (e .facing)) refl n m
   where
-    go : (t : Terminal) → terminalOf R (e .at) (e .port) (e .facing) ≡ t → (dueFor (alone t) ≢ 8) → (dueFor (alone t) ≢ 9) → terminalIn (alone t) < volume R
+    go : (t : Terminal) → terminalOf R (e .at) (e .port) (e .facing) ≡ t → (dueFor (withoutApproach t) ≢ 8) → (dueFor (withoutApproach t) ≢ 9) → terminalIn (withoutApproach t) < volume R
     go (Terminal.At cell) q a b = terminal-in R (e .at) w (e .port) (e .facing) cell q
     go Terminal.NoFacing q a b = absurd (a refl)
     go Terminal.Outside q a b = absurd (b refl)
 
-tap-inside : (R : Room) (e : Endpoint) → Within R (e .at) → (dueFor (sinkAt R e) ≢ 8) → (dueFor (sinkAt R e) ≢ 9)
+tap-inside : (R : Room) (e : Endpoint) → Within R (e .at) → (dueFor (sinkEnd R e) ≢ 8) → (dueFor (sinkEnd R e) ≢ 9)
     → (tapOf R e .terminal < volume R) × (tapOf R e .approach < volume R)
-unfolding tapOf sinkAt
-tap-inside R e w n m = go (sinkAt R e) refl n m
+unfolding tapOf sinkEnd
+tap-inside R e w n m = go (sinkEnd R e) refl n m
   where
-    go : (r : Realized) → sinkAt R e ≡ r → (dueFor r ≢ 8) → (dueFor r ≢ 9)
+    go : (r : Realized) → sinkEnd R e ≡ r → (dueFor r ≢ 8) → (dueFor r ≢ 9)
         → (tapFrom (eqb (e .port) wire) r .terminal < volume R) × (tapFrom (eqb (e .port) wire) r .approach < volume R)
-    go (Realized.At t a) q x y = let E = ends R (e .at) w (e .port) (e .facing) t a q in (E .terminal-below, E .approach-below)
+    go (Realized.At t a) q x y = let E = sink-inside R (e .at) w (e .port) (e .facing) t a q in (E .terminal-below, E .approach-below)
     go Realized.NoFacing q x y = absurd (x refl)
     go Realized.Outside q x y = absurd (y refl)
 
@@ -188,16 +184,8 @@ mapped-at f [] i d e h = absurd (omega arith)
 mapped-at f (x ∷ xs) zero d e h = refl
 mapped-at f (x ∷ xs) (suc i) d e h = mapped-at f xs i d e (omega arith)
 
-module _ {R : Room} (source : Endpoint) {k : Sinks} (w : Within R (source .at)) (S : SinksWithin R k) (good : faultOf R source (sinksIn k) ≡ Good) where
-  none : (number : ℕ) → firstDue number 0 (endsAt R source (sinksIn k)) ≡ 0 → (i : ℕ) → i < k .count → dueFor (sinkAt R (getD (k .ends) i noEndpoint)) ≢ number
-  none number e i h q =
-      let l = sinksIn k in
-      let b : i < length l = omega (arith, sinks-long S) in
-      let a : getD l i noEndpoint ≡ getD (k .ends) i noEndpoint = getD-take (k .count) (k .ends) i noEndpoint h in
-      let m = length-map l (sinkAt R) in
-      none-due number 0 (endsAt R source l) e (suc i) (omega (arith, m)) Realized.Outside
-      (ap dueFor (mapped-at (sinkAt R) l i noEndpoint Realized.Outside b ∙ ap (sinkAt R) a) ∙ q)
-
+-- each sink's tap stands at its place
+module _ {R : Room} {k : Sinks} (S : SinksWithin R k) where
   pub tap-at : (i : ℕ) → i < k .count → getD (tapsOf R (sinksIn k) .taps) i noTap ≡ tapOf R (getD (k .ends) i noEndpoint)
   tap-at i h =
       let l = sinksIn k in
@@ -207,7 +195,17 @@ module _ {R : Room} (source : Endpoint) {k : Sinks} (w : Within R (source .at)) 
       ∙ mapped-at (tapOf R) l i noEndpoint noTap b
       ∙ ap (tapOf R) (getD-take (k .count) (k .ends) i noEndpoint h)
 
-  pub net-in : NetIn R (terminalIn (sourceAt R source)) (tapsOf R (sinksIn k))
+module _ {R : Room} (source : Endpoint) {k : Sinks} (w : Within R (source .at)) (S : SinksWithin R k) (good : faultOf R source (sinksIn k) ≡ Good) where
+  none : (number : ℕ) → firstDue number 0 (endsAt R source (sinksIn k)) ≡ 0 → (i : ℕ) → i < k .count → dueFor (sinkEnd R (getD (k .ends) i noEndpoint)) ≢ number
+  none number e i h q =
+      let l = sinksIn k in
+      let b : i < length l = omega (arith, sinks-long S) in
+      let a : getD l i noEndpoint ≡ getD (k .ends) i noEndpoint = getD-take (k .count) (k .ends) i noEndpoint h in
+      let m = length-map l (sinkEnd R) in
+      none-due number 0 (endsAt R source l) e (suc i) (omega (arith, m)) Realized.Outside
+      (ap dueFor (mapped-at (sinkEnd R) l i noEndpoint Realized.Outside b ∙ ap (sinkEnd R) a) ∙ q)
+
+  pub net-in : NetIn R (terminalIn (sourceEnd R source)) (tapsOf R (sinksIn k))
   unfolding faultOf
   net-in =
       let l = sinksIn k in
@@ -217,8 +215,10 @@ module _ {R : Room} (source : Endpoint) {k : Sinks} (w : Within R (source .at)) 
       λ i h. tap-inside R _ (S .within i (omega (arith, n))) (none 8 (z .0) i (omega (arith, n))) (none 9 (z .1) i (omega (arith, n))) in
       record {
         source-in = source-inside R source w (none-due 8 0 (endsAt R source l) (z .0) 0 (omega arith) Realized.Outside) (none-due 9 0 (endsAt R source l) (z .1) 0 (omega arith) Realized.Outside);
-        few = omega (arith, n, S .few);
-        whole = length-append (map (tapOf R) l) (replicate (maxSinks - length l) noTap) ∙ rw (length-map l (tapOf R), length-replicate {A = Tap} (maxSinks - length l) noTap) (omega (arith, n, S .few));
-        terminal-in = λ i h. rw (tap-at i (omega (arith, n))) (inside i h .0);
-        approach-in = λ i h. rw (tap-at i (omega (arith, n))) (inside i h .1);
+        taps-in = record {
+          few = omega (arith, n, S .few);
+          whole = padded-long (map (tapOf R) l) maxSinks (length l) noTap (length-map l (tapOf R)) (omega (arith, n, S .few));
+          terminal-in = λ i h. rw (tap-at S i (omega (arith, n))) (inside i h .0);
+          approach-in = λ i h. rw (tap-at S i (omega (arith, n))) (inside i h .1);
+        };
       }

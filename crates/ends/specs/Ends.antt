@@ -27,16 +27,18 @@ abbrev pub sinksIn : Sinks → List Endpoint
 sinksIn k = take (k .count) (k .ends)
 
 -- a source has no approach: its terminal stands for both
-abbrev pub alone : Terminal → Realized
-alone (Terminal.At cell) = Realized.At cell cell
-alone Terminal.NoFacing = Realized.NoFacing
-alone Terminal.Outside = Realized.Outside
+abbrev pub withoutApproach : Terminal → Realized
+withoutApproach (Terminal.At cell) = Realized.At cell cell
+withoutApproach Terminal.NoFacing = Realized.NoFacing
+withoutApproach Terminal.Outside = Realized.Outside
 
-unfoldable pub sourceAt : Room → Endpoint → Realized
-sourceAt R e = alone (terminalOf R (e .at) (e .port) (e .facing))
+-- the source as the wire meets it
+unfoldable pub sourceEnd : Room → Endpoint → Realized
+sourceEnd R e = withoutApproach (terminalOf R (e .at) (e .port) (e .facing))
 
-unfoldable pub sinkAt : Room → Endpoint → Realized
-sinkAt R e = realizedOf R (e .at) (e .port) (e .facing)
+-- a sink as the wire meets it
+unfoldable pub sinkEnd : Room → Endpoint → Realized
+sinkEnd R e = realizedOf R (e .at) (e .port) (e .facing)
 
 -- the number that is due for an end, 0 for none: 8 for "BlockPower without horizontal facing", 9 for "terminal or approach outside"
 abbrev pub dueFor : Realized → ℕ
@@ -49,25 +51,28 @@ unfoldable pub firstDue : ℕ → ℕ → List Realized → ℕ
 firstDue number place [] = 0
 firstDue number place (r ∷ rs) = either (eqb (dueFor r) number) (suc place) (firstDue number (suc place) rs)
 
+-- the source, then the sinks in sheet order
 abbrev pub endsAt : Room → Endpoint → List Endpoint → List Realized
-endsAt R source sinks = sourceAt R source ∷ map (sinkAt R) sinks
+endsAt R source sinks = sourceEnd R source ∷ map (sinkEnd R) sinks
 
 -- where an end meets the wire, and what its port is
 abbrev pub noTap : Tap
 noTap = record { terminal = 0; approach = 0; wire = false }
 
 abbrev pub tapFrom : Bool → Realized → Tap
-tapFrom wire (Realized.At t a) = record { terminal = t; approach = a; wire = wire }
-tapFrom wire Realized.NoFacing = noTap
-tapFrom wire Realized.Outside = noTap
+tapFrom isWire (Realized.At t a) = record { terminal = t; approach = a; wire = isWire }
+tapFrom isWire Realized.NoFacing = noTap
+tapFrom isWire Realized.Outside = noTap
 
+-- a sink's tap: its terminal and approach, and whether its port is Wire
 unfoldable pub tapOf : Room → Endpoint → Tap
-tapOf R e = tapFrom (eqb (e .port) wire) (sinkAt R e)
+tapOf R e = tapFrom (eqb (e .port) wire) (sinkEnd R e)
 
 -- the taps in use, one a sink
 abbrev pub tapsIn : Taps → List Tap
 tapsIn k = take (k .count) (k .taps)
 
+-- one tap a sink, then places that hold nothing
 abbrev pub tapsOf : Room → List Endpoint → Taps
 tapsOf R sinks = record { count = length sinks; taps = map (tapOf R) sinks ++ replicate (maxSinks - length sinks) noTap }
 
@@ -83,11 +88,13 @@ faultBy (suc place) later = NoFacing place
 faultBy zero (suc place) = Outside place
 faultBy zero zero = Good
 
+-- number 8 or 9 with its detail, or neither
 unfoldable pub faultOf : Room → Endpoint → List Endpoint → Fault
 faultOf R source sinks = faultBy (firstDue 8 0 (endsAt R source sinks)) (firstDue 9 0 (endsAt R source sinks))
 
+-- the ends of one net: what `realize_ends` promises
 unfoldable pub endsOf : Room → Endpoint → List Endpoint → Ends
-endsOf R source sinks = record { fault = faultOf R source sinks; source = terminalIn (sourceAt R source); taps = tapsOf R sinks }
+endsOf R source sinks = record { fault = faultOf R source sinks; source = terminalIn (sourceEnd R source); taps = tapsOf R sinks }
 
 -- ---- what the functions ask
 
@@ -97,10 +104,14 @@ pub record SinksWithin (R : Room) (k : Sinks) : Type 0 where
   pub whole : length (k .ends) ≡ maxSinks
   pub within : (i : ℕ) → i < k .count → Within R (getD (k .ends) i noEndpoint .at)
 
--- a net whose ends no number refuses: its cells are in the room
-pub record NetIn (R : Room) (source : ℕ) (k : Taps) : Type 0 where
-  pub source-in : source < volume R
+-- sinks that no number refuses: their terminals and approaches are in the room
+pub record TapsIn (R : Room) (k : Taps) : Type 0 where
   pub few : k .count ≤ maxSinks
   pub whole : length (k .taps) ≡ maxSinks
   pub terminal-in : (i : ℕ) → i < k .count → getD (k .taps) i noTap .terminal < volume R
   pub approach-in : (i : ℕ) → i < k .count → getD (k .taps) i noTap .approach < volume R
+
+-- a net whose ends no number refuses: its source, too, is in the room
+pub record NetIn (R : Room) (source : ℕ) (k : Taps) : Type 0 where
+  pub source-in : source < volume R
+  pub taps-in : TapsIn R k

@@ -6,7 +6,7 @@ use port_realization::Terminal;
 use room::Room;
 ghost use mathlib.Core.Path.{_≡_};
 ghost use Rattle.room.specs.Room.{Good, Within};
-ghost use Rattle.ends.specs.Ends.{sinksIn, sourceAt, sinkAt, dueFor, firstDue, endsAt, noTap, tapOf, tapsOf, terminalIn, faultOf, endsOf, SinksWithin};
+ghost use Rattle.ends.specs.Ends.{sinksIn, sourceEnd, sinkEnd, dueFor, firstDue, endsAt, noTap, tapOf, tapsOf, terminalIn, faultOf, endsOf, SinksWithin};
 
 // A sink as the wire meets it: where its branch ends, where its searches start, and whether its port is Wire.
 pub struct Tap {
@@ -36,10 +36,10 @@ pub struct Ends {
 }
 
 // A source has no approach.
-fn source_at(room: Room, source: Endpoint) -> Realized
+fn source_end(room: Room, source: Endpoint) -> Realized
     requires { ⌜ Good room ⌝ }
     requires { ⌜ Within room (source .at) ⌝ }
-    ensures { λ r. ⌜ r ≡ sourceAt room source ⌝ }
+    ensures { λ r. ⌜ r ≡ sourceEnd room source ⌝ }
 {
     match port_realization::terminal_for_endpoint(room, source.at, source.port, source.facing) {
         Terminal::At(cell) => Realized::At {
@@ -51,10 +51,10 @@ fn source_at(room: Room, source: Endpoint) -> Realized
     }
 }
 
-fn sink_at(room: Room, sink: Endpoint) -> Realized
+fn sink_end(room: Room, sink: Endpoint) -> Realized
     requires { ⌜ Good room ⌝ }
     requires { ⌜ Within room (sink .at) ⌝ }
-    ensures { λ r. ⌜ r ≡ sinkAt room sink ⌝ }
+    ensures { λ r. ⌜ r ≡ sinkEnd room sink ⌝ }
 {
     port_realization::realize_sink_endpoint(room, sink.at, sink.port, sink.facing)
 }
@@ -80,12 +80,12 @@ fn first_due(room: Room, source: Endpoint, sinks: Sinks, number: usize) -> usize
     requires { ⌜ SinksWithin room sinks ⌝ }
     ensures { λ r. ⌜ r ≡ firstDue number 0 (endsAt room source (sinksIn sinks)) ⌝ }
 {
-    if due_for(source_at(room, source)) == number {
+    if due_for(source_end(room, source)) == number {
         return 1;
     }
     let mut k: usize = 0;
     while k < sinks.count {
-        if due_for(sink_at(room, sinks.ends[k])) == number {
+        if due_for(sink_end(room, sinks.ends[k])) == number {
             return k + 2;
         }
         k += 1;
@@ -108,7 +108,7 @@ fn tap_of(room: Room, sink: Endpoint) -> Tap
     requires { ⌜ Within room (sink .at) ⌝ }
     ensures { λ r. ⌜ r ≡ tapOf room sink ⌝ }
 {
-    match sink_at(room, sink) {
+    match sink_end(room, sink) {
         Realized::At { terminal, approach } => Tap {
             terminal,
             approach,
@@ -166,6 +166,7 @@ fn fault_of(room: Room, source: Endpoint, sinks: Sinks) -> Fault
     Fault::Good
 }
 
+// The ends of one net, or the number that is due for one of them.
 pub fn realize_ends(room: Room, source: Endpoint, sinks: Sinks) -> Ends
     requires { ⌜ Good room ⌝ }
     requires { ⌜ Within room (source .at) ⌝ }
@@ -174,7 +175,7 @@ pub fn realize_ends(room: Room, source: Endpoint, sinks: Sinks) -> Ends
 {
     Ends {
         fault: fault_of(room, source, sinks),
-        source: terminal_in(source_at(room, source)),
+        source: terminal_in(source_end(room, source)),
         taps: taps_of(room, sinks),
     }
 }

@@ -3,15 +3,15 @@
 use mathlib.Core.Path.{_≡_}
 use mathlib.Core.Bool.{Bool, false, _&&_, _||_}
 use mathlib.Core.List.{List, [], _∷_}
-use Prim.Native.Nat.{ℕ, zero, suc, _≤_, _<_}
+use Prim.Native.Nat.{ℕ, _<_}
 use lib.Dec.{eqb}
-use lib.ListN.{length, getD}
+use lib.ListN.{getD}
 use Rattle.basics.specs.Tests.{either}
 use Rattle.basics.specs.Lists.{any}
 use Rattle.room.specs.declared.Room.{Room}
 use Rattle.room.specs.declared.Neighbour.{Neighbour}
 use Rattle.room.specs.declared.Neighbour.the-variants.{Inside, Outside}
-use Rattle.room.specs.Room.{volume, inOrOut, holdsAt, beneath, above}
+use Rattle.room.specs.Room.{volume, inOrOut, holdsAt, orElse, firstBelow, beneath, above}
 use Rattle.room.specs.Units.{air}
 use Rattle.routing_resources.specs.Marks.{isMarked}
 use Rattle.routing_resources.specs.Resources.{clearanceOf}
@@ -32,16 +32,7 @@ upperOfPair R conducts v = conducts v && holdsAt conducts (beneath R v)
 pub record NoPair (R : Room) (conducts : ℕ → Bool) : Type 0 where
   pub none : (v : ℕ) → v < volume R → upperOfPair R conducts v ≡ false
 
--- the first place, and where that is outside the other one
-abbrev pub orElse : Neighbour → Neighbour → Neighbour
-orElse (Inside v) other = Inside v
-orElse Outside other = other
-
--- "first, in number order": of the numbers below n, the least that passes the test
-unfoldable pub firstBelow : ℕ → (ℕ → Bool) → Neighbour
-firstBelow zero test = Outside
-firstBelow (suc n) test = orElse (firstBelow n test) (inOrOut (test n) n)
-
+-- "first, in number order over both together": the upper cell of the first pair
 unfoldable pub firstPair : Room → (ℕ → Bool) → Neighbour
 firstPair R conducts = firstBelow (volume R) (upperOfPair R conducts)
 
@@ -70,7 +61,3 @@ conflictAmong R kinds conducts path = orElse (firstPair R conducts) (stairConfli
 
 abbrev pub conflictOf : Room → List ℕ → List ℕ → List ℕ → Neighbour
 conflictOf R kinds joinable path = conflictAmong R kinds (conductor joinable path) path
-
--- each byte is a mark or none
-pub record Marks (bytes : List ℕ) : Type 0 where
-  pub small : (v : ℕ) → v < length bytes → getD bytes v 0 ≤ 1

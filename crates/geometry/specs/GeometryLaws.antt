@@ -3,24 +3,24 @@
 use mathlib.Core.Path.{_≡_, refl, sym, _∙_}
 use mathlib.Core.Bool.{Bool, true, false, _&&_, _||_}
 use mathlib.Core.List.{List}
-use Prim.Native.Nat.{ℕ, _≤_, _<_}
+use Prim.Native.Nat.{ℕ, _<_}
 use native.Mathlib.Omega.{arith}
 use lib.Dec.{leb}
-use lib.ListN.{length, getD, length-replicate, getD-replicate, List·getD-eq-default}
+use lib.ListN.{length, List·getD-eq-default}
 use borrow.Author.Tests.{leb-true, leb-false}
 use Rattle.basics.specs.Tests.{ask, and-left, and-right, never, or-left}
 use Rattle.room.specs.declared.Room.{Room}
 use Rattle.room.specs.declared.Neighbour.{Neighbour}
 use Rattle.room.specs.declared.Neighbour.the-variants.{Inside, Outside}
 use Rattle.room.specs.Room.{Good, volume, holdsAt, beneath}
-use Rattle.routing_resources.specs.Marks.{isMarked, noMarks, withByte, markedBy}
-use Rattle.routing_resources.specs.MarkLaws.{marked-after, with-length, with-at}
-use Rattle.geometry.specs.Geometry.{standsIn, conductor, upperOfPair, NoPair, firstPair, stairConflict, conflictAmong, conflictOf, Marks}
-use Rattle.geometry.specs.RoomPairs.{beneath-lt}
-use Rattle.geometry.specs.PairLaws.{or-none, none-first}
+use Rattle.routing_resources.specs.Marks.{isMarked, markedBy}
+use Rattle.routing_resources.specs.MarkLaws.{marked-after, with-length}
+use Rattle.geometry.specs.Geometry.{standsIn, conductor, upperOfPair, NoPair, firstPair, stairConflict, conflictAmong, conflictOf}
+use Rattle.room.specs.AboveLaws.{beneath-lt}
+use Rattle.room.specs.PlaceLaws.{or-none, none-first}
 
 -- fewer conductors have no pair either
-pub no-pair-fewer : (R : Room) (more fewer : ℕ → Bool) → ((v : ℕ) → fewer v ≡ true → more v ≡ true) → NoPair R more → NoPair R fewer
+no-pair-fewer : (R : Room) (more fewer : ℕ → Bool) → ((v : ℕ) → fewer v ≡ true → more v ≡ true) → NoPair R more → NoPair R fewer
 unfolding upperOfPair
 no-pair-fewer R more fewer part alone = record { none = λ v h. ask (upperOfPair R fewer v) (λ t. absurd (pair v h t)) (λ f. f) }
   where
@@ -62,7 +62,7 @@ module _ (R : Room) (kinds : List ℕ) (conducts : ℕ → Bool) (path : List �
   then-stairs e = rw e
 
 module _ (R : Room) (kinds joinable path : List ℕ) (free : conflictOf R kinds joinable path ≡ Outside) where
-  pub no-pair-among : NoPair R (conductor joinable path)
+  no-pair-among : NoPair R (conductor joinable path)
   unfolding conflictAmong
   no-pair-among =
       no-first-pair R (conductor joinable path)
@@ -81,14 +81,3 @@ module _ (R : Room) (kinds joinable path : List ℕ) (free : conflictOf R kinds 
           ask (leb (length joinable) v)
           (λ t. never (cc (rw (List·getD-eq-default (markedBy test joinable) 0 {n = v} (rw (with-length 1 test joinable) (leb-true _ _ t))) at e)))
           (λ f. marked v (rw (marked-after test joinable v (leb-false _ _ f)) at e))
-
--- ---- each byte stays a mark or none
-
-pub marks-none : (n : ℕ) → Marks (noMarks n)
-marks-none n = record { small = λ v h. rw (getD-replicate {A = ℕ} n v 0 0 (rw (length-replicate {A = ℕ} n 0) at h)) (omega arith) }
-
-pub marks-with : (byte : ℕ) → byte ≤ 1 → (test : ℕ → Bool) (bytes : List ℕ) → Marks bytes → Marks (withByte byte test bytes)
-marks-with byte few test bytes marks = record { small = λ v h. go v (rw (with-length byte test bytes) at h) }
-  where
-    go : (v : ℕ) → v < length bytes → getD (withByte byte test bytes) v 0 ≤ 1
-    go v h = rw (with-at byte test bytes v h) (ask (test v) (λ t. rw t few) (λ f. rw f (marks .small v h)))

@@ -10,12 +10,13 @@ use lib.ListN.{length, getD, set, drop, length-set, List·getD-eq-default}
 use lib.Seq.{getD-set-same, getD-set-other, ext-getD}
 use borrow.Author.Tests.{eqb-true, eqb-false, eq-eqb, ne-eqb, leb-true, leb-false}
 use Rattle.basics.specs.Tests.{either, ask, never, either-same, or-left}
-use Rattle.basics.specs.Lists.{In, in-at}
+use Rattle.basics.specs.Lists.{In}
 use Rattle.room.specs.declared.Room.{Room}
 use Rattle.room.specs.declared.Neighbour.the-variants.{Inside}
 use Rattle.room.specs.Room.{volume, beneath}
-use Rattle.routing_resources.specs.Marks.{isMarked, AllCells}
-use Rattle.geometry.specs.Geometry.{standsIn, conductor, upperOfPair, NoPair, Marks}
+use Rattle.routing_resources.specs.Marks.{isMarked, Marks, CellsBelow, AllCells}
+use Rattle.routing_resources.specs.MarkLaws.{read-below}
+use Rattle.geometry.specs.Geometry.{standsIn, conductor, upperOfPair, NoPair}
 use Rattle.geometry.specs.Along.{replacedAt, replaced, laid, OnPath}
 use Rattle.basics.specs.Walks.{along, Walk}
 
@@ -51,7 +52,7 @@ module _ (old new : ℕ) where
   one-length : (cell : ℕ) (bytes : List ℕ) → length (replacedAt old new cell bytes) ≡ length bytes
   one-length cell bytes = ask (eqb (getD bytes cell 0) old) (λ t. rw t (length-set bytes cell new)) (λ f. rw f)
 
-  pub replaced-length : (path bytes : List ℕ) → length (replaced old new path bytes) ≡ length bytes
+  replaced-length : (path bytes : List ℕ) → length (replaced old new path bytes) ≡ length bytes
   unfolding along
   replaced-length [] bytes = refl
   replaced-length (c ∷ cs) bytes = replaced-length cs (replacedAt old new c bytes) ∙ one-length c bytes
@@ -75,7 +76,7 @@ module _ (old new : ℕ) where
   twice false b byte = refl
   twice true b byte = ask (eqb byte old) (λ o. rw o (either-same (b && eqb new old) new)) (λ o. rw (o, o, and-false b))
 
-  pub replaced-at : (path bytes : List ℕ) (v : ℕ) → v < length bytes → getD (replaced old new path bytes) v 0 ≡ byteOf (standsIn path v) (getD bytes v 0)
+  replaced-at : (path bytes : List ℕ) (v : ℕ) → v < length bytes → getD (replaced old new path bytes) v 0 ≡ byteOf (standsIn path v) (getD bytes v 0)
   unfolding along standsIn
   replaced-at [] bytes v h = refl
   replaced-at (c ∷ cs) bytes v h =
@@ -88,8 +89,8 @@ module _ (old new : ℕ) where
     pub walk-length : length bytes ≡ length start
     walk-length = sym (replaced-length (drop i path) bytes) ∙ ap length (walk .left) ∙ replaced-length path start
 
-    pub walk-in : ((v : ℕ) → In v path → v < length start) → i < length path → (cell : ℕ) → cell ≡ getD path i 0 → cell < length bytes
-    walk-in cells h cell e = rw (walk-length, e) (cells (getD path i 0) (in-at path i 0 h))
+    pub walk-in : CellsBelow (length start) path → i < length path → (cell : ℕ) → cell ≡ getD path i 0 → cell < length bytes
+    walk-in cells h cell e = rw walk-length (read-below cells i h cell e)
 
 -- ---- 2 for 0 and 0 for 2, where all bytes are 0 or 1
 

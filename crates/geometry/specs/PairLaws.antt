@@ -1,11 +1,10 @@
 -- Laws of pairs: where each pair of conductors has a cell of the path, the first pair's upper cell is the least along the path.
-use mathlib.Core.Path.{_≡_, refl, sym, ap, _∙_}
-use mathlib.Core.Logic.{_⊎_, inl, inr, ⊎-elim, _≢_}
+use mathlib.Core.Path.{_≡_, refl, sym, ap}
+use mathlib.Core.Logic.{_⊎_, inl, inr, ⊎-elim}
 use mathlib.Core.Bool.{Bool, true, false}
 use mathlib.Core.List.{List, [], _∷_}
-use Prim.Native.Nat.{ℕ, zero, suc, _≤_, _<_}
+use Prim.Native.Nat.{ℕ, _≤_, _<_}
 use native.Mathlib.Nat.{le-of-lt}
-use native.Mathlib.Decide.{ℕ-discrete}
 use native.Mathlib.Omega.{arith}
 use lib.Dec.{ltb}
 use borrow.Author.Tests.{ltb-true, ltb-false, lt-ltb, le-ltb}
@@ -15,57 +14,12 @@ use Rattle.room.specs.declared.Room.{Room}
 use Rattle.room.specs.declared.Neighbour.{Neighbour}
 use Rattle.room.specs.declared.Neighbour.the-variants.{Inside, Outside}
 use Rattle.room.specs.Room.{Good, volume, inOrOut, holdsAt, beneath, above}
-use Rattle.geometry.specs.Geometry.{upperOfPair, orElse, firstBelow, firstPair, ifPassed}
+use Rattle.geometry.specs.Geometry.{upperOfPair, firstPair, ifPassed}
 use Rattle.geometry.specs.Along.{pairWith, lesser, leastUpper, OnPath}
-use Rattle.geometry.specs.RoomPairs.{above-beneath, beneath-above, beneath-lt}
+use Rattle.room.specs.AboveLaws.{above-beneath, beneath-above, beneath-lt}
 use Rattle.room.specs.RoomLaws.{inside-passed}
+use Rattle.room.specs.PlaceLaws.{out-failed, first-none, first-is}
 use Rattle.basics.specs.Walks.{along}
-
--- ---- the first that passes a test
-
-pub or-none : (a b : Neighbour) → orElse a b ≡ Outside → (a ≡ Outside) × (b ≡ Outside)
-or-none (Inside v) b e = never (cc)
-or-none Outside b e = (refl, e)
-
-out-failed : (b : Bool) (n : ℕ) → inOrOut b n ≡ Outside → b ≡ false
-out-failed true n e = never (cc)
-out-failed false n e = refl
-
-module _ (test : ℕ → Bool) where
-  pub first-none : (n : ℕ) → ((v : ℕ) → v < n → test v ≡ false) → firstBelow n test ≡ Outside
-  unfolding firstBelow
-  first-none zero f = refl
-  first-none (suc n) f = rw (first-none n (λ v h. f v (omega arith)), f n (omega arith))
-
-  pub first-is : (n w : ℕ) → w < n → test w ≡ true → ((v : ℕ) → v < w → test v ≡ false) → firstBelow n test ≡ Inside w
-  unfolding firstBelow
-  first-is zero w h t f = absurd (omega arith)
-  first-is (suc n) w h t f = go (ℕ-discrete w n) (λ d. first-is n w (omega arith) t f)
-    where
-      go : Dec (w ≡ n) → (w ≢ n → firstBelow n test ≡ Inside w) → orElse (firstBelow n test) (inOrOut (test n) n) ≡ Inside w
-      go (yes e) k = let t′ : test n ≡ true = rw e at t in rw (first-none n (λ v l. f v (omega arith)), t′, e)
-      go (no d) k = rw (k d)
-
-  -- it passes, and it is below the bound
-  pub first-passed : (n v : ℕ) → firstBelow n test ≡ Inside v → (v < n) × (test v ≡ true)
-  unfolding firstBelow
-  first-passed zero v e = never (cc)
-  first-passed (suc n) v e = go (firstBelow n test) refl e (first-passed n)
-    where
-      go : (place : Neighbour) → firstBelow n test ≡ place → orElse place (inOrOut (test n) n) ≡ Inside v → ((u : ℕ) → firstBelow n test ≡ Inside u → (u < n) × (test u ≡ true))
-          → (v < suc n) × (test v ≡ true)
-      go (Inside u) w q below = let b = below v (w ∙ q) in (omega (arith, b .0), b .1)
-      go Outside w q below = let p = inside-passed (test n) n v q in (omega (arith, p .0), rw (← p .0) (p .1))
-
-  -- and where there is none, none passes
-  pub none-first : (n : ℕ) → firstBelow n test ≡ Outside → (v : ℕ) → v < n → test v ≡ false
-  unfolding firstBelow
-  none-first zero e v h = absurd (omega arith)
-  none-first (suc n) e v h = let both = or-none (firstBelow n test) (inOrOut (test n) n) e in go (ℕ-discrete v n) (both .1) (λ d. none-first n (both .0) v (omega arith))
-    where
-      go : Dec (v ≡ n) → inOrOut (test n) n ≡ Outside → (v ≢ n → test v ≡ false) → test v ≡ false
-      go (yes q) o k = rw q (out-failed (test n) n o)
-      go (no d) o k = k d
 
 -- ---- a conductor's pairs
 

@@ -13,12 +13,12 @@ use Rattle.basics.specs.Lists.{in-at, drop-next}
 use Rattle.room.specs.declared.Room.{Room}
 use Rattle.room.specs.declared.Neighbour.{Neighbour}
 use Rattle.room.specs.declared.Neighbour.the-variants.{Inside, Outside}
-use Rattle.room.specs.Room.{Good, volume, holdsAt, above, beneath}
+use Rattle.room.specs.Room.{Good, volume, holdsAt, orElse, above, beneath}
 use Rattle.routing_resources.specs.Resources.{level, lower, clearanceOf}
 use Rattle.routing_resources.specs.ResourceLaws.{lower-in, clearance-in}
-use Rattle.geometry.specs.Geometry.{standsIn, upperOfPair, NoPair, orElse, atClearance, stairConflict}
+use Rattle.geometry.specs.Geometry.{standsIn, upperOfPair, NoPair, atClearance, stairConflict}
 use Rattle.geometry.specs.Along.{OnPath, nowhere}
-use Rattle.geometry.specs.RoomPairs.{above-beneath}
+use Rattle.room.specs.AboveLaws.{above-beneath}
 use Rattle.geometry.specs.LayLaws.{stands-in}
 use Rattle.routing_resources.specs.Marks.{AllCells}
 
@@ -71,7 +71,7 @@ clear-of-conductors R G conducts alone a b a-in b-in ca cb v e = ask (eqb (level
         let m : conducts v && true ≡ false = rw (above-beneath R G (lower R a b) v (lower-in R G a b a-in b-in) q, low) at n in
         ask (conducts v) (λ t. never (cc (rw t at m))) (λ f. f)
 
-pub same-at-clearance : (R : Room) (kinds : List ℕ) (onPath conducts : ℕ → Bool) (second : ℕ) (place : Neighbour) → ((v : ℕ) → place ≡ Inside v → onPath v ≡ false)
+same-at-clearance : (R : Room) (kinds : List ℕ) (onPath conducts : ℕ → Bool) (second : ℕ) (place : Neighbour) → ((v : ℕ) → place ≡ Inside v → onPath v ≡ false)
     → atClearance R kinds nowhere conducts second place ≡ atClearance R kinds onPath conducts second place
 unfolding atClearance
 same-at-clearance R kinds onPath conducts second (Inside v) f = rw (f v refl)

@@ -6,11 +6,10 @@ use room::wide;
 ghost use mathlib.Core.Path.{_≡_};
 ghost use Prim.Native.Nat.{ℕ, _<_};
 ghost use lib.ListN.{length};
-ghost use Rattle.basics.specs.Lists.{In};
 ghost use Rattle.room.specs.Room.{Good, volume};
-ghost use Rattle.routing_resources.specs.Marks.{isMarked, AllCells};
+ghost use Rattle.routing_resources.specs.Marks.{isMarked, Marks, CellsBelow, AllCells};
 ghost use Rattle.routing_resources.specs.Resources.{clearanceOf};
-ghost use Rattle.geometry.specs.Geometry.{standsIn, NoPair, firstPair, ifPassed, atClearance, stairConflict, conflictAmong, conflictOf, Marks};
+ghost use Rattle.geometry.specs.Geometry.{standsIn, NoPair, firstPair, ifPassed, atClearance, stairConflict, conflictAmong, conflictOf};
 ghost use Rattle.geometry.specs.Along.{replaced, laid, pairWith, lesser, OnPath, nowhere};
 
 // The byte of a cell of the path that is not joinable.
@@ -18,7 +17,7 @@ const ON_PATH: u8 = 2;
 
 // Along the path, each byte `old` is made `new`. The path may hold a cell twice.
 fn replace(bytes: &mut [u8], path: &[u32], old: u8, new: u8)
-    requires { ⌜ ((v : ℕ) → In v (now path) → v < length (now bytes)) ⌝ }
+    requires { ⌜ CellsBelow (length (now bytes)) (now path) ⌝ }
     ensures { λ _. ⌜ now (bytes .exit) ≡ replaced old new (now (path .entry)) (now (bytes .entry)) ⌝ }
 {
     let mut i: usize = 0;
@@ -144,17 +143,17 @@ fn first_conflict(room: Room, kinds: &[u8], bytes: &[u8], path: &[u32]) -> Neigh
 
 // The conflict of a path with the joinable cells, `Outside` where there is none. Joinable cells among themselves make no
 // pair; their marks are as they were when it returns.
-pub fn geometry_conflict(room: Room, kinds: &[u8], conductors: &mut [u8], path: &[u32]) -> Neighbour
+pub fn geometry_conflict(room: Room, kinds: &[u8], joinable: &mut [u8], path: &[u32]) -> Neighbour
     requires { ⌜ Good room ⌝ }
-    requires { ⌜ (length (now kinds) ≡ volume room) × (length (now conductors) ≡ volume room) ⌝ }
+    requires { ⌜ (length (now kinds) ≡ volume room) × (length (now joinable) ≡ volume room) ⌝ }
     requires { ⌜ AllCells room (now path) ⌝ }
-    requires { ⌜ Marks (now conductors) ⌝ }
-    requires { ⌜ NoPair room (isMarked (now conductors)) ⌝ }
-    ensures { λ r. ⌜ r ≡ conflictOf room (now (kinds .entry)) (now (conductors .entry)) (now (path .entry)) ⌝ }
-    ensures { λ _. ⌜ now (conductors .exit) ≡ now (conductors .entry) ⌝ }
+    requires { ⌜ Marks (now joinable) ⌝ }
+    requires { ⌜ NoPair room (isMarked (now joinable)) ⌝ }
+    ensures { λ r. ⌜ r ≡ conflictOf room (now (kinds .entry)) (now (joinable .entry)) (now (path .entry)) ⌝ }
+    ensures { λ _. ⌜ now (joinable .exit) ≡ now (joinable .entry) ⌝ }
 {
-    replace(conductors, path, routing_resources::UNMARKED, ON_PATH);
-    let found = first_conflict(room, kinds, conductors, path);
-    replace(conductors, path, ON_PATH, routing_resources::UNMARKED);
+    replace(joinable, path, routing_resources::UNMARKED, ON_PATH);
+    let found = first_conflict(room, kinds, joinable, path);
+    replace(joinable, path, ON_PATH, routing_resources::UNMARKED);
     found
 }

@@ -17,19 +17,19 @@ use Rattle.room.specs.declared.Cost.{Cost}
 use Rattle.room.specs.declared.Neighbour.{Neighbour}
 use Rattle.room.specs.declared.Neighbour.the-variants.{Inside, Outside}
 use Rattle.room.specs.Room.{Good, volume}
+use Rattle.room_search.specs.Routing.{anEnd}
 use Rattle.room_search.specs.Steps.{placesOf}
-use Rattle.routing_resources.specs.Marks.{isMarked, withByte, markedBy, unmarkedBy, AllCells}
-use Rattle.routing_resources.specs.MarkLaws.{with-length, with-at}
-use Rattle.geometry.specs.Geometry.{Marks, conflictOf}
-use Rattle.geometry.specs.GeometryLaws.{marks-with}
-use Rattle.blocked_world.specs.BlockedWorld.{Says, Fitting, refreshed}
+use Rattle.routing_resources.specs.Marks.{isMarked, withByte, markedBy, unmarkedBy, AllCells, Marks}
+use Rattle.routing_resources.specs.MarkLaws.{with-length, with-at, marks-with}
+use Rattle.geometry.specs.Geometry.{conflictOf}
+use Rattle.blocked_world.specs.BlockedWorld.{Says, WorldFits, refreshed}
 use Rattle.blocked_world.specs.SeenLaws.{says-one}
 use Rattle.blocked_world.specs.RefreshLaws.{mark-put, refreshed-says}
 use Rattle.goals.specs.declared.Tried.{Tried}
 use Rattle.goals.specs.declared.Tried.the-variants.{Found, Failed, Full}
 use Rattle.goals.specs.declared.Attempt.the-variants.{Ended, Conflict}
 use Rattle.goals.specs.Goals.{Site, Trial, found, searchedFor, atConflict, afterSearch, attemptThen, attempts, endsGoal, taskSeen}
-use Rattle.goals.specs.Trials.{Tells, siteOf, Able, Repeats, Attempted}
+use Rattle.goals.specs.Trials.{Tells, siteOf, Attemptable, Repeats, Attempted}
 use Rattle.goals.specs.PathLaws.{found-by, found-cells, conflict-in}
 use Rattle.room_search.specs.Turns.{Searchable}
 use Rattle.goals.specs.SearchLaws.{tells-failed}
@@ -42,9 +42,9 @@ Routeless (Full x) = Unit {0}
 
 -- ---- what an attempt asks
 
-module _ {S : Site} {blocked classes known previous path : List ℕ} {start goal : ℕ} (A : Able S blocked classes known previous path start goal) where
-  pub able-fitting : Fitting (S .room) (S .kinds) blocked
-  able-fitting = record { good = A .grounds .good; kinds-long = A .grounds .kinds-long; blocked-long = A .grounds .blocked-long }
+module _ {S : Site} {blocked classes known previous path : List ℕ} {start goal : ℕ} (A : Attemptable S blocked classes known previous path start goal) where
+  pub able-fits : WorldFits (S .room) (S .kinds) blocked
+  able-fits = record { good = A .grounds .good; kinds-long = A .grounds .kinds-long; blocked-long = A .grounds .blocked-long }
 
   pub able-searchable : {queue : List ℕ} → S .places ≡ placesOf queue → Searchable (S .room) (S .config) classes known previous queue start goal
   able-searchable p = record {
@@ -88,12 +88,11 @@ module _ (S : Site) (blocked : List ℕ) (start goal : ℕ) where
 
       pub repeated : v < volume (S .room) → endsGoal blocked start goal v ≡ false → Attempted S blocked start goal cells (Conflict v)
       unfolding atConflict
-      repeated h b = record { comes = record { inside = h; free = free (eqb v start) (eqb v goal) (isMarked blocked v) b; is = λ again. rw (at-conflict again, i, b) } }
+      repeated h b = record { comes = record { inside = h; free = free (anEnd start goal v) (isMarked blocked v) b; is = λ again. rw (at-conflict again, i, b) } }
         where
-          free : (x y z : Bool) → x || (y || z) ≡ false → z ≡ false
-          free true y z q = never (cc)
-          free false true z q = never (cc)
-          free false false z q = q
+          free : (x y : Bool) → x || y ≡ false → y ≡ false
+          free true y q = never (cc)
+          free false y q = q
 
   -- the path's cells, and its conflict, are in the room
   module _ (start-in : start < volume (S .room)) (goal-in : goal < volume (S .room)) {n : ℕ} {cost : Cost} {cells : List ℕ} (t : Tells searchNow (Found n cost) cells) where
@@ -118,7 +117,7 @@ put-back marks v small free = ext-getD 0 _ marks (with-length 0 (eqb v) (markedB
         here : v ≡ u → u < length marks → 0 ≡ getD marks u 0
         here e l = rw (← e) (omega (arith, small .small v (rw e l), eqb-false (getD marks v 0) 1 free))
 
-pub set-says : {R : Room} {kinds blocked classes : List ℕ} {start goal cell : ℕ} (byte : ℕ) → Fitting R kinds blocked → Says R kinds blocked start goal classes → cell < volume R
+pub set-says : {R : Room} {kinds blocked classes : List ℕ} {start goal cell : ℕ} (byte : ℕ) → WorldFits R kinds blocked → Says R kinds blocked start goal classes → cell < volume R
     → {blocked′ classes′ : List ℕ} → blocked′ ≡ withByte byte (eqb cell) blocked → classes′ ≡ refreshed R kinds blocked′ start goal cell classes
     → Says R kinds blocked′ start goal classes′
 set-says {R} {kinds} {blocked} {classes} {start} {goal} {cell} byte fit says h e f =
@@ -147,8 +146,8 @@ module _ (S : Site) (blocked : List ℕ) (start goal left : ℕ) (some : left �
   attempts-repeat once s t = rw (attempts-one, once .is (attempts (left - 1) S start goal), ← s) t
 
 -- the same room and marks, and memory as long as it was
-pub able-kept : {S S′ : Site} {blocked classes known known′ previous previous′ path path′ : List ℕ} {start goal : ℕ} → Able S blocked classes known previous path start goal → S′ ≡ S
-    → length known′ ≡ length known → length previous′ ≡ length previous → length path′ ≡ length path → Able S′ blocked classes known′ previous′ path′ start goal
+pub able-kept : {S S′ : Site} {blocked classes known known′ previous previous′ path path′ : List ℕ} {start goal : ℕ} → Attemptable S blocked classes known previous path start goal → S′ ≡ S
+    → length known′ ≡ length known → length previous′ ≡ length previous → length path′ ≡ length path → Attemptable S′ blocked classes known′ previous′ path′ start goal
 able-kept A s k p q = rw s (record {
   grounds = A .grounds;
   memory = record { known-long = k ∙ A .memory .known-long; previous-long = p ∙ A .memory .previous-long; path-long = q ∙ A .memory .path-long };
@@ -157,17 +156,17 @@ able-kept A s k p q = rw s (record {
 })
 
 -- a cell v
-module _ {S : Site} {blocked classes known previous path : List ℕ} {start goal : ℕ} (A : Able S blocked classes known previous path start goal) (v : ℕ) {blocked′ : List ℕ} where
+module _ {S : Site} {blocked classes known previous path : List ℕ} {start goal : ℕ} (A : Attemptable S blocked classes known previous path start goal) (v : ℕ) {blocked′ : List ℕ} where
   -- once it is blocked, marks and room still fit together, and the next attempt can be made
   module _ (b : blocked′ ≡ markedBy (eqb v) blocked) where
-    pub able-marked : Fitting (S .room) (S .kinds) blocked′
+    pub able-marked : WorldFits (S .room) (S .kinds) blocked′
     able-marked = record {
       good = A .grounds .good;
       kinds-long = A .grounds .kinds-long;
       blocked-long = ap length b ∙ with-length 1 (eqb v) blocked ∙ A .grounds .blocked-long;
     }
 
-    pub able-next : {classes′ : List ℕ} → Says (S .room) (S .kinds) blocked′ start goal classes′ → Able S blocked′ classes′ known previous path start goal
+    pub able-next : {classes′ : List ℕ} → Says (S .room) (S .kinds) blocked′ start goal classes′ → Attemptable S blocked′ classes′ known previous path start goal
     able-next says = record {
       grounds = record {
         good = A .grounds .good;

@@ -20,17 +20,17 @@ use Rattle.blocked_world.specs.SeenLaws.{says-one}
 use Rattle.blocked_world.specs.RefreshLaws.{same-back, goal-left, refreshed-says}
 use Rattle.goals.specs.declared.Tried.{Tried}
 use Rattle.goals.specs.declared.Tried.the-variants.{Found, Failed, Full}
-use Rattle.goals.specs.Goals.{Site, full, maxAttempts, attempts, beats, cheaper, triedGoal, bestBelow, routeToTree}
-use Rattle.goals.specs.Trials.{told, Tells, siteOf, Able, GoesOn, KeepsCheaper}
+use Rattle.goals.specs.Goals.{Site, full, maxAttempts, attempts, beats, cheaperRoute, triedGoal, bestBelow, routeToTree}
+use Rattle.goals.specs.Trials.{told, Tells, siteOf, Attemptable, GoesOn, KeepsCheaper}
 use Rattle.goals.specs.AttemptLaws.{site-same, able-kept}
 use Rattle.goals.specs.SearchLaws.{tells-failed}
 
 -- ---- a goal's class bytes
 
-module _ {S : Site} {blocked classes known previous path : List ℕ} {start : ℕ} (A : Able S blocked classes known previous path start start) (goal : ℕ) (h : goal < volume (S .room)) where
+module _ {S : Site} {blocked classes known previous path : List ℕ} {start : ℕ} (A : Attemptable S blocked classes known previous path start start) (goal : ℕ) (h : goal < volume (S .room)) where
   -- the goal becomes an end
   pub able-towards : {classes′ : List ℕ} → classes′ ≡ refreshed (S .room) (S .kinds) blocked start goal goal classes
-      → Able S blocked classes′ known previous path start goal
+      → Attemptable S blocked classes′ known previous path start goal
   able-towards e = record {
     grounds = A .grounds;
     memory = A .memory;
@@ -52,14 +52,14 @@ module _ {S : Site} {blocked classes known previous path : List ℕ} {start : �
 module _ {path best : List ℕ} where
   -- the later goal came to nothing
   pub keeps-kept : (kept : Tried) → GoesOn kept → KeepsCheaper kept Failed path best kept best
-  unfolding cheaper
+  unfolding cheaperRoute
   keeps-kept (Found n cost) on = record { keeps = λ earlier later E L. rw (← E .is, ← L .is) (record { is = refl; fits = E .fits }) }
   keeps-kept Failed on = record { keeps = λ earlier later E L. rw (← E .is, ← L .is) (record { is = refl; fits = E .fits }) }
   keeps-kept (Full x) on = absurd on
 
   -- it found the queue full
   pub keeps-full : (kept : Tried) (x : _) → GoesOn kept → KeepsCheaper kept (Full x) path best (Full x) best
-  unfolding cheaper
+  unfolding cheaperRoute
   keeps-full (Found n cost) x on = record { keeps = λ earlier later E L. rw (← E .is, ← L .is) (record { is = refl; fits = omega arith }) }
   keeps-full Failed x on = record { keeps = λ earlier later E L. rw (← E .is, ← L .is) (record { is = refl; fits = omega arith }) }
   keeps-full (Full y) x on = absurd on
@@ -67,7 +67,7 @@ module _ {path best : List ℕ} where
   module _ (n : ℕ) (cost : Cost) where
     -- its route is not cheaper
     pub keeps-old : (kept : Tried) → GoesOn kept → beats (cost .0) (told kept []) ≡ false → KeepsCheaper kept (Found n cost) path best kept best
-    unfolding cheaper
+    unfolding cheaperRoute
     keeps-old (Found m other) on b = record { keeps = λ earlier later E L. rw (← E .is, ← L .is, b) (record { is = refl; fits = E .fits }) }
     keeps-old Failed on b = never (cc)
     keeps-old (Full y) on b = absurd on
@@ -75,7 +75,7 @@ module _ {path best : List ℕ} where
     -- its route is cheaper, and is copied
     pub keeps-new : (kept : Tried) → GoesOn kept → beats (cost .0) (told kept []) ≡ true → n ≤ length path → {best′ : List ℕ} → best′ ≡ take n path ++ drop n best
         → KeepsCheaper kept (Found n cost) path best (Found n cost) best′
-    unfolding cheaper
+    unfolding cheaperRoute
     keeps-new kept on b h {best′} e = go kept on b
       where
         front : take n best′ ≡ take n path
@@ -91,7 +91,7 @@ module _ {path best : List ℕ} where
 
 -- ---- one goal after another
 
-pub best-none : (S : Site) (start : ℕ) (blocked best : List ℕ) → Tells (bestBelow 0 S start blocked) Failed best
+best-none : (S : Site) (start : ℕ) (blocked best : List ℕ) → Tells (bestBelow 0 S start blocked) Failed best
 unfolding bestBelow
 best-none S start blocked best = tells-failed best
 
@@ -108,11 +108,11 @@ module _ (S : Site) (start goal : ℕ) (blocked : List ℕ) {best : List ℕ} {k
 
 -- a full queue ends it all
 full-stays : (S : Site) (start : ℕ) (blocked : List ℕ) (x n m : ℕ) → n ≤ m → full x ≡ bestBelow n S start blocked → full x ≡ bestBelow m S start blocked
-unfolding bestBelow cheaper
+unfolding bestBelow cheaperRoute
 full-stays S start blocked x n zero h e = let z : n ≡ 0 = omega arith in rw z at e
 full-stays S start blocked x n (suc m) h e = go (ℕ-discrete n (suc m)) (λ d. full-stays S start blocked x n m (omega arith) e)
   where
-    go : Dec (n ≡ suc m) → (n ≢ suc m → full x ≡ bestBelow m S start blocked) → full x ≡ cheaper (bestBelow m S start blocked) (triedGoal S start blocked m)
+    go : Dec (n ≡ suc m) → (n ≢ suc m → full x ≡ bestBelow m S start blocked) → full x ≡ cheaperRoute (bestBelow m S start blocked) (triedGoal S start blocked m)
     go (yes q) k = rw q at e
     go (no d) k = rw (← k d)
 
@@ -128,7 +128,7 @@ module _ (S : Site) (start n : ℕ) (blocked : List ℕ) {best : List ℕ} where
 -- ---- the loop over all goals
 
 -- those below `goal` are done; marks and class bytes are as at the start, and all memory is as long
-pub record Going (S : Site) (start goal : ℕ) (kept : Tried) (joinable₀ joinable blocked₀ blocked classes₀ classes known₀ known previous₀ previous path₀ path best₀ best queue₀ queue : List ℕ) : Type 0 where
+pub record GoalsTried (S : Site) (start goal : ℕ) (kept : Tried) (joinable₀ joinable blocked₀ blocked classes₀ classes known₀ known previous₀ previous path₀ path best₀ best queue₀ queue : List ℕ) : Type 0 where
   pub within : goal ≤ volume (S .room)
   pub on : GoesOn kept
   pub tells : Tells (bestBelow goal S start blocked₀) kept best
@@ -141,9 +141,9 @@ pub record Going (S : Site) (start goal : ℕ) (kept : Tried) (joinable₀ joina
   pub best-long : length best ≡ length best₀
   pub queue-long : length queue ≡ length queue₀
 
-pub going-first : (S : Site) (start : ℕ) (joinable blocked classes known previous path best queue : List ℕ)
-    → Going S start 0 Failed joinable joinable blocked blocked classes classes known known previous previous path path best best queue queue
-going-first S start joinable blocked classes known previous path best queue = record {
+pub goals-first : (S : Site) (start : ℕ) (joinable blocked classes known previous path best queue : List ℕ)
+    → GoalsTried S start 0 Failed joinable joinable blocked blocked classes classes known known previous previous path path best best queue queue
+goals-first S start joinable blocked classes known previous path best queue = record {
   within = omega arith;
   on = tt;
   tells = best-none S start blocked best;
@@ -159,31 +159,31 @@ going-first S start joinable blocked classes known previous path best queue = re
 
 module _ (R : Room) (C : RouterConfig) (kinds : List ℕ) {start goal : ℕ} {kept : Tried}
     {joinable₀ joinable blocked₀ blocked classes₀ classes known₀ known previous₀ previous path₀ path best₀ best queue₀ queue : List ℕ}
-    (G : Going (siteOf R C kinds joinable₀ queue₀) start goal kept joinable₀ joinable blocked₀ blocked classes₀ classes known₀ known previous₀ previous path₀ path best₀ best queue₀ queue) where
+    (G : GoalsTried (siteOf R C kinds joinable₀ queue₀) start goal kept joinable₀ joinable blocked₀ blocked classes₀ classes known₀ known previous₀ previous path₀ path best₀ best queue₀ queue) where
   same : siteOf R C kinds joinable queue ≡ siteOf R C kinds joinable₀ queue₀
   same = site-same R C kinds joinable₀ joinable queue₀ queue (G .joinable-is) (G .queue-long)
 
-  pub going-able : Able (siteOf R C kinds joinable₀ queue₀) blocked₀ classes₀ known₀ previous₀ path₀ start start
-      → Able (siteOf R C kinds joinable queue) blocked classes known previous path start start
-  going-able A = rw (G .blocked-is, G .classes-is) (able-kept A same (G .known-long) (G .previous-long) (G .path-long))
+  pub goals-able : Attemptable (siteOf R C kinds joinable₀ queue₀) blocked₀ classes₀ known₀ previous₀ path₀ start start
+      → Attemptable (siteOf R C kinds joinable queue) blocked classes known previous path start start
+  goals-able A = rw (G .blocked-is, G .classes-is) (able-kept A same (G .known-long) (G .previous-long) (G .path-long))
 
-  pub going-tells : Tells (bestBelow goal (siteOf R C kinds joinable queue) start blocked) kept best
-  going-tells = rw (same, G .blocked-is) (G .tells)
+  pub goals-tells : Tells (bestBelow goal (siteOf R C kinds joinable queue) start blocked) kept best
+  goals-tells = rw (same, G .blocked-is) (G .tells)
 
   -- what is said of the marks as they are is said of them as they were
-  pub going-told : (n : ℕ) {r : Tried} {best′ : List ℕ} → Tells (bestBelow n (siteOf R C kinds joinable queue) start blocked) r best′
+  pub goals-told : (n : ℕ) {r : Tried} {best′ : List ℕ} → Tells (bestBelow n (siteOf R C kinds joinable queue) start blocked) r best′
       → Tells (bestBelow n (siteOf R C kinds joinable₀ queue₀) start blocked₀) r best′
-  going-told n t = rw (same, G .blocked-is) at t
+  goals-told n t = rw (same, G .blocked-is) at t
 
-  pub going-next : goal < volume R → {kept′ : Tried} {joinable′ blocked′ classes′ known′ previous′ path′ best′ queue′ : List ℕ} → GoesOn kept′
+  pub goals-next : goal < volume R → {kept′ : Tried} {joinable′ blocked′ classes′ known′ previous′ path′ best′ queue′ : List ℕ} → GoesOn kept′
       → Tells (bestBelow (goal + 1) (siteOf R C kinds joinable queue) start blocked) kept′ best′
       → (joinable′ ≡ joinable) × (blocked′ ≡ blocked) × (classes′ ≡ classes)
       → length known′ ≡ length known → length previous′ ≡ length previous → length path′ ≡ length path → length best′ ≡ length best → length queue′ ≡ length queue
-      → Going (siteOf R C kinds joinable₀ queue₀) start (goal + 1) kept′ joinable₀ joinable′ blocked₀ blocked′ classes₀ classes′ known₀ known′ previous₀ previous′ path₀ path′ best₀ best′ queue₀ queue′
-  going-next h on t kept k p q b u = record {
+      → GoalsTried (siteOf R C kinds joinable₀ queue₀) start (goal + 1) kept′ joinable₀ joinable′ blocked₀ blocked′ classes₀ classes′ known₀ known′ previous₀ previous′ path₀ path′ best₀ best′ queue₀ queue′
+  goals-next h on t kept k p q b u = record {
     within = omega arith;
     on = on;
-    tells = going-told (goal + 1) t;
+    tells = goals-told (goal + 1) t;
     joinable-is = kept .0 ∙ G .joinable-is;
     blocked-is = kept .1 ∙ G .blocked-is;
     classes-is = kept .2 ∙ G .classes-is;

@@ -11,7 +11,7 @@ use Rattle.room.specs.declared.Neighbour.{Neighbour}
 use Rattle.room.specs.declared.Neighbour.the-variants.{Inside, Outside}
 use Rattle.room.specs.Room.{volume}
 use Rattle.best_first.specs.Search.{Answer, route, no-route, limit-passed, queue-full}
-use Rattle.room_search.specs.Routing.{Task, routeable, searched}
+use Rattle.room_search.specs.Routing.{Task, anEnd, routeable, searched}
 use Rattle.routing_resources.specs.Marks.{markedBy, isMarked}
 use Rattle.geometry.specs.Geometry.{conflictOf}
 use Rattle.blocked_world.specs.BlockedWorld.{seenTask}
@@ -47,7 +47,7 @@ searchedFor T = either (routeable T (T .start)) (either (routeable T (T .goal)) 
 
 -- "A conflict that is start, goal or blocked already ends the goal"
 abbrev pub endsGoal : List ℕ → ℕ → ℕ → ℕ → Bool
-endsGoal blocked start goal v = eqb v start || (eqb v goal || isMarked blocked v)
+endsGoal blocked start goal v = anEnd start goal v || isMarked blocked v
 
 -- "any other is blocked for this goal and the search repeats"
 unfoldable pub atConflict : List ℕ → ℕ → ℕ → (List ℕ → Trial) → Trial → Neighbour → Trial
@@ -55,6 +55,7 @@ atConflict blocked start goal again kept Outside = kept
 atConflict blocked start goal again kept (Inside v) =
     either (endsGoal blocked start goal v) failed (again (markedBy (eqb v) blocked))
 
+-- what comes of a search: its route's conflict is looked for in the unblocked room; without a route the goal is ended
 unfoldable pub afterSearch : Site → List ℕ → ℕ → ℕ → (List ℕ → Trial) → Trial → Trial
 afterSearch S blocked start goal again (found path cost) =
     atConflict blocked start goal again (found path cost) (conflictOf (S .room) (S .kinds) (S .joinable) path)
@@ -82,12 +83,12 @@ beats cost failed = true
 beats cost (full x) = false
 
 -- of what is kept and what a later goal came to. A goal whose queue is full ends it all
-unfoldable pub cheaper : Trial → Trial → Trial
-cheaper (full x) later = full x
-cheaper failed later = later
-cheaper (found path cost) (found path′ cost′) = either (beats cost′ (found path cost)) (found path′ cost′) (found path cost)
-cheaper (found path cost) failed = found path cost
-cheaper (found path cost) (full x) = full x
+unfoldable pub cheaperRoute : Trial → Trial → Trial
+cheaperRoute (full x) later = full x
+cheaperRoute failed later = later
+cheaperRoute (found path cost) (found path′ cost′) = either (beats cost′ (found path cost)) (found path′ cost′) (found path cost)
+cheaperRoute (found path cost) failed = found path cost
+cheaperRoute (found path cost) (full x) = full x
 
 -- "Each searches from its approach to every joinable cell in number order"
 unfoldable pub triedGoal : Site → ℕ → List ℕ → ℕ → Trial
@@ -96,7 +97,8 @@ triedGoal S start blocked goal = either (isMarked (S .joinable) goal) (attempts 
 -- the goals below n
 unfoldable pub bestBelow : ℕ → Site → ℕ → List ℕ → Trial
 bestBelow zero S start blocked = failed
-bestBelow (suc n) S start blocked = cheaper (bestBelow n S start blocked) (triedGoal S start blocked n)
+bestBelow (suc n) S start blocked = cheaperRoute (bestBelow n S start blocked) (triedGoal S start blocked n)
 
+-- the first strictly cheapest route of all goals
 unfoldable pub routeToTree : Site → ℕ → List ℕ → Trial
 routeToTree S start blocked = bestBelow (volume (S .room)) S start blocked

@@ -1,5 +1,6 @@
 pub mod Goals
 pub mod Trials
+pub mod Routes
 pub mod SearchLaws
 pub mod PathLaws
 pub mod AttemptLaws

@@ -10,7 +10,7 @@ use Rattle.basics.specs.Tests.{either, ask, never}
 use Rattle.room.specs.declared.Room.{Room}
 use Rattle.room.specs.declared.Neighbour.{Neighbour}
 use Rattle.room.specs.declared.Neighbour.the-variants.{Inside, Outside}
-use Rattle.room.specs.Room.{Good, volume, above}
+use Rattle.room.specs.Room.{Good, volume, orElse, above}
 use Rattle.room.specs.RoomLaws.{above-in, same-cell, inside-passed}
 use Rattle.room.specs.Units.{air}
 use Rattle.best_first.specs.Search.{Graph, Answer, route, no-route, limit-passed, queue-full}
@@ -20,12 +20,12 @@ use Rattle.best_first.specs.Reached.{Ending, empty, arrives, passes, fills, end
 use Rattle.best_first.specs.Theorems.{honest}
 use Rattle.room_search.specs.Routing.{Task, routeable, entering, graphOf, graph, searched}
 use Rattle.room_search.specs.GraphLaws.{sound}
-use Rattle.trace.specs.TraceLaws.{path-short}
+use Rattle.trace.specs.TraceLaws.{trace-short}
 use Rattle.routing_resources.specs.Resources.{clearanceOf}
 use Rattle.routing_resources.specs.ResourceLaws.{clearance-in}
-use Rattle.geometry.specs.Geometry.{orElse, firstPair, ifPassed, atClearance, stairConflict, conflictAmong, conflictOf, upperOfPair, conductor, standsIn}
+use Rattle.geometry.specs.Geometry.{firstPair, ifPassed, atClearance, stairConflict, conflictAmong, conflictOf, upperOfPair, conductor, standsIn}
 use Rattle.goals.specs.Goals.{found, failed, trialOf, searchedFor}
-use Rattle.geometry.specs.PairLaws.{first-passed}
+use Rattle.room.specs.PlaceLaws.{first-passed}
 use Rattle.routing_resources.specs.Marks.{AllCells}
 
 -- ---- a path found
@@ -91,7 +91,7 @@ found-short {T} F = subst AtMost (F .is) (short (ending (graph T) (T .config .li
 
     short : {a : Answer} {l : List ℕ} → Ending (graph T) (T .config .limit .0) a l → AtMost a
     short (empty r w) = tt
-    short (arrives t r k e) = path-short _ _ _
+    short (arrives {s = s} t r k e) = omega (arith, trace-short (volume (T .room)) (s .previous) (T .goal) [])
     short (passes t r k e w) = tt
     short (fills t r k e w) = tt
 

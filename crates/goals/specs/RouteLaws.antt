@@ -1,16 +1,14 @@
--- What a route to the tree is: the route of the last attempt for a joinable goal, with more cells blocked or as many, and without conflict.
+-- A route to the tree is what Routes says: the route of the last attempt for the first goal with a cheapest one. Then its cells, one by one.
 use mathlib.Core.Path.{_≡_, refl, sym, ap, _∙_}
-use mathlib.Core.Logic.{_⊎_, inl, inr}
-use mathlib.Core.Bool.{Bool, true, or-true}
+use mathlib.Core.Bool.{true, false}
 use mathlib.Core.List.{List, [], _∷_}
 use Prim.Native.Nat.{ℕ, zero, suc, _+_, _≤_, _<_}
 use native.Mathlib.Numerals.{add-one}
 use native.Mathlib.Omega.{arith}
-use lib.Dec.{eqb, leb, ltb}
-use lib.ListN.{length, getD, List·getD-eq-default}
-use borrow.Author.Tests.{leb-true, leb-false}
+use lib.Dec.{eqb, ltb}
+use lib.ListN.{length, getD}
+use borrow.Author.Tests.{eqb-true, eqb-false, ltb-true, ltb-false}
 use Rattle.basics.specs.Tests.{ask, never}
-use Rattle.room.specs.declared.Move.{Move}
 use Rattle.room.specs.declared.Neighbour.{Neighbour}
 use Rattle.room.specs.declared.Neighbour.the-variants.{Inside, Outside}
 use Rattle.room.specs.Room.{volume, moves, Step}
@@ -22,105 +20,161 @@ use Rattle.best_first.specs.Statements.{Lawful}
 use Rattle.room_search.specs.Routing.{Task, entering, graphOf, graph}
 use Rattle.room_search.specs.GraphLaws.{made}
 use Rattle.routing_resources.specs.Marks.{isMarked, markedBy, AllCells}
-use Rattle.routing_resources.specs.MarkLaws.{marked-after}
 use Rattle.geometry.specs.Geometry.{conflictOf}
-use Rattle.goals.specs.Goals.{Site, Trial, found, failed, full, searchedFor, atConflict, afterSearch, maxAttempts, attempts, cheaper, triedGoal, bestBelow, routeToTree, taskSeen, endsGoal}
+use Rattle.goals.specs.Goals.{Site, Trial, found, failed, full, searchedFor, atConflict, afterSearch, maxAttempts, attempts, cheaperRoute, triedGoal, bestBelow, routeToTree, taskSeen, endsGoal}
+use Rattle.goals.specs.Routes.{as-blocked, one-more, Reaches, Joins}
 use Rattle.goals.specs.PathLaws.{FoundBy, found-by, found-lawful, found-cells, found-short}
-
--- one goal's route: what was blocked at its last attempt, and that it was found so and has no conflict
-pub record Reaches (S : Site) (blocked : List ℕ) (start goal : ℕ) (path : List ℕ) (cost : ℕ) : Type 0 where
-  pub blocked-last : List ℕ
-  pub more : (v : ℕ) → isMarked blocked v ≡ true → isMarked blocked-last v ≡ true
-  pub by : FoundBy (taskSeen S blocked-last start goal) path cost
-  pub free : conflictOf (S .room) (S .kinds) (S .joinable) path ≡ Outside
-
-still-marked : (test : ℕ → Bool) (marks : List ℕ) (v : ℕ) → isMarked marks v ≡ true → isMarked (markedBy test marks) v ≡ true
-still-marked test marks v e =
-    ask (leb (length marks) v)
-    (λ t. never (cc (rw (List·getD-eq-default marks 0 {n = v} (leb-true _ _ t)) at e)))
-    (λ f. marked-after test marks v (leb-false _ _ f) ∙ rw e (or-true (test v)))
 
 same-path : (p q : List ℕ) (c d : ℕ) → found p c ≡ found q d → (p ≡ q) × (c ≡ d)
 same-path p q c d e = (cc, cc)
 
+-- ---- one goal
+
 module _ (S : Site) (start goal : ℕ) where
-  attempts-reach : (n : ℕ) (blocked path : List ℕ) (cost : ℕ) → attempts n S start goal blocked ≡ found path cost → Reaches S blocked start goal path cost
+  attempts-reach : (n : ℕ) (blocked path : List ℕ) (cost : ℕ) → attempts n S start goal blocked ≡ found path cost → Reaches S n blocked start goal path cost
   unfolding attempts afterSearch atConflict
   attempts-reach zero blocked path cost e = never (cc)
   attempts-reach (suc n) blocked path cost e = after (searchedFor (taskSeen S blocked start goal)) refl e (attempts-reach n)
     where
-      -- what the later attempts reach from more blocked cells
-      more-blocked : (v : ℕ) → Reaches S (markedBy (eqb v) blocked) start goal path cost → Reaches S blocked start goal path cost
-      more-blocked v r = record { blocked-last = r .blocked-last; more = λ u m. r .more u (still-marked (eqb v) blocked u m); by = r .by; free = r .free }
-
       at : (p : List ℕ) (c : ℕ) → searchedFor (taskSeen S blocked start goal) ≡ found p c
           → (place : Neighbour) → conflictOf (S .room) (S .kinds) (S .joinable) p ≡ place
           → atConflict blocked start goal (attempts n S start goal) (found p c) place ≡ found path cost
-          → ((blocked′ path′ : List ℕ) (cost′ : ℕ) → attempts n S start goal blocked′ ≡ found path′ cost′ → Reaches S blocked′ start goal path′ cost′)
-          → Reaches S blocked start goal path cost
+          → ((blocked′ path′ : List ℕ) (cost′ : ℕ) → attempts n S start goal blocked′ ≡ found path′ cost′ → Reaches S n blocked′ start goal path′ cost′)
+          → Reaches S (suc n) blocked start goal path cost
       at p c w Outside f q later =
           let same = same-path p path c cost q in
-          record { blocked-last = blocked; more = λ v m. m; by = found-by _ path cost (rw (← same .0, ← same .1) w); free = rw (← same .0) f }
+          record { conflicts = 0; few = omega arith; blocked-last = blocked; after = as-blocked; found-so = rw (← same .0, ← same .1) w; free = rw (← same .0) f }
       at p c w (Inside v) f q later =
           ask (endsGoal blocked start goal v)
           (λ t. never (cc (rw t at q)))
-          (λ n. more-blocked v (later (markedBy (eqb v) blocked) path cost (rw n at q)))
+          (λ goes-on. one-before goes-on (later (markedBy (eqb v) blocked) path cost (rw goes-on at q)))
+        where
+          -- what the later attempts reach from one more blocked cell
+          one-before : endsGoal blocked start goal v ≡ false → Reaches S n (markedBy (eqb v) blocked) start goal path cost → Reaches S (suc n) blocked start goal path cost
+          one-before goes-on r = record {
+            conflicts = suc (r .conflicts);
+            few = omega (arith, r .few);
+            blocked-last = r .blocked-last;
+            after = one-more w f goes-on (r .after);
+            found-so = r .found-so;
+            free = r .free;
+          }
 
       after : (trial : Trial) → searchedFor (taskSeen S blocked start goal) ≡ trial
           → afterSearch S blocked start goal (attempts n S start goal) trial ≡ found path cost
-          → ((blocked′ path′ : List ℕ) (cost′ : ℕ) → attempts n S start goal blocked′ ≡ found path′ cost′ → Reaches S blocked′ start goal path′ cost′)
-          → Reaches S blocked start goal path cost
+          → ((blocked′ path′ : List ℕ) (cost′ : ℕ) → attempts n S start goal blocked′ ≡ found path′ cost′ → Reaches S n blocked′ start goal path′ cost′)
+          → Reaches S (suc n) blocked start goal path cost
       after (found p c) w q later = at p c w (conflictOf (S .room) (S .kinds) (S .joinable) p) refl q later
       after failed w q later = never (cc)
       after (full x) w q later = never (cc)
 
--- the cheaper of two is one of them
-cheaper-one : (a b : Trial) (path : List ℕ) (cost : ℕ) → cheaper a b ≡ found path cost → (a ≡ found path cost) ⊎ (b ≡ found path cost)
-unfolding cheaper
-cheaper-one (full x) b path cost e = never (cc)
-cheaper-one failed b path cost e = inr e
-cheaper-one (found p c) (found q d) path cost e = ask (ltb d c) (λ t. inr (rw t at e)) (λ f. inl (rw f at e))
-cheaper-one (found p c) failed path cost e = inl e
-cheaper-one (found p c) (full x) path cost e = never (cc)
+-- ---- the cheapest goal
 
--- one sink's route: its goal is a joinable cell
-pub record Joins (S : Site) (blocked : List ℕ) (start : ℕ) (path : List ℕ) (cost : ℕ) : Type 0 where
-  pub goal : ℕ
-  pub goal-in : goal < volume (S .room)
-  pub joinable : isMarked (S .joinable) goal ≡ true
-  pub reaches : Reaches S blocked start goal path cost
+both-failed : (a b : Trial) → cheaperRoute a b ≡ failed → (a ≡ failed) × (b ≡ failed)
+unfolding cheaperRoute
+both-failed (full x) b e = never (cc)
+both-failed failed b e = (refl, e)
+both-failed (found p c) (found q d) e = ask (ltb d c) (λ t. other (rw t at e)) (λ f. other (rw f at e))
+  where
+    other : {p′ : List ℕ} {c′ : ℕ} → found p′ c′ ≡ failed → (found p c ≡ failed) × (found q d ≡ failed)
+    other z = never (cc)
+both-failed (found p c) failed e = never (cc)
+both-failed (found p c) (full x) e = never (cc)
 
-module _ (S : Site) (start : ℕ) (blocked path : List ℕ) (cost : ℕ) where
-  below-joins : (n : ℕ) → n ≤ volume (S .room) → bestBelow n S start blocked ≡ found path cost → Joins S blocked start path cost
-  unfolding bestBelow triedGoal
-  below-joins zero h e = never (cc)
-  below-joins (suc n) h e = go (cheaper-one (bestBelow n S start blocked) (triedGoal S start blocked n) path cost e) (below-joins n (omega arith))
+module _ (S : Site) (start : ℕ) (blocked : List ℕ) where
+  -- where no goal's route is kept, none has one
+  pub below-failed : (n : ℕ) → bestBelow n S start blocked ≡ failed → (goal : ℕ) → goal < n → triedGoal S start blocked goal ≡ failed
+  unfolding bestBelow
+  below-failed zero e goal h = absurd (omega arith)
+  below-failed (suc n) e goal h =
+      let both = both-failed (bestBelow n S start blocked) (triedGoal S start blocked n) e in
+      ask (eqb goal n)
+      (λ t. rw (eqb-true goal n t) (both .1))
+      (λ f. below-failed n (both .0) goal (omega (arith, h, eqb-false goal n f)))
+
+  -- of the goals below n, this one's route is kept
+  record Kept (n : ℕ) (path : List ℕ) (cost : ℕ) : Type 0 where
+    goal : ℕ
+    goal-below : goal < n
+    its-route : triedGoal S start blocked goal ≡ found path cost
+    least : (other : ℕ) → other < n → (path′ : List ℕ) (cost′ : ℕ) → triedGoal S start blocked other ≡ found path′ cost′ → cost ≤ cost′
+    first : (other : ℕ) → other < goal → (path′ : List ℕ) (cost′ : ℕ) → triedGoal S start blocked other ≡ found path′ cost′ → cost < cost′
+
+  module _ (n : ℕ) where
+    -- the last goal's route, where none before it has one as cheap
+    last-kept : (path : List ℕ) (cost : ℕ) → triedGoal S start blocked n ≡ found path cost
+        → ((other : ℕ) → other < n → (path′ : List ℕ) (cost′ : ℕ) → triedGoal S start blocked other ≡ found path′ cost′ → cost < cost′) → Kept (suc n) path cost
+    last-kept path cost t above = record { goal = n; goal-below = omega arith; its-route = t; least = least; first = above }
+      where
+        least : (other : ℕ) → other < suc n → (path′ : List ℕ) (cost′ : ℕ) → triedGoal S start blocked other ≡ found path′ cost′ → cost ≤ cost′
+        least other h path′ cost′ r =
+            ask (eqb other n)
+            (λ q. omega (arith, same-path path path′ cost cost′ (sym t ∙ rw (eqb-true other n q) at r) .1))
+            (λ f. omega (arith, above other (omega (arith, h, eqb-false other n f)) path′ cost′ r))
+
+    -- the route kept before, where the last goal has none that is cheaper
+    still-kept : {path : List ℕ} {cost : ℕ} → Kept n path cost
+        → ((path′ : List ℕ) (cost′ : ℕ) → triedGoal S start blocked n ≡ found path′ cost′ → cost ≤ cost′) → Kept (suc n) path cost
+    still-kept {path} {cost} K none = record { goal = K .goal; goal-below = omega (arith, K .goal-below); its-route = K .its-route; least = least; first = K .first }
+      where
+        least : (other : ℕ) → other < suc n → (path′ : List ℕ) (cost′ : ℕ) → triedGoal S start blocked other ≡ found path′ cost′ → cost ≤ cost′
+        least other h path′ cost′ r =
+            ask (eqb other n)
+            (λ q. none path′ cost′ (rw (eqb-true other n q) at r))
+            (λ f. K .least other (omega (arith, h, eqb-false other n f)) path′ cost′ r)
+
+  below-kept : (n : ℕ) (path : List ℕ) (cost : ℕ) → bestBelow n S start blocked ≡ found path cost → Kept n path cost
+  unfolding bestBelow cheaperRoute
+  below-kept zero path cost e = never (cc)
+  below-kept (suc n) path cost e = go (bestBelow n S start blocked) refl (triedGoal S start blocked n) refl e (below-kept n)
     where
-      go : (bestBelow n S start blocked ≡ found path cost) ⊎ (triedGoal S start blocked n ≡ found path cost) → (bestBelow n S start blocked ≡ found path cost → Joins S blocked start path cost)
-          → Joins S blocked start path cost
-      go (inl q) earlier = earlier q
-      go (inr q) earlier =
-          ask (isMarked (S .joinable) n)
-          (λ t. record { goal = n; goal-in = omega arith; joinable = t; reaches = attempts-reach S start n maxAttempts blocked path cost (rw t at q) })
-          (λ f. never (cc (rw f at q)))
+      go : (a : Trial) → bestBelow n S start blocked ≡ a → (b : Trial) → triedGoal S start blocked n ≡ b → cheaperRoute a b ≡ found path cost
+          → ((path′ : List ℕ) (cost′ : ℕ) → bestBelow n S start blocked ≡ found path′ cost′ → Kept n path′ cost′) → Kept (suc n) path cost
+      go (full x) u b t q earlier = never (cc)
+      go failed u b t q earlier = last-kept n path cost (t ∙ q) (λ other h path′ cost′ r. never (cc (sym r ∙ below-failed n u other h)))
+      go (found p c) u (found p′ c′) t q earlier = ask (ltb c′ c) (λ y. later-one y (same-path p′ path c′ cost (rw y at q))) (λ f. earlier-one f (same-path p path c cost (rw f at q)))
+        where
+          later-one : ltb c′ c ≡ true → (p′ ≡ path) × (c′ ≡ cost) → Kept (suc n) path cost
+          later-one y s = last-kept n path cost (rw (← s .0, ← s .1) t) (λ other h l d r. omega (arith, s .1, ltb-true c′ c y, earlier p c u .least other h l d r))
 
-  pub tree-joins : routeToTree S start blocked ≡ found path cost → Joins S blocked start path cost
-  unfolding routeToTree
-  tree-joins e = below-joins (volume (S .room)) (omega arith) e
+          earlier-one : ltb c′ c ≡ false → (p ≡ path) × (c ≡ cost) → Kept (suc n) path cost
+          earlier-one f s = still-kept n (earlier path cost (rw (← s .0, ← s .1) u)) (λ l d r. omega (arith, s .1, ltb-false c′ c f, same-path p′ l c′ d (sym t ∙ r) .1))
+      go (found p c) u failed t q earlier = still-kept n (earlier path cost (u ∙ q)) (λ l d r. never (cc (sym t ∙ r)))
+      go (found p c) u (full x) t q earlier = never (cc)
+
+  pub tree-joins : (path : List ℕ) (cost : ℕ) → routeToTree S start blocked ≡ found path cost → Joins S blocked start path cost
+  unfolding routeToTree triedGoal
+  tree-joins path cost e = go (below-kept (volume (S .room)) path cost e)
+    where
+      go : Kept (volume (S .room)) path cost → Joins S blocked start path cost
+      go K =
+          ask (isMarked (S .joinable) (K .goal))
+          (λ t. record {
+            goal = K .goal;
+            goal-in = K .goal-below;
+            joinable = t;
+            reaches = attempts-reach S start (K .goal) maxAttempts blocked path cost (rw t at (K .its-route));
+            cheapest-goal = K .least;
+            first-such = K .first;
+          })
+          (λ f. never (cc (rw f at (K .its-route))))
 
 -- so the path begins with the start, is a way of the search's moves to the goal, has at most V cells, and these are cells of the room
 module _ {S : Site} {blocked : List ℕ} {start : ℕ} {path : List ℕ} {cost : ℕ} (start-in : start < volume (S .room)) (J : Joins S blocked start path cost) where
   abbrev T : Task
   T = taskSeen S (J .reaches .blocked-last) start (J .goal)
 
+  by-search : FoundBy T path cost
+  by-search = found-by T path cost (J .reaches .found-so)
+
   pub joins-lawful : Lawful (graph T) path cost
-  joins-lawful = found-lawful start-in (J .goal-in) (J .reaches .by)
+  joins-lawful = found-lawful start-in (J .goal-in) by-search
 
   pub joins-cells : AllCells (S .room) path
-  joins-cells = found-cells start-in (J .goal-in) (J .reaches .by)
+  joins-cells = found-cells start-in (J .goal-in) by-search
 
   pub joins-short : length path ≤ volume (S .room)
-  joins-short = found-short (J .reaches .by)
+  joins-short = found-short by-search
 
 -- ---- its cells one by one
 

@@ -7,8 +7,7 @@ use native.Mathlib.Omega.{arith}
 use lib.Dec.{eqb}
 use lib.ListN.{length, getD, drop, length-append}
 use lib.Seq.{take-at}
-use borrow.Author.Tests.{eq-eqb}
-use Rattle.basics.specs.Tests.{either, never, and-left, and-right, either-same}
+use Rattle.basics.specs.Tests.{either, never, and-left, and-right}
 use Rattle.room.specs.declared.Room.{Room}
 use Rattle.room.specs.declared.RouterConfig.{RouterConfig}
 use Rattle.room.specs.declared.Cost.{Cost}
@@ -18,6 +17,7 @@ use Rattle.best_first.specs.Search.{trace}
 use Rattle.room_search.specs.declared.Outcome.{Outcome}
 use Rattle.room_search.specs.declared.Outcome.the-variants.{Arrived, NoRoute, LimitPassed, QueueFull}
 use Rattle.room_search.specs.Routing.{Task, routeableKind, routeable, graphOf, searched, anEnd}
+use Rattle.room_search.specs.EndLaws.{start-is-end, goal-is-end}
 use Rattle.room_search.specs.Steps.{placesOf}
 use Rattle.room_search.specs.Turns.{Ran, graphIn, spotOf}
 use Rattle.blocked_world.specs.BlockedWorld.{countsAsSolid, seenKind, seenTask}
@@ -25,7 +25,7 @@ use Rattle.blocked_world.specs.SeenLaws.{seen-at, says-graph}
 use Rattle.goals.specs.declared.Tried.{Tried}
 use Rattle.goals.specs.declared.Tried.the-variants.{Found, Failed, Full}
 use Rattle.goals.specs.Goals.{found, failed, trialOf, searchedFor}
-use Rattle.goals.specs.Trials.{told, Tells, bothRouteable, Shown, SearchTold}
+use Rattle.goals.specs.Trials.{told, Tells, bothRouteable, TriedOf, SearchTold}
 
 -- ---- the answer
 
@@ -41,20 +41,20 @@ tells-route cells n cost path price path′ e h p w = record {
 }
 
 -- by cases of the outcome
-module _ {size goal : ℕ} {known previous : List ℕ} where
-  pub shown-route : (x : _) {r : Tried} {cells : List ℕ} → Tells (found (trace size previous goal []) (pred (getD known goal 0))) r cells
-      → Shown (Arrived x) size goal known previous r cells
-  shown-route x t = record { shows = λ G answer s g A. rw (A .is, s, g) t }
+module _ {goal : ℕ} {known previous : List ℕ} where
+  pub outcome-route : (x : _) {r : Tried} {cells : List ℕ} → Tells (found (trace (length previous) previous goal []) (pred (getD known goal 0))) r cells
+      → TriedOf (Arrived x) goal known previous r cells
+  outcome-route x t = record { shows = λ G answer s g A. rw (A .is, s, g) t }
 
   module _ (cells : List ℕ) where
-    pub shown-none : (x : _) → Shown (NoRoute x) size goal known previous Failed cells
-    shown-none x = record { shows = λ G answer s g e. rw e (tells-failed cells) }
+    pub outcome-none : (x : _) → TriedOf (NoRoute x) goal known previous Failed cells
+    outcome-none x = record { shows = λ G answer s g e. rw e (tells-failed cells) }
 
-    pub shown-limit : (x : _) → Shown (LimitPassed x) size goal known previous Failed cells
-    shown-limit x = record { shows = λ G answer s g e. rw e (tells-failed cells) }
+    pub outcome-limit : (x : _) → TriedOf (LimitPassed x) goal known previous Failed cells
+    outcome-limit x = record { shows = λ G answer s g e. rw e (tells-failed cells) }
 
-    pub shown-full : (x : _) → Shown (QueueFull x) size goal known previous (Full x) cells
-    shown-full x = record { shows = λ G answer s g e. rw e (record { is = refl; fits = omega arith }) }
+    pub outcome-full : (x : _) → TriedOf (QueueFull x) goal known previous (Full x) cells
+    outcome-full x = record { shows = λ G answer s g e. rw e (record { is = refl; fits = omega arith }) }
 
 -- ---- the ends
 
@@ -69,12 +69,12 @@ module _ (R : Room) (C : RouterConfig) (kinds blocked : List ℕ) (start goal pl
 
   module _ (start-in : start < volume R) (goal-in : goal < volume R) where
     start-free : routeable T start ≡ routeableKind true (getD kinds start air)
-    start-free = end-free start start-in (rw (eq-eqb start start refl))
+    start-free = end-free start start-in (start-is-end start goal)
 
     goal-free : routeable T goal ≡ routeableKind true (getD kinds goal air)
-    goal-free = end-free goal goal-in (rw (eq-eqb goal goal refl) (either-same (eqb goal start) true))
+    goal-free = end-free goal goal-in (goal-is-end start goal)
 
-    pub not-routeable : bothRouteable kinds start goal ≡ false → searchedFor T ≡ failed
+    not-routeable : bothRouteable kinds start goal ≡ false → searchedFor T ≡ failed
     unfolding searchedFor
     not-routeable e = rw (start-free, goal-free) (go (routeableKind true (getD kinds start air)) (routeableKind true (getD kinds goal air)) e)
       where
@@ -83,7 +83,7 @@ module _ (R : Room) (C : RouterConfig) (kinds blocked : List ℕ) (start goal pl
         go true false q = refl
         go false b q = refl
 
-    pub ends-routeable : bothRouteable kinds start goal ≡ true → searchedFor T ≡ trialOf (searched T)
+    ends-routeable : bothRouteable kinds start goal ≡ true → searchedFor T ≡ trialOf (searched T)
     unfolding searchedFor
     ends-routeable e =
         rw (start-free, goal-free, and-left (routeableKind true (getD kinds start air)) (routeableKind true (getD kinds goal air)) e, and-right (routeableKind true (getD kinds start air)) (routeableKind true (getD kinds goal air)) e)
@@ -98,10 +98,10 @@ module _ {R : Room} {C : RouterConfig} {classes queue : List ℕ} {start goal : 
     }
 
     pub told-searched : bothRouteable kinds start goal ≡ true → {o : Outcome} {known previous : List ℕ} → Ran R C classes queue (spotOf R start) (spotOf R goal) o known previous
-        → {r : Tried} {cells : List ℕ} → Shown o (volume R) goal known previous r cells → SearchTold R C kinds classes queue start goal r cells
+        → length previous ≡ volume R → {r : Tried} {cells : List ℕ} → TriedOf o goal known previous r cells → SearchTold R C kinds classes queue start goal r cells
     unfolding searched graphOf
-    told-searched e ran shown = record {
+    told-searched e ran n shown = record {
       tells = λ blocked says.
           rw (ends-routeable R C kinds blocked start goal (placesOf queue) long start-in goal-in e, ← says-graph R kinds blocked start goal says C (placesOf queue))
-          (shown .shows (graphIn R C classes start goal queue) _ refl refl (ran .told));
+          (shown .shows (graphIn R C classes start goal queue) _ (sym n) refl (ran .told));
     }

@@ -8,20 +8,20 @@ use lib.ListN.{length, getD, take}
 use Rattle.room.specs.declared.Room.{Room}
 use Rattle.room.specs.declared.RouterConfig.{RouterConfig}
 use Rattle.room.specs.Room.{Good, volume}
-use Rattle.room.specs.Units.{Fair, air}
+use Rattle.room.specs.Units.{GoodConfig, air}
 use Rattle.best_first.specs.Search.{Graph, Answer}
 use Rattle.room_search.specs.declared.Outcome.{Outcome}
 use Rattle.room_search.specs.Routing.{routeableKind}
 use Rattle.room_search.specs.Steps.{placesOf}
 use Rattle.room_search.specs.Turns.{Told}
-use Rattle.routing_resources.specs.Marks.{isMarked, markedBy}
-use Rattle.geometry.specs.Geometry.{NoPair, Marks}
+use Rattle.routing_resources.specs.Marks.{isMarked, markedBy, Marks}
+use Rattle.geometry.specs.Geometry.{NoPair}
 use Rattle.blocked_world.specs.BlockedWorld.{seenTask, Says}
 use Rattle.goals.specs.declared.Tried.{Tried}
 use Rattle.goals.specs.declared.Tried.the-variants.{Found, Failed, Full}
 use Rattle.goals.specs.declared.Attempt.{Attempt}
 use Rattle.goals.specs.declared.Attempt.the-variants.{Ended, Conflict}
-use Rattle.goals.specs.Goals.{Site, Trial, found, failed, full, trialOf, searchedFor, attemptThen, cheaper}
+use Rattle.goals.specs.Goals.{Site, Trial, found, failed, full, trialOf, searchedFor, attemptThen, cheaperRoute}
 
 -- what an answer says, with the buffer that has the path's cells in front
 abbrev pub told : Tried → List ℕ → Trial
@@ -30,14 +30,14 @@ told Failed cells = failed
 told (Full x) cells = full (x .0)
 
 -- how many cells the path has
-abbrev pub cellsOf : Tried → ℕ
-cellsOf (Found n cost) = n
-cellsOf Failed = 0
-cellsOf (Full x) = 0
+abbrev pub lengthOf : Tried → ℕ
+lengthOf (Found n cost) = n
+lengthOf Failed = 0
+lengthOf (Full x) = 0
 
 pub record Tells (trial : Trial) (r : Tried) (cells : List ℕ) : Type 0 where
   pub is : told r cells ≡ trial
-  pub fits : cellsOf r ≤ length cells
+  pub fits : lengthOf r ≤ length cells
 
 -- ---- one search
 
@@ -46,8 +46,8 @@ abbrev pub bothRouteable : List ℕ → ℕ → ℕ → Bool
 bothRouteable kinds start goal = routeableKind true (getD kinds start air) && routeableKind true (getD kinds goal air)
 
 -- what is made of a search's outcome: the answer, and the path where there is one
-pub record Shown (o : Outcome) (size goal : ℕ) (known previous : List ℕ) (r : Tried) (cells : List ℕ) : Type 0 where
-  pub shows : (G : Graph) (answer : Answer) → G .size ≡ size → G .goal ≡ goal → Told G answer known previous o → Tells (trialOf answer) r cells
+pub record TriedOf (o : Outcome) (goal : ℕ) (known previous : List ℕ) (r : Tried) (cells : List ℕ) : Type 0 where
+  pub shows : (G : Graph) (answer : Answer) → G .size ≡ length previous → G .goal ≡ goal → Told G answer known previous o → Tells (trialOf answer) r cells
 
 -- whatever is blocked: where the class bytes say what is seen, it is the search over that
 pub record SearchTold (R : Room) (C : RouterConfig) (kinds classes queue : List ℕ) (start goal : ℕ) (r : Tried) (cells : List ℕ) : Type 0 where
@@ -62,7 +62,7 @@ siteOf R C kinds joinable queue = record { room = R; config = C; kinds = kinds; 
 -- what a sink's goals ask of the room and the marks. Joinable cells among themselves make no pair
 pub record Grounds (S : Site) (blocked : List ℕ) (start : ℕ) : Type 0 where
   pub good : Good (S .room)
-  pub fair : Fair (S .config)
+  pub fair : GoodConfig (S .config)
   pub kinds-long : length (S .kinds) ≡ volume (S .room)
   pub joinable-long : length (S .joinable) ≡ volume (S .room)
   pub joinable-marks : Marks (S .joinable)
@@ -79,7 +79,7 @@ pub record Memory (R : Room) (known previous path : List ℕ) : Type 0 where
   pub path-long : length path ≡ volume R
 
 -- what a goal's attempts ask: the class bytes say what is seen from the start to this goal. Between goals the start stands for the goal too
-pub record Able (S : Site) (blocked classes known previous path : List ℕ) (start goal : ℕ) : Type 0 where
+pub record Attemptable (S : Site) (blocked classes known previous path : List ℕ) (start goal : ℕ) : Type 0 where
   pub grounds : Grounds S blocked start
   pub memory : Memory (S .room) known previous path
   pub goal-in : goal < volume (S .room)
@@ -109,4 +109,4 @@ GoesOn (Full x) = ⊥
 
 -- of what is kept, with its path in `best`, and what a later goal came to, with its path in `path`, the cheaper one, with its path in `best`
 pub record KeepsCheaper (kept tried : Tried) (path best : List ℕ) (r : Tried) (best′ : List ℕ) : Type 0 where
-  pub keeps : (earlier later : Trial) → Tells earlier kept best → Tells later tried path → Tells (cheaper earlier later) r best′
+  pub keeps : (earlier later : Trial) → Tells earlier kept best → Tells later tried path → Tells (cheaperRoute earlier later) r best′

@@ -6,9 +6,9 @@ ghost use lib.Dec.{eqb};
 ghost use lib.ListN.{length};
 ghost use Rattle.room.specs.Room.{volume};
 ghost use Rattle.routing_resources.specs.Marks.{withByte, isMarked, markedBy};
-ghost use Rattle.blocked_world.specs.BlockedWorld.{Fitting, Says};
+ghost use Rattle.blocked_world.specs.BlockedWorld.{WorldFits, Says};
 ghost use Rattle.goals.specs.Goals.{attempts, endsGoal};
-ghost use Rattle.goals.specs.Trials.{Tells, siteOf, Able, Attempted};
+ghost use Rattle.goals.specs.Trials.{Tells, siteOf, Attemptable, Attempted};
 use crate::Attempt;
 use crate::Tried;
 use crate::search::search_for;
@@ -21,10 +21,7 @@ fn ends_goal(blocked: &[u8], start: usize, goal: usize, cell: usize) -> bool
     requires { ⌜ cell < length (now blocked) ⌝ }
     ensures { λ r. ⌜ r ≡ endsGoal (now (blocked .entry)) start goal cell ⌝ }
 {
-    if cell == start {
-        return true;
-    }
-    if cell == goal {
+    if blocked_world::is_end(start, goal, cell) {
         return true;
     }
     blocked[cell] == routing_resources::MARKED
@@ -45,7 +42,7 @@ fn attempt_once(
     start: usize,
     goal: usize,
 ) -> Attempt
-    requires { ⌜ Able (siteOf room config (now kinds) (now joinable) (now queue)) (now blocked) (now classes) (now known) (now previous) (now path) start goal ⌝ }
+    requires { ⌜ Attemptable (siteOf room config (now kinds) (now joinable) (now queue)) (now blocked) (now classes) (now known) (now previous) (now path) start goal ⌝ }
     ensures { λ r. ⌜ Attempted (siteOf room config (now (kinds .entry)) (now (joinable .entry)) (now (queue .entry))) (now (blocked .entry)) start goal (now (path .exit)) r ⌝ }
     ensures { λ _. ⌜ now (joinable .exit) ≡ now (joinable .entry) ⌝ }
 {
@@ -85,7 +82,7 @@ fn set_blocked(
     cell: usize,
     mark: u8,
 )
-    requires { ⌜ Fitting room (now kinds) (now blocked) ⌝ }
+    requires { ⌜ WorldFits room (now kinds) (now blocked) ⌝ }
     requires { ⌜ Says room (now kinds) (now blocked) start goal (now classes) ⌝ }
     requires { ⌜ cell < volume room ⌝ }
     ensures { λ _. ⌜ now (blocked .exit) ≡ withByte mark (eqb cell) (now (blocked .entry)) ⌝ }
@@ -111,7 +108,7 @@ pub fn attempt_goal(
     goal: usize,
     left: usize,
 ) -> Tried
-    requires { ⌜ Able (siteOf room config (now kinds) (now joinable) (now queue)) (now blocked) (now classes) (now known) (now previous) (now path) start goal ⌝ }
+    requires { ⌜ Attemptable (siteOf room config (now kinds) (now joinable) (now queue)) (now blocked) (now classes) (now known) (now previous) (now path) start goal ⌝ }
     ensures { λ r. ⌜ Tells (attempts left (siteOf room config (now (kinds .entry)) (now (joinable .entry)) (now (queue .entry))) start goal (now (blocked .entry))) r (now (path .exit)) ⌝ }
     ensures { λ _. ⌜ (now (joinable .exit) ≡ now (joinable .entry)) × (now (blocked .exit) ≡ now (blocked .entry)) × (now (classes .exit) ≡ now (classes .entry)) ⌝ }
 {
@@ -170,7 +167,7 @@ fn attempt_again(
     cell: usize,
     left: usize,
 ) -> Tried
-    requires { ⌜ Able (siteOf room config (now kinds) (now joinable) (now queue)) (now blocked) (now classes) (now known) (now previous) (now path) start goal ⌝ }
+    requires { ⌜ Attemptable (siteOf room config (now kinds) (now joinable) (now queue)) (now blocked) (now classes) (now known) (now previous) (now path) start goal ⌝ }
     requires { ⌜ (cell < volume room) × (isMarked (now blocked) cell ≡ false) ⌝ }
     ensures { λ r. ⌜ Tells (attempts left (siteOf room config (now (kinds .entry)) (now (joinable .entry)) (now (queue .entry))) start goal (markedBy (eqb cell) (now (blocked .entry)))) r (now (path .exit)) ⌝ }
     ensures { λ _. ⌜ (now (joinable .exit) ≡ now (joinable .entry)) × (now (blocked .exit) ≡ now (blocked .entry)) × (now (classes .exit) ≡ now (classes .entry)) ⌝ }

@@ -4,7 +4,7 @@ ghost use mathlib.Core.List.{[], _++_};
 ghost use Prim.Native.Nat.{_≤_};
 ghost use lib.ListN.{length, take, drop};
 ghost use Rattle.goals.specs.Goals.{beats};
-ghost use Rattle.goals.specs.Trials.{told, cellsOf, GoesOn, KeepsCheaper};
+ghost use Rattle.goals.specs.Trials.{told, lengthOf, GoesOn, KeepsCheaper};
 use crate::Tried;
 use room::Cost;
 
@@ -37,7 +37,7 @@ fn copy_cells(from: &[u32], to: &mut [u32], count: usize)
 // Of what is kept and what a later goal came to, the cheaper one. A full queue ends it all.
 pub fn keep_cheaper(kept: Tried, tried: Tried, path: &[u32], best: &mut [u32]) -> Tried
     requires { ⌜ GoesOn kept ⌝ }
-    requires { ⌜ (length (now path) ≡ length (now best)) × (cellsOf tried ≤ length (now path)) ⌝ }
+    requires { ⌜ (length (now path) ≡ length (now best)) × (lengthOf tried ≤ length (now path)) ⌝ }
     ensures { λ r. ⌜ KeepsCheaper kept tried (now (path .entry)) (now (best .entry)) r (now (best .exit)) ⌝ }
 {
     match tried {

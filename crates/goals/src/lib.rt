@@ -1,9 +1,9 @@
 // The goals of one sink. "Each searches from its approach to every joinable cell in number order, at most 64 attempts a
 // goal." The class bytes are changed in place and put back.
-mod attempts;
-mod cheapest;
-mod search;
-mod tree;
+mod attempts; // attempts.rt: the attempts for one goal
+mod cheapest; // cheapest.rt: the first strictly cheapest route is kept
+mod search; // search.rt: the search for one goal
+mod tree; // tree.rt: one goal after another
 
 pub use tree::route_to_tree;
 

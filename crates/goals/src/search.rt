@@ -3,12 +3,12 @@ ghost use mathlib.Core.Path.{_≡_};
 ghost use mathlib.Core.List.{[]};
 ghost use Prim.Native.Nat.{_≤_, _<_, pred};
 ghost use lib.ListN.{length, getD};
-ghost use Rattle.room.specs.Room.{volume};
+ghost use Rattle.room.specs.Room.{maxVolume, volume};
 ghost use Rattle.best_first.specs.Search.{trace};
-ghost use Rattle.trace.specs.Traces.{Linked};
+ghost use Rattle.trace.specs.Traces.{PreviousInside};
 ghost use Rattle.room_search.specs.Turns.{Searchable, Showable};
 ghost use Rattle.goals.specs.Goals.{found};
-ghost use Rattle.goals.specs.Trials.{Tells, bothRouteable, Shown, SearchTold};
+ghost use Rattle.goals.specs.Trials.{Tells, bothRouteable, TriedOf, SearchTold};
 use crate::Tried;
 use room::Cost;
 use room::Room;
@@ -27,19 +27,13 @@ fn both_routeable(kinds: &[u8], start: usize, goal: usize) -> bool
 }
 
 // The path by predecessors goes to the front of the buffer.
-fn write_route(
-    cells: usize,
-    goal: usize,
-    known: &[u32],
-    previous: &[u32],
-    path: &mut [u32],
-) -> Tried
-    requires { ⌜ (goal < cells) × (cells ≤ 16384) × (length (now known) ≡ cells) × (length (now previous) ≡ cells) × (length (now path) ≡ cells) ⌝ }
-    requires { ⌜ Linked (now previous) ⌝ }
+fn write_route(goal: usize, known: &[u32], previous: &[u32], path: &mut [u32]) -> Tried
+    requires { ⌜ (goal < length (now previous)) × (length (now previous) ≤ maxVolume) × (length (now known) ≡ length (now previous)) × (length (now path) ≡ length (now previous)) ⌝ }
+    requires { ⌜ PreviousInside (now previous) ⌝ }
     requires { ⌜ 0 < getD (now known) goal 0 ⌝ }
-    ensures { λ r. ⌜ Tells (found (trace cells (now (previous .entry)) goal []) (pred (getD (now (known .entry)) goal 0))) r (now (path .exit)) ⌝ }
+    ensures { λ r. ⌜ Tells (found (trace (length (now (previous .entry))) (now (previous .entry)) goal []) (pred (getD (now (known .entry)) goal 0))) r (now (path .exit)) ⌝ }
 {
-    let length = trace::path_to(previous, goal, cells, path);
+    let length = trace::path_to(previous, goal, path);
     Tried::Found {
         length: length,
         cost: Cost(known[goal] - 1),
@@ -49,18 +43,17 @@ fn write_route(
 // "A failed search, the node limit included, ends that goal."
 fn tried_of(
     outcome: Outcome,
-    cells: usize,
     goal: usize,
     known: &[u32],
     previous: &[u32],
     path: &mut [u32],
 ) -> Tried
-    requires { ⌜ (goal < cells) × (cells ≤ 16384) × (length (now known) ≡ cells) × (length (now previous) ≡ cells) × (length (now path) ≡ cells) ⌝ }
+    requires { ⌜ (goal < length (now previous)) × (length (now previous) ≤ maxVolume) × (length (now known) ≡ length (now previous)) × (length (now path) ≡ length (now previous)) ⌝ }
     requires { ⌜ Showable outcome goal (now known) (now previous) ⌝ }
-    ensures { λ r. ⌜ Shown outcome cells goal (now (known .entry)) (now (previous .entry)) r (now (path .exit)) ⌝ }
+    ensures { λ r. ⌜ TriedOf outcome goal (now (known .entry)) (now (previous .entry)) r (now (path .exit)) ⌝ }
 {
     match outcome {
-        Outcome::Arrived(_) => write_route(cells, goal, known, previous, path),
+        Outcome::Arrived(_) => write_route(goal, known, previous, path),
         Outcome::NoRoute(_) => Tried::Failed,
         Outcome::LimitPassed(_) => Tried::Failed,
         Outcome::QueueFull(expanded) => Tried::Full(expanded),
@@ -97,5 +90,5 @@ pub fn search_for(
         start,
         goal,
     );
-    tried_of(outcome, kinds.len(), goal, known, previous, path)
+    tried_of(outcome, goal, known, previous, path)
 }

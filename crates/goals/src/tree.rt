@@ -4,7 +4,7 @@ ghost use Prim.Native.Nat.{_+_, _<_};
 ghost use lib.ListN.{length};
 ghost use Rattle.room.specs.Room.{volume};
 ghost use Rattle.goals.specs.Goals.{maxAttempts, attempts, bestBelow, routeToTree};
-ghost use Rattle.goals.specs.Trials.{Tells, siteOf, Able, GoesOn};
+ghost use Rattle.goals.specs.Trials.{Tells, siteOf, Attemptable, GoesOn};
 use crate::Tried;
 use crate::attempts::attempt_goal;
 use crate::cheapest::keep_cheaper;
@@ -30,7 +30,7 @@ fn try_goal(
     start: usize,
     goal: usize,
 ) -> Tried
-    requires { ⌜ Able (siteOf room config (now kinds) (now joinable) (now queue)) (now blocked) (now classes) (now known) (now previous) (now path) start start ⌝ }
+    requires { ⌜ Attemptable (siteOf room config (now kinds) (now joinable) (now queue)) (now blocked) (now classes) (now known) (now previous) (now path) start start ⌝ }
     requires { ⌜ goal < volume room ⌝ }
     ensures { λ r. ⌜ Tells (attempts maxAttempts (siteOf room config (now (kinds .entry)) (now (joinable .entry)) (now (queue .entry))) start goal (now (blocked .entry))) r (now (path .exit)) ⌝ }
     ensures { λ _. ⌜ (now (joinable .exit) ≡ now (joinable .entry)) × (now (blocked .exit) ≡ now (blocked .entry)) × (now (classes .exit) ≡ now (classes .entry)) ⌝ }
@@ -72,7 +72,7 @@ fn try_next(
     goal: usize,
     kept: Tried,
 ) -> Tried
-    requires { ⌜ Able (siteOf room config (now kinds) (now joinable) (now queue)) (now blocked) (now classes) (now known) (now previous) (now path) start start ⌝ }
+    requires { ⌜ Attemptable (siteOf room config (now kinds) (now joinable) (now queue)) (now blocked) (now classes) (now known) (now previous) (now path) start start ⌝ }
     requires { ⌜ (goal < volume room) × (length (now best) ≡ volume room) ⌝ }
     requires { ⌜ GoesOn kept ⌝ }
     requires { ⌜ Tells (bestBelow goal (siteOf room config (now kinds) (now joinable) (now queue)) start (now blocked)) kept (now best) ⌝ }
@@ -115,7 +115,7 @@ pub fn route_to_tree(
     queue: &mut [u64],
     start: usize,
 ) -> Tried
-    requires { ⌜ Able (siteOf room config (now kinds) (now joinable) (now queue)) (now blocked) (now classes) (now known) (now previous) (now path) start start ⌝ }
+    requires { ⌜ Attemptable (siteOf room config (now kinds) (now joinable) (now queue)) (now blocked) (now classes) (now known) (now previous) (now path) start start ⌝ }
     requires { ⌜ length (now best) ≡ volume room ⌝ }
     ensures { λ r. ⌜ Tells (routeToTree (siteOf room config (now (kinds .entry)) (now (joinable .entry)) (now (queue .entry))) start (now (blocked .entry))) r (now (best .exit)) ⌝ }
     ensures { λ _. ⌜ (now (joinable .exit) ≡ now (joinable .entry)) × (now (blocked .exit) ≡ now (blocked .entry)) × (now (classes .exit) ≡ now (classes .entry)) ⌝ }

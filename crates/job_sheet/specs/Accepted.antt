@@ -1,5 +1,5 @@
--- What whoever uses an accepted sheet may count on: the job is that of the sheet's contents, the room and the config are in range, and each record is
--- sound. Definitions alone; that they hold is in Theorems.
+-- What whoever uses an accepted sheet may count on: the job is that of the sheet's contents, the room and the config are in range, and each record's
+-- position is inside. Definitions alone; that they hold is in Theorems.
 use mathlib.Core.Path.{_≡_}
 use mathlib.Core.List.{List}
 use Prim.Native.Nat.{ℕ, _≤_, _<_}
@@ -7,9 +7,8 @@ use lib.ListN.{length, getD}
 use Rattle.room.specs.declared.Room.{Room}
 use Rattle.room.specs.declared.Pos.{Pos}
 use Rattle.room.specs.Room.{Within, Good as GoodRoom}
-use Rattle.room.specs.Units.{air, maxKind, maxFacing, maxPort, Fair}
+use Rattle.room.specs.Units.{GoodConfig}
 use Rattle.job_sheet.specs.declared.Block.{Block}
-use Rattle.job_sheet.specs.declared.Endpoint.{Endpoint}
 use Rattle.job_sheet.specs.declared.Part.{Part}
 use Rattle.job_sheet.specs.declared.Sinks.{Sinks}
 use Rattle.job_sheet.specs.declared.Job.{Job}
@@ -24,57 +23,32 @@ pub record Accepted (sheet : List ℕ) (job : Job) : Type 0 where
   pub good : judged contents ≡ Good
   pub is : job ≡ jobOf contents
 
--- ---- sound records
-
-pub record SoundBlock (R : Room) (b : Block) : Type 0 where
-  pub within : Within R (b .at)
-  pub kind-known : b .kind ≤ maxKind
-  pub not-air : b .kind ≡ air → ⊥
-  pub facing-known : b .facing ≤ maxFacing
-
-pub record SoundEndpoint (R : Room) (e : Endpoint) : Type 0 where
-  pub within : Within R (e .at)
-  pub port-known : e .port ≤ maxPort
-  pub facing-known : e .facing ≤ maxFacing
-
--- ---- sound lists: where they stand, what they are, and each record
+-- ---- the lists: where they stand, what they are, and that each record's position is in the room
 
 pub record BlockList (sheet : List ℕ) (R : Room) (p : Part) (bs : List Block) : Type 0 where
   pub inside : behind blockSize p ≤ length sheet
   pub are : blocksIn sheet p ≡ bs
-  pub sound : (i : ℕ) → i < p .count → SoundBlock R (getD (blocksIn sheet p) i noBlock)
+  pub within : (i : ℕ) → i < p .count → Within R (getD (blocksIn sheet p) i noBlock .at)
 
 pub record PositionList (sheet : List ℕ) (R : Room) (p : Part) (ps : List Pos) : Type 0 where
   pub inside : behind positionSize p ≤ length sheet
   pub are : positionsIn sheet p ≡ ps
   pub within : (i : ℕ) → i < p .count → Within R (getD (positionsIn sheet p) i noPosition)
 
-pub record SinkList (R : Room) (k : Sinks) (es : List Endpoint) : Type 0 where
+pub record SinkList (R : Room) (k : Sinks) : Type 0 where
   pub few : k .count ≤ maxSinks
-  pub count-is : k .count ≡ length es
-  pub are : (i : ℕ) → i < k .count → getD (k .ends) i noEndpoint ≡ getD es i noEndpoint
-  pub sound : (i : ℕ) → i < k .count → SoundEndpoint R (getD (k .ends) i noEndpoint)
+  pub within : (i : ℕ) → i < k .count → Within R (getD (k .ends) i noEndpoint .at)
 
 pub record Usable (sheet : List ℕ) (job : Job) (J : Contents) : Type 0 where
   pub room-is : job .room ≡ J .room
   pub room-good : GoodRoom (job .room)
   pub config-is : job .config ≡ J .config
-  pub config-fair : Fair (job .config)
+  pub config-fair : GoodConfig (job .config)
   pub blocks : BlockList sheet (job .room) (job .blocks) (J .blocks)
   pub conductors : PositionList sheet (job .room) (job .conductors) (J .conductors)
   pub clearances : PositionList sheet (job .room) (job .clearances) (J .clearances)
   pub terminals : PositionList sheet (job .room) (job .terminals) (J .terminals)
   pub reserved : PositionList sheet (job .room) (job .reserved) (J .reserved)
   pub source-is : job .source ≡ J .source
-  pub source : SoundEndpoint (job .room) (job .source)
-  pub sinks : SinkList (job .room) (job .sinks) (J .sinks)
-
--- ---- one record of a list: record i and, where the list is that of an accepted sheet, record i of its contents, and sound
-
-pub record BlockAt (sheet : List ℕ) (p : Part) (i : ℕ) (r : Block) : Type 0 where
-  pub is : r ≡ getD (blocksIn sheet p) i noBlock
-  pub accepted : (R : Room) (bs : List Block) → BlockList sheet R p bs → (r ≡ getD bs i noBlock) × SoundBlock R r
-
-pub record PositionAt (sheet : List ℕ) (p : Part) (i : ℕ) (r : Pos) : Type 0 where
-  pub is : r ≡ getD (positionsIn sheet p) i noPosition
-  pub accepted : (R : Room) (ps : List Pos) → PositionList sheet R p ps → (r ≡ getD ps i noPosition) × Within R r
+  pub source : Within (job .room) (job .source .at)
+  pub sinks : SinkList (job .room) (job .sinks)

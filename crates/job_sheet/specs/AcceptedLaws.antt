@@ -1,29 +1,25 @@
--- Where no fault is found, every record is sound, and stands where the job says.
+-- Where no fault is found, every record's position is inside, and the record stands where the job says.
 use mathlib.Core.Path.{_≡_, refl, sym, ap, _∙_}
-use mathlib.Core.Bool.{Bool, true, false, not}
+use mathlib.Core.Bool.{Bool, true, false}
 use mathlib.Core.List.{List, [], _∷_, map}
-use Prim.Native.Nat.{ℕ, _+_, _-_, _*_, _≤_, _<_}
-use borrow.Author.Tests.{leb-true, eqb-false, not-true}
-use lib.Dec.{eqb}
-use lib.ListN.{length, getD, drop, replicate, List·getD-append}
-use lib.Seq.{drop-drop}
+use Prim.Native.Nat.{ℕ, _-_, _≤_, _<_}
+use lib.ListN.{length, getD, replicate, List·getD-append}
 use Rattle.basics.specs.Tests.{ask, either, and-left, and-right, never}
 use Rattle.basics.specs.Lists.{every, every-in, every-map, in-at}
 use Rattle.room.specs.declared.Room.{Room}
 use Rattle.room.specs.declared.Pos.{Pos}
 use Rattle.room.specs.Room.{Within, within, sidesGood}
 use Rattle.room.specs.RoomLaws.{good, within-is}
-use Rattle.room.specs.UnitLaws.{fair}
-use Rattle.room.specs.Units.{air, kindKnown, facingKnown, portKnown, configGood}
+use Rattle.room.specs.UnitLaws.{good-config}
+use Rattle.room.specs.Units.{configGood}
 use Rattle.job_sheet.specs.declared.Block.{Block}
 use Rattle.job_sheet.specs.declared.Endpoint.{Endpoint}
 use Rattle.job_sheet.specs.declared.Part.{Part}
 use Rattle.job_sheet.specs.declared.Verdict.{Verdict}
-use Rattle.job_sheet.specs.declared.Verdict.the-variants.{Good, Sides, Config, Position, Code}
-use Rattle.job_sheet.specs.Sheet.{Contents, isGood, firstFault, sidesFault, configFault, positionFault, codeFault, blockFault, endpointFault, judged, bytesOf, maxSinks, blockSize, positionSize, behind, noEndpoint, sinksOf, layoutOf, jobOf}
-use Rattle.job_sheet.specs.Accepted.{SoundBlock, SoundEndpoint, BlockList, PositionList, SinkList, Usable, BlockAt, PositionAt}
-use Rattle.job_sheet.specs.Places.{noBlock, noPosition, positionIn, blockIn, blocksIn, positionsIn}
-use Rattle.job_sheet.specs.RecordLaws.{many-at}
+use Rattle.job_sheet.specs.declared.Verdict.the-variants.{Good, Sides, Config, Position}
+use Rattle.job_sheet.specs.Sheet.{Contents, isGood, firstFault, sidesFault, configFault, positionFault, blockFault, endpointFault, judged, bytesOf, maxSinks, positionSize, behind, noEndpoint, sinksOf, layoutOf, jobOf}
+use Rattle.job_sheet.specs.Accepted.{BlockList, PositionList, SinkList, Usable}
+use Rattle.job_sheet.specs.Places.{noBlock, noPosition, positionsIn}
 use Rattle.job_sheet.specs.LayoutLaws.{PartsIn, blocks-back, conductors-back, clearances-back, terminals-back, reserved-back}
 use Rattle.job_sheet.specs.FaultLaws.{every-joined, good-is, fault-first, good-first}
 
@@ -42,36 +38,16 @@ passed true v f e = refl
 passed false v f e = sym f ∙ e
 
 module _ (R : Room) where
-  position-sound : (p : Pos) → isGood (positionFault R p) ≡ true → Within R p
-  position-sound p g = within-is R p (passed (within R p) Position refl g)
+  position-within : (p : Pos) → isGood (positionFault R p) ≡ true → Within R p
+  position-within p g = within-is R p (passed (within R p) Position refl g)
 
-  block-sound : (b : Block) → isGood (blockFault R b) ≡ true → SoundBlock R b
+  block-within : (b : Block) → isGood (blockFault R b) ≡ true → Within R (b .at)
   unfolding blockFault
-  block-sound b g =
-      let all = first-good _ (good-is _ g) in
-      let p : isGood (positionFault R (b .at)) ≡ true = search parts in
-      let k : isGood (codeFault (kindKnown (b .kind))) ≡ true = search parts in
-      let a : isGood (codeFault (not (eqb (b .kind) air))) ≡ true = search parts in
-      let f : isGood (codeFault (facingKnown (b .facing))) ≡ true = search parts in
-      record {
-        within = position-sound (b .at) p;
-        kind-known = leb-true _ _ (passed (kindKnown (b .kind)) Code refl k);
-        not-air = eqb-false _ _ (not-true _ (passed (not (eqb (b .kind) air)) Code refl a));
-        facing-known = leb-true _ _ (passed (facingKnown (b .facing)) Code refl f);
-      }
+  block-within b g = let all = first-good _ (good-is _ g) in position-within (b .at) (search parts)
 
-  endpoint-sound : (e : Endpoint) → isGood (endpointFault R e) ≡ true → SoundEndpoint R e
+  endpoint-within : (e : Endpoint) → isGood (endpointFault R e) ≡ true → Within R (e .at)
   unfolding endpointFault
-  endpoint-sound e g =
-      let all = first-good _ (good-is _ g) in
-      let p : isGood (positionFault R (e .at)) ≡ true = search parts in
-      let k : isGood (codeFault (portKnown (e .port))) ≡ true = search parts in
-      let f : isGood (codeFault (facingKnown (e .facing))) ≡ true = search parts in
-      record {
-        within = position-sound (e .at) p;
-        port-known = leb-true _ _ (passed (portKnown (e .port)) Code refl k);
-        facing-known = leb-true _ _ (passed (facingKnown (e .facing)) Code refl f);
-      }
+  endpoint-within e g = let all = first-good _ (good-is _ g) in position-within (e .at) (search parts)
 
 -- ---- of a job without fault, each part is good
 
@@ -116,7 +92,7 @@ module _ (J : Contents) (N : NoFault J) (I : PartsIn (bytesOf J) (layoutOf J)) w
   block-list = record {
     inside = I .blocks;
     are = blocks-back J;
-    sound = λ i h. rw (blocks-back J) (block-sound (J .room) _ (good-at (blockFault (J .room)) (J .blocks) (N .blocks) i h noBlock));
+    within = λ i h. rw (blocks-back J) (block-within (J .room) _ (good-at (blockFault (J .room)) (J .blocks) (N .blocks) i h noBlock));
   }
 
   position-list : (p : Part) (ps : List Pos) → behind positionSize p ≤ length (bytesOf J) → positionsIn (bytesOf J) p ≡ ps → p .count ≡ length ps
@@ -124,18 +100,16 @@ module _ (J : Contents) (N : NoFault J) (I : PartsIn (bytesOf J) (layoutOf J)) w
   position-list p ps inside are count e = record {
     inside = inside;
     are = are;
-    within = λ i h. rw are (position-sound (J .room) _ (good-at (positionFault (J .room)) ps e i (rw (← count) h) noPosition));
+    within = λ i h. rw are (position-within (J .room) _ (good-at (positionFault (J .room)) ps e i (rw (← count) h) noPosition));
   }
 
   sink-at : (i : ℕ) → i < length (J .sinks) → getD (sinksOf (J .sinks) .ends) i noEndpoint ≡ getD (J .sinks) i noEndpoint
   sink-at i h = List·getD-append (J .sinks) (replicate (maxSinks - length (J .sinks)) noEndpoint) noEndpoint i h
 
-  sink-list : length (J .sinks) ≤ maxSinks → SinkList (J .room) (sinksOf (J .sinks)) (J .sinks)
+  sink-list : length (J .sinks) ≤ maxSinks → SinkList (J .room) (sinksOf (J .sinks))
   sink-list few = record {
     few = few;
-    count-is = refl;
-    are = sink-at;
-    sound = λ i h. rw (sink-at i h) (endpoint-sound (J .room) _ (good-at (endpointFault (J .room)) (J .sinks) (N .sinks) i h noEndpoint));
+    within = λ i h. rw (sink-at i h) (endpoint-within (J .room) _ (good-at (endpointFault (J .room)) (J .sinks) (N .sinks) i h noEndpoint));
   }
 
   pub usable-job : length (J .sinks) ≤ maxSinks → Usable (bytesOf J) (jobOf J) J
@@ -144,32 +118,13 @@ module _ (J : Contents) (N : NoFault J) (I : PartsIn (bytesOf J) (layoutOf J)) w
     room-is = refl;
     room-good = good (J .room) (N .sides);
     config-is = refl;
-    config-fair = fair (J .config) (N .config);
+    config-fair = good-config (J .config) (N .config);
     blocks = block-list;
     conductors = position-list (layoutOf J .conductors) (J .conductors) (I .conductors) (conductors-back J) refl (N .conductors);
     clearances = position-list (layoutOf J .clearances) (J .clearances) (I .clearances) (clearances-back J) refl (N .clearances);
     terminals = position-list (layoutOf J .terminals) (J .terminals) (I .terminals) (terminals-back J) refl (N .terminals);
     reserved = position-list (layoutOf J .reserved) (J .reserved) (I .reserved) (reserved-back J) refl (N .reserved);
     source-is = refl;
-    source = endpoint-sound (J .room) (J .source) (N .source);
+    source = endpoint-within (J .room) (J .source) (N .source);
     sinks = sink-list few;
   }
-
--- ---- record i of a part of a sheet
-
-module _ (s : List ℕ) (p : Part) (i : ℕ) (h : i < p .count) where
-  pub block-at : (r : Block) → r ≡ blockIn (drop (p .from + blockSize * i) s) → BlockAt s p i r
-  unfolding blocksIn
-  block-at r e =
-      let is : r ≡ getD (blocksIn s p) i noBlock =
-      rw (many-at blockIn blockSize (p .count) i (drop (p .from) s) noBlock h, drop-drop (blockSize * i) (p .from) s) e
-      in
-      record { is = is; accepted = λ R bs L. (is ∙ ap (λ l. getD l i noBlock) (L .are), rw is (L .sound i h)) }
-
-  pub position-at : (r : Pos) → r ≡ positionIn (drop (p .from + positionSize * i) s) 0 → PositionAt s p i r
-  unfolding positionsIn
-  position-at r e =
-      let is : r ≡ getD (positionsIn s p) i noPosition =
-      rw (many-at (λ l. positionIn l 0) positionSize (p .count) i (drop (p .from) s) noPosition h, drop-drop (positionSize * i) (p .from) s) e
-      in
-      record { is = is; accepted = λ R ps L. (is ∙ ap (λ l. getD l i noPosition) (L .are), rw is (L .within i h)) }

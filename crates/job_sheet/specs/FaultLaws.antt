@@ -18,7 +18,7 @@ use Rattle.job_sheet.specs.declared.Part.{Part}
 use Rattle.job_sheet.specs.declared.faults.Records.the-variants.{Blocks, Positions, Endpoints}
 use Rattle.job_sheet.specs.declared.Verdict.{Verdict}
 use Rattle.job_sheet.specs.declared.Verdict.the-variants.{Good, Sheet, Sides, Config, Position, Code}
-use Rattle.job_sheet.specs.Sheet.{Contents, joined, isGood, firstFault, sidesFault, configFault, positionFault, blockFault, endpointFault, faultsOf, judged, sidesPlace, configPlace}
+use Rattle.job_sheet.specs.Sheet.{Contents, joined, isGood, firstFault, sidesFault, configFault, positionFault, blockFault, endpointFault, faultsOf, judged, blockSize, positionSize, endpointSize, sidesPlace, configPlace}
 use Rattle.job_sheet.specs.Places.{roomIn, configIn, many, blocksIn, positionsIn, endpointsIn, faultsIn, headFault, layoutIn, contentsIn}
 
 pub good-is : (v : Verdict) → isGood v ≡ true → v ≡ Good
@@ -44,7 +44,7 @@ good-first v vs e = rw e
 pub only-first : (v : Verdict) → firstFault (v ∷ []) ≡ v
 only-first v = ask (isGood v) (λ e. good-first v [] e ∙ first-none ∙ sym (good-is v e)) (λ e. fault-first v [] e)
 
-pub first-on : (l m : List Verdict) → firstFault (l ++ m) ≡ firstFault (firstFault l ∷ m)
+first-on : (l m : List Verdict) → firstFault (l ++ m) ≡ firstFault (firstFault l ∷ m)
 unfolding firstFault
 first-on [] m = refl
 first-on (v ∷ l) m = ask (isGood v) (λ e. rw (e, first-on l m)) (λ e. rw (e, e))
@@ -68,15 +68,15 @@ many-map f value size (suc n) l = ap (λ r. f (value l) ∷ r) (many-map f value
 module _ (R : Room) (s : List ℕ) (p : Part) where
   blocks-faults : faultsIn R Blocks s p ≡ map (blockFault R) (blocksIn s p)
   unfolding blocksIn
-  blocks-faults = many-map (blockFault R) _ 7 (p .count) (drop (p .from) s)
+  blocks-faults = many-map (blockFault R) _ blockSize (p .count) (drop (p .from) s)
 
   positions-faults : faultsIn R Positions s p ≡ map (positionFault R) (positionsIn s p)
   unfolding positionsIn
-  positions-faults = many-map (positionFault R) _ 3 (p .count) (drop (p .from) s)
+  positions-faults = many-map (positionFault R) _ positionSize (p .count) (drop (p .from) s)
 
   endpoints-faults : faultsIn R Endpoints s p ≡ map (endpointFault R) (endpointsIn s p)
   unfolding endpointsIn
-  endpoints-faults = many-map (endpointFault R) _ 5 (p .count) (drop (p .from) s)
+  endpoints-faults = many-map (endpointFault R) _ endpointSize (p .count) (drop (p .from) s)
 
 -- the faults of the records, list by list in the sheet's order
 abbrev recordFaults : List ℕ → Room → Layout → List (List Verdict)

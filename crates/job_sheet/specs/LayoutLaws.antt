@@ -2,15 +2,17 @@
 -- number 1 has the sheet's bytes.
 use mathlib.Core.Path.{_≡_, refl, sym, ap, _∙_}
 use mathlib.Core.List.{List, [], _∷_, _++_, map}
-use Prim.Native.Nat.{ℕ, suc, _+_, _*_, _≤_, _<_}
+use Prim.Native.Nat.{ℕ, _+_, _*_, _≤_, _<_}
+use native.Mathlib.Nat.{div-add-mod', add-zero}
 use native.Mathlib.Omega.{arith}
 use lib.ListN.{length, getD, drop, length-append, length-drop}
 use lib.Seq.{drop-at, drop-drop, drop-cons, drop-length, getD-drop}
+use Rattle.basics.specs.Lists.{drop-next}
 use Rattle.job_sheet.specs.declared.Endpoint.{Endpoint}
 use Rattle.job_sheet.specs.declared.places.Layout.{Layout}
 use Rattle.job_sheet.specs.Sheet.{Contents, version, maxBytes, maxSinks, two, four, joined, sides, costs, position, block, endpoint, counted, sinkBytes, rest, bytesOf, bytesBy, blockSize, positionSize, endpointSize, listsPlace, listed, behind, layoutOf, sidesPlace, configPlace}
 use Rattle.job_sheet.specs.Places.{roomIn, configIn, twoIn, fourIn, endpointIn, many, blocksIn, positionsIn, endpointsIn, listAt, sinksAt, layoutIn, contentsIn, Shaped}
-use Rattle.job_sheet.specs.RecordLaws.{Bytes, Coding, two-back, four-back, positions, blocks, endpoints, many-back, joined-long, many-long, many-forth, bytes-drop, two-forth, fours, configs, rooms, span-drop}
+use Rattle.job_sheet.specs.RecordLaws.{Bytes, Coding, four-back, positions, blocks, endpoints, many-back, joined-long, many-long, many-forth, bytes-drop, two-forth, fours, configs, rooms, span-drop}
 
 -- ---- a sheet of J's bytes
 
@@ -29,7 +31,7 @@ module _ {X : Type 0} {bytes : X → List ℕ} {value : List ℕ → X} {size : 
   module _ (s : List ℕ) (place : ℕ) (xs : List X) (l : List ℕ) (C : Cut s place (counted bytes xs ++ l)) where
     list-count : listAt s place ≡ listed place (length xs)
     unfolding listAt
-    list-count = rw (C .stands, two-back)
+    list-count = rw (C .stands, div-add-mod' (length xs) 256)
 
     after-count : Cut s (place + 2) (joined (map bytes xs) ++ l)
     after-count = cut-on s place (two (length xs)) (joined (map bytes xs) ++ l) 2 refl C
@@ -87,20 +89,20 @@ module _ (J : Contents) where
   unfolding layoutOf
   at-source = list-behind positions (bytesOf J) (behind positionSize (layoutOf J .terminals)) (J .reserved) (sourceOn J) at-reserved
 
+  at-count : Cut (bytesOf J) (layoutOf J .source .from + endpointSize) (sinksOn J)
+  at-count = cut-on (bytesOf J) (layoutOf J .source .from) (endpoint (J .source)) (sinksOn J) endpointSize refl at-source
+
   at-sinks : Cut (bytesOf J) (layoutOf J .sinks .from) (joined (map endpoint (J .sinks)) ++ [])
   unfolding layoutOf
-  at-sinks =
-      let p = layoutOf J .source .from in
-      cut-on (bytesOf J) (p + endpointSize) (length (J .sinks) ∷ []) (joined (map endpoint (J .sinks)) ++ []) 1 refl
-      (cut-on (bytesOf J) p (endpoint (J .source)) (sinksOn J) endpointSize refl at-source)
+  at-sinks = cut-on (bytesOf J) (layoutOf J .source .from + endpointSize) (length (J .sinks) ∷ []) (joined (map endpoint (J .sinks)) ++ []) 1 refl at-count
 
   at-end : Cut (bytesOf J) (behind endpointSize (layoutOf J .sinks)) []
   unfolding layoutOf
   at-end = cut-on (bytesOf J) (layoutOf J .sinks .from) (joined (map endpoint (J .sinks))) [] (endpointSize * length (J .sinks)) (joined-long endpoints (J .sinks)) at-sinks
 
-  sinks-count : sinksAt (bytesOf J) (layoutOf J .source .from) ≡ layoutOf J .sinks
+  sinks-count : sinksAt (bytesOf J) (layoutOf J .source .from + endpointSize) ≡ layoutOf J .sinks
   unfolding sinksAt layoutOf
-  sinks-count = rw (at-source .stands)
+  sinks-count = rw (at-count .stands)
 
   pub layout-back : layoutIn (bytesOf J) ≡ layoutOf J
   unfolding layoutIn layoutOf
@@ -174,7 +176,7 @@ module _ (J : Contents) where
 
 -- the parts come one after another
 record Ordered (L : Layout) : Type 0 where
-  pub blocks-from : L .blocks .from ≡ 26
+  pub blocks-from : L .blocks .from ≡ listsPlace + 2
   pub conductors-from : L .conductors .from ≡ behind blockSize (L .blocks) + 2
   pub clearances-from : L .clearances .from ≡ behind positionSize (L .conductors) + 2
   pub terminals-from : L .terminals .from ≡ behind positionSize (L .clearances) + 2
@@ -270,10 +272,8 @@ module _ (s : List ℕ) (b : Bytes s) (S : Shaped s) where
   source-forth : endpoint (endpointIn (drop (layoutIn s .source .from) s)) ++ drop (layoutIn s .source .from + endpointSize) s ≡ drop (layoutIn s .source .from) s
   source-forth = value-forth endpoints s b (layoutIn s .source .from) (omega (arith, ordered s))
 
-  next-byte : (p : ℕ) → p + endpointSize < length s → getD (drop p s) endpointSize 0 ∷ drop (p + endpointSize + 1) s ≡ drop (p + endpointSize) s
-  next-byte p h =
-      let e : p + endpointSize + 1 ≡ suc (p + endpointSize) = omega arith in
-      rw (getD-drop, e) (sym (drop-cons s (p + endpointSize) 0 h))
+  next-byte : (p : ℕ) → p < length s → getD (drop p s) 0 0 ∷ drop (p + 1) s ≡ drop p s
+  next-byte p h = rw (getD-drop, add-zero) (sym (drop-next s p 0 h))
 
   sinks-forth : sinkBytes (endpointsIn s (layoutIn s .sinks)) ++ [] ≡ drop (layoutIn s .source .from + endpointSize) s
   unfolding endpointsIn layoutIn sinksAt
@@ -284,7 +284,7 @@ module _ (s : List ℕ) (b : Bytes s) (S : Shaped s) where
       let none : [] ≡ drop (p + endpointSize + 1 + endpointSize * n) s = rw (S .whole) (sym (drop-length s)) in
       (λ i. many-long endpointIn endpointSize n (drop (p + endpointSize + 1) s) i ∷ (joined (map endpoint xs) ++ none i))
       ∙ ap {B = List ℕ} (λ r. n ∷ r) (records-forth endpoints s b (p + endpointSize + 1) n (omega arith))
-      ∙ next-byte p (omega arith)
+      ∙ next-byte (p + endpointSize) (omega arith)
 
   rest-forth : rest (contentsIn s) ≡ drop sidesPlace s
   unfolding rest contentsIn

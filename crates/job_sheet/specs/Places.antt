@@ -94,8 +94,9 @@ headFault R C = firstFault (sidesFault R ∷ configFault C ∷ [])
 unfoldable pub listAt : List ℕ → ℕ → Part
 listAt s place = listed place (twoIn (drop place s) 0)
 
+-- "one-byte sink count": the sinks whose count stands at a place
 unfoldable pub sinksAt : List ℕ → ℕ → Part
-sinksAt s place = record { from = place + endpointSize + 1; count = getD (drop place s) endpointSize 0 }
+sinksAt s place = record { from = place + 1; count = getD (drop place s) 0 0 }
 
 unfoldable pub layoutIn : List ℕ → Layout
 layoutIn s =
@@ -111,7 +112,7 @@ layoutIn s =
       terminals = t;
       reserved = r;
       source = record { from = behind positionSize r; count = 1 };
-      sinks = sinksAt s (behind positionSize r);
+      sinks = sinksAt s (behind positionSize r + endpointSize);
     }
 
 unfoldable pub contentsIn : List ℕ → Contents
@@ -129,11 +130,15 @@ contentsIn s =
       sinks = endpointsIn s (L .sinks);
     }
 
--- none of the reasons for number 1
+-- none of the reasons for number 1: of how many bytes a sheet has, its version, its "length of the rest", its sink count, and whether its parts end
+-- where it does
+unfoldable pub shapeHolds : ℕ → ℕ → ℕ → ℕ → Bool → Bool
+shapeHolds bytes first rest sinks whole = leb bytes maxBytes && (eqb first version && (eqb (rest + sidesPlace) bytes && (leb sinks maxSinks && whole)))
+
 unfoldable pub shaped : List ℕ → Bool
 shaped s =
     let sinks = layoutIn s .sinks in
-    leb (length s) maxBytes && (eqb (getD s 0 0) version && (eqb (fourIn (drop 1 s) 0 + sidesPlace) (length s) && (leb (sinks .count) maxSinks && eqb (behind endpointSize sinks) (length s))))
+    shapeHolds (length s) (getD s 0 0) (fourIn (drop 1 s) 0) (sinks .count) (eqb (behind endpointSize sinks) (length s))
 
 pub record Shaped (s : List ℕ) : Type 0 where
   pub short : length s ≤ maxBytes
@@ -145,9 +150,16 @@ pub record Shaped (s : List ℕ) : Type 0 where
 pub record LaidOut (s : List ℕ) (L : Layout) : Type 0 where
   pub is : L ≡ layoutIn s
   pub sinks-near : L .sinks .from < 4294967296
+  pub sinks-most : L .sinks .count < 256
 
 -- the list whose count stands at a place, and what that count can be
 pub record Listed (s : List ℕ) (place : ℕ) (r : Part) : Type 0 where
   pub is : r ≡ listAt s place
   pub from-is : r .from ≡ place + 2
   pub count-most : r .count < 65536
+
+-- the sinks whose count stands at a place, and what that count can be
+pub record SinksListed (s : List ℕ) (place : ℕ) (r : Part) : Type 0 where
+  pub is : r ≡ sinksAt s place
+  pub from-is : r .from ≡ place + 1
+  pub count-most : r .count < 256

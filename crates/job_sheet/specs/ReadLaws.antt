@@ -1,4 +1,4 @@
--- What a sheet means is what its places hold, so that the reader's answers are right.
+-- What a sheet means is what its places hold, so that the reading's answers are right.
 use mathlib.Core.Path.{_≡_, sym, ap, _∙_}
 use mathlib.Core.Bool.{true, false}
 use mathlib.Core.List.{List}
@@ -16,7 +16,7 @@ use Rattle.job_sheet.specs.declared.Reading.{Reading}
 use Rattle.job_sheet.specs.declared.Verdict.{Verdict}
 use Rattle.job_sheet.specs.declared.Verdict.the-variants.{Sheet}
 use Rattle.job_sheet.specs.Sheet.{Contents, Means, isGood, judged, endpointSize, sinksOf, layoutOf, jobOf, refused, Read, meaning, nothing, sidesPlace, configPlace}
-use Rattle.job_sheet.specs.Places.{roomIn, configIn, endpointIn, endpointsIn, layoutIn, contentsIn, shaped, Shaped}
+use Rattle.job_sheet.specs.Places.{roomIn, configIn, endpointIn, endpointsIn, layoutIn, contentsIn, shapeHolds, shaped, Shaped}
 use Rattle.job_sheet.specs.RecordLaws.{Bytes, many-long}
 use Rattle.job_sheet.specs.LayoutLaws.{layout-back, shaped-back, bytes-forth}
 use Rattle.job_sheet.specs.FaultLaws.{good-is}
@@ -24,20 +24,20 @@ use Rattle.job_sheet.specs.FaultLaws.{good-is}
 ruleset passed = (and-left, and-right, leb-true, eqb-true)
 
 pub shaped-is : (s : List ℕ) → shaped s ≡ true → Shaped s
-unfolding shaped
+unfolding shaped shapeHolds
 shaped-is s e = record { short = search passed; of-version = search passed; rest-long = search passed; few-sinks = search passed; whole = search passed }
 
-pub shaped-passes : (s : List ℕ) → Shaped s → shaped s ≡ true
-unfolding shaped
+shaped-passes : (s : List ℕ) → Shaped s → shaped s ≡ true
+unfolding shaped shapeHolds
 shaped-passes s S =
     and-both (le-leb _ _ (S .short))
     (and-both (eq-eqb _ _ (S .of-version)) (and-both (eq-eqb _ _ (S .rest-long)) (and-both (le-leb _ _ (S .few-sinks)) (eq-eqb _ _ (S .whole)))))
 
-pub means-shaped : (s : List ℕ) (J : Contents) → Means s J → Shaped s
+means-shaped : (s : List ℕ) (J : Contents) → Means s J → Shaped s
 means-shaped s J m = rw (m .bytes) at (shaped-back J (rw (m .bytes) (m .short)) (m .few-sinks))
 
 module _ (s : List ℕ) (b : Bytes s) (S : Shaped s) where
-  pub shaped-means : Means s (contentsIn s)
+  shaped-means : Means s (contentsIn s)
   unfolding contentsIn endpointsIn
   shaped-means = record {
     bytes = bytes-forth s b S;
@@ -45,7 +45,7 @@ module _ (s : List ℕ) (b : Bytes s) (S : Shaped s) where
     few-sinks = rw (many-long endpointIn endpointSize (layoutIn s .sinks .count) (drop (layoutIn s .sinks .from) s)) (S .few-sinks);
   }
 
-  pub layout-forth : layoutOf (contentsIn s) ≡ layoutIn s
+  layout-forth : layoutOf (contentsIn s) ≡ layoutIn s
   layout-forth = sym (layout-back (contentsIn s)) ∙ ap layoutIn (bytes-forth s b S)
 
   -- the job that is put together from the parts

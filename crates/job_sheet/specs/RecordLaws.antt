@@ -7,9 +7,11 @@ use native.Mathlib.Omega.{arith}
 use lib.Arith.{digits-div, digits-mod}
 use lib.ListN.{length, getD, drop, length-append, length-drop}
 use lib.Seq.{drop-cons, drop-at, drop-drop, getD-drop}
+use Rattle.room.specs.declared.Pos.{Pos}
+use Rattle.job_sheet.specs.declared.Block.{Block}
 use Rattle.job_sheet.specs.declared.Part.{Part}
 use Rattle.job_sheet.specs.Sheet.{two, four, joined, sides, costs, position, block, endpoint, blockSize, positionSize, endpointSize}
-use Rattle.job_sheet.specs.Places.{twoIn, fourIn, roomIn, configIn, positionIn, blockIn, endpointIn, many, blocksIn, positionsIn}
+use Rattle.job_sheet.specs.Places.{twoIn, fourIn, roomIn, configIn, positionIn, blockIn, endpointIn, many, noBlock, noPosition, blocksIn, positionsIn}
 
 -- ---- bytes
 
@@ -33,11 +35,8 @@ span-drop (suc k) i l h =
 
 -- ---- one record
 
-pub two-back : (n : ℕ) → n / 256 * 256 + n % 256 ≡ n
-two-back n = div-add-mod' n 256
-
 pub four-back : (n : ℕ) (l : List ℕ) → fourIn (four n ++ l) 0 ≡ n
-four-back n l = rw (two-back, two-back, div-add-mod' n 65536)
+four-back n l = rw (div-add-mod' (n / 65536) 256, div-add-mod' (n % 65536) 256, div-add-mod' n 65536)
 
 module _ (l : List ℕ) (b : Bytes l) (k : ℕ) where
   pub two-forth : two (twoIn l k) ≡ getD l k 0 ∷ getD l (k + 1) 0 ∷ []
@@ -84,7 +83,7 @@ endpoints = record { sized = λ x. refl; back = λ x l. refl; forth = λ l b h. 
 pub blocks : Coding block blockIn blockSize
 blocks = record {
   sized = λ x. refl;
-  back = λ x l i. record { node = two-back (x .node) i; at = x .at; kind = x .kind; facing = x .facing };
+  back = λ x l i. record { node = div-add-mod' (x .node) 256 i; at = x .at; kind = x .kind; facing = x .facing };
   forth = λ l b h. (λ i. two-forth l b 0 i ++ (span 5 2 l ++ drop 7 l)) ∙ span-drop 7 0 l h;
 }
 
@@ -105,7 +104,7 @@ module _ {X : Type 0} (value : List ℕ → X) (size : ℕ) where
   many-snoc zero l = rw mul-zero
   many-snoc (suc n) l = rw (next-drop size n l) (ap (λ r. value l ∷ r) (many-snoc n (drop size l)))
 
-  pub many-at : (n i : ℕ) (l : List ℕ) (d : X) → i < n → getD (many value size n l) i d ≡ value (drop (size * i) l)
+  many-at : (n i : ℕ) (l : List ℕ) (d : X) → i < n → getD (many value size n l) i d ≡ value (drop (size * i) l)
   many-at zero i l d h = absurd (omega arith)
   many-at (suc n) zero l d h = rw mul-zero
   many-at (suc n) (suc i) l d h = rw (next-drop size i l) (many-at n i (drop size l) d (omega arith))
@@ -127,7 +126,7 @@ module _ {X : Type 0} {bytes : X → List ℕ} {value : List ℕ → X} {size : 
       let ih = many-forth n (drop size l) (bytes-drop size l b) (simp length-drop (omega (arith, e))) in
       rw (append-assoc, next-drop size n l, ih) (K .forth l b (omega (arith, e)))
 
--- a list is as long as its count
+-- the list of a part: it is as long as its count, and record i of it begins i records behind its first
 module _ (sheet : List ℕ) (p : Part) where
   pub blocks-long : length (blocksIn sheet p) ≡ p .count
   unfolding blocksIn
@@ -136,3 +135,12 @@ module _ (sheet : List ℕ) (p : Part) where
   pub positions-long : length (positionsIn sheet p) ≡ p .count
   unfolding positionsIn
   positions-long = many-long (λ l. positionIn l 0) positionSize (p .count) (drop (p .from) sheet)
+
+  module _ (i : ℕ) (h : i < p .count) where
+    pub block-at : (r : Block) → r ≡ blockIn (drop (p .from + blockSize * i) sheet) → r ≡ getD (blocksIn sheet p) i noBlock
+    unfolding blocksIn
+    block-at r e = rw (many-at blockIn blockSize (p .count) i (drop (p .from) sheet) noBlock h, drop-drop (blockSize * i) (p .from) sheet) e
+
+    pub position-at : (r : Pos) → r ≡ positionIn (drop (p .from + positionSize * i) sheet) 0 → r ≡ getD (positionsIn sheet p) i noPosition
+    unfolding positionsIn
+    position-at r e = rw (many-at (λ l. positionIn l 0) positionSize (p .count) i (drop (p .from) sheet) noPosition h, drop-drop (positionSize * i) (p .from) sheet) e

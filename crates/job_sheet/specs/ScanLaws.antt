@@ -1,13 +1,14 @@
 -- The two loops: the first fault of a part's records, and the sinks gathered one by one.
 use mathlib.Core.Path.{_≡_, sym, ap, _∙_}
 use mathlib.Core.Bool.{true, false}
-use mathlib.Core.List.{List, [], _∷_, _++_, append-assoc}
+use mathlib.Core.List.{List, [], _∷_, _++_}
 use Prim.Native.Nat.{ℕ, suc, _+_, _-_, _*_, _≤_, _<_}
 use native.Mathlib.Nat.{mul-suc}
 use native.Mathlib.Numerals.{add-one}
 use native.Mathlib.Omega.{arith}
 use lib.ListN.{length, drop, set, replicate}
-use lib.Seq.{drop-drop, set-at}
+use lib.Seq.{drop-drop}
+use Rattle.basics.specs.Padding.{padded-next}
 use Rattle.room.specs.declared.Room.{Room}
 use Rattle.job_sheet.specs.declared.Endpoint.{Endpoint}
 use Rattle.job_sheet.specs.declared.Part.{Part}
@@ -63,13 +64,11 @@ module _ {s : List ℕ} {from count : ℕ} {ends : List Endpoint} {k : ℕ} (I :
       let l = drop from s in
       let p = many endpointIn endpointSize k l in
       let r : List Endpoint = replicate (maxSinks - (k + 1)) noEndpoint in
-      let a : maxSinks - k ≡ suc (maxSinks - (k + 1)) = omega arith in
       record {
         same =
-            ap (λ x. set x k e) (I .same ∙ ap (λ x. p ++ replicate x noEndpoint) a)
-            ∙ set-at p noEndpoint r e k (many-long endpointIn endpointSize k l)
-            ∙ ap (λ x. p ++ (x ∷ r)) (n ∙ ap endpointIn (sym (drop-drop (endpointSize * k) from s)))
-            ∙ sym (append-assoc p (endpointIn (drop (endpointSize * k) l) ∷ []) r)
+            ap (λ x. set x k e) (I .same)
+            ∙ padded-next p maxSinks k noEndpoint (many-long endpointIn endpointSize k l) (omega arith) e
+            ∙ ap (λ x. (p ++ (x ∷ [])) ++ r) (n ∙ ap endpointIn (sym (drop-drop (endpointSize * k) from s)))
             ∙ ap (λ x. x ++ r) (sym (many-snoc endpointIn endpointSize k l))
             ∙ ap (λ x. many endpointIn endpointSize x l ++ r) (sym (add-one k));
         so-far = omega arith;

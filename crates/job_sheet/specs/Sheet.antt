@@ -1,5 +1,5 @@
 -- "The job sheet" of the requirement, and numbers 1 to 5 over it: what a sheet says, the bytes that say it, which sheets mean something, and what
--- the reader answers. Definitions alone; their laws are in the files named Laws, what they come to in Theorems.
+-- the reading answers. Definitions alone; their laws are in the files named Laws, what they come to in Theorems.
 use mathlib.Core.Path.{_≡_}
 use mathlib.Core.Bool.{Bool, true, false, not}
 use mathlib.Core.List.{List, [], _∷_, _++_, map}
@@ -24,6 +24,7 @@ use Rattle.job_sheet.specs.declared.Verdict.the-variants.{Good, Sheet, S
 
 -- ---- the version of a sheet and its limits
 
+-- what a sheet of a later version has otherwise; it says the rest alike
 pub record Limits : Type 0 where
   pub version : ℕ
   pub maxBytes : ℕ
@@ -97,6 +98,7 @@ counted bytes xs = two (length xs) ++ joined (map bytes xs)
 abbrev pub sinkBytes : List Endpoint → List ℕ
 sinkBytes es = length es ∷ joined (map endpoint es)
 
+-- "then X, Y, Z; node limit, ..": all that stands behind the length
 unfoldable pub rest : Contents → List ℕ
 rest J =
     joined (
@@ -130,6 +132,7 @@ Means sheet J = MeansBy limits sheet J
 
 -- ---- how it is judged: numbers 2 and 3, "then record by record 4 before 5". The first fault decides
 
+-- no number is due
 abbrev pub isGood : Verdict → Bool
 isGood Good = true
 isGood Sheet = false
@@ -138,6 +141,7 @@ isGood Config = false
 isGood Position = false
 isGood Code = false
 
+-- the first of these numbers that is due
 unfoldable pub firstFault : List Verdict → Verdict
 firstFault [] = Good
 firstFault (v ∷ vs) = either (isGood v) (firstFault vs) v
@@ -161,6 +165,7 @@ unfoldable pub blockFault : Room → Block → Verdict
 blockFault R b =
     firstFault (positionFault R (b .at) ∷ codeFault (kindKnown (b .kind)) ∷ codeFault (not (eqb (b .kind) air)) ∷ codeFault (facingKnown (b .facing)) ∷ [])
 
+-- "4 before 5" in the source and in each sink
 unfoldable pub endpointFault : Room → Endpoint → Verdict
 endpointFault R e = firstFault (positionFault R (e .at) ∷ codeFault (portKnown (e .port)) ∷ codeFault (facingKnown (e .facing)) ∷ [])
 
@@ -190,7 +195,7 @@ numberOf Config = 3
 numberOf Position = 4
 numberOf Code = 5
 
--- ---- what the reader answers
+-- ---- what the reading answers
 
 -- "The sixteen sinks with their count travel as one value": those of the sheet, then places that hold nothing
 abbrev pub noEndpoint : Endpoint
@@ -223,9 +228,11 @@ endpointSize = 5
 abbrev pub listed : ℕ → ℕ → Part
 listed place n = record { from = place + 2; count = n }
 
+-- the place right behind a part
 abbrev pub behind : ℕ → Part → ℕ
 behind size p = p .from + size * p .count
 
+-- the parts in the sheet's order, from the first list on
 unfoldable pub layoutOf : Contents → Layout
 layoutOf J =
     let b = listed listsPlace (length (J .blocks)) in
@@ -282,6 +289,7 @@ accepted J = record { verdict = Good; job = jobOf J }
 abbrev pub refused : Verdict → Reading
 refused v = record { verdict = v; job = noJob }
 
+-- the job where no number is due, else that number
 abbrev pub answer : Contents → Reading
 answer J = either (isGood (judged J)) (accepted J) (refused (judged J))
 

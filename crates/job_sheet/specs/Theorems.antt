@@ -1,19 +1,15 @@
 -- What the definitions of Sheet.antt come to. `Read sheet r` is what `read_sheet` promises of its answer r.
-use mathlib.Core.Path.{_≡_, refl, sym, ap, _∙_}
+use mathlib.Core.Path.{_≡_, sym, ap, _∙_}
 use mathlib.Core.Bool.{true, false}
 use mathlib.Core.Logic.{_↔_}
-use mathlib.Core.List.{List, [], _∷_}
-use Prim.Native.Nat.{ℕ, _≤_}
-use native.Mathlib.Omega.{arith}
-use lib.ListN.{length}
+use mathlib.Core.List.{List}
+use Prim.Native.Nat.{ℕ}
 use Rattle.basics.specs.Tests.{ask, never}
 use Rattle.basics.specs.Promises.{Determines}
-use Rattle.room.specs.Room.{at, sidesGood, between, within}
-use Rattle.room.specs.Units.{configGood, usualConfig}
 use Rattle.job_sheet.specs.declared.Job.{Job}
 use Rattle.job_sheet.specs.declared.Reading.{Reading}
-use Rattle.job_sheet.specs.declared.Verdict.the-variants.{Good, Sheet}
-use Rattle.job_sheet.specs.Sheet.{Contents, maxBytes, maxSinks, bytesOf, bytesBy, rest, Means, isGood, firstFault, endpointFault, judged, layoutOf, accepted, refused, answer, Read, meaning, nothing}
+use Rattle.job_sheet.specs.declared.Verdict.the-variants.{Sheet}
+use Rattle.job_sheet.specs.Sheet.{Contents, bytesOf, Means, isGood, judged, layoutOf, accepted, refused, answer, Read, meaning, nothing}
 use Rattle.job_sheet.specs.Accepted.{Accepted, Usable}
 use Rattle.job_sheet.specs.Places.{Shaped}
 use Rattle.job_sheet.specs.LayoutLaws.{layout-back, contents-back, shaped-back, parts-in}
@@ -30,17 +26,13 @@ injective J K e = sym (contents-back J) ∙ rw e (contents-back K)
 pub one-meaning : (sheet : List ℕ) (J K : Contents) → Means sheet J → Means sheet K → J ≡ K
 one-meaning sheet J K m n = injective J K (m .bytes ∙ sym (n .bytes))
 
--- ---- the reader
+-- ---- the reading
 
 -- where the sheet means J, the answer is J's: what is accepted means this job, a refusal is the one that J's judgement gives, and what the judgement
 -- accepts is not refused
 pub answers-meaning : (sheet : List ℕ) (J : Contents) (r : Reading) → Means sheet J → Read sheet r → r ≡ answer J
 answers-meaning sheet J r m (meaning K n e) = e ∙ ap answer (one-meaning sheet K J n m)
 answers-meaning sheet J r m (nothing no-meaning e) = absurd (no-meaning J m)
-
--- so the sheet of a job within the limits is answered by that job's judgement
-pub complete : (J : Contents) (r : Reading) → length (bytesOf J) ≤ maxBytes → length (J .sinks) ≤ maxSinks → Read (bytesOf J) r → r ≡ answer J
-complete J r short few = answers-meaning (bytesOf J) J r (record { bytes = refl; short = short; few-sinks = few })
 
 -- every sheet has one answer only
 pub coincide : (sheet : List ℕ) → Determines (Read sheet)
@@ -49,23 +41,16 @@ coincide sheet r q (nothing no-meaning e) (meaning J m f) = absurd (no-meaning J
 coincide sheet r q (nothing no-meaning e) (nothing no-meaning′ f) = e ∙ sym f
 
 -- what is accepted is a job that the sheet means and that has no fault
-pub sound : (sheet : List ℕ) (r : Reading) → Read sheet r → r .verdict ≡ Good → Accepted sheet (r .job)
-sound sheet r (meaning J m e) g =
+pub accepted-by : {sheet : List ℕ} {r : Reading} → Read sheet r → isGood (r .verdict) ≡ true → Accepted sheet (r .job)
+accepted-by {sheet = sheet} {r = r} (meaning J m e) g =
     ask (isGood (judged J)) (λ t. yes-job t (rw t at e)) (λ f. no-job f (rw f at e))
   where
     yes-job : isGood (judged J) ≡ true → r ≡ accepted J → Accepted sheet (r .job)
     yes-job t q = record { contents = J; means = m; good = good-is (judged J) t; is = ap (λ x. x .job) q }
 
     no-job : isGood (judged J) ≡ false → r ≡ refused (judged J) → Accepted sheet (r .job)
-    no-job f q =
-        let z : judged J ≡ Good = sym (ap (λ x. x .verdict) q) ∙ g in
-        never (cc (ap isGood z))
-sound sheet r (nothing no-meaning e) g =
-    let z : Sheet ≡ Good = sym (ap (λ x. x .verdict) e) ∙ g in
-    never (cc)
-
-pub accepted-by : {sheet : List ℕ} {r : Reading} → Read sheet r → isGood (r .verdict) ≡ true → Accepted sheet (r .job)
-accepted-by {sheet = sheet} {r = r} read t = sound sheet r read (good-is (r .verdict) t)
+    no-job f q = let z : isGood (judged J) ≡ true = ap (λ x. isGood (x .verdict)) (sym q) ∙ g in never (cc)
+accepted-by {r = r} (nothing no-meaning e) g = let z : isGood Sheet ≡ true = ap (λ x. isGood (x .verdict)) (sym e) ∙ g in never (cc)
 
 verdict-is : (J : Contents) → answer J .verdict ≡ judged J
 verdict-is J = ask (isGood (judged J)) (λ t. rw t (sym (good-is (judged J) t))) (λ f. rw f)
@@ -83,40 +68,3 @@ usable sheet job A =
     let S : Shaped (bytesOf J) = shaped-back J (rw (m .bytes) (m .short)) (m .few-sinks) in
     let I = parts-in (bytesOf J) S (layoutOf J) (sym (layout-back J)) in
     rw (A .is, ← m .bytes) (usable-job J (no-fault J (A .good)) I (m .few-sinks))
-
--- ---- the sheet that the requirement writes out: 10x1x1, DustRoute's usual config, a Wire source at 0 and a Wire sink at 9
-
-abbrev pub hexSheet : List ℕ
-hexSheet =
-    0x01 ∷ 0x00 ∷ 0x00 ∷ 0x00 ∷ 0x28
-    ∷ 0x0A ∷ 0x01 ∷ 0x01
-    ∷ 0x00 ∷ 0x00 ∷ 0x75 ∷ 0x30
-    ∷ 0x00 ∷ 0x00 ∷ 0x00 ∷ 0x0A
-    ∷ 0x00 ∷ 0x00 ∷ 0x00 ∷ 0x19
-    ∷ 0x00 ∷ 0x00 ∷ 0x00 ∷ 0x0F
-    ∷ 0x00 ∷ 0x00 ∷ 0x00 ∷ 0x00 ∷ 0x00 ∷ 0x00 ∷ 0x00 ∷ 0x00 ∷ 0x00 ∷ 0x00
-    ∷ 0x00 ∷ 0x00 ∷ 0x00 ∷ 0x00 ∷ 0x00
-    ∷ 0x01
-    ∷ 0x09 ∷ 0x00 ∷ 0x00 ∷ 0x00 ∷ 0x00
-    ∷ []
-
-abbrev pub hexContents : Contents
-hexContents = record {
-  room = record { wide = 10; high = 1; deep = 1 };
-  config = usualConfig;
-  blocks = [];
-  conductors = [];
-  clearances = [];
-  terminals = [];
-  reserved = [];
-  source = record { at = at 0 0 0; port = 0; facing = 0 };
-  sinks = record { at = at 9 0 0; port = 0; facing = 0 } ∷ [];
-}
-
-pub hex-means : Means hexSheet hexContents
-unfolding bytesBy rest
-hex-means = record { bytes = refl; short = omega arith; few-sinks = omega arith }
-
-pub hex-good : judged hexContents ≡ Good
-unfolding judged firstFault endpointFault sidesGood between configGood within
-hex-good = refl

@@ -5,10 +5,9 @@ pub mod places; // places.rt: what stands at a place of a sheet, and number 1
 
 ghost use mathlib.Core.Path.{_≡_};
 ghost use Prim.Native.Nat.{_≤_, _<_};
-ghost use lib.ListN.{length};
+ghost use lib.ListN.{length, getD};
 ghost use Rattle.job_sheet.specs.Sheet.{maxSinks, blockSize, positionSize, endpointSize, isGood, numberOf, noEndpoint, sinksOf, behind, jobOf, refused, Read};
-ghost use Rattle.job_sheet.specs.Accepted.{BlockAt, PositionAt};
-ghost use Rattle.job_sheet.specs.Places.{endpointsIn, layoutIn, contentsIn, Shaped};
+ghost use Rattle.job_sheet.specs.Places.{noBlock, noPosition, blocksIn, positionsIn, endpointsIn, layoutIn, contentsIn, Shaped};
 use places::Layout;
 use room::Cost;
 use room::Nodes;
@@ -36,6 +35,7 @@ pub struct Part {
     pub count: usize,
 }
 
+// "node two bytes, x, y, z, kind, facing".
 pub struct Block {
     pub node: u16,
     pub at: Pos,
@@ -56,6 +56,7 @@ pub struct Sinks {
     pub ends: [Endpoint; 16],
 }
 
+// What a sheet says. Its lists are told by where they stand.
 pub struct Job {
     pub room: Room,
     pub config: RouterConfig,
@@ -78,6 +79,7 @@ pub enum Verdict {
     Code,
 }
 
+// What comes of a sheet: its job where it is accepted, else zeros.
 pub struct Reading {
     pub verdict: Verdict,
     pub job: Job,
@@ -98,6 +100,7 @@ impl Verdict {
         }
     }
 
+    // No number is due.
     pub fn is_good(self) -> bool
         ensures { λ r. ⌜ r ≡ isGood self ⌝ }
     {
@@ -123,6 +126,7 @@ fn no_endpoint() -> Endpoint
     }
 }
 
+// The sinks of a part, with their count.
 pub fn sinks_from(sheet: &[u8], part: Part) -> Sinks
     requires { ⌜ (part .count ≤ maxSinks) × (behind endpointSize part ≤ length (now sheet)) ⌝ }
     ensures { λ r. ⌜ r ≡ sinksOf (endpointsIn (now (sheet .entry)) part) ⌝ }
@@ -216,7 +220,7 @@ pub fn read_sheet(sheet: &[u8]) -> Reading
 // Record i of a list of blocks.
 pub fn block_at(sheet: &[u8], part: Part, i: usize) -> Block
     requires { ⌜ (i < part .count) × (behind blockSize part ≤ length (now sheet)) ⌝ }
-    ensures { λ r. ⌜ BlockAt (now (sheet .entry)) part i r ⌝ }
+    ensures { λ r. ⌜ r ≡ getD (blocksIn (now (sheet .entry)) part) i noBlock ⌝ }
 {
     places::block_from(sheet, part.from + BLOCK_SIZE * i)
 }
@@ -224,7 +228,7 @@ pub fn block_at(sheet: &[u8], part: Part, i: usize) -> Block
 // Record i of a list of positions.
 pub fn position_at(sheet: &[u8], part: Part, i: usize) -> Pos
     requires { ⌜ (i < part .count) × (behind positionSize part ≤ length (now sheet)) ⌝ }
-    ensures { λ r. ⌜ PositionAt (now (sheet .entry)) part i r ⌝ }
+    ensures { λ r. ⌜ r ≡ getD (positionsIn (now (sheet .entry)) part) i noPosition ⌝ }
 {
     places::position_from(sheet, part.from + POSITION_SIZE * i, 0)
 }

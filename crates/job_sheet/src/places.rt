@@ -3,7 +3,7 @@ ghost use mathlib.Core.Path.{_≡_};
 ghost use Prim.Native.Nat.{_+_, _^_, _≤_, _<_};
 ghost use lib.ListN.{getD, drop};
 ghost use Rattle.job_sheet.specs.Sheet.{sidesPlace, configPlace, behind};
-ghost use Rattle.job_sheet.specs.Places.{twoIn, fourIn, positionIn, roomIn, configIn, blockIn, endpointIn, shaped, LaidOut, Listed};
+ghost use Rattle.job_sheet.specs.Places.{twoIn, fourIn, positionIn, roomIn, configIn, blockIn, endpointIn, shapeHolds, shaped, LaidOut, Listed, SinksListed};
 use crate::Block;
 use crate::Endpoint;
 use crate::Part;
@@ -14,7 +14,7 @@ use room::Room;
 use room::RouterConfig;
 
 // Where the sides, the config and the first list begin.
-pub const SIDES: usize = 5;
+const SIDES: usize = 5;
 
 const CONFIG: usize = 8;
 
@@ -48,6 +48,7 @@ fn two_bytes(sheet: &[u8], place: usize, k: usize) -> u16
     byte(sheet, place, k) as u16 * 256 + byte(sheet, place, k + 1) as u16
 }
 
+// "Big-endian": four bytes from byte k on of what begins at a place.
 pub fn four_bytes(sheet: &[u8], place: usize, k: usize) -> u32
     requires { ⌜ place + k + 3 < 2 ^ 64 ⌝ }
     ensures { λ r. ⌜ r ≡ fourIn (drop place (now (sheet .entry))) k ⌝ }
@@ -55,6 +56,7 @@ pub fn four_bytes(sheet: &[u8], place: usize, k: usize) -> u32
     two_bytes(sheet, place, k) as u32 * 65536 + two_bytes(sheet, place, k + 2) as u32
 }
 
+// "x, y, z", from byte k on of what begins at a place.
 pub fn position_from(sheet: &[u8], place: usize, k: usize) -> Pos
     requires { ⌜ place + k + 2 < 2 ^ 64 ⌝ }
     ensures { λ r. ⌜ r ≡ positionIn (drop place (now (sheet .entry))) k ⌝ }
@@ -66,6 +68,7 @@ pub fn position_from(sheet: &[u8], place: usize, k: usize) -> Pos
     }
 }
 
+// "node two bytes, x, y, z, kind, facing".
 pub fn block_from(sheet: &[u8], place: usize) -> Block
     requires { ⌜ place + 6 < 2 ^ 64 ⌝ }
     ensures { λ r. ⌜ r ≡ blockIn (drop place (now (sheet .entry))) ⌝ }
@@ -78,6 +81,7 @@ pub fn block_from(sheet: &[u8], place: usize) -> Block
     }
 }
 
+// "x, y, z, port kind, facing".
 pub fn endpoint_from(sheet: &[u8], place: usize) -> Endpoint
     requires { ⌜ place + 4 < 2 ^ 64 ⌝ }
     ensures { λ r. ⌜ r ≡ endpointIn (drop place (now (sheet .entry))) ⌝ }
@@ -89,6 +93,7 @@ pub fn endpoint_from(sheet: &[u8], place: usize) -> Endpoint
     }
 }
 
+// "X, Y, Z".
 pub fn room_from(sheet: &[u8]) -> Room
     ensures { λ r. ⌜ r ≡ roomIn (drop sidesPlace (now (sheet .entry))) ⌝ }
 {
@@ -100,6 +105,7 @@ pub fn room_from(sheet: &[u8]) -> Room
     }
 }
 
+// "node limit, horizontal, stair, support cost (four bytes each)".
 pub fn config_from(sheet: &[u8]) -> RouterConfig
     ensures { λ r. ⌜ r ≡ configIn (drop configPlace (now (sheet .entry))) ⌝ }
 {
@@ -119,6 +125,17 @@ pub fn list_at(sheet: &[u8], place: usize) -> Part
     Part {
         from: place + 2,
         count: two_bytes(sheet, place, 0) as usize,
+    }
+}
+
+// The sinks whose one-byte count stands at a place.
+pub fn sinks_at(sheet: &[u8], place: usize) -> Part
+    requires { ⌜ place + 1 < 2 ^ 64 ⌝ }
+    ensures { λ r. ⌜ SinksListed (now (sheet .entry)) place r ⌝ }
+{
+    Part {
+        from: place + 1,
+        count: byte(sheet, place, 0) as usize,
     }
 }
 
@@ -150,11 +167,29 @@ pub fn layout_from(sheet: &[u8]) -> Layout
             from: place,
             count: 1,
         },
-        sinks: Part {
-            from: place + crate::ENDPOINT_SIZE + 1,
-            count: byte(sheet, place, crate::ENDPOINT_SIZE) as usize,
-        },
+        sinks: sinks_at(sheet, place + crate::ENDPOINT_SIZE),
     }
+}
+
+// Number 1: "sheet length, version, count past the end, bytes left over, over 16 sinks". Of a sheet of so many bytes its
+// version, the length of the rest, its sink count, and whether its parts end where it does: past the end and left over are
+// one question.
+pub fn shape_holds(bytes: usize, version: u8, rest: u32, sinks: usize, whole: bool) -> bool
+    ensures { λ r. ⌜ r ≡ shapeHolds bytes version rest sinks whole ⌝ }
+{
+    if crate::MAX_BYTES < bytes {
+        return false;
+    }
+    if version != crate::VERSION {
+        return false;
+    }
+    if rest as usize + SIDES != bytes {
+        return false;
+    }
+    if crate::MAX_SINKS < sinks {
+        return false;
+    }
+    whole
 }
 
 // Whether a sheet means anything: all of number 1, over the whole sheet.
@@ -162,17 +197,12 @@ pub fn shaped(sheet: &[u8], layout: Layout) -> bool
     requires { ⌜ LaidOut (now sheet) layout ⌝ }
     ensures { λ r. ⌜ r ≡ shaped (now (sheet .entry)) ⌝ }
 {
-    if crate::MAX_BYTES < sheet.len() {
-        return false;
-    }
-    if byte(sheet, 0, 0) != crate::VERSION {
-        return false;
-    }
-    if four_bytes(sheet, 1, 0) as usize + SIDES != sheet.len() {
-        return false;
-    }
-    if crate::MAX_SINKS < layout.sinks.count {
-        return false;
-    }
-    behind(crate::ENDPOINT_SIZE, layout.sinks) == sheet.len()
+    let end = behind(crate::ENDPOINT_SIZE, layout.sinks);
+    shape_holds(
+        sheet.len(),
+        byte(sheet, 0, 0),
+        four_bytes(sheet, 1, 0),
+        layout.sinks.count,
+        end == sheet.len(),
+    )
 }

@@ -11,7 +11,7 @@ use Rattle.geometry.specs.Geometry.{standsIn}
 use Rattle.ends.specs.declared.Tap.{Tap}
 use Rattle.job_sheet.specs.Sheet.{maxSinks}
 use Rattle.branches.specs.declared.BranchLengths.{BranchLengths}
-use Rattle.branches.specs.Branches.{branchOf, allButLast, inserted, total, Short, lengthsIn, longestBranch}
+use Rattle.branches.specs.Branches.{branchOf, allButLast, inserted, sum, Short, lengthsIn, longestBranch}
 use Rattle.multinet.specs.declared.Turned.{Turned}
 use Rattle.multinet.specs.declared.Turned.the-variants.{Grown, NoRoom}
 
@@ -36,13 +36,13 @@ pub record BranchAdded (R : Room) (at used : ℕ) (tap : Tap) (path branches joi
 
 -- how many cells the branches before this sink's have, and all of them
 abbrev pub beforeSink : BranchLengths → ℕ → ℕ
-beforeSink L k = total (take k (L .each))
+beforeSink L k = sum (take k (L .each))
 
 abbrev pub usedBy : BranchLengths → ℕ
-usedBy L = total (lengthsIn L)
+usedBy L = sum (lengthsIn L)
 
 -- a path of the room, and branches whose lengths are known
-pub record Placeable (R : Room) (k : ℕ) (L : BranchLengths) (tap : Tap) (path branches joinable blocked : List ℕ) : Type 0 where
+pub record BranchPlaceable (R : Room) (k : ℕ) (L : BranchLengths) (tap : Tap) (path joinable blocked : List ℕ) : Type 0 where
   pub good : Good R
   pub few : L .count ≤ maxSinks
   pub sink-in : k < L .count

@@ -13,7 +13,7 @@ use Rattle.ends.specs.declared.Tap.{Tap}
 use Rattle.branches.specs.declared.BranchLengths.{BranchLengths}
 use Rattle.branches.specs.Branches.{branchOf, allButLast, inserted}
 use Rattle.branches.specs.BranchLaws.{branch-some, branch-below, but-last-below, branch-at, but-last-at}
-use Rattle.multinet.specs.Adding.{Addable, BranchAdded, beforeSink, usedBy, Placeable, BranchPlaced, no-room, placed}
+use Rattle.multinet.specs.Adding.{Addable, BranchAdded, beforeSink, usedBy, BranchPlaceable, BranchPlaced, no-room, placed}
 use Rattle.multinet.specs.declared.Turned.the-variants.{Grown, NoRoom}
 
 module _ {R : Room} {at used len : ℕ} {tap : Tap} {path branches joinable blocked : List ℕ} (A : Addable R at used len tap path branches joinable blocked) where
@@ -57,7 +57,7 @@ pub no-room-left : {R : Room} {k : ℕ} {L : BranchLengths} {tap : Tap} {path br
     → BranchPlaced R k L tap path branches joinable blocked (NoRoom (k + 1)) branches′ joinable′ blocked′
 no-room-left u l n = no-room (rw (u, l) at n) refl
 
-module _ {R : Room} {k : ℕ} {L : BranchLengths} {tap : Tap} {path branches joinable blocked : List ℕ} (A : Placeable R k L tap path branches joinable blocked)
+module _ {R : Room} {k : ℕ} {L : BranchLengths} {tap : Tap} {path branches joinable blocked : List ℕ} (A : BranchPlaceable R k L tap path joinable blocked)
     {at used len : ℕ} (a : at ≡ beforeSink L k) (u : used ≡ usedBy L) (l : len ≡ length (branchOf tap path)) (fits : used + len ≤ length branches) where
   pub addable : Addable R at used len tap path branches joinable blocked
   addable = record {

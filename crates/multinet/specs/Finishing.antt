@@ -17,23 +17,23 @@ use Rattle.multinet.specs.Tree.{endMarks, sourceMarks}
 use Rattle.repeaters.specs.Joins.{Steps}
 
 -- the net's ends are in a room that has these marks, one a cell
-pub record EndsIn (source : ℕ) (k : Taps) (marks : List ℕ) : Type 0 where
+pub record EndsIn (source : ℕ) (taps : Taps) (marks : List ℕ) : Type 0 where
   pub room : Room
-  pub net : NetIn room source k
+  pub net : NetIn room source taps
   pub long : length marks ≡ volume room
 
 -- the buffer has these branches in sheet order
-pub record Holds (R : Room) (L : BranchLengths) (branches : List ℕ) (bs : List (List ℕ)) : Type 0 where
+pub record Holds (L : BranchLengths) (branches : List ℕ) (bs : List (List ℕ)) : Type 0 where
   pub in-order : SheetOrder bs (length (joined bs)) branches
   pub lengths-are : LengthsOf bs (L .each)
   pub count-is : length bs ≡ L .count
 
 -- a grown tree, cleared marks, and work memory of exactly V cells
-pub record Finishable (R : Room) (source : ℕ) (k : Taps) (L : BranchLengths) (branches occupied repeaters forbidden links parents line : List ℕ) : Type 0 where
+pub record Finishable (R : Room) (source : ℕ) (taps : Taps) (L : BranchLengths) (branches occupied repeaters forbidden links parents line : List ℕ) : Type 0 where
   pub good : Good R
-  pub net : NetIn R source k
+  pub net : NetIn R source taps
   pub bs : List (List ℕ)
-  pub holds : Holds R L branches bs
+  pub holds : Holds L branches bs
   pub few : L .count ≤ maxSinks
   pub lengths-short : Short L
   pub cells-in : (i : ℕ) → i < L .count → AllCells R (getD bs i [])
@@ -46,6 +46,6 @@ pub record Finishable (R : Room) (source : ℕ) (k : Taps) (L : BranchLengths) (
   pub line-long : length line ≡ volume R
 
 -- what the branches occupy, and their repeaters
-pub record Finished (R : Room) (source : ℕ) (k : Taps) (L : BranchLengths) (branches occupied repeaters : List ℕ) : Type 0 where
-  pub occupied-are : (bs : List (List ℕ)) → Holds R L branches bs → occupied ≡ markedBy (standsIn (joined bs)) (sourceMarks R source)
-  pub repeaters-are : (bs : List (List ℕ)) → Holds R L branches bs → repeaters ≡ repeaterMarks R source (tapsIn k) bs (endMarks R source k)
+pub record Finished (R : Room) (source : ℕ) (taps : Taps) (L : BranchLengths) (branches occupied repeaters : List ℕ) : Type 0 where
+  pub occupied-are : (bs : List (List ℕ)) → Holds L branches bs → occupied ≡ markedBy (standsIn (joined bs)) (sourceMarks R source)
+  pub repeaters-are : (bs : List (List ℕ)) → Holds L branches bs → repeaters ≡ repeaterMarks R source (tapsIn taps) bs (endMarks R source taps)

@@ -1,11 +1,11 @@
 -- Laws of finishing: the ends marked, and the branches read back from the buffer.
 use mathlib.Core.Path.{_≡_, refl, sym, ap, _∙_}
-use mathlib.Core.List.{List, [], _∷_, _++_, map, append-assoc}
+use mathlib.Core.List.{List, [], _∷_, _++_, map}
 use Prim.Native.Nat.{ℕ, suc, _≤_, _<_}
 use native.Mathlib.Omega.{arith}
 use lib.Dec.{eqb}
 use lib.ListN.{length, getD, take, drop, length-map, length-replicate, take-append-drop, List·getD-map}
-use lib.Seq.{take-at, drop-at, getD-take, length-take-le, ext-getD}
+use lib.Seq.{getD-take, length-take-le, ext-getD}
 use Rattle.basics.specs.Lists.{any}
 use Rattle.room.specs.declared.Room.{Room}
 use Rattle.room.specs.Room.{volume}
@@ -17,11 +17,11 @@ use Rattle.ends.specs.declared.Taps.{Taps}
 use Rattle.ends.specs.Ends.{noTap, tapsIn}
 use Rattle.geometry.specs.Geometry.{standsIn}
 use Rattle.branches.specs.declared.BranchLengths.{BranchLengths}
-use Rattle.branches.specs.Branches.{lengthsIn}
-use Rattle.branches.specs.BranchLaws.{below-append, lengths-total}
-use Rattle.repeaters.specs.Repeaters.{cutInto, branchesOf, repeaterMarks}
+use Rattle.branches.specs.Branches.{lengthsIn, cutInto, branchesOf}
+use Rattle.branches.specs.BranchLaws.{below-append, lengths-sum, cut-joined}
+use Rattle.repeaters.specs.Repeaters.{repeaterMarks}
 use Rattle.repeaters.specs.Joins.{Steps, AllSteps}
-use Rattle.repeaters.specs.Sinks as repeating
+use Rattle.repeaters.specs.Sinks.{Placeable}
 use Rattle.multinet.specs.Tree.{endAt, isEnd}
 use Rattle.multinet.specs.Finishing.{EndsIn, Holds, Finishable, Finished}
 use Rattle.multinet.specs.Adding.{usedBy}
@@ -32,26 +32,19 @@ pub end-marked : {marks marks′ marks″ : List ℕ} (m : List ℕ) (t : Tap) �
     → marks″ ≡ markedBy (λ v. endAt v t) m
 end-marked m t e a b = b ∙ rw (a, e) (with-or 1 (eqb (t .terminal)) (eqb (t .approach)) m)
 
-module _ {source : ℕ} {k : Taps} {marks : List ℕ} (E : EndsIn source k marks) where
+module _ {source : ℕ} {taps : Taps} {marks : List ℕ} (E : EndsIn source taps marks) where
   pub source-there : source < length marks
   source-there = rw (E .long) (E .net .source-in)
 
-  pub tap-there : (i : ℕ) → i < k .count → (getD (k .taps) i noTap .terminal < length marks) × (getD (k .taps) i noTap .approach < length marks)
-  tap-there i h = (rw (E .long) (E .net .terminal-in i h), rw (E .long) (E .net .approach-in i h))
+  pub tap-there : (i : ℕ) → i < taps .count → (getD (taps .taps) i noTap .terminal < length marks) × (getD (taps .taps) i noTap .approach < length marks)
+  tap-there i h = (rw (E .long) (E .net .taps-in .terminal-in i h), rw (E .long) (E .net .taps-in .approach-in i h))
 
-  pub ends-marked : {marks′ marks″ : List ℕ} → marks′ ≡ markedBy (eqb source) marks → marks″ ≡ markedBy (λ v. any (endAt v) (tapsIn k)) marks′
-      → marks″ ≡ markedBy (isEnd source k) marks
+  pub ends-marked : {marks′ marks″ : List ℕ} → marks′ ≡ markedBy (eqb source) marks → marks″ ≡ markedBy (λ v. any (endAt v) (tapsIn taps)) marks′
+      → marks″ ≡ markedBy (isEnd source taps) marks
   unfolding isEnd
-  ends-marked a b = b ∙ rw a (with-or 1 (eqb source) (λ v. any (endAt v) (tapsIn k)) marks)
+  ends-marked a b = b ∙ rw a (with-or 1 (eqb source) (λ v. any (endAt v) (tapsIn taps)) marks)
 
 -- ---- the branches
-
-cut-joined : (bs : List (List ℕ)) (rest : List ℕ) → cutInto (map length bs) (joined bs ++ rest) ≡ bs
-unfolding cutInto
-cut-joined [] rest = refl
-cut-joined (b ∷ bs) rest =
-    let e : (b ++ joined bs) ++ rest ≡ b ++ (joined bs ++ rest) = append-assoc b (joined bs) rest in
-    rw (e, take-at b (joined bs ++ rest) (length b) refl, drop-at b (joined bs ++ rest) (length b) refl) (ap (λ l. b ∷ l) (cut-joined bs rest))
 
 all-steps : (R : Room) (bs : List (List ℕ)) → ((i : ℕ) → i < length bs → Steps R (getD bs i [])) → AllSteps R bs
 all-steps R [] f = tt {0}
@@ -61,7 +54,7 @@ all-below : (R : Room) (bs : List (List ℕ)) → ((i : ℕ) → i < length bs �
 all-below R [] f = record { below = λ i h. absurd (omega arith) }
 all-below R (b ∷ bs) f = below-append (f 0 (omega arith)) (all-below R bs (λ i h. f (suc i) (omega arith)))
 
-module _ {R : Room} {L : BranchLengths} {branches : List ℕ} {bs : List (List ℕ)} (H : Holds R L branches bs) where
+module _ {L : BranchLengths} {branches : List ℕ} {bs : List (List ℕ)} (H : Holds L branches bs) where
   lengths-list : lengthsIn L ≡ map length bs
   lengths-list =
       let n : length (lengthsIn L) ≡ L .count = length-take-le (L .count) (L .each) (omega (arith, H .count-is, H .lengths-are .all)) in
@@ -69,18 +62,18 @@ module _ {R : Room} {L : BranchLengths} {branches : List ℕ} {bs : List (List �
       ext-getD 0 (lengthsIn L) (map length bs) (n ∙ sym (H .count-is) ∙ sym m)
       (λ i h. getD-take (L .count) (L .each) i 0 (omega (arith, n)) ∙ H .lengths-are .each-is i (omega (arith, n, H .count-is)) ∙ sym (List·getD-map length bs i []))
 
-  pub branches-back : branchesOf L branches ≡ bs
+  branches-back : branchesOf L branches ≡ bs
   branches-back =
       let whole : branches ≡ joined bs ++ drop (length (joined bs)) branches = sym (take-append-drop (length (joined bs)) branches) ∙ ap (λ l. l ++ drop (length (joined bs)) branches) (H .in-order .in-order) in
       rw (lengths-list) (ap (cutInto (map length bs)) whole ∙ cut-joined bs (drop (length (joined bs)) branches))
 
-  pub used-part : take (usedBy L) branches ≡ joined bs
-  used-part = rw (lengths-total bs L (H .lengths-are) (H .count-is)) (H .in-order .in-order)
+  used-part : take (usedBy L) branches ≡ joined bs
+  used-part = rw (lengths-sum bs L (H .lengths-are) (H .count-is)) (H .in-order .in-order)
 
 -- ---- the finished tree
 
-module _ {R : Room} {source : ℕ} {k : Taps} {L : BranchLengths} {branches occupied repeaters forbidden links parents line : List ℕ}
-    (F : Finishable R source k L branches occupied repeaters forbidden links parents line) where
+module _ {R : Room} {source : ℕ} {taps : Taps} {L : BranchLengths} {branches occupied repeaters forbidden links parents line : List ℕ}
+    (F : Finishable R source taps L branches occupied repeaters forbidden links parents line) where
   none-long : (marks : List ℕ) → marks ≡ noMarks (volume R) → length marks ≡ volume R
   none-long marks e = rw e (length-replicate {A = ℕ} (volume R) 0)
 
@@ -88,27 +81,25 @@ module _ {R : Room} {source : ℕ} {k : Taps} {L : BranchLengths} {branches occu
   source-marked = rw (none-long occupied (F .occupied-clear)) (F .net .source-in)
 
   pub used-fits : {used : ℕ} → used ≡ usedBy L → used ≤ length branches
-  used-fits u = omega (arith, u, lengths-total (F .bs) L (F .holds .lengths-are) (F .holds .count-is), F .holds .in-order .within)
+  used-fits u = omega (arith, u, lengths-sum (F .bs) L (F .holds .lengths-are) (F .holds .count-is), F .holds .in-order .within)
 
   pub cells-occupied : {used n : ℕ} → used ≡ usedBy L → n ≡ length occupied → CellsBelow n (take used branches)
   cells-occupied u e =
       rw (u, used-part (F .holds), e, none-long occupied (F .occupied-clear)) (all-below R (F .bs) (λ i h. F .cells-in i (omega (arith, F .holds .count-is))))
 
-  pub ends-in : EndsIn source k forbidden
+  pub ends-in : EndsIn source taps forbidden
   ends-in = record { room = R; net = F .net; long = none-long forbidden (F .forbidden-clear) }
 
-  pub placeable : {forbidden′ : List ℕ} → forbidden′ ≡ markedBy (isEnd source k) forbidden → repeating.Placeable R source k L branches forbidden′ repeaters links parents line
+  pub placeable : {forbidden′ : List ℕ} → forbidden′ ≡ markedBy (isEnd source taps) forbidden → Placeable R source taps L branches forbidden′ repeaters links parents line
   placeable f = record {
     good = F .good;
     source-in = F .net .source-in;
-    taps-in = record { full = F .net .whole; few = F .net .few; terminals = F .net .terminal-in };
+    taps-in = F .net .taps-in;
     laid = record {
-      full = F .lengths-short .whole;
-      few = F .few;
-      within = used-fits refl;
+      branched = record { whole = F .lengths-short .whole; few = F .few; within = used-fits refl };
       steps = rw (branches-back (F .holds)) (all-steps R (F .bs) (λ i h. F .steps i (omega (arith, F .holds .count-is))));
     };
-    forbidden-long = rw f (with-length 1 (isEnd source k) forbidden ∙ none-long forbidden (F .forbidden-clear));
+    forbidden-long = rw f (with-length 1 (isEnd source taps) forbidden ∙ none-long forbidden (F .forbidden-clear));
     unmarked = F .repeaters-clear;
     links-long = F .links-long;
     parents-long = F .parents-long;
@@ -118,9 +109,9 @@ module _ {R : Room} {source : ℕ} {k : Taps} {L : BranchLengths} {branches occu
   pub finished : {used : ℕ} {occupied′ occupied″ forbidden′ repeaters′ : List ℕ} → used ≡ usedBy L
       → occupied′ ≡ markedBy (eqb source) occupied
       → occupied″ ≡ markedBy (standsIn (take used branches)) occupied′
-      → forbidden′ ≡ markedBy (isEnd source k) forbidden
-      → repeaters′ ≡ repeaterMarks R source (tapsIn k) (branchesOf L branches) forbidden′
-      → Finished R source k L branches occupied″ repeaters′
+      → forbidden′ ≡ markedBy (isEnd source taps) forbidden
+      → repeaters′ ≡ repeaterMarks R source (tapsIn taps) (branchesOf L branches) forbidden′
+      → Finished R source taps L branches occupied″ repeaters′
   finished u a b f r = record {
     occupied-are = λ bs H. b ∙ rw (u, used-part H, a, F .occupied-clear) refl;
     repeaters-are = λ bs H. r ∙ rw (branches-back H, f, F .forbidden-clear) refl;

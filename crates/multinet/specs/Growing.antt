@@ -1,33 +1,39 @@
 -- What the loop over the sinks' turns keeps: the tree so far, as the lent slices hold it.
 use mathlib.Core.Path.{_≡_}
+use mathlib.Core.Logic.{_⊎_}
 use mathlib.Core.List.{List, [], _∷_}
 use Prim.Native.Nat.{ℕ, _-_, _≤_, _<_}
 use lib.ListN.{length, getD, drop}
+use Rattle.room.specs.declared.Room.{Room}
 use Rattle.room.specs.declared.Neighbour.the-variants.{Outside}
-use Rattle.room.specs.Room.{Good, volume}
-use Rattle.room.specs.Units.{Fair}
-use Rattle.routing_resources.specs.Marks.{markedBy, isMarked, AllCells}
+use Rattle.room.specs.Room.{Good, volume, Step}
+use Rattle.room.specs.Units.{GoodConfig}
+use Rattle.routing_resources.specs.Marks.{markedBy, isMarked, AllCells, Marks}
 use Rattle.job_sheet.specs.Sheet.{joined, maxSinks}
-use Rattle.geometry.specs.Geometry.{standsIn, conflictOf, NoPair, Marks}
+use Rattle.ends.specs.declared.Tap.{Tap}
+use Rattle.ends.specs.Ends.{NetIn}
+use Rattle.geometry.specs.Geometry.{standsIn, conflictOf, NoPair}
 use Rattle.turns.specs.Turns.{far, turnOf}
 use Rattle.goals.specs.Goals.{Site}
 use Rattle.branches.specs.Branches.{SheetOrder, LengthsOf, longestBranch}
 use Rattle.repeaters.specs.Joins.{Steps}
 use Rattle.multinet.specs.Tree.{Plot, Tree, tapAt, growFrom, growthOf, sourceMarks}
-use Rattle.multinet.specs.StepLaws.{Near}
-use Rattle.ends.specs.Ends.{NetIn}
+
+-- a sink's terminal is its approach, or one step from it
+abbrev pub Near : Room → Tap → Type 0
+Near R t = (t .terminal ≡ t .approach) ⊎ Step R (t .approach) (t .terminal)
 
 -- a plot that no number up to 9 refuses
-pub record Sound (P : Plot) : Type 0 where
+pub record SoundPlot (P : Plot) : Type 0 where
   pub good : Good (P .room)
-  pub fair : Fair (P .config)
+  pub fair : GoodConfig (P .config)
   pub kinds-long : length (P .kinds) ≡ volume (P .room)
   pub places-some : 0 < P .places
   pub net : NetIn (P .room) (P .source) (P .taps)
   pub near : (k : ℕ) → k < P .taps .count → Near (P .room) (tapAt P k)
 
 -- what is known of a route that was found
-pub record Way (S : Site) (start : ℕ) (path : List ℕ) : Type 0 where
+pub record RouteKnown (S : Site) (start : ℕ) (path : List ℕ) : Type 0 where
   pub rest : List ℕ
   pub begins : path ≡ start ∷ rest
   pub steps : Steps (S .room) path

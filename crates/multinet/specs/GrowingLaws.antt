@@ -14,12 +14,12 @@ use Rattle.basics.specs.Tests.{ask, never}
 use Rattle.basics.specs.Lists.{In}
 use Rattle.room.specs.declared.Neighbour.the-variants.{Inside, Outside}
 use Rattle.routing_resources.specs.Marks.{markedBy, isMarked, AllCells}
-use Rattle.routing_resources.specs.MarkLaws.{with-length, with-or, with-same}
+use Rattle.routing_resources.specs.MarkLaws.{with-length, with-or, with-same, marks-with}
 use Rattle.routing_resources.specs.Resources.{isClearance}
 use Rattle.job_sheet.specs.Sheet.{joined, maxSinks}
 use Rattle.geometry.specs.Geometry.{standsIn, NoPair}
 use Rattle.geometry.specs.LayLaws.{stands-in, in-stands}
-use Rattle.geometry.specs.GeometryLaws.{no-pair-after, marks-with}
+use Rattle.geometry.specs.GeometryLaws.{no-pair-after}
 use Rattle.ends.specs.declared.Tap.{Tap}
 use Rattle.turns.specs.Turns.{far, sinkAt}
 use Rattle.turns.specs.TurnLaws.{its-turn}
@@ -29,8 +29,8 @@ use Rattle.branches.specs.BranchLaws.{branch-short, branch-below, but-last-in, 
 use Rattle.repeaters.specs.Joins.{Steps}
 use Rattle.multinet.specs.Tree.{Plot, Tree, grown, stopped, tapAt, siteAt, sinkNow, withBranch, afterSink, growSink, growOn, growFrom, growthOf}
 use Rattle.multinet.specs.StepLaws.{branch-steps}
-use Rattle.multinet.specs.Growing.{Sound, Way, turnIn, branchIn, Sprouted, Growing}
-use Rattle.geometry.specs.PairLaws.{first-passed}
+use Rattle.multinet.specs.Growing.{SoundPlot, RouteKnown, turnIn, branchIn, Sprouted, Growing}
+use Rattle.room.specs.PlaceLaws.{first-passed}
 use Rattle.room.specs.RoomLaws.{same-cell}
 
 -- ---- the sink whose turn it is
@@ -174,12 +174,12 @@ module _ {P : Plot} {turn : ℕ} {T : Tree} (S : Sprouted P turn T) where
         steps = each-one (λ j b. j < P .taps .count → Steps (P .room) b) (λ h. goes) (λ j d h. S .steps j h);
       }
 
-pub way-some : {S : Site} {start : ℕ} {path : List ℕ} → Way S start path → 1 ≤ length path
+pub way-some : {S : Site} {start : ℕ} {path : List ℕ} → RouteKnown S start path → 1 ≤ length path
 way-some w = rw (w .begins) (omega arith)
 
 -- ---- one turn, as the slices hold the tree
 
-module _ {P : Plot} {outset start-buffer : List ℕ} {turn : ℕ} {joinable blocked buffer each : List ℕ} (S : Sound P)
+module _ {P : Plot} {outset start-buffer : List ℕ} {turn : ℕ} {joinable blocked buffer each : List ℕ} (S : SoundPlot P)
     (G : Growing P outset start-buffer turn joinable blocked buffer each) (h : turn < P .taps .count) where
   abbrev now-tree : Tree
   now-tree = G .tree
@@ -223,7 +223,7 @@ module _ {P : Plot} {outset start-buffer : List ℕ} {turn : ℕ} {joinable bloc
       unfolding afterSink
       sink-no-room n = turn-stops P outset h now-tree (G .same) 15 (k + 1) (comes ∙ rw (f, lt-leb _ _ n))
 
-      module _ (w : Way (siteAt P (now-tree .joinable)) (tapAt P k .approach) path) (fits : length (joined (now-tree .branches)) + length branch ≤ P .buffer) where
+      module _ (w : RouteKnown (siteAt P (now-tree .joinable)) (tapAt P k .approach) path) (fits : length (joined (now-tree .branches)) + length branch ≤ P .buffer) where
         in-tree : k < length (now-tree .branches)
         in-tree = sink-in-tree (G .sprouted) k e
 
@@ -255,7 +255,7 @@ module _ {P : Plot} {outset start-buffer : List ℕ} {turn : ℕ} {joinable bloc
               joinable-is = j ∙ ap (markedBy (standsIn (allButLast branch))) (G .joinable-is);
               blocked-is = b ∙ ap (markedBy (isClearance (P .room) branch)) (G .blocked-is);
               same = turn-grows P outset h now-tree (G .same) (withBranch (P .room) k branch now-tree) (comes ∙ rw (f, le-leb _ _ fits));
-              sprouted = sprouted-next (G .sprouted) k e branch (branch-below (tapAt P k) path (w .cells-in) (S .net .terminal-in k (s .0))) goes
+              sprouted = sprouted-next (G .sprouted) k e branch (branch-below (tapAt P k) path (w .cells-in) (S .net .taps-in .terminal-in k (s .0))) goes
                   (no-pair-after (P .room) (P .kinds) (now-tree .joinable) path (w .free) (standsIn (allButLast branch)) (joined-to-path (tapAt P k) path));
               in-order = rw (u, ← joined-more) (order-kept (now-tree .branches) k in-tree empty (G .in-order) branch room-left);
               behind = rw (u, ← joined-more) (behind-kept (now-tree .branches) k in-tree empty (G .in-order) branch room-left ∙ later (G .behind));

@@ -1,9 +1,10 @@
 pub mod Adding
 pub mod AddingLaws
 pub mod Tree
+pub mod Growing
 pub mod StepLaws
 pub mod NearLaws
-pub mod Growing
+pub mod GrowthLaws
 pub mod GrowingLaws
 pub mod Sinks
 pub mod SinkLaws

@@ -13,13 +13,12 @@ use Rattle.room.specs.Units.{wire, facingHorizontal, facingMove, ahead}
 use Rattle.room.specs.MoveLaws.{facing-in}
 use Rattle.port_realization.specs.declared.Realized.{Realized}
 use Rattle.port_realization.specs.Ports.{approachOf}
-use Rattle.port_realization.specs.PortLaws.{ends}
+use Rattle.port_realization.specs.PortLaws.{sink-inside}
 use Rattle.job_sheet.specs.declared.Endpoint.{Endpoint}
 use Rattle.job_sheet.specs.declared.Sinks.{Sinks}
-use Rattle.ends.specs.declared.Fault.the-variants as fault
-use Rattle.ends.specs.Ends.{sinksIn, sinkAt, noTap, tapFrom, tapOf, tapsOf, faultOf, SinksWithin}
+use Rattle.ends.specs.Ends.{sinksIn, sinkEnd, noTap, tapFrom, tapOf, tapsOf, SinksWithin}
 use Rattle.ends.specs.EndLaws.{tap-at}
-use Rattle.multinet.specs.StepLaws.{Near}
+use Rattle.multinet.specs.Growing.{Near}
 use Rattle.repeaters.specs.JoinLaws.{step-back}
 use Rattle.room.specs.RoomLaws.{same-cell}
 
@@ -32,15 +31,14 @@ module _ {R : Room} (G : Good R) where
       (λ f. inr (step-back (record { from-in = h; move = facingMove facing; listed = facing-in facing; leads = rw f at e }) G))
       (λ n. inl (same-cell t a (rw n at e)))
 
-  pub tap-near : (e : Endpoint) → Within R (e .at) → Near R (tapOf R e)
-  unfolding tapOf sinkAt
-  tap-near e w = go (sinkAt R e) refl
+  tap-near : (e : Endpoint) → Within R (e .at) → Near R (tapOf R e)
+  unfolding tapOf sinkEnd
+  tap-near e w = go (sinkEnd R e) refl
     where
-      go : (r : Realized) → sinkAt R e ≡ r → Near R (tapFrom (eqb (e .port) wire) r)
-      go (Realized.At t a) q = let E = ends R (e .at) w (e .port) (e .facing) t a q in faced (e .facing) t a (eqb (e .port) wire) (E .terminal-below) (E .approach-is)
+      go : (r : Realized) → sinkEnd R e ≡ r → Near R (tapFrom (eqb (e .port) wire) r)
+      go (Realized.At t a) q = let E = sink-inside R (e .at) w (e .port) (e .facing) t a q in faced (e .facing) t a (eqb (e .port) wire) (E .terminal-below) (E .approach-is)
       go Realized.NoFacing q = inl refl
       go Realized.Outside q = inl refl
 
-  pub taps-near : (source : Endpoint) {k : Sinks} → Within R (source .at) → SinksWithin R k → faultOf R source (sinksIn k) ≡ fault.Good
-      → (i : ℕ) → i < k .count → Near R (getD (tapsOf R (sinksIn k) .taps) i noTap)
-  taps-near source w S good i h = rw (tap-at source w S good i h) (tap-near _ (S .within i h))
+  pub taps-near : {k : Sinks} → SinksWithin R k → (i : ℕ) → i < k .count → Near R (getD (tapsOf R (sinksIn k) .taps) i noTap)
+  taps-near S i h = rw (tap-at S i h) (tap-near _ (S .within i h))

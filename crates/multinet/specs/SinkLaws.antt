@@ -1,9 +1,9 @@
 -- Laws of a sink's turn: what its functions ask, and what they come to.
 use mathlib.Core.Path.{_≡_, refl, sym, _∙_}
-use mathlib.Core.List.{List, [], _∷_}
-use Prim.Native.Nat.{ℕ, zero, suc, _*_, _≤_, _<_}
+use mathlib.Core.List.{List}
+use Prim.Native.Nat.{ℕ, _*_, _≤_, _<_}
 use native.Mathlib.Omega.{arith}
-use lib.ListN.{length, getD, take}
+use lib.ListN.{length, take}
 use Rattle.room.specs.declared.Neighbour.the-variants.{Inside, Outside}
 use Rattle.room_search.specs.Routing.{graphOf}
 use Rattle.job_sheet.specs.Sheet.{joined, maxSinks}
@@ -14,35 +14,26 @@ use Rattle.goals.specs.Goals.{Trial, found, routeToTree}
 use Rattle.goals.specs.Trials.{Tells, told, Grounds}
 use Rattle.goals.specs.RouteLaws.{tree-joins, joins-lawful, joins-cells, joins-short, joins-steps}
 use Rattle.branches.specs.declared.BranchLengths.{BranchLengths}
-use Rattle.branches.specs.Branches.{total, Short, longestBranch}
-use Rattle.branches.specs.BranchLaws.{joined-place, place-within, lengths-total}
+use Rattle.branches.specs.Branches.{Short, longestBranch}
+use Rattle.branches.specs.BranchLaws.{joined-place, place-within, lengths-sum}
+use Rattle.branches.specs.LoopLaws.{sum-most}
 use Rattle.multinet.specs.declared.Turned.{Turned}
 use Rattle.multinet.specs.declared.Turned.the-variants.{Skipped, QueueFull, NoGoal}
-use Rattle.multinet.specs.Adding.{beforeSink, usedBy, Placeable, BranchPlaced, no-room, placed}
+use Rattle.multinet.specs.Adding.{beforeSink, usedBy, BranchPlaceable, BranchPlaced, no-room, placed}
 use Rattle.multinet.specs.Tree.{Plot, tapAt, siteAt, sinkNow}
 use Rattle.multinet.specs.StepLaws.{steps-by-place}
-use Rattle.multinet.specs.Growing.{Sound, Way, Growing}
+use Rattle.multinet.specs.Growing.{SoundPlot, RouteKnown, Growing}
 use Rattle.multinet.specs.GrowingLaws.{way-some, sink-now, sink-in-tree, sink-empty, no-sink, sink-fails, sink-full, sink-no-room, sink-grows}
 use Rattle.multinet.specs.Sinks.{Findable, Turnable, TurnCame}
 
--- sixteen branches of at most so many cells
-total-most : (each : List ℕ) (n : ℕ) → ((i : ℕ) → i < n → getD each i 0 ≤ longestBranch) → total (take n each) ≤ n * longestBranch
-unfolding total
-total-most each zero f = omega arith
-total-most [] (suc n) f = omega arith
-total-most (x ∷ each) (suc n) f =
-    let a : x ≤ longestBranch = f 0 (omega arith) in
-    let b : total (take n each) ≤ n * longestBranch = total-most each n (λ i h. f (suc i) (omega arith)) in
-    omega (arith, a, b)
-
 -- a tree held in slices, at the turn of sink k
-module _ {P : Plot} {turn : ℕ} {L : BranchLengths} {outset start-buffer joinable blocked branches : List ℕ} (S : Sound P)
+module _ {P : Plot} {turn : ℕ} {L : BranchLengths} {outset start-buffer joinable blocked branches : List ℕ} (S : SoundPlot P)
     (G : Growing P outset start-buffer turn joinable blocked branches (L .each)) (count : L .count ≡ P .taps .count) (k : ℕ) (e : sinkNow P turn ≡ Inside k) where
   pub sink-in : k < P .taps .count
   sink-in = sink-now P turn k e .0
 
   -- what a route's search asks of the marks
-  pub grounds : Grounds (siteAt P joinable) blocked (tapAt P k .approach)
+  grounds : Grounds (siteAt P joinable) blocked (tapAt P k .approach)
   grounds = record {
     good = S .good;
     fair = S .fair;
@@ -52,37 +43,37 @@ module _ {P : Plot} {turn : ℕ} {L : BranchLengths} {outset start-buffer joinab
     alone = rw (G .joinable-is) (G .sprouted .alone);
     blocked-long = rw (G .blocked-is) (G .sprouted .blocked-long);
     blocked-marks = rw (G .blocked-is) (G .sprouted .blocked-marks);
-    start-in = S .net .approach-in k sink-in;
+    start-in = S .net .taps-in .approach-in k sink-in;
     places-some = S .places-some;
   }
 
   -- the branches' lengths tell where they stand
-  pub used-is : usedBy L ≡ length (joined (G .tree .branches))
-  used-is = lengths-total (G .tree .branches) L (G .lengths-are) (G .sprouted .count-is ∙ sym count)
+  used-is : usedBy L ≡ length (joined (G .tree .branches))
+  used-is = lengths-sum (G .tree .branches) L (G .lengths-are) (G .sprouted .count-is ∙ sym count)
 
-  pub before-is : beforeSink L k ≡ length (joined (take k (G .tree .branches)))
+  before-is : beforeSink L k ≡ length (joined (take k (G .tree .branches)))
   before-is = joined-place (G .tree .branches) (L .each) (G .lengths-are) k (omega (arith, sink-in, G .sprouted .count-is))
 
-  pub at-within : beforeSink L k ≤ usedBy L
+  at-within : beforeSink L k ≤ usedBy L
   at-within = rw (before-is, used-is) (place-within (G .tree .branches) k (sink-in-tree (G .sprouted) k e) (sink-empty (G .sprouted) k e) (G .in-order))
 
-  pub used-short : usedBy L ≤ maxSinks * longestBranch
-  used-short = let t = total-most (L .each) (L .count) (λ i h. G .each-short i (omega (arith, count, S .net .few))) in omega (arith, t, count, S .net .few)
+  used-short : usedBy L ≤ maxSinks * longestBranch
+  used-short = let t = sum-most longestBranch (L .each) (L .count) (λ i h. G .each-short i (omega (arith, count, S .net .taps-in .few))) in omega (arith, t, count, S .net .taps-in .few)
 
-  pub lengths-short : Short L
+  lengths-short : Short L
   lengths-short = record { whole = G .each-long; short = G .each-short }
 
   -- what the search came to is what the definition's does
   module _ {r : Tried} {best : List ℕ}
       (T : Tells (routeToTree (siteAt P joinable) (tapAt P k .approach) blocked) r best) where
-    pub trial : told r best ≡ routeToTree (siteAt P (G .tree .joinable)) (tapAt P k .approach) (G .tree .blocked)
+    trial : told r best ≡ routeToTree (siteAt P (G .tree .joinable)) (tapAt P k .approach) (G .tree .blocked)
     trial = T .is ∙ rw (G .joinable-is, G .blocked-is)
 
-    pub way-found : (path : List ℕ) (cost : ℕ) → told r best ≡ found path cost → Way (siteAt P (G .tree .joinable)) (tapAt P k .approach) path
+    way-found : (path : List ℕ) (cost : ℕ) → told r best ≡ found path cost → RouteKnown (siteAt P (G .tree .joinable)) (tapAt P k .approach) path
     unfolding graphOf
     way-found path cost f =
         let J = tree-joins (siteAt P (G .tree .joinable)) (tapAt P k .approach) (G .tree .blocked) path cost (sym trial ∙ f) in
-        let i = S .net .approach-in k sink-in in
+        let i = S .net .taps-in .approach-in k sink-in in
         let w = joins-lawful i J in
         record {
           rest = w .rest;
@@ -117,14 +108,14 @@ module _ {P : Plot} {turn : ℕ} {L : BranchLengths} {joinable blocked classes k
         is-found : told r best′ ≡ found (take n best′) (cost .0)
         is-found = rw q
 
-        pub placeable : {branches″ joinable″ blocked″ : List ℕ} → joinable″ ≡ joinable → blocked″ ≡ blocked
-            → Placeable (P .room) k L (tapAt P k) (take n best′) branches″ joinable″ blocked″
+        pub placeable : {joinable″ blocked″ : List ℕ} → joinable″ ≡ joinable → blocked″ ≡ blocked
+            → BranchPlaceable (P .room) k L (tapAt P k) (take n best′) joinable″ blocked″
         placeable j b =
             let G = A .growing in
             let w = way-found (A .sound) G (A .count-is) k e T (take n best′) (cost .0) is-found in
             record {
               good = A .sound .good;
-              few = omega (arith, A .count-is, A .sound .net .few);
+              few = omega (arith, A .count-is, A .sound .net .taps-in .few);
               sink-in = omega (arith, sink-in (A .sound) G (A .count-is) k e, A .count-is);
               lengths-short = lengths-short (A .sound) G (A .count-is) k e;
               at-within = at-within (A .sound) G (A .count-is) k e;
@@ -132,7 +123,7 @@ module _ {P : Plot} {turn : ℕ} {L : BranchLengths} {joinable blocked classes k
               some = way-some w;
               short = omega (arith, w .short, A .sound .good .few);
               path-in = w .cells-in;
-              terminal-in = A .sound .net .terminal-in k (sink-in (A .sound) G (A .count-is) k e);
+              terminal-in = A .sound .net .taps-in .terminal-in k (sink-in (A .sound) G (A .count-is) k e);
               joinable-long = rw (j, G .joinable-is) (G .sprouted .joinable-long);
               blocked-long = rw (b, G .blocked-is) (G .sprouted .blocked-long);
             }
@@ -149,7 +140,7 @@ module _ {P : Plot} {turn : ℕ} {L : BranchLengths} {joinable blocked classes k
               let w = way-found (A .sound) G (A .count-is) k e T (take n best′) (cost .0) is-found in
               let u = used-is (A .sound) G (A .count-is) k e in
               rw is (
-                omega (arith, sink-in (A .sound) G (A .count-is) k e, A .sound .net .few),
+                omega (arith, sink-in (A .sound) G (A .count-is) k e, A .sound .net .taps-in .few),
                 sink-grows (A .sound) G (A .turn-in) k e (trial (A .sound) G (A .count-is) k e T) (take n best′) (cost .0) is-found w (omega (arith, m, fits, u))
                     (rw j at (D .joinable-are)) (rw b at (D .blocked-are)) (rw (before-is (A .sound) G (A .count-is) k e, u) at (D .branches-are)) refl,
               );

@@ -16,9 +16,9 @@ use Rattle.branches.specs.declared.BranchLengths.{BranchLengths}
 use Rattle.multinet.specs.declared.Turned.{Turned}
 use Rattle.multinet.specs.declared.Turned.the-variants.{Grown, Skipped, QueueFull, NoGoal, NoRoom}
 use Rattle.multinet.specs.declared.Growth.{Growth}
-use Rattle.geometry.specs.Geometry.{Marks}
+use Rattle.routing_resources.specs.Marks.{Marks}
 use Rattle.multinet.specs.Tree.{Plot, stopped, growthOf, sourceMarks}
-use Rattle.multinet.specs.Growing.{Sound, Growing}
+use Rattle.multinet.specs.Growing.{SoundPlot, Growing}
 
 -- marks that joinable and blocked cells may have, and work memory of exactly V cells, whatever it holds
 pub record Findable (S : Site) (blocked classes known previous path best : List ℕ) (start : ℕ) : Type 0 where
@@ -43,7 +43,7 @@ plotOf R C kinds queue branches source taps = record {
 pub record Turnable (P : Plot) (turn : ℕ) (L : BranchLengths) (joinable blocked classes known previous path best branches : List ℕ) : Type 0 where
   pub outset : List ℕ
   pub start-buffer : List ℕ
-  pub sound : Sound P
+  pub sound : SoundPlot P
   pub growing : Growing P outset start-buffer turn joinable blocked branches (L .each)
   pub count-is : L .count ≡ P .taps .count
   pub turn-in : turn < P .taps .count
@@ -110,7 +110,7 @@ recordedBy L turned = record { count = L .count; each = eachBy (L .each) turned 
 
 -- the source terminal is joinable, these cells are blocked, and work memory has exactly V cells
 pub record Plantable (P : Plot) (joinable blocked classes known previous path best : List ℕ) : Type 0 where
-  pub sound : Sound P
+  pub sound : SoundPlot P
   pub joinable-is : joinable ≡ sourceMarks (P .room) (P .source)
   pub blocked-long : length blocked ≡ volume (P .room)
   pub blocked-marks : Marks blocked

@@ -1,6 +1,6 @@
 -- A branch goes by steps, as the path that it was made of does the other way round.
 use mathlib.Core.Path.{_≡_}
-use mathlib.Core.Logic.{_⊎_, inl, inr}
+use mathlib.Core.Logic.{inl, inr}
 use mathlib.Core.List.{List, [], _∷_, _++_, reverse, reverse-cons, append-nil}
 use Prim.Native.Nat.{ℕ, suc, _+_, _<_}
 use native.Mathlib.Nat.{suc-add}
@@ -15,6 +15,7 @@ use Rattle.ends.specs.declared.Tap.{Tap}
 use Rattle.branches.specs.Branches.{branchOf}
 use Rattle.repeaters.specs.Joins.{Steps}
 use Rattle.repeaters.specs.JoinLaws.{step-back}
+use Rattle.multinet.specs.Growing.{Near}
 
 pub steps-by-place : (R : Room) (l : List ℕ) → ((i : ℕ) → i + 1 < length l → Step R (getD l i 0) (getD l (i + 1) 0)) → Steps R l
 steps-by-place R [] f = tt {0}
@@ -27,16 +28,12 @@ one-more R [] u v s t = (t, tt {0})
 one-more R (a ∷ []) u v s t = (s .0, (t, tt {0}))
 one-more R (a ∷ (b ∷ xs)) u v s t = (s .0, one-more R (b ∷ xs) u v (s .1) t)
 
-pub steps-reverse : {R : Room} → Good R → (l : List ℕ) → Steps R l → Steps R (reverse l)
+steps-reverse : {R : Room} → Good R → (l : List ℕ) → Steps R l → Steps R (reverse l)
 steps-reverse G [] s = tt {0}
 steps-reverse G (a ∷ []) s = tt {0}
 steps-reverse {R = R} G (a ∷ (b ∷ rest)) s =
     let r : Steps R (reverse rest ++ (b ∷ [])) = rw (reverse-cons b rest) at (steps-reverse G (b ∷ rest) (s .1)) in
     rw (reverse-cons a (b ∷ rest), reverse-cons b rest) (one-more R (reverse rest) b a r (step-back (s .0) G))
-
--- a sink's terminal is its approach, or one step from it
-abbrev pub Near : Room → Tap → Type 0
-Near R t = (t .terminal ≡ t .approach) ⊎ Step R (t .approach) (t .terminal)
 
 pub branch-steps : {R : Room} → Good R → (t : Tap) (rest : List ℕ) → Near R t → Steps R (t .approach ∷ rest) → Steps R (branchOf t (t .approach ∷ rest))
 unfolding branchOf

@@ -91,6 +91,7 @@ unfoldable pub growSink : Plot → Neighbour → Tree → Growth
 growSink P (Inside k) T = afterSink P k T (routeToTree (siteAt P (T .joinable)) (tapAt P k .approach) (T .blocked))
 growSink P Outside T = grown T
 
+-- the sinks that are left have their turns only if none was refused so far
 abbrev pub growOn : (Tree → Growth) → Growth → Growth
 growOn rest (grown T) = rest T
 growOn rest (stopped number detail) = stopped number detail
@@ -105,6 +106,7 @@ growFrom zero P turn T = grown T
 growFrom (suc n) P turn T =
     growOn (growFrom n P (turn + 1)) (growSink P (sinkNow P turn) T)
 
+-- all turns, from the source terminal alone and the cells blocked at the outset
 unfoldable pub growthOf : Plot → List ℕ → Growth
 growthOf P blocked = growFrom (P .taps .count) P 0 (planted P blocked)
 
@@ -112,11 +114,13 @@ growthOf P blocked = growFrom (P .taps .count) P 0 (planted P blocked)
 abbrev pub endAt : ℕ → Tap → Bool
 endAt v t = eqb (t .terminal) v || eqb (t .approach) v
 
+-- a source has no approach
 unfoldable pub isEnd : ℕ → Taps → ℕ → Bool
-isEnd source k v = eqb source v || any (endAt v) (tapsIn k)
+isEnd source taps v = eqb source v || any (endAt v) (tapsIn taps)
 
 abbrev pub endMarks : Room → ℕ → Taps → List ℕ
-endMarks R source k = markedBy (isEnd source k) (noMarks (volume R))
+endMarks R source taps = markedBy (isEnd source taps) (noMarks (volume R))
 
+-- marks of the repeaters of a grown tree
 unfoldable pub repeatersOf : Plot → Tree → List ℕ
 repeatersOf P T = repeaterMarks (P .room) (P .source) (tapsIn (P .taps)) (T .branches) (endMarks (P .room) (P .source) (P .taps))

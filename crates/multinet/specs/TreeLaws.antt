@@ -10,18 +10,18 @@ use borrow.Author.Tests.{eqb-true, ltb-true, ltb-false}
 use Rattle.basics.specs.Tests.{ask, never}
 use Rattle.basics.specs.Zeros.{zeros}
 use Rattle.room.specs.Room.{volume}
-use Rattle.routing_resources.specs.Marks.{noMarks, isMarked}
-use Rattle.routing_resources.specs.MarkLaws.{with-length, with-none, marked-after}
-use Rattle.job_sheet.specs.Sheet.{joined}
-use Rattle.geometry.specs.Geometry.{standsIn, Marks}
-use Rattle.geometry.specs.GeometryLaws.{no-pair-one, marks-none, marks-with}
+use Rattle.routing_resources.specs.Marks.{noMarks, isMarked, Marks}
+use Rattle.routing_resources.specs.MarkLaws.{with-length, with-none, marked-after, marks-none, marks-with}
+use Rattle.job_sheet.specs.Sheet.{joined, maxSinks}
+use Rattle.geometry.specs.Geometry.{standsIn}
+use Rattle.geometry.specs.GeometryLaws.{no-pair-one}
 use Rattle.goals.specs.Trials.{Memory}
 use Rattle.branches.specs.declared.BranchLengths.{BranchLengths}
 use Rattle.branches.specs.BranchLaws.{order-first, lengths-first, joined-nothing}
 use Rattle.multinet.specs.declared.Turned.{Turned}
 use Rattle.multinet.specs.declared.Turned.the-variants.{Grown, Skipped, QueueFull, NoGoal, NoRoom}
 use Rattle.multinet.specs.Tree.{Plot, planted, growFrom, growthOf, sourceMarks}
-use Rattle.multinet.specs.Growing.{Sound, Sprouted, Growing}
+use Rattle.multinet.specs.Growing.{SoundPlot, Sprouted, Growing}
 use Rattle.multinet.specs.Sinks.{Turnable, Came, TurnCame, stopsBy, Recordable, eachBy, recordedBy, Plantable, Turning, Ended, GrowthTold}
 
 -- ---- the outset
@@ -30,7 +30,7 @@ stands-none : (v : ℕ) → standsIn [] v ≡ false
 unfolding standsIn
 stands-none v = refl
 
-module _ {P : Plot} (S : Sound P) (blocked : List ℕ) where
+module _ {P : Plot} (S : SoundPlot P) (blocked : List ℕ) where
   only-source : (v : ℕ) → isMarked (sourceMarks (P .room) (P .source)) v ≡ true → v ≡ P .source
   only-source v e =
       ask (eqb (P .source) v) (λ t. sym (eqb-true (P .source) v t))
@@ -43,7 +43,7 @@ module _ {P : Plot} (S : Sound P) (blocked : List ℕ) where
           (λ g. let h : length (sourceMarks (P .room) (P .source)) ≤ u = rw (with-length 1 (eqb (P .source)) (noMarks (volume (P .room))), length-replicate {A = ℕ} (volume (P .room)) 0) (ltb-false _ _ g) in
           rw (List·getD-eq-default (sourceMarks (P .room) (P .source)) 0 {n = u} h))
 
-  pub planted-sprouts : length blocked ≡ volume (P .room) → Marks blocked → Sprouted P 0 (planted P blocked)
+  planted-sprouts : length blocked ≡ volume (P .room) → Marks blocked → Sprouted P 0 (planted P blocked)
   unfolding planted
   planted-sprouts long marks = record {
     occupied-is = sym (with-none 1 _ (sourceMarks (P .room) (P .source)) (λ v h. rw (joined-nothing (P .taps .count)) (stands-none v)));
@@ -59,7 +59,7 @@ module _ {P : Plot} (S : Sound P) (blocked : List ℕ) where
   }
 
 module _ {P : Plot} {joinable blocked classes known previous path best : List ℕ} (A : Plantable P joinable blocked classes known previous path best) where
-  first-growing : (branches : List ℕ) → P .buffer ≡ length branches → Growing P blocked branches 0 joinable blocked branches (replicate 16 0)
+  first-growing : (branches : List ℕ) → P .buffer ≡ length branches → Growing P blocked branches 0 joinable blocked branches (replicate maxSinks 0)
   unfolding growthOf planted
   first-growing branches b =
       let z : length (joined (replicate {A = List ℕ} (P .taps .count) [])) ≡ 0 = ap length (joined-nothing (P .taps .count)) in
@@ -72,19 +72,19 @@ module _ {P : Plot} {joinable blocked classes known previous path best : List �
         in-order = rw z (order-first (P .taps .count) branches);
         behind = refl;
         buffer-long = sym b;
-        lengths-are = lengths-first (P .taps .count) 16 (A .sound .net .few);
+        lengths-are = lengths-first (P .taps .count) maxSinks (A .sound .net .taps-in .few);
         each-long = refl;
-        each-short = λ i h. rw (getD-replicate {A = ℕ} 16 i 0 0 h) (omega arith);
-        each-none = λ i h. zeros 16 i;
+        each-short = λ i h. rw (getD-replicate {A = ℕ} maxSinks i 0 0 h) (omega arith);
+        each-none = λ i h. zeros maxSinks i;
       }
 
-  pub first-turn : (branches : List ℕ) → P .buffer ≡ length branches → Turning P blocked branches 0 (record { count = P .taps .count; each = replicate 16 0 }) joinable blocked branches
+  pub first-turn : (branches : List ℕ) → P .buffer ≡ length branches → Turning P blocked branches 0 (record { count = P .taps .count; each = replicate maxSinks 0 }) joinable blocked branches
   first-turn branches b = record { growing = first-growing branches b; count-is = refl; so-far = omega arith }
 
 -- ---- turn by turn
 
 module _ {P : Plot} {outset start-buffer : List ℕ} {turn : ℕ} {L : BranchLengths} {joinable blocked branches : List ℕ} (T : Turning P outset start-buffer turn L joinable blocked branches) where
-  pub turnable : Sound P → turn < P .taps .count → {classes known previous path best : List ℕ} → Memory (P .room) known previous path
+  pub turnable : SoundPlot P → turn < P .taps .count → {classes known previous path best : List ℕ} → Memory (P .room) known previous path
       → length classes ≡ volume (P .room) → length best ≡ volume (P .room)
       → Turnable P turn L joinable blocked classes known previous path best branches
   turnable S h m c b = record {

@@ -3,7 +3,7 @@ use crate::Turned;
 use branches::BranchLengths;
 use ends::Tap;
 use room::Room;
-ghost use Rattle.multinet.specs.Adding.{Addable, BranchAdded, Placeable, BranchPlaced};
+ghost use Rattle.multinet.specs.Adding.{Addable, BranchAdded, BranchPlaceable, BranchPlaced};
 
 // "All but the last cell become joinable; .. the branch's clearances become blocked." The branch, of `len` cells, comes to
 // stand at `at` of the branch buffer. The occupied marks are made at the end, from the whole buffer (`finish_tree`).
@@ -38,7 +38,7 @@ pub fn place_branch(
     joinable: &mut [u8],
     blocked: &mut [u8],
 ) -> Turned
-    requires { ⌜ Placeable room sink lengths tap (now path) (now branches) (now joinable) (now blocked) ⌝ }
+    requires { ⌜ BranchPlaceable room sink lengths tap (now path) (now joinable) (now blocked) ⌝ }
     ensures { λ r. ⌜ BranchPlaced room sink lengths tap (now (path .entry)) (now (branches .entry)) (now (joinable .entry)) (now (blocked .entry)) r (now (branches .exit)) (now (joinable .exit)) (now (blocked .exit)) ⌝ }
 {
     let used = branches::joined_length(lengths, lengths.count);

@@ -2,10 +2,10 @@
 -- lent buffers determine all of it. Definitions alone; their laws are in the files named Laws.
 use mathlib.Core.Path.{_≡_}
 use mathlib.Core.Bool.{Bool, true, false, _&&_}
-use mathlib.Core.List.{List, [], _∷_, _++_, map}
-use Prim.Native.Nat.{ℕ, _-_, _/_}
+use mathlib.Core.List.{List, [], _∷_}
+use Prim.Native.Nat.{ℕ, _/_}
 use lib.Dec.{leb}
-use lib.ListN.{length, replicate}
+use lib.ListN.{length}
 use Rattle.basics.specs.Tests.{either}
 use Rattle.basics.specs.Lists.{every}
 use Rattle.lent.specs.Lent.{outputAfter, workAfter}
@@ -13,11 +13,10 @@ use Rattle.room.specs.declared.Room.{Room}
 use Rattle.room.specs.Room.{volume}
 use Rattle.job_sheet.specs.declared.Reading.{Reading}
 use Rattle.job_sheet.specs.declared.Verdict.the-variants as verdict
-use Rattle.job_sheet.specs.Sheet.{Contents, Means, Read, judged, isGood, numberOf, joined, maxSinks}
+use Rattle.job_sheet.specs.Sheet.{Contents, Means, Read, judged, isGood, numberOf, joined}
 use Rattle.outset.specs.declared.Outset.{Outset}
 use Rattle.outset.specs.SetOut.{ready, numberBy, detailBy, OutsetOf}
-use Rattle.branches.specs.declared.BranchLengths.{BranchLengths}
-use Rattle.branches.specs.Branches.{markedCount}
+use Rattle.branches.specs.Branches.{branchLengths, markedCount}
 use Rattle.multinet.specs.Tree.{Plot, Growth, grown, stopped, growthOf, repeatersOf}
 use Rattle.net_tree.specs.declared.Lengths.{Lengths}
 use Rattle.net_tree.specs.declared.Answer.{Answer}
@@ -38,6 +37,7 @@ pub record Lent : Type 0 where
   pub best : List ℕ
   pub queue : List ℕ
 
+-- of what is lent only the lengths count
 abbrev pub lengthsOf : Lent → Lengths
 lengthsOf B = record {
   branches = length (B .branches);
@@ -66,6 +66,7 @@ pub data Outcome : Type 0 where
   routed : (branches : List (List ℕ)) (occupied repeaters : List ℕ) → Outcome
   refused : (number detail : ℕ) → Outcome
 
+-- what the tree of a job that is set out grows over
 abbrev pub plotFor : Contents → Lengths → Outset → List ℕ → Plot
 plotFor J L O kinds = record {
   room = J .room;
@@ -77,6 +78,7 @@ plotFor J L O kinds = record {
   taps = O .ends .taps;
 }
 
+-- a grown tree with its repeaters, or the number that stopped the growth
 abbrev pub outcomeOf : Plot → Growth → Outcome
 outcomeOf P (grown T) = routed (T .branches) (T .occupied) (repeatersOf P T)
 outcomeOf P (stopped number detail) = refused number detail
@@ -98,10 +100,7 @@ pub data Comes (sheet : List ℕ) (L : Lengths) (o : Outcome) : Type 0 where
 
 -- ---- the answer
 
--- the branches' lengths in sheet order, then places that hold nothing
-abbrev pub branchLengths : List (List ℕ) → BranchLengths
-branchLengths bs = record { count = length bs; each = map length bs ++ replicate (maxSinks - length bs) 0 }
-
+-- the counts of the marked cells, and the branches' lengths; a refusal has no branches
 abbrev pub answerOf : Outcome → Answer
 answerOf (routed bs occupied repeaters) = record { ended = Routed (markedCount occupied) (markedCount repeaters); lengths = branchLengths bs }
 answerOf (refused number detail) = record { ended = Refused number detail; lengths = branchLengths [] }
@@ -113,23 +112,25 @@ numberFor (refused number detail) = number
 
 -- ---- the lent buffers
 
-abbrev pub branchCells : Outcome → List ℕ
-branchCells (routed bs occupied repeaters) = joined bs
-branchCells (refused number detail) = []
+-- what the outputs get: the branches' cells in sheet order, the marks of what they occupy, the repeaters' marks; nothing after a refusal
+abbrev pub branchesFor : Outcome → List ℕ
+branchesFor (routed bs occupied repeaters) = joined bs
+branchesFor (refused number detail) = []
 
-abbrev pub occupiedMarks : Outcome → List ℕ
-occupiedMarks (routed bs occupied repeaters) = occupied
-occupiedMarks (refused number detail) = []
+abbrev pub occupiedFor : Outcome → List ℕ
+occupiedFor (routed bs occupied repeaters) = occupied
+occupiedFor (refused number detail) = []
 
-abbrev pub repeaterMarks : Outcome → List ℕ
-repeaterMarks (routed bs occupied repeaters) = repeaters
-repeaterMarks (refused number detail) = []
+abbrev pub repeatersFor : Outcome → List ℕ
+repeatersFor (routed bs occupied repeaters) = repeaters
+repeatersFor (refused number detail) = []
 
+-- "Numbers 1 to 6 touch nothing; 7 to 15 leave every lent writable buffer zero. A success writes the answer, zeros behind it, and zeroes work memory."
 abbrev pub lentAfter : Outcome → Lent → Lent
 lentAfter o B = record {
-  branches = outputAfter (numberFor o) (branchCells o) (B .branches);
-  occupied = outputAfter (numberFor o) (occupiedMarks o) (B .occupied);
-  repeaters = outputAfter (numberFor o) (repeaterMarks o) (B .repeaters);
+  branches = outputAfter (numberFor o) (branchesFor o) (B .branches);
+  occupied = outputAfter (numberFor o) (occupiedFor o) (B .occupied);
+  repeaters = outputAfter (numberFor o) (repeatersFor o) (B .repeaters);
   kinds = workAfter (numberFor o) (B .kinds);
   blocked = workAfter (numberFor o) (B .blocked);
   classes = workAfter (numberFor o) (B .classes);
@@ -148,6 +149,7 @@ pub record Promise (sheet : List ℕ) (B : Lent) (r : Answer) (B′ : Lent) : Ty
   pub answer : r ≡ answerOf outcome
   pub lent-is : B′ ≡ lentAfter outcome B
 
+-- what is lent, as the functions are handed it
 abbrev pub lent : (branches occupied repeaters kinds blocked classes joinable known previous path best queue : List ℕ) → Lent
 lent branches occupied repeaters kinds blocked classes joinable known previous path best queue = record {
   branches = branches;

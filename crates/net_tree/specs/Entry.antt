@@ -11,8 +11,7 @@ use Rattle.multinet.specs.declared.Turned.{Turned}
 use Rattle.room.specs.declared.Room.{Room}
 use Rattle.room.specs.Room.{volume}
 use Rattle.room_search.specs.Steps.{placesOf}
-use Rattle.routing_resources.specs.Marks.{noMarks}
-use Rattle.geometry.specs.Geometry.{Marks}
+use Rattle.routing_resources.specs.Marks.{noMarks, Marks}
 use Rattle.job_sheet.specs.declared.Job.{Job}
 use Rattle.job_sheet.specs.Accepted.{Accepted}
 use Rattle.job_sheet.specs.Sheet.{Contents, Means, joined}
@@ -23,7 +22,7 @@ use Rattle.goals.specs.Trials.{Memory}
 use Rattle.branches.specs.declared.BranchLengths.{BranchLengths}
 use Rattle.branches.specs.Branches.{markedCount}
 use Rattle.multinet.specs.Tree.{Plot, growthOf}
-use Rattle.multinet.specs.Growing.{Sound}
+use Rattle.multinet.specs.Growing.{SoundPlot}
 use Rattle.multinet.specs.Finishing.{Finishable, Finished}
 use Rattle.net_tree.specs.declared.Answer.{Answer}
 use Rattle.net_tree.specs.declared.Ended.{Ended}
@@ -70,7 +69,7 @@ pub data Gathered (R : Room) (source : ℕ) (taps : Taps) (g : Growth) (branches
 
 -- a plot that no number refuses, these cells blocked, cleared outputs, and work memory of exactly V cells
 pub record Growable (P : Plot) (B : Lent) : Type 0 where
-  pub sound : Sound P
+  pub sound : SoundPlot P
   pub branches-clear : B .branches ≡ replicate (length (B .branches)) 0
   pub occupied-clear : B .occupied ≡ noMarks (volume (P .room))
   pub repeaters-clear : B .repeaters ≡ noMarks (volume (P .room))

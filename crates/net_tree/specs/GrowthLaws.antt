@@ -4,11 +4,12 @@ use mathlib.Core.List.{List, [], _∷_, _++_, map}
 use Prim.Native.Nat.{ℕ, zero, suc, _-_, _≤_, _<_}
 use native.Mathlib.Omega.{arith}
 use lib.Dec.{eqb, ltb}
-use lib.ListN.{length, getD, drop, replicate, length-append, length-map, length-replicate, take-append-drop, List·getD-append, List·getD-map}
+use lib.ListN.{length, getD, drop, replicate, length-map, take-append-drop, List·getD-append, List·getD-map}
 use lib.Seq.{ext-getD}
 use borrow.Author.Tests.{ltb-true, ltb-false}
 use Rattle.basics.specs.Tests.{ask, never}
 use Rattle.basics.specs.Zeros.{drop-zeros, zeros}
+use Rattle.basics.specs.Padding.{padded-long}
 use mathlib.Core.Bool.{true, false}
 use Rattle.lent.specs.Lent.{filled}
 use Rattle.room.specs.declared.Room.{Room}
@@ -16,7 +17,7 @@ use Rattle.routing_resources.specs.Marks.{markedBy, noMarks}
 use Rattle.job_sheet.specs.Sheet.{joined, maxSinks}
 use Rattle.ends.specs.declared.Taps.{Taps}
 use Rattle.branches.specs.declared.BranchLengths.{BranchLengths}
-use Rattle.branches.specs.Branches.{markedCount}
+use Rattle.branches.specs.Branches.{branchLengths, markedCount}
 use Rattle.multinet.specs.declared.Turned.{Turned}
 use Rattle.multinet.specs.declared.Turned.the-variants.{Grown, Skipped, QueueFull, NoGoal, NoRoom}
 use Rattle.multinet.specs.declared.Growth.{Growth}
@@ -26,7 +27,7 @@ use Rattle.multinet.specs.Sinks.{Plantable, Ended, GrowthTold}
 use Rattle.multinet.specs.Finishing.{Holds, Finishable}
 use Rattle.net_tree.specs.declared.Answer.{Answer}
 use Rattle.net_tree.specs.declared.Ended.the-variants.{Routed}
-use Rattle.net_tree.specs.Answers.{Lent, refused, outcomeOf, branchLengths, answerOf}
+use Rattle.net_tree.specs.Answers.{Lent, refused, outcomeOf, answerOf}
 use Rattle.net_tree.specs.Entry.{Harvestable, Harvested, Growable, TreeGrown, isWhole, refusedBy, Gatherable, Gathered, ended-early, in-whole}
 
 -- ---- lists
@@ -102,7 +103,7 @@ module _ {P : Plot} {B : Lent} (A : Growable P B) where
       count-is : length bs ≡ g .lengths .count
       count-is = all-in .sprouted .count-is ∙ sym (told-as e .0)
 
-      holds : Holds (P .room) (g .lengths) branches bs
+      holds : Holds (g .lengths) branches bs
       holds = record { in-order = all-in .in-order; lengths-are = all-in .lengths-are; count-is = count-is }
 
       harvestable : {classes known previous path : List ℕ} → length classes ≡ length (B .classes) → length known ≡ length (B .known)
@@ -115,7 +116,7 @@ module _ {P : Plot} {B : Lent} (A : Growable P B) where
           net = A .sound .net;
           bs = bs;
           holds = holds;
-          few = omega (arith, told-as e .0, A .sound .net .few);
+          few = omega (arith, told-as e .0, A .sound .net .taps-in .few);
           lengths-short = record { whole = all-in .each-long; short = all-in .each-short };
           cells-in = λ i h. all-in .sprouted .cells-in i (omega (arith, h, told-as e .0));
           steps = λ i h. all-in .sprouted .steps i (omega (arith, h, told-as e .0));
@@ -133,10 +134,10 @@ module _ {P : Plot} {B : Lent} (A : Growable P B) where
       lengths-are = λ i. record { count = sym count-is i; each = each-are i }
         where
           few : length bs ≤ maxSinks
-          few = omega (arith, all-in .sprouted .count-is, A .sound .net .few)
+          few = omega (arith, all-in .sprouted .count-is, A .sound .net .taps-in .few)
 
           wide : length (map length bs ++ replicate (maxSinks - length bs) 0) ≡ maxSinks
-          wide = length-append (map length bs) (replicate (maxSinks - length bs) 0) ∙ rw (length-map bs length, length-replicate {A = ℕ} (maxSinks - length bs) 0) (omega (arith, few))
+          wide = padded-long (map length bs) maxSinks (length bs) 0 (length-map bs length) few
 
           each-are : g .lengths .each ≡ map length bs ++ replicate (maxSinks - length bs) 0
           each-are =

@@ -1,60 +1,136 @@
 -- Laws of a job: what setting out and growing ask, and that they make up what the definition has.
-use mathlib.Core.Path.{_≡_, sym, ap, _∙_}
+use mathlib.Core.Path.{_≡_, refl, sym, ap, subst, _∙_}
 use mathlib.Core.Bool.{true, false}
 use mathlib.Core.List.{List}
-use Prim.Native.Nat.{ℕ, _<_}
+use Prim.Native.Nat.{ℕ, _/_, _<_}
 use native.Mathlib.Omega.{arith}
-use lib.ListN.{length, length-replicate}
-use lib.Seq.{length-take-le}
+use lib.ListN.{length, getD, length-replicate}
 use Rattle.basics.specs.Tests.{never}
 use Rattle.room.specs.Room.{volume}
-use Rattle.room_search.specs.Steps.{placesOf}
-use Rattle.routing_resources.specs.Marks.{noMarks}
-use Rattle.routing_resources.specs.MarkLaws.{with-length}
+use Rattle.routing_resources.specs.Marks.{noMarks, Marks}
+use Rattle.routing_resources.specs.MarkLaws.{with-length, marks-none, marks-with}
 use Rattle.job_sheet.specs.declared.Job.{Job}
-use Rattle.job_sheet.specs.Sheet.{Contents}
-use Rattle.job_sheet.specs.Accepted.{Usable}
+use Rattle.job_sheet.specs.declared.Verdict.the-variants.{Good}
+use Rattle.job_sheet.specs.Sheet.{Contents, Means, judged, jobOf}
+use Rattle.job_sheet.specs.Accepted.{Accepted, Usable}
 use Rattle.job_sheet.specs.Theorems.{one-meaning, usable}
 use Rattle.blocks.specs.declared.Placement.{Placement}
 use Rattle.blocks.specs.Blocks.{kindsOf, nodesOf, BlocksLaid}
 use Rattle.blocks.specs.BlockLaws.{tabulated-long}
 use Rattle.ends.specs.declared.Fault.{Fault}
-use Rattle.ends.specs.Ends.{sinksIn, faultOf, endsOf, NetIn}
-use Rattle.ends.specs.EndLaws.{net-in}
+use Rattle.ends.specs.Ends.{noTap, sinksIn, endsOf}
+use Rattle.ends.specs.EndLaws.{sinks-long}
 use Rattle.outset.specs.declared.Outset.{Outset}
 use Rattle.outset.specs.Outset.{blockedAtOutset}
-use Rattle.outset.specs.SetOut.{readyBy, numberBy, detailBy, OutsetAsked, OutsetOf, SetOut}
-use Rattle.outset.specs.SetOutLaws.{ready-placed, ready-good, same-ends, sinks-in, good-room, source-within, sinks-within}
-use Rattle.geometry.specs.Geometry.{Marks}
-use Rattle.geometry.specs.GeometryLaws.{marks-none, marks-with}
-use Rattle.multinet.specs.Tree.{Plot, growthOf, tapAt}
-use Rattle.multinet.specs.StepLaws.{Near}
+use Rattle.outset.specs.SetOut.{readyBy, ready, numberBy, detailBy, OutsetAsked, OutsetOf, SetOut}
+use Rattle.outset.specs.SetOutLaws.{ready-placed, same-ends, sinks-in, good-room, sinks-within, good-ends}
+use Rattle.multinet.specs.Tree.{Plot, growthOf}
+use Rattle.multinet.specs.Growing.{Near, SoundPlot}
 use Rattle.multinet.specs.NearLaws.{taps-near}
 use Rattle.multinet.specs.Sinks.{plotOf}
+use Rattle.net_tree.specs.declared.Lengths.{Lengths}
 use Rattle.net_tree.specs.declared.Answer.{Answer}
-use Rattle.net_tree.specs.Answers.{Lent, lent, lengthsOf, refused, plotFor, outcomeOf, jobOutcome, answerOf}
+use Rattle.net_tree.specs.Answers.{Lent, lent, lengthsOf, buffersGood, refused, plotFor, outcomeOf, jobOutcome, answerOf}
 use Rattle.net_tree.specs.Entry.{Growable, TreeGrown, Routable, JobRouted}
+use Rattle.net_tree.specs.EntryLaws.{roomy}
 
 -- a number from setting out is above 6
-late : (p : Placement) (f : Fault) → readyBy p f ≡ false → 6 < numberBy p f
+pub late : (p : Placement) (f : Fault) → readyBy p f ≡ false → 6 < numberBy p f
 late (Placement.RepeatAt cell) f e = omega arith
 late Placement.Placed Fault.Good e = never (cc)
 late Placement.Placed (Fault.NoFacing place) e = omega arith
 late Placement.Placed (Fault.Outside place) e = omega arith
 
-module _ {sheet : List ℕ} {job : Job} {B : Lent} (A : Routable sheet job B) where
+-- ---- an accepted job that is set out, where no number from 7 to 9 is due
+
+module _ {sheet : List ℕ} {job : Job} (A : Accepted sheet job) {O : Outset} {kinds nodes blocked : List ℕ} (S : OutsetOf (A .contents) O kinds nodes blocked)
+    (r : ready O ≡ true) where
   abbrev told : Contents
-  told = A .accepted .contents
+  told = A .contents
 
   use-of : Usable sheet job told
-  use-of = usable sheet job (A .accepted)
+  use-of = usable sheet job A
 
+  placed : BlocksLaid (told .room) (told .blocks) kinds nodes Placement.Placed
+  placed = rw (ready-placed (O .placement) (O .ends .fault) r) at (S .laid)
+
+  kinds-long : length kinds ≡ volume (job .room)
+  kinds-long = ap length (placed .kinds-are) ∙ tabulated-long _ _ ∙ ap volume (sym (use-of .room-is))
+
+  nodes-long : length nodes ≡ volume (job .room)
+  nodes-long = ap length (placed .nodes-are) ∙ tabulated-long _ _ ∙ ap volume (sym (use-of .room-is))
+
+  ends-are : O .ends ≡ endsOf (job .room) (job .source) (sinksIn (job .sinks))
+  ends-are = S .ends-are ∙ same-ends (sym (use-of .room-is)) (sym (use-of .source-is)) (sym (sinks-in A))
+
+  sinks-count : O .ends .taps .count ≡ job .sinks .count
+  unfolding endsOf
+  sinks-count = ap (λ x. x .taps .count) ends-are ∙ sinks-long (sinks-within A)
+
+  near : (k : ℕ) → k < O .ends .taps .count → Near (job .room) (getD (O .ends .taps .taps) k noTap)
+  unfolding endsOf
+  near k h =
+      let n : k < job .sinks .count = omega (arith, h, sinks-count) in
+      rw ends-are (taps-near (good-room A) (sinks-within A) k n)
+
+  blocked-are : blocked ≡ blockedAtOutset (kindsOf (told .room) (told .blocks)) (nodesOf (told .room) (told .blocks)) told (O .ends .source) (O .ends .taps)
+  blocked-are = rw r at (S .blocked-are)
+
+  blocked-long : length blocked ≡ volume (job .room)
+  unfolding blockedAtOutset
+  blocked-long = ap length blocked-are ∙ with-length 1 _ (noMarks (volume (told .room))) ∙ length-replicate {A = ℕ} (volume (told .room)) 0 ∙ ap volume (sym (use-of .room-is))
+
+  blocked-marks : Marks blocked
+  unfolding blockedAtOutset
+  blocked-marks = rw blocked-are (marks-with 1 (omega arith) _ _ (marks-none (volume (told .room))))
+
+  module _ (L : Lengths) where
+    -- the plot, as the job has it
+    abbrev jobPlot : Plot
+    jobPlot = record {
+      room = job .room;
+      config = job .config;
+      kinds = kinds;
+      places = L .queue / 2;
+      buffer = L .branches;
+      source = O .ends .source;
+      taps = O .ends .taps;
+    }
+
+    same-plot : plotFor told L O kinds ≡ jobPlot
+    same-plot = λ i. record {
+      room = sym (use-of .room-is) i;
+      config = sym (use-of .config-is) i;
+      kinds = kinds;
+      places = L .queue / 2;
+      buffer = L .branches;
+      source = O .ends .source;
+      taps = O .ends .taps;
+    }
+
+    job-sound : 0 < L .queue / 2 → SoundPlot jobPlot
+    job-sound h = record { good = good-room A; fair = use-of .config-fair; kinds-long = kinds-long; places-some = h; net = good-ends A (O .placement) ends-are r; near = near }
+
+    told-outcome : jobOutcome told L O kinds blocked ≡ outcomeOf jobPlot (growthOf jobPlot blocked)
+    unfolding jobOutcome
+    told-outcome = rw r (ap (λ Q. outcomeOf Q (growthOf Q blocked)) same-plot)
+
+-- a plot over which a tree grows is sound
+pub plot-sound : {sheet : List ℕ} (J : Contents) → Means sheet J → judged J ≡ Good → (L : Lengths) → buffersGood (J .room) L ≡ true
+    → {O : Outset} {kinds nodes blocked : List ℕ} → OutsetOf J O kinds nodes blocked → ready O ≡ true → SoundPlot (plotFor J L O kinds)
+plot-sound J m g L b S r =
+    let A : Accepted _ (jobOf J) = record { contents = J; means = m; good = g; is = refl } in
+    subst SoundPlot (sym (same-plot A S r L)) (job-sound A S r L (roomy (J .room) L b .places-some))
+
+-- ---- the same, over work memory of exactly V cells
+
+module _ {sheet : List ℕ} {job : Job} {B : Lent} (A : Routable sheet job B) where
   pub asked : OutsetAsked sheet job (B .kinds) (B .known) (B .blocked)
   asked = record { accepted = A .accepted; kinds-long = A .kinds-long; nodes-long = A .known-long; blocked-long = A .blocked-long }
 
   module _ {O : Outset} {kinds nodes blocked : List ℕ} (S : SetOut sheet O kinds nodes blocked) where
-    set-for : OutsetOf told O kinds nodes blocked
-    set-for = S .is told (A .accepted .means)
+    set-for : OutsetOf (A .accepted .contents) O kinds nodes blocked
+    set-for = S .is (A .accepted .contents) (A .accepted .means)
 
     -- number 7, 8 or 9
     pub job-refused : readyBy (O .placement) (O .ends .fault) ≡ false → {r : Answer} → r ≡ answerOf (refused (numberBy (O .placement) (O .ends .fault)) (detailBy (O .placement) (O .ends .fault)))
@@ -76,86 +152,23 @@ module _ {sheet : List ℕ} {job : Job} {B : Lent} (A : Routable sheet job B) wh
       abbrev P : Plot
       P = plotOf (job .room) (job .config) kinds (B .queue) (B .branches) (O .ends .source) (O .ends .taps)
 
-      placed : BlocksLaid (told .room) (told .blocks) kinds nodes Placement.Placed
-      placed = rw (ready-placed (O .placement) (O .ends .fault) r) at (set-for .laid)
-
-      ends-are : O .ends ≡ endsOf (job .room) (job .source) (sinksIn (job .sinks))
-      ends-are = set-for .ends-are ∙ same-ends (sym (use-of .room-is)) (sym (use-of .source-is)) (sym (sinks-in (A .accepted)))
-
-      good-fault : faultOf (job .room) (job .source) (sinksIn (job .sinks)) ≡ Fault.Good
-      unfolding endsOf
-      good-fault = ap (λ x. x .fault) (sym ends-are) ∙ ready-good (O .placement) (O .ends .fault) r
-
-      net : NetIn (job .room) (O .ends .source) (O .ends .taps)
-      unfolding endsOf
-      net = rw ends-are (net-in (job .source) (source-within (A .accepted)) (sinks-within (A .accepted)) good-fault)
-
-      sinks-count : O .ends .taps .count ≡ job .sinks .count
-      unfolding endsOf
-      sinks-count =
-          let S = sinks-within (A .accepted) in
-          ap (λ x. x .taps .count) ends-are ∙ length-take-le (job .sinks .count) (job .sinks .ends) (omega (arith, S .few, S .whole))
-
-      near : (k : ℕ) → k < O .ends .taps .count → Near (job .room) (tapAt P k)
-      unfolding endsOf
-      near k h =
-          let n : k < job .sinks .count = omega (arith, h, sinks-count) in
-          rw ends-are (taps-near (good-room (A .accepted)) (job .source) (source-within (A .accepted)) (sinks-within (A .accepted)) good-fault k n)
-
-      blocked-are : blocked ≡ blockedAtOutset (kindsOf (told .room) (told .blocks)) (nodesOf (told .room) (told .blocks)) told (O .ends .source) (O .ends .taps)
-      blocked-are = rw r at (set-for .blocked-are)
-
-      blocked-long : length blocked ≡ volume (job .room)
-      unfolding blockedAtOutset
-      blocked-long = ap length blocked-are ∙ with-length 1 _ (noMarks (volume (told .room))) ∙ length-replicate {A = ℕ} (volume (told .room)) 0 ∙ ap volume (sym (use-of .room-is))
-
-      blocked-marks : Marks blocked
-      unfolding blockedAtOutset
-      blocked-marks = rw blocked-are (marks-with 1 (omega arith) _ _ (marks-none (volume (told .room))))
-
       -- the memory as it is lent on: kinds and what is blocked are set out, and the nodes stand where the known costs will
-      abbrev pub laid-out : Lent
+      abbrev laid-out : Lent
       laid-out = lent (B .branches) (B .occupied) (B .repeaters) kinds blocked (B .classes) (B .joinable) nodes (B .previous) (B .path) (B .best) (B .queue)
 
       pub growable : Growable P laid-out
       growable = record {
-        sound = record {
-          good = good-room (A .accepted);
-          fair = use-of .config-fair;
-          kinds-long = ap length (placed .kinds-are) ∙ tabulated-long _ _ ∙ ap volume (sym (use-of .room-is));
-          places-some = A .places-some;
-          net = net;
-          near = near;
-        };
+        sound = job-sound (A .accepted) set-for r (lengthsOf B) (A .places-some);
         branches-clear = A .branches-clear;
         occupied-clear = A .occupied-clear;
         repeaters-clear = A .repeaters-clear;
-        blocked-long = blocked-long;
-        blocked-marks = blocked-marks;
+        blocked-long = blocked-long (A .accepted) set-for r;
+        blocked-marks = blocked-marks (A .accepted) set-for r;
         classes-long = A .classes-long;
         joinable-long = A .joinable-long;
-        memory = record {
-          known-long = ap length (placed .nodes-are) ∙ tabulated-long _ _ ∙ ap volume (sym (use-of .room-is));
-          previous-long = A .previous-long;
-          path-long = A .path-long;
-        };
+        memory = record { known-long = nodes-long (A .accepted) set-for r; previous-long = A .previous-long; path-long = A .path-long };
         best-long = A .best-long;
       }
-
-      same-plot : plotFor told (lengthsOf B) O kinds ≡ P
-      same-plot = λ i. record {
-        room = sym (use-of .room-is) i;
-        config = sym (use-of .config-is) i;
-        kinds = kinds;
-        places = placesOf (B .queue);
-        buffer = length (B .branches);
-        source = O .ends .source;
-        taps = O .ends .taps;
-      }
-
-      told-outcome : jobOutcome told (lengthsOf B) O kinds blocked ≡ outcomeOf P (growthOf P blocked)
-      unfolding jobOutcome
-      told-outcome = rw r (ap (λ Q. outcomeOf Q (growthOf Q blocked)) same-plot)
 
       pub job-grown : {answer : Answer} {branches occupied repeaters : List ℕ} → TreeGrown P laid-out answer branches occupied repeaters
           → JobRouted sheet B answer branches occupied repeaters
@@ -166,7 +179,8 @@ module _ {sheet : List ℕ} {job : Job} {B : Lent} (A : Routable sheet job B) wh
         blocked = blocked;
         outcome = outcomeOf P (growthOf P blocked);
         is-set = S .is;
-        comes = λ J m. sym (ap (λ K. jobOutcome K (lengthsOf B) O kinds blocked) (one-meaning sheet J told m (A .accepted .means)) ∙ told-outcome);
+        comes = λ J m. sym (ap (λ K. jobOutcome K (lengthsOf B) O kinds blocked) (one-meaning sheet J (A .accepted .contents) m (A .accepted .means))
+            ∙ told-outcome (A .accepted) set-for r (lengthsOf B));
         answer = T .answer;
         outputs = T .outputs;
       }

@@ -18,7 +18,7 @@ use Rattle.job_sheet.specs.Sheet.{Read, isGood, numberOf, joined}
 use Rattle.job_sheet.specs.Accepted.{Accepted}
 use Rattle.job_sheet.specs.Theorems.{usable}
 use Rattle.net_tree.specs.declared.Answer.{Answer}
-use Rattle.net_tree.specs.Answers.{Lent, lent, lengthsOf, buffersGood, Outcome, routed, refused, jobOutcome, Comes, unread, unlent, set-out, answerOf, numberFor, branchCells, occupiedMarks, repeaterMarks, lentAfter, Promise}
+use Rattle.net_tree.specs.Answers.{Lent, lent, lengthsOf, buffersGood, Outcome, routed, refused, jobOutcome, Comes, unread, unlent, set-out, answerOf, numberFor, branchesFor, occupiedFor, repeatersFor, lentAfter, Promise}
 use Rattle.net_tree.specs.Entry.{Written, Lendable, Cleared, FrontRouted, settledBy}
 use Rattle.net_tree.specs.EntryLaws.{enough}
 
@@ -29,7 +29,7 @@ high {number} h = rw (ne-eqb number 0 (omega arith), lt-ltb 6 number h)
 
 module _ {sheet : List ℕ} {job : Job} {B : Lent} (A : Lendable sheet job B) {branches occupied repeaters : List ℕ}
     (eb : Emptied (B .branches) branches) (eo : Emptied (B .occupied) occupied) (er : Emptied (B .repeaters) repeaters) where
-  abbrev pub clean : Lent
+  abbrev clean : Lent
   clean = lent branches occupied repeaters (B .kinds) (B .blocked) (B .classes) (B .joinable) (B .known) (B .previous) (B .path) (B .best) (B .queue)
 
   same-lengths : lengthsOf clean ≡ lengthsOf B
@@ -62,7 +62,7 @@ module _ {sheet : List ℕ} {job : Job} {B : Lent} (A : Lendable sheet job B) {b
 
   module _ {r : Answer} {branches′ occupied′ repeaters′ : List ℕ} (F : FrontRouted sheet job clean r branches′ occupied′ repeaters′)
       (kb : length branches′ ≡ length branches) (ko : length occupied′ ≡ length occupied) (kr : length repeaters′ ≡ length repeaters) where
-    abbrev pub job-outcome : Outcome
+    abbrev job-outcome : Outcome
     job-outcome = F .is-routed .outcome
 
     comes : Comes sheet (lengthsOf B) job-outcome
@@ -95,10 +95,10 @@ module _ {sheet : List ℕ} {job : Job} {B : Lent} (A : Lendable sheet job B) {b
 
     module _ {branches″ occupied″ repeaters″ : List ℕ}
         (sb : branches″ ≡ settledBy (r .ended) branches′) (so : occupied″ ≡ settledBy (r .ended) occupied′) (sr : repeaters″ ≡ settledBy (r .ended) repeaters′) where
-      pub record Outputs (o : Outcome) : Type 0 where
-        branches-are : branches″ ≡ outputAfter (numberFor o) (branchCells o) (B .branches)
-        occupied-are : occupied″ ≡ outputAfter (numberFor o) (occupiedMarks o) (B .occupied)
-        repeaters-are : repeaters″ ≡ outputAfter (numberFor o) (repeaterMarks o) (B .repeaters)
+      record Outputs (o : Outcome) : Type 0 where
+        branches-are : branches″ ≡ outputAfter (numberFor o) (branchesFor o) (B .branches)
+        occupied-are : occupied″ ≡ outputAfter (numberFor o) (occupiedFor o) (B .occupied)
+        repeaters-are : repeaters″ ≡ outputAfter (numberFor o) (repeatersFor o) (B .repeaters)
 
       outputs : (o : Outcome) → r ≡ answerOf o → Written o branches branches′ (F .occupied-front) (F .repeaters-front) → Outputs o
       outputs (routed bs marks repeating) a w = record {

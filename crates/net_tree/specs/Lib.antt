@@ -1,7 +1,9 @@
 pub mod Answers
 pub mod Entry
+pub mod Trees
 pub mod GrowthLaws
-pub mod JobLaws
 pub mod EntryLaws
+pub mod JobLaws
+pub mod TreeLaws
 pub mod LentLaws
 pub mod PromiseLaws

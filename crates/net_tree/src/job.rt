@@ -39,7 +39,9 @@ fn plant(source: usize, joinable: &mut [u8])
     routing_resources::mark(joinable, source);
 }
 
-// A grown tree's occupied cells and repeaters, marked and counted.
+// A grown tree's occupied cells and repeaters, marked and counted. The searches' memory serves for the repeaters:
+// `classes` for the marks of the cells that may hold none, `known` for the links between the tree's cells, `previous` for
+// the parents, `path` for the line to a sink.
 fn harvest(
     room: Room,
     source: usize,

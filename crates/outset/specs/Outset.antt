@@ -12,7 +12,7 @@ use Rattle.ends.specs.Ends.{tapsIn, NetIn}
 use Rattle.room.specs.declared.Room.{Room}
 use Rattle.room.specs.declared.Pos.{Pos}
 use Rattle.room.specs.declared.Neighbour.{Neighbour}
-use Rattle.room.specs.Room.{Good, volume, cellOf, beneath}
+use Rattle.room.specs.Room.{Good, volume, cellOf, holdsAt, beneath}
 use Rattle.room.specs.Units.{air, solid, redstoneTorch, repeater, lever, redstoneBlock, ahead}
 use Rattle.routing_resources.specs.Marks.{markedBy, noMarks, isCell}
 use Rattle.routing_resources.specs.Resources.{inKeepout}
@@ -25,7 +25,7 @@ use Rattle.job_sheet.specs.Places.{positionsIn}
 use Rattle.ends.specs.declared.Tap.{Tap}
 use Rattle.ends.specs.declared.Taps.{Taps}
 
--- v is the cell of one of these positions
+-- v is the cell of this position
 abbrev pub standsAt : Room → ℕ → Pos → Bool
 standsAt R v p = eqb (cellOf R p) v
 
@@ -44,8 +44,7 @@ solidOf kinds nodes node v = eqb (getD kinds v air) solid && eqb (getD nodes v 0
 
 -- "the keepout of a Repeater's output cell (its cell plus its facing; none unless horizontal)"
 abbrev pub outputKeepout : Room → List ℕ → List ℕ → ℕ → Neighbour → ℕ → Bool
-outputKeepout R kinds nodes node (Neighbour.Inside output) v = solidOf kinds nodes node output && inKeepout R output v
-outputKeepout R kinds nodes node Neighbour.Outside v = false
+outputKeepout R kinds nodes node place v = holdsAt (λ output. solidOf kinds nodes node output && inKeepout R output v) place
 
 -- v is in the keepout that a block asks for
 unfoldable pub sourceKeepout : Room → List ℕ → List ℕ → ℕ → Block → Bool

@@ -2,12 +2,12 @@
 use mathlib.Core.Path.{_≡_, refl, sym, ap, _∙_}
 use mathlib.Core.Bool.{true, false}
 use mathlib.Core.List.{List}
-use Prim.Native.Nat.{ℕ, _-_, _≤_}
-use native.Mathlib.Omega.{arith}
-use lib.ListN.{length, replicate, length-append, length-replicate}
+use Prim.Native.Nat.{ℕ}
+use lib.ListN.{length, replicate, length-replicate}
 use lib.Seq.{take-append-seam}
 use Rattle.basics.specs.Tests.{never}
 use Rattle.basics.specs.Promises.{Determines}
+use Rattle.basics.specs.Padding.{padded-long}
 use Rattle.room.specs.declared.Room.{Room}
 use Rattle.room.specs.Room.{Good, Within, volume}
 use Rattle.routing_resources.specs.Marks.{noMarks}
@@ -34,15 +34,11 @@ pub ready-placed : (p : Placement) (f : Fault) → readyBy p f ≡ true → p �
 ready-placed Placement.Placed f e = refl
 ready-placed (Placement.RepeatAt cell) f e = never (cc)
 
-pub ready-good : (p : Placement) (f : Fault) → readyBy p f ≡ true → f ≡ Fault.Good
+ready-good : (p : Placement) (f : Fault) → readyBy p f ≡ true → f ≡ Fault.Good
 ready-good Placement.Placed Fault.Good e = refl
 ready-good Placement.Placed (Fault.NoFacing place) e = never (cc)
 ready-good Placement.Placed (Fault.Outside place) e = never (cc)
 ready-good (Placement.RepeatAt cell) f e = never (cc)
-
--- the value that carries the sinks has sixteen places
-sinks-whole : (es : List Endpoint) → length es ≤ maxSinks → length (sinksOf es .ends) ≡ maxSinks
-sinks-whole es few = length-append es _ ∙ rw (length-replicate {A = Endpoint} (maxSinks - length es) noEndpoint) (omega arith)
 
 pub same-ends : {R R′ : Room} {e e′ : Endpoint} {es es′ : List Endpoint} → R ≡ R′ → e ≡ e′ → es ≡ es′ → endsOf R e es ≡ endsOf R′ e′ es′
 same-ends p q r = λ i. endsOf (p i) (q i) (r i)
@@ -74,14 +70,22 @@ module _ {sheet : List ℕ} {job : Job} (A : Accepted sheet job) where
   block-list = own-list (use-of .blocks)
 
   pub source-within : Within (job .room) (job .source .at)
-  source-within = use-of .source .within
+  source-within = use-of .source
 
   pub sinks-within : SinksWithin (job .room) (job .sinks)
   sinks-within = record {
     few = use-of .sinks .few;
-    whole = ap (λ k. length (k .ends)) sinks-are ∙ sinks-whole (told .sinks) (A .means .few-sinks);
-    within = λ i h. use-of .sinks .sound i h .within;
+    whole = ap (λ k. length (k .ends)) sinks-are ∙ padded-long (told .sinks) maxSinks (length (told .sinks)) noEndpoint refl (A .means .few-sinks);
+    within = use-of .sinks .within;
   }
+
+  -- where no number is due, the net's cells are in the room
+  pub good-ends : (p : Placement) {e : Ends} → e ≡ endsOf (job .room) (job .source) (sinksIn (job .sinks)) → readyBy p (e .fault) ≡ true
+      → NetIn (job .room) (e .source) (e .taps)
+  unfolding endsOf
+  good-ends p {e} ends-are r =
+      let good : endsOf (job .room) (job .source) (sinksIn (job .sinks)) .fault ≡ Fault.Good = ap (λ x. x .fault) (sym ends-are) ∙ ready-good p (e .fault) r in
+      rw ends-are (net-in (job .source) source-within sinks-within good)
 
   -- what is set out for the accepted contents is set out for all that the sheet means
   told-alone : {r : Outset} {kinds nodes blocked : List ℕ} → OutsetOf told r kinds nodes blocked → SetOut sheet r kinds nodes blocked
@@ -100,12 +104,6 @@ module _ {sheet : List ℕ} {job : Job} (A : Accepted sheet job) where
       placed : BlocksLaid (job .room) (blocksIn sheet (job .blocks)) kinds nodes Placement.Placed
       placed = rw (ready-placed p (e .fault) r) at laid
 
-      good-ends : NetIn (job .room) (e .source) (e .taps)
-      unfolding endsOf
-      good-ends =
-          let good : endsOf (job .room) (job .source) (sinksIn (job .sinks)) .fault ≡ Fault.Good = ap (λ x. x .fault) (sym ends-are) ∙ ready-good p (e .fault) r in
-          rw ends-are (net-in (job .source) source-within sinks-within good)
-
       pub outset-ready : {marks : List ℕ} → marks ≡ noMarks (volume (job .room)) → OutsetReady sheet job (e .source) (e .taps) kinds nodes marks
       outset-ready m = record {
         contents = told;
@@ -116,7 +114,7 @@ module _ {sheet : List ℕ} {job : Job} (A : Accepted sheet job) where
           nodes-long = ap length (placed .nodes-are) ∙ tabulated-long _ _;
           long = ap length m ∙ length-replicate (volume (job .room)) 0;
         };
-        net = good-ends;
+        net = good-ends p ends-are r;
         clear = m;
       }
 

@@ -21,9 +21,9 @@ ghost use lib.Dec.{eqb};
 ghost use lib.ListN.{length};
 ghost use Rattle.routing_resources.specs.Resources.{inKeepout};
 ghost use Rattle.basics.specs.Lists.{any};
-ghost use Rattle.room.specs.Room.{Good, volume};
+ghost use Rattle.room.specs.Room.{Good, Within, volume};
 ghost use Rattle.routing_resources.specs.Marks.{markedBy, unmarkedBy};
-ghost use Rattle.job_sheet.specs.Accepted.{SoundBlock, BlockList};
+ghost use Rattle.job_sheet.specs.Accepted.{BlockList};
 ghost use Rattle.job_sheet.specs.Places.{positionsIn, blocksIn};
 ghost use Rattle.outset.specs.Outset.{standsAt, nearConductor, powers, solidOf, outputKeepout, sourceKeepout, atOrBeneath, tapCell, ownCell, PositionsListed, Sized, OutputKnown, OutsetReady, OutsetMarked};
 ghost use Rattle.ends.specs.Ends.{NetIn};
@@ -117,7 +117,7 @@ fn output_keepout(
 // Marks the keepout that a block asks for.
 fn block_keepout(room: Room, block: Block, kinds: &[u8], nodes: &[u32], marks: &mut [u8])
     requires { ⌜ Sized room (now kinds) (now nodes) (now marks) ⌝ }
-    requires { ⌜ SoundBlock room block ⌝ }
+    requires { ⌜ Within room (block .at) ⌝ }
     ensures { λ _. ⌜ now (marks .exit) ≡ markedBy (λ v. sourceKeepout room (now (kinds .entry)) (now (nodes .entry)) v block) (now (marks .entry)) ⌝ }
 {
     let cell = room.cell(block.at);

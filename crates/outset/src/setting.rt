@@ -35,6 +35,7 @@ pub fn number_by(placement: Placement, fault: Fault) -> u32
     }
 }
 
+// The detail of the number that is due: the cell of a repeat, or "0 source, k-th sink k".
 pub fn detail_by(placement: Placement, fault: Fault) -> usize
     ensures { λ r. ⌜ r ≡ detailBy placement fault ⌝ }
 {

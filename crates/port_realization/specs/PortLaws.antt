@@ -38,18 +38,18 @@ approach-in R terminal facing approach h e =
     own q = let s : terminal ≡ approach = cc in rw s at h
 
 -- what is known of a sink that is realized
-pub record Ends (R : Room) (p : Pos) (port facing terminal approach : ℕ) : Type 0 where
+pub record SinkInside (R : Room) (facing terminal approach : ℕ) : Type 0 where
   pub approach-is : approachOf R terminal facing ≡ Neighbour.Inside approach
   pub terminal-below : terminal < volume R
   pub approach-below : approach < volume R
 
-pub ends : (R : Room) (p : Pos) → Within R p → (port facing terminal approach : ℕ)
+pub sink-inside : (R : Room) (p : Pos) → Within R p → (port facing terminal approach : ℕ)
     → realizedOf R p port facing ≡ Realized.At terminal approach
-    → Ends R p port facing terminal approach
+    → SinkInside R facing terminal approach
 unfolding realizedOf
-ends R p w port facing terminal approach e = go _ refl e
+sink-inside R p w port facing terminal approach e = go _ refl e
   where
-    met : (t : ℕ) → terminalOf R p port facing ≡ Terminal.At t → (n : Neighbour) → approachOf R t facing ≡ n → approached t n ≡ Realized.At terminal approach → Ends R p port facing terminal approach
+    met : (t : ℕ) → terminalOf R p port facing ≡ Terminal.At t → (n : Neighbour) → approachOf R t facing ≡ n → approached t n ≡ Realized.At terminal approach → SinkInside R facing terminal approach
     met t o (Neighbour.Inside a) n q =
         let s : t ≡ terminal = cc in
         let u : a ≡ approach = cc in
@@ -59,7 +59,7 @@ ends R p w port facing terminal approach e = go _ refl e
         record { approach-is = c; terminal-below = h; approach-below = approach-in R terminal facing approach h c }
     met t o Neighbour.Outside n q = never (cc)
 
-    go : (t : Terminal) → terminalOf R p port facing ≡ t → withApproach R facing t ≡ Realized.At terminal approach → Ends R p port facing terminal approach
+    go : (t : Terminal) → terminalOf R p port facing ≡ t → withApproach R facing t ≡ Realized.At terminal approach → SinkInside R facing terminal approach
     go (Terminal.At t) o q = met t o _ refl q
     go Terminal.NoFacing o q = never (cc)
     go Terminal.Outside o q = never (cc)

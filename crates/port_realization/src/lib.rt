@@ -21,6 +21,7 @@ pub enum Realized {
     Outside,
 }
 
+// "Wire: terminal = position. BlockPower: position plus its facing, which must be horizontal."
 pub fn terminal_for_endpoint(room: Room, at: Pos, port: u8, facing: u8) -> Terminal
     requires { ⌜ Good room ⌝ }
     requires { ⌜ Within room at ⌝ }

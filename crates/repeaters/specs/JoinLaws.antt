@@ -2,7 +2,7 @@
 use mathlib.Core.Path.{_≡_, refl, sym, ap, _∙_}
 use mathlib.Core.Bool.{Bool, true, false, _&&_, _||_, or-assoc, or-comm}
 use mathlib.Core.List.{List}
-use Prim.Native.Nat.{ℕ, zero, suc, _+_, _-_, _/_, _%_, _^_, _≤_, _<_}
+use Prim.Native.Nat.{ℕ, zero, suc, _+_, _-_, _/_, _%_, _^_, _≤_, _<_, suc-le-suc}
 use native.Mathlib.Nat.{le-of-suc-le-suc, not-suc-le-zero, pow-zero, pow-suc, pow-succ', div-one, div-div-eq-div-mul}
 use native.Mathlib.Omega.{arith}
 use lib.Arith.{digits-div, digits-mod}
@@ -12,32 +12,28 @@ use lib.Seq.{getD-set-same, getD-set-other}
 use borrow.Author.Tests.{eq-eqb, ne-eqb, eqb-true, eqb-false, ltb-true}
 use Rattle.basics.specs.Tests.{ask, never}
 use Rattle.basics.specs.Lists.{In, every-in, in-at, allBelow, below-all}
+use Rattle.basics.specs.Counts.{bit, bit-small}
 use Rattle.room.specs.declared.Room.{Room}
 use Rattle.room.specs.declared.Pos.{Pos}
 use Rattle.room.specs.declared.Move.{Move}
 use Rattle.room.specs.declared.Neighbour.{Neighbour}
-use Rattle.room.specs.Room.{Good, Moved, volume, posOf, by, moves, moveAt, holdsAt, neighbour, Step}
+use Rattle.room.specs.Room.{Good, volume, posOf, by, moves, moveAt, holdsAt, neighbour, Step}
 use Rattle.room.specs.RoomLaws.{small-pos}
-use Rattle.room.specs.MoveLaws.{leads, small, symmetric, opposite, opposite-in, sameMove, same-move}
-use Rattle.best_first.specs.Statements.{bit}
+use Rattle.room.specs.MoveLaws.{Moved, leads, small, symmetric, opposite, opposite-in, sameMove, same-move}
 use Rattle.repeaters.specs.Repeaters.{isStep}
 use Rattle.repeaters.specs.Links.{numberOrder, orderedMoves, orderedMove}
 use Rattle.repeaters.specs.Joins.{maskOf, isLink, Masks, Masked, withLink, Joined, moveIndex, moveBetween, stepIndex}
 
 -- ---- bits
 
-bit-small : (b : Bool) → bit b < 2
-bit-small true = omega arith
-bit-small false = omega arith
-
 module _ (n : ℕ) (f : ℕ → Bool) where
   pub mask-low : maskOf (suc n) f % 2 ≡ bit (f zero)
   unfolding maskOf
-  mask-low = digits-mod (maskOf n (λ k. f (suc k))) (bit-small (f zero))
+  mask-low = digits-mod (maskOf n (λ k. f (suc k))) (suc-le-suc (bit-small (f zero)))
 
   pub mask-rest : maskOf (suc n) f / 2 ≡ maskOf n (λ k. f (suc k))
   unfolding maskOf
-  mask-rest = digits-div (maskOf n (λ k. f (suc k))) (bit-small (f zero))
+  mask-rest = digits-div (maskOf n (λ k. f (suc k))) (suc-le-suc (bit-small (f zero)))
 
 mask-small : (n : ℕ) (f : ℕ → Bool) → maskOf n f < 2 ^ n
 unfolding maskOf
@@ -139,9 +135,9 @@ module _ {R : Room} {a b : ℕ} (s : Step R a b) where
         z-back = omega (arith, v .z-by, l .z-small);
         y-small = omega (arith, v .y-by, l .y-small);
         z-small = omega (arith, v .z-by, l .z-small);
-        x-few = w .0;
-        y-few = w .1;
-        z-few = w .2;
+        x-few = w .x-small;
+        y-few = w .y-small;
+        z-few = w .z-small;
       }
 
   pub step-in : stepIndex R a b < 12

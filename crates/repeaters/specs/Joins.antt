@@ -6,14 +6,13 @@ use Prim.Native.Nat.{ℕ, zero, suc, _+_, _-_, _*_, _/_, _≤_, _<_}
 use lib.Dec.{eqb}
 use lib.ListN.{length, getD}
 use Rattle.basics.specs.Tests.{either}
+use Rattle.basics.specs.Counts.{bit}
 use Rattle.room.specs.declared.Room.{Room}
 use Rattle.room.specs.declared.Pos.{Pos}
 use Rattle.room.specs.declared.Move.{Move}
 use Rattle.room.specs.Room.{volume, posOf, by, holdsAt, neighbour, Step}
-use Rattle.best_first.specs.Statements.{bit}
 use Rattle.branches.specs.declared.BranchLengths.{BranchLengths}
-use Rattle.branches.specs.Branches.{total, lengthsIn}
-use Rattle.repeaters.specs.Repeaters.{branchesOf}
+use Rattle.branches.specs.Branches.{branchesOf, Branched}
 use Rattle.repeaters.specs.Links.{orderedMove}
 
 -- ---- what is asked of the branches
@@ -30,9 +29,7 @@ AllSteps R (branch ∷ branches) = Steps R branch × AllSteps R branches
 
 -- the branches stand one behind the other in the buffer
 pub record Laid (R : Room) (L : BranchLengths) (cells : List ℕ) : Type 0 where
-  pub full : length (L .each) ≡ 16
-  pub few : L .count ≤ 16
-  pub within : total (lengthsIn L) ≤ length cells
+  pub branched : Branched L cells
   pub steps : AllSteps R (branchesOf L cells)
 
 -- ---- the masks

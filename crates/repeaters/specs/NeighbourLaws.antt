@@ -5,21 +5,20 @@ use mathlib.Core.Bool.{Bool, true, false, _&&_, _||_, or-false}
 use mathlib.Core.List.{List, [], _∷_}
 use Prim.Native.Nat.{ℕ, zero, suc, _+_, _≤_, _<_}
 use native.Mathlib.Nat.{le-of-suc-le-suc, not-suc-le-zero}
-use native.Mathlib.Numerals.{add-one}
 use native.Mathlib.Omega.{arith}
 use lib.Dec.{eqb, ltb}
 use lib.ListN.{length, getD, replicate, List·getD-eq-default}
 use borrow.Author.Tests.{eqb-true, eqb-false, ltb-true, ltb-false}
 use Rattle.basics.specs.Tests.{either, ask, and-left, and-right, never}
 use Rattle.basics.specs.Lists.{In, every, every-in, in-at}
+use Rattle.basics.specs.Counts.{bit}
 use Rattle.room.specs.declared.Room.{Room}
 use Rattle.room.specs.declared.Pos.{Pos}
 use Rattle.room.specs.declared.Move.{Move}
 use Rattle.room.specs.declared.Neighbour.{Neighbour}
-use Rattle.room.specs.Room.{Good, Moved, volume, posOf, by, moves, neighbourAt, neighbour, Step}
+use Rattle.room.specs.Room.{Good, volume, posOf, by, moves, neighbourAt, neighbour, Step}
 use Rattle.room.specs.RoomLaws.{Before, order, cell-pos}
-use Rattle.room.specs.MoveLaws.{leads}
-use Rattle.best_first.specs.Statements.{bit}
+use Rattle.room.specs.MoveLaws.{Moved, leads}
 use Rattle.repeaters.specs.Repeaters.{cellsFrom, treeNeighbours, isStep, besideOn, neighbouring}
 use Rattle.repeaters.specs.Links.{orderedMoves, orderedMove, consPlace, cellsBy, linkedCells}
 use Rattle.repeaters.specs.Joins.{Steps, AllSteps, maskOf, isLink, stepIndex, Masks, Joined}
@@ -112,7 +111,7 @@ in-cons w Neighbour.Outside vs (inl e) = never (cc)
 in-cons w Neighbour.Outside vs (inr i) = i
 
 -- a place that is picked
-pub record Picked (R : Room) (p : Pos) (f : ℕ → Bool) (ms : List Move) (w : ℕ) : Type 0 where
+record Picked (R : Room) (p : Pos) (f : ℕ → Bool) (ms : List Move) (w : ℕ) : Type 0 where
   pub k : ℕ
   pub within : k < length ms
   pub set : f k ≡ true

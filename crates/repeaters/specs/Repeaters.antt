@@ -4,9 +4,9 @@ use mathlib.Core.Bool.{Bool, true, false, not, _&&_, _||_}
 use mathlib.Core.List.{List, [], _∷_, _++_}
 use Prim.Native.Nat.{ℕ, zero, suc, _+_, _-_, _*_}
 use lib.Dec.{ltb, eqb}
-use lib.ListN.{length, getD, take, drop, set, replicate}
+use lib.ListN.{length, getD, set, replicate}
 use Rattle.basics.specs.Tests.{either}
-use Rattle.branches.specs.Branches.{lengthsIn}
+use Rattle.basics.specs.Lists.{any}
 use Rattle.room.specs.declared.Room.{Room}
 use Rattle.room.specs.declared.Pos.{Pos}
 use Rattle.room.specs.Room.{volume, posOf}
@@ -14,18 +14,9 @@ use Rattle.room.specs.Units.{noFacing, north, east, south, west}
 use Rattle.best_first.specs.Search.{trace}
 use Rattle.routing_resources.specs.Marks.{noMarks, isMarked}
 use Rattle.ends.specs.declared.Tap.{Tap}
-use Rattle.branches.specs.declared.BranchLengths.{BranchLengths}
 use Rattle.basics.specs.Walks.{along}
 
 -- ---- the tree
-
--- branches that stand one behind the other in one list of cells
-unfoldable pub cutInto : List ℕ → List ℕ → List (List ℕ)
-cutInto [] cells = []
-cutInto (n ∷ ns) cells = take n cells ∷ cutInto ns (drop n cells)
-
-abbrev pub branchesOf : BranchLengths → List ℕ → List (List ℕ)
-branchesOf L cells = cutInto (lengthsIn L) cells
 
 -- u and v are the two cells of a step, either way round
 unfoldable pub isStep : ℕ → ℕ → ℕ → ℕ → Bool
@@ -39,8 +30,7 @@ besideOn (a ∷ (b ∷ rest)) u v = isStep a b u v || besideOn (b ∷ rest) u v
 
 -- and on some branch: they are tree neighbours
 unfoldable pub neighbouring : List (List ℕ) → ℕ → ℕ → Bool
-neighbouring [] u v = false
-neighbouring (branch ∷ branches) u v = besideOn branch u v || neighbouring branches u v
+neighbouring branches u v = any (λ branch. besideOn branch u v) branches
 
 abbrev pub consIf : Bool → ℕ → List ℕ → List ℕ
 consIf true v vs = v ∷ vs
@@ -69,9 +59,9 @@ wave ps ws = record { parents = ps; waiting = ws }
 unfoldable pub meet : ℕ → ℕ → Wave → Wave
 meet u v w = either (eqb (getD (w .parents) v 0) 0) (wave (set (w .parents) v (u + 1)) (w .waiting ++ (v ∷ []))) w
 
-unfoldable pub meetAll : ℕ → List ℕ → Wave → Wave
-meetAll u [] w = w
-meetAll u (v ∷ vs) w = meetAll u vs (meet u v w)
+-- cells met one after another
+abbrev pub meetAll : ℕ → List ℕ → Wave → Wave
+meetAll u = along (meet u)
 
 -- the cells have their turns, at most n of them, in the order in which they were reached
 unfoldable pub spread : ℕ → (ℕ → List ℕ) → Wave → List ℕ
@@ -92,6 +82,7 @@ rootPath parents cell = trace (length parents) parents cell []
 
 -- ---- the cells where a repeater may stand
 
+-- b is one more than a, and c is d
 abbrev pub stepsBy : ℕ → ℕ → ℕ → ℕ → Bool
 stepsBy a b c d = eqb (a + 1) b && eqb c d
 
@@ -142,12 +133,12 @@ withRepeater path marks i = either (eqb i 0) marks (set marks (cellAt path i) 1)
 -- ---- the runs
 
 -- the repeaters so far, the last reset and the place that the walk has come to
-pub record Walk : Type 0 where
+pub record RunWalk : Type 0 where
   pub marks : List ℕ
   pub reset : ℕ
   pub place : ℕ
 
-abbrev pub walk : List ℕ → ℕ → ℕ → Walk
+abbrev pub walk : List ℕ → ℕ → ℕ → RunWalk
 walk m r i = record { marks = m; reset = r; place = i }
 
 -- "the latest cell after that reset, up to and including this one, that" fits, of the places below n
@@ -155,17 +146,18 @@ unfoldable pub candidate : (ℕ → Bool) → ℕ → ℕ → ℕ
 candidate fit reset n = latest (λ i. ltb reset i && fit i) n
 
 -- "It becomes the reset and the walk resumes after it; where none fits, the walk goes on to the next cell"
-unfoldable pub resume : List ℕ → Walk → ℕ → Walk
+unfoldable pub resume : List ℕ → RunWalk → ℕ → RunWalk
 resume path w c = either (eqb c 0) (walk (w .marks) (w .reset) (w .place + 1)) (walk (withRepeater path (w .marks) c) c (c + 1))
 
 module _ (limit : ℕ) (fit : ℕ → Bool) (path : List ℕ) where
   -- "A repeater met is a reset"; "at a cell more than 12 steps past the last reset" one is due
-  unfoldable pub step : Walk → Walk
+  unfoldable pub step : RunWalk → RunWalk
   step w =
       either (repeaterAt path (w .marks) (w .place)) (walk (w .marks) (w .place) (w .place + 1))
       (either (ltb (w .reset + limit) (w .place)) (resume path w (candidate fit (w .reset) (w .place + 1))) (walk (w .marks) (w .reset) (w .place + 1)))
 
-  unfoldable pub steps : ℕ → Walk → List ℕ
+  -- at most n steps, while the walk is on the path: the repeaters that it then leaves
+  unfoldable pub steps : ℕ → RunWalk → List ℕ
   steps zero w = w .marks
   steps (suc n) w = elim (ltb (w .place) (length path)) [ true ↦ steps n (step w) | false ↦ w .marks ]
 
@@ -193,7 +185,7 @@ tailFit fit path marks i = fit i && alone path marks i
 module _ (limit : ℕ) (fit : ℕ → Bool) (path : List ℕ) where
   -- "the earliest such cell among the last 8 before the end"
   abbrev pub tailPlace : List ℕ → ℕ
-  tailPlace marks = earliest (tailFit fit path marks) (end path - (end path - limit)) (end path - limit)
+  tailPlace marks = earliest (tailFit fit path marks) limit (end path - limit)
 
   -- "with over 8 steps after its last repeater (or the source)"
   unfoldable pub reinforced : List ℕ → List ℕ
@@ -201,16 +193,20 @@ module _ (limit : ℕ) (fit : ℕ → Bool) (path : List ℕ) where
 
 -- ---- "sink by sink"
 
+-- "more than 12 steps past the last reset"
 abbrev pub maxRun : ℕ
 maxRun = 12
 
+-- "over 8 steps after its last repeater (or the source)"; "the last 8 before the end"
 abbrev pub maxTail : ℕ
 maxTail = 8
 
 module _ (R : Room) (next : ℕ → List ℕ) (parents forbidden : List ℕ) where
+  -- "the path from the source"
   abbrev pub pathTo : Tap → List ℕ
   pathTo tap = rootPath parents (tap .terminal)
 
+  -- the run to one sink
   abbrev pub runOf : Tap → List ℕ → List ℕ
   runOf tap marks = run maxRun (fits R next forbidden (pathTo tap)) (pathTo tap) marks
 

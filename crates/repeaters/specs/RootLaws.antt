@@ -11,15 +11,16 @@ use lib.ListN.{length, getD, take, drop, set, replicate, length-set, length-repl
 use lib.Seq.{slice, slice-cons, slice-empty, take-suc-set, drop-append-le, getD-set-same, getD-set-other, length-take-le, take-at}
 use borrow.Author.Tests.{eq-eqb, ne-eqb, eqb-true, eqb-false}
 use Rattle.basics.specs.Tests.{ask}
+use Rattle.basics.specs.Walks.{along}
 use Rattle.basics.specs.Zeros.{zeros}
 use Rattle.room.specs.declared.Room.{Room}
 use Rattle.room.specs.declared.Pos.{Pos}
 use Rattle.room.specs.declared.Neighbour.{Neighbour}
 use Rattle.room.specs.Room.{volume}
-use Rattle.best_first.specs.Lists.{marked, marked-le, marked-none, marked-new}
+use Rattle.best_first.specs.Lists.{nonzeros, nonzeros-le, nonzeros-none, nonzeros-new}
 use Rattle.best_first.specs.Search.{trace}
 use Rattle.best_first.specs.Equations.{trace-start, trace-back}
-use Rattle.trace.specs.Traces.{Linked}
+use Rattle.trace.specs.Traces.{PreviousInside}
 use Rattle.repeaters.specs.Repeaters.{Wave, wave, meet, meetAll, spread, firstParents, parentsFrom, rootPath}
 use Rattle.repeaters.specs.Links.{orderedMoves, orderedMove, linkedPlace, consPlace, cellsBy, linkedCells}
 use Rattle.repeaters.specs.LinkLaws.{cellsLeft, cells-more, cells-none}
@@ -29,23 +30,18 @@ use Rattle.routing_resources.specs.Marks.{AllCells}
 -- ---- counting the cells reached
 
 -- a cell that is not reached is one more to come
-marked-less : (ps : List ℕ) (v : ℕ) → v < length ps → getD ps v 0 ≡ 0 → marked ps < length ps
-unfolding marked
-marked-less [] v h e = absurd (not-suc-le-zero h)
-marked-less (zero ∷ ps) zero h e = omega (arith, marked-le ps)
-marked-less (suc u ∷ ps) zero h e = absurd (omega arith)
-marked-less (zero ∷ ps) (suc v) h e = omega (arith, marked-less ps v (le-of-suc-le-suc h) e)
-marked-less (suc u ∷ ps) (suc v) h e = omega (arith, marked-less ps v (le-of-suc-le-suc h) e)
+nonzeros-less : (ps : List ℕ) (v : ℕ) → v < length ps → getD ps v 0 ≡ 0 → nonzeros ps < length ps
+nonzeros-less ps v h e = omega (arith, nonzeros-new ps v 0 h e, nonzeros-le (set ps v 1), length-set ps v 1)
 
 -- ---- the equations of the definition, branch by branch
 
 module _ (u v : ℕ) (parents waiting : List ℕ) where
   meet-before : getD parents v 0 ≢ 0 → wave parents waiting ≡ meetAll u (v ∷ []) (wave parents waiting)
-  unfolding meetAll meet
+  unfolding along meet
   meet-before n = rw (ne-eqb (getD parents v 0) 0 n)
 
   meet-now : getD parents v 0 ≡ 0 → wave (set parents v (u + 1)) (waiting ++ (v ∷ [])) ≡ meetAll u (v ∷ []) (wave parents waiting)
-  unfolding meetAll meet
+  unfolding along meet
   meet-now e = rw (eq-eqb (getD parents v 0) 0 e)
 
 spread-turn : (n : ℕ) (next : ℕ → List ℕ) (parents : List ℕ) (u : ℕ) (waiting : List ℕ)
@@ -66,20 +62,20 @@ waiting-more line head tail v h k =
 
 module _ {parents line : List ℕ} {tail : ℕ} (H : Held parents line tail) where
   pub held-most : tail ≤ length parents
-  held-most = omega (arith, H .counted, marked-le parents)
+  held-most = omega (arith, H .counted, nonzeros-le parents)
 
   pub met-before : (from v : ℕ) → getD parents v 0 ≢ 0 → Met from (v ∷ []) parents line tail parents line tail
   met-before from v n = record { held = H; long = refl; on = omega arith; goes = λ head h. meet-before from v parents (slice head tail line) n }
 
   module _ (from v : ℕ) (from-in : from < length parents) (v-in : v < length parents) (new : getD parents v 0 ≡ 0) where
     pub line-room : tail < length line
-    line-room = omega (arith, H .counted, H .line-long, marked-less parents v v-in new)
+    line-room = omega (arith, H .counted, H .line-long, nonzeros-less parents v v-in new)
 
     pub met-now : Met from (v ∷ []) parents line tail (set parents v (from + 1)) (set line tail v) (tail + 1)
     met-now = record {
       held = record {
         line-long = length-set line tail v ∙ H .line-long ∙ sym (length-set parents v (from + 1));
-        counted = ap (λ (x : ℕ). marked (set parents v x)) (add-one from) ∙ marked-new parents v from v-in new ∙ ap suc (H .counted) ∙ sym (add-one tail);
+        counted = ap (λ (x : ℕ). nonzeros (set parents v x)) (add-one from) ∙ nonzeros-new parents v from v-in new ∙ ap suc (H .counted) ∙ sym (add-one tail);
         cells = λ i h. rw length-set (in-line i h);
         linked = λ w. rw length-set (parent w);
       };
@@ -101,13 +97,13 @@ module _ {parents line : List ℕ} {tail : ℕ} (H : Held parents line tail) whe
             (λ f. rw (getD-set-other parents v w (from + 1) 0 (eqb-false w v f)) (H .linked w))
 
   pub met-none : (from : ℕ) → Met from [] parents line tail parents line tail
-  unfolding meetAll
+  unfolding along
   met-none from = record { held = H; long = refl; on = omega arith; goes = λ head h. refl }
 
 -- ---- the loop over the bits of a mask
 
 meet-more : (from : ℕ) (place : Neighbour) (vs : List ℕ) (w : Wave) → meetAll from (consPlace place vs) w ≡ meetAll from vs (meetAll from (consPlace place []) w)
-unfolding meetAll
+unfolding along
 meet-more from (Neighbour.Inside v) vs w = refl
 meet-more from Neighbour.Outside vs w = refl
 
@@ -142,7 +138,7 @@ module _ {R : Room} {p : Pos} {from mask : ℕ} {parents₀ line₀ : List ℕ} 
     }
 
     pub visiting-all : 12 ≤ k → Met from (cellsBy R p mask orderedMoves) parents₀ line₀ tail₀ parents line tail
-    unfolding meetAll
+    unfolding along
     visiting-all h = record {
       held = I .held;
       long = I .long;
@@ -166,7 +162,7 @@ module _ {R : Room} {source : ℕ} {links : List ℕ} where
   spreading-outset line h e = record {
     held = record {
       line-long = length-set line 0 source ∙ e ∙ sym long;
-      counted = rw add-one (marked-new (replicate (volume R) 0) source source (rw (length-replicate {A = ℕ} (volume R) 0) h) (getD-replicate {A = ℕ} (volume R) source 0 0 h) ∙ ap suc (marked-none (volume R)));
+      counted = rw add-one (nonzeros-new (replicate (volume R) 0) source source (rw (length-replicate {A = ℕ} (volume R) 0) h) (getD-replicate {A = ℕ} (volume R) source 0 0 h) ∙ ap suc (nonzeros-none (volume R)));
       cells = λ i k. rw long (first i k);
       linked = λ v. rw long (parent v);
     };
@@ -258,7 +254,7 @@ traced parents line cell {count} e h k f = record {
 }
 
 -- each cell of the path is one of the room, and so it has a first cell
-trace-cells : (n : ℕ) (parents : List ℕ) → Linked parents → (v : ℕ) (rest : List ℕ) → v < length parents
+trace-cells : (n : ℕ) (parents : List ℕ) → PreviousInside parents → (v : ℕ) (rest : List ℕ) → v < length parents
     → ((i : ℕ) → i < length rest → getD rest i 0 < length parents)
     → (i : ℕ) → i < length (trace n parents v rest) → getD (trace n parents v rest) i 0 < length parents
 unfolding trace
@@ -276,7 +272,7 @@ trace-cells (suc n) parents L v rest h r = go (getD parents v 0) refl (λ u. tra
     go zero e ih = rw (trace-start n parents v rest e) cons
     go (suc u) e ih = rw (trace-back n parents v u rest e) (ih u (omega (arith, L v)) cons)
 
-pub path-cells : (R : Room) (parents : List ℕ) → length parents ≡ volume R → Linked parents → (cell : ℕ) → cell < volume R
+pub path-cells : (R : Room) (parents : List ℕ) → length parents ≡ volume R → PreviousInside parents → (cell : ℕ) → cell < volume R
     → AllCells R (rootPath parents cell)
 path-cells R parents e L cell h = record {
   below = λ i k. rw (← e) (trace-cells (length parents) parents L cell [] (rw e h) (λ j q. absurd (not-suc-le-zero q)) i k);

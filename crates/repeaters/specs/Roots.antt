@@ -7,17 +7,17 @@ use lib.ListN.{length, getD, take}
 use lib.Seq.{slice}
 use Rattle.room.specs.declared.Room.{Room}
 use Rattle.room.specs.Room.{volume}
-use Rattle.best_first.specs.Lists.{marked}
-use Rattle.trace.specs.Traces.{Linked}
+use Rattle.best_first.specs.Lists.{nonzeros}
+use Rattle.trace.specs.Traces.{PreviousInside}
 use Rattle.repeaters.specs.Repeaters.{wave, meetAll, parentsFrom, rootPath}
 use Rattle.repeaters.specs.Links.{linkedCells}
 
 -- each cell reached, one whose parent is not 0, stands in the line once, so that the line has room for all
 pub record Held (parents line : List ℕ) (tail : ℕ) : Type 0 where
   pub line-long : length line ≡ length parents
-  pub counted : marked parents ≡ tail
+  pub counted : nonzeros parents ≡ tail
   pub cells : (i : ℕ) → i < tail → getD line i 0 < length parents
-  pub linked : Linked parents
+  pub linked : PreviousInside parents
 
 -- these cells were met from one cell, whichever wait for their turn
 pub record Met (from : ℕ) (cells : List ℕ) (parents line : List ℕ) (tail : ℕ) (parents′ line′ : List ℕ) (tail′ : ℕ) : Type 0 where
@@ -28,7 +28,7 @@ pub record Met (from : ℕ) (cells : List ℕ) (parents line : List ℕ) (tail :
 
 pub record Rooted (R : Room) (source : ℕ) (links parents : List ℕ) : Type 0 where
   pub is : parents ≡ parentsFrom (linkedCells R links) (volume R) source
-  pub linked : Linked parents
+  pub linked : PreviousInside parents
   pub long : length parents ≡ volume R
 
 -- the path stands at the front of the line

@@ -13,7 +13,7 @@ use borrow.Author.Tests.{lt-ltb, le-ltb, ltb-true, eq-eqb, ne-eqb}
 use Rattle.basics.specs.Tests.{either, ask, and-left}
 use Rattle.repeaters.specs.declared.Stride.{Stride}
 use Rattle.repeaters.specs.Repeaters.{cellAt, latest, withRepeater, walk, candidate, resume, step, steps, run}
-use Rattle.repeaters.specs.Runs.{Walking, ahead, Strode}
+use Rattle.repeaters.specs.Runs.{Walking, stepsLeft, Strode}
 
 -- ---- the latest place that passes a test
 
@@ -56,12 +56,12 @@ module _ (fit : ℕ → Bool) (reset : ℕ) where
 
 module _ (path : List ℕ) where
   on-less : (reset place latest latest′ : ℕ) → place < length path
-      → ahead path (record { reset = reset; place = place + 1; latest = latest′ }) < ahead path (record { reset = reset; place = place; latest = latest })
-  unfolding ahead
+      → stepsLeft path (record { reset = reset; place = place + 1; latest = latest′ }) < stepsLeft path (record { reset = reset; place = place; latest = latest })
+  unfolding stepsLeft
   on-less reset place latest latest′ h = omega arith
 
-  reset-less : (s r : Stride) → s .reset < r .reset → r .reset < length path → ahead path r < ahead path s
-  unfolding ahead
+  reset-less : (s r : Stride) → s .reset < r .reset → r .reset < length path → stepsLeft path r < stepsLeft path s
+  unfolding stepsLeft
   reset-less s r h k =
       let more : (length path - r .reset + 1) * (length path + 1) ≤ (length path - s .reset) * (length path + 1) = mul-le-mul-right (length path + 1) (omega arith) in
       omega (arith, more, add-mul (length path - r .reset) 1 (length path + 1), one-mul (length path + 1))
@@ -135,12 +135,12 @@ pub record Running (limit : ℕ) (fit : ℕ → Bool) (path start marks : List �
   pub walking : Walking fit s
   pub long : length marks ≡ length start
   pub fuel : ℕ
-  pub enough : ahead path s ≤ fuel
+  pub enough : stepsLeft path s ≤ fuel
   pub same : steps limit fit path fuel (walk marks (s .reset) (s .place)) ≡ run limit fit path start
 
 module _ {limit : ℕ} {fit : ℕ → Bool} {path start : List ℕ} where
   pub running-outset : Running limit fit path start start (record { reset = 0; place = 1; latest = 0 })
-  unfolding run ahead
+  unfolding run stepsLeft
   running-outset = record {
     walking = record { past = omega arith; known = sym (candidate-none fit 0 1 (omega arith)) };
     long = refl;
@@ -155,7 +155,7 @@ module _ {limit : ℕ} {fit : ℕ → Bool} {path start : List ℕ} where
     unfolding steps
     running-next h {marks′} {r} e S = go (I .fuel) (I .enough) (I .same)
       where
-        go : (f : ℕ) → ahead path s ≤ f → steps limit fit path f (walk marks (s .reset) (s .place)) ≡ run limit fit path start → Running limit fit path start marks′ r
+        go : (f : ℕ) → stepsLeft path s ≤ f → steps limit fit path f (walk marks (s .reset) (s .place)) ≡ run limit fit path start → Running limit fit path start marks′ r
         go zero a q = absurd (omega (arith, S .less))
         go (suc f) a q = record {
           walking = S .walking;

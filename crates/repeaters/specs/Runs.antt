@@ -12,11 +12,11 @@ pub record Walking (fit : ℕ → Bool) (s : Stride) : Type 0 where
   pub past : s .reset < s .place
   pub known : s .latest ≡ candidate fit (s .reset) (s .place)
 
--- what falls with each step: the reset moves on, or the place does
-unfoldable pub ahead : List ℕ → Stride → ℕ
-ahead path s = (length path - s .reset) * (length path + 1) + (length path - s .place)
+-- at most so many steps are left; it falls with each: the reset moves on, or the place does
+unfoldable pub stepsLeft : List ℕ → Stride → ℕ
+stepsLeft path s = (length path - s .reset) * (length path + 1) + (length path - s .place)
 
 pub record Strode (limit : ℕ) (fit : ℕ → Bool) (path marks : List ℕ) (s : Stride) (marks′ : List ℕ) (r : Stride) : Type 0 where
   pub is : walk marks′ (r .reset) (r .place) ≡ step limit fit path (walk marks (s .reset) (s .place))
   pub walking : Walking fit r
-  pub less : ahead path r < ahead path s
+  pub less : stepsLeft path r < stepsLeft path s

@@ -1,36 +1,30 @@
 -- What placing the repeaters asks of its parameters.
 use mathlib.Core.Path.{_≡_}
 use mathlib.Core.List.{List}
-use Prim.Native.Nat.{ℕ, _≤_, _<_}
-use lib.ListN.{length, getD}
+use Prim.Native.Nat.{ℕ, _<_}
+use lib.ListN.{length}
 use Rattle.room.specs.declared.Room.{Room}
 use Rattle.room.specs.Room.{Good, volume}
-use Rattle.trace.specs.Traces.{Linked}
+use Rattle.trace.specs.Traces.{PreviousInside}
 use Rattle.routing_resources.specs.Marks.{noMarks}
 use Rattle.ends.specs.declared.Taps.{Taps}
-use Rattle.ends.specs.Ends.{noTap}
+use Rattle.ends.specs.Ends.{TapsIn}
 use Rattle.branches.specs.declared.BranchLengths.{BranchLengths}
 use Rattle.repeaters.specs.Joins.{Laid}
-
--- at most sixteen sinks, whose terminals are cells of the room
-pub record TerminalsIn (R : Room) (T : Taps) : Type 0 where
-  pub full : length (T .taps) ≡ 16
-  pub few : T .count ≤ 16
-  pub terminals : (k : ℕ) → k < T .count → getD (T .taps) k noTap .terminal < volume R
 
 -- the tree with its parents, in lent memory
 pub record Grown (R : Room) (links parents forbidden : List ℕ) : Type 0 where
   pub good : Good R
   pub links-long : length links ≡ volume R
   pub parents-long : length parents ≡ volume R
-  pub linked : Linked parents
+  pub linked : PreviousInside parents
   pub forbidden-long : length forbidden ≡ volume R
 
 -- what placing the repeaters of a tree asks of its parameters
 pub record Placeable (R : Room) (source : ℕ) (T : Taps) (L : BranchLengths) (cells forbidden repeaters links parents line : List ℕ) : Type 0 where
   pub good : Good R
   pub source-in : source < volume R
-  pub taps-in : TerminalsIn R T
+  pub taps-in : TapsIn R T
   pub laid : Laid R L cells
   pub forbidden-long : length forbidden ≡ volume R
   pub unmarked : repeaters ≡ noMarks (volume R)

@@ -1,5 +1,5 @@
 -- Laws of the tails: the loops for the last repeater and the earliest place, and the branches of what is put there.
-use mathlib.Core.Path.{_≡_, refl, sym, _∙_}
+use mathlib.Core.Path.{_≡_, refl, sym, ap, _∙_}
 use mathlib.Core.Logic.{_⊎_, inl, inr, ⊎-elim}
 use mathlib.Core.Bool.{Bool, true, false}
 use mathlib.Core.List.{List}
@@ -10,7 +10,7 @@ use lib.ListN.{length, getD, set}
 use borrow.Author.Tests.{lt-ltb, le-ltb, ltb-true, eq-eqb, ne-eqb}
 use Rattle.basics.specs.Tests.{either, ask, and-left, and-right}
 use Rattle.room.specs.declared.Room.{Room}
-use Rattle.repeaters.specs.Repeaters.{cellAt, fits, latest, earliest, repeaterAt, withRepeater, end, lastReset, tailPlace, reinforced}
+use Rattle.repeaters.specs.Repeaters.{cellAt, fits, latest, earliest, repeaterAt, withRepeater, end, lastReset, tailFit, tailPlace, reinforced}
 use Rattle.repeaters.specs.RunLaws.{latest-is, latest-next}
 
 -- a place that fits has a cell before it and one behind it
@@ -94,11 +94,15 @@ module _ (limit : ℕ) (fit : ℕ → Bool) (path marks : List ℕ) (last : ℕ)
   unfolding reinforced
   reinforced-near h = rw (← l, le-ltb (last + limit) (end path) h)
 
-  module _ (far : limit < end path - last) (place : ℕ) (e : place ≡ tailPlace limit fit path marks) where
+  module _ (far : limit < end path - last) (place : ℕ)
+      (e : place ≡ earliest (tailFit fit path marks) (end path - (end path - limit)) (end path - limit)) where
+    is-tail : place ≡ tailPlace limit fit path marks
+    is-tail = let n : end path - (end path - limit) ≡ limit = omega arith in e ∙ ap (λ m. earliest (tailFit fit path marks) m (end path - limit)) n
+
     pub reinforced-none : place ≡ 0 → marks ≡ reinforced limit fit path marks
     unfolding reinforced withRepeater
-    reinforced-none z = rw (← l, lt-ltb (last + limit) (end path) (omega arith), ← e, eq-eqb place 0 z)
+    reinforced-none z = rw (← l, lt-ltb (last + limit) (end path) (omega arith), ← is-tail, eq-eqb place 0 z)
 
     pub reinforced-put : (place ≡ 0 → ⊥) → set marks (cellAt path place) 1 ≡ reinforced limit fit path marks
     unfolding reinforced withRepeater
-    reinforced-put n = rw (← l, lt-ltb (last + limit) (end path) (omega arith), ← e, ne-eqb place 0 n)
+    reinforced-put n = rw (← l, lt-ltb (last + limit) (end path) (omega arith), ← is-tail, ne-eqb place 0 n)

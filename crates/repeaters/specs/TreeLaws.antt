@@ -12,8 +12,8 @@ use Rattle.basics.specs.Lists.{drop-next}
 use Rattle.room.specs.declared.Room.{Room}
 use Rattle.room.specs.Room.{Step}
 use Rattle.branches.specs.declared.BranchLengths.{BranchLengths}
-use Rattle.branches.specs.Branches.{total, lengthsIn}
-use Rattle.repeaters.specs.Repeaters.{cutInto, branchesOf, isStep, besideOn, neighbouring}
+use Rattle.branches.specs.Branches.{sum, lengthsIn, cutInto, branchesOf}
+use Rattle.repeaters.specs.Repeaters.{isStep, besideOn, neighbouring}
 use Rattle.repeaters.specs.Joins.{Steps, AllSteps, Laid, Joined}
 use Rattle.repeaters.specs.JoinLaws.{Adding, adding-none, adding-next, adding-all}
 
@@ -48,13 +48,13 @@ step-at R (a ∷ (b ∷ rest)) s (suc i) h = rw (suc-add i 1) (step-at R (b ∷ 
 
 pub record Laying (R : Room) (L : BranchLengths) (cells start links : List ℕ) (from k : ℕ) : Type 0 where
   pub within : k ≤ L .count
-  pub room : from + total (drop k (lengthsIn L)) ≤ length cells
+  pub room : from + sum (drop k (lengthsIn L)) ≤ length cells
   pub steps : AllSteps R (cutInto (drop k (lengthsIn L)) (drop from cells))
   pub adding : Adding R (neighbouring (cutInto (drop k (lengthsIn L)) (drop from cells))) (neighbouring (branchesOf L cells)) start links
 
 module _ {R : Room} {L : BranchLengths} {cells start : List ℕ} (D : Laid R L cells) where
   pub laying-none : Laying R L cells start start 0 0
-  laying-none = record { within = omega arith; room = omega (arith, D .within); steps = D .steps; adding = adding-none }
+  laying-none = record { within = omega arith; room = omega (arith, D .branched .within); steps = D .steps; adding = adding-none }
 
   module _ {links : List ℕ} {from k : ℕ} (I : Laying R L cells start links from k) where
     module _ (h : k < L .count) (to : ℕ) (e : to ≡ from + getD (L .each) k 0) where
@@ -65,14 +65,14 @@ module _ {R : Room} {L : BranchLengths} {cells start : List ℕ} (D : Laid R L c
       ends = omega arith
 
       first : drop k (lengthsIn L) ≡ (to - from) ∷ drop (k + 1) (lengthsIn L)
-      first = rw (add-one, size-is) (slice-cons k (L .count) (L .each) 0 h (omega (arith, D .few, D .full)))
+      first = rw (add-one, size-is) (slice-cons k (L .count) (L .each) 0 h (omega (arith, D .branched .few, D .branched .whole)))
 
       cut : cutInto (drop k (lengthsIn L)) (drop from cells) ≡ take (to - from) (drop from cells) ∷ cutInto (drop (k + 1) (lengthsIn L)) (drop to cells)
       unfolding cutInto
       cut = rw (first, drop-drop (to - from) from cells, ends)
 
-      more : total (drop k (lengthsIn L)) ≡ to - from + total (drop (k + 1) (lengthsIn L))
-      unfolding total
+      more : sum (drop k (lengthsIn L)) ≡ to - from + sum (drop (k + 1) (lengthsIn L))
+      unfolding sum
       more = rw first
 
       left-steps : AllSteps R (take (to - from) (drop from cells) ∷ cutInto (drop (k + 1) (lengthsIn L)) (drop to cells))

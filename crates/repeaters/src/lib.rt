@@ -15,7 +15,8 @@ use sinks::plan_repeaters;
 use sinks::reinforce_wire_sink_tails;
 ghost use mathlib.Core.Path.{_≡_};
 ghost use Rattle.ends.specs.Ends.{tapsIn};
-ghost use Rattle.repeaters.specs.Repeaters.{branchesOf, repeaterMarks};
+ghost use Rattle.branches.specs.Branches.{branchesOf};
+ghost use Rattle.repeaters.specs.Repeaters.{repeaterMarks};
 ghost use Rattle.repeaters.specs.Sinks.{Placeable};
 
 // How far the walk along a path has come: its last reset, its place, and the latest place after that reset and before this

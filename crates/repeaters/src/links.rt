@@ -12,7 +12,8 @@ ghost use lib.Dec.{eqb};
 ghost use lib.ListN.{length, replicate};
 ghost use Rattle.room.specs.Room.{Good, Within, volume, posOf, Step};
 ghost use Rattle.repeaters.specs.Links.{orderedMoves, orderedMove, linkedPlace, insideCount, cellsBy, linkedCells};
-ghost use Rattle.repeaters.specs.Repeaters.{branchesOf, isStep, besideOn, treeNeighbours};
+ghost use Rattle.branches.specs.Branches.{branchesOf};
+ghost use Rattle.repeaters.specs.Repeaters.{isStep, besideOn, treeNeighbours};
 ghost use Rattle.repeaters.specs.Joins.{Steps, Laid, Masked, Joined, moveIndex, stepIndex};
 
 // The places of the moves among Room::MOVES, in the number order of the cells that they lead to.

@@ -12,7 +12,7 @@ use routing_resources::MARKED;
 ghost use mathlib.Core.Path.{_≡_};
 ghost use Prim.Native.Nat.{_<_};
 ghost use lib.ListN.{length};
-ghost use Rattle.room.specs.Room.{Good, volume};
+ghost use Rattle.room.specs.Room.{Good, SmallPos, volume};
 ghost use Rattle.repeaters.specs.Repeaters.{stepsBy, facingBy, facingOf, straight, fits};
 ghost use Rattle.repeaters.specs.Links.{linkedCells, Ready};
 
@@ -29,8 +29,8 @@ fn steps_by(a: usize, b: usize, c: usize, d: usize) -> bool
 
 // The facing of a step between two positions: none unless it is a flat one.
 fn facing_by(p: Pos, q: Pos) -> u8
-    requires { ⌜ (p .x < 64) × (p .y < 64) × (p .z < 64) ⌝ }
-    requires { ⌜ (q .x < 64) × (q .y < 64) × (q .z < 64) ⌝ }
+    requires { ⌜ SmallPos p ⌝ }
+    requires { ⌜ SmallPos q ⌝ }
     ensures { λ r. ⌜ r ≡ facingBy p q ⌝ }
 {
     if p.y != q.y {

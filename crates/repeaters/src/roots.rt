@@ -9,7 +9,7 @@ ghost use mathlib.Core.List.{[], _∷_};
 ghost use Prim.Native.Nat.{ℕ, _≤_, _<_};
 ghost use lib.ListN.{length, replicate};
 ghost use Rattle.room.specs.Room.{Good, maxVolume, volume, posOf};
-ghost use Rattle.trace.specs.Traces.{Linked};
+ghost use Rattle.trace.specs.Traces.{PreviousInside};
 ghost use Rattle.repeaters.specs.Links.{orderedMoves, consPlace, cellsBy};
 ghost use Rattle.repeaters.specs.Roots.{Held, Met, Rooted, Traced};
 
@@ -107,10 +107,10 @@ pub fn rooted_parent(
 // Writes the path from the source to a cell to the front of the line, and gives its length.
 pub fn root_path(parents: &[u32], cell: usize, line: &mut [u32]) -> usize
     requires { ⌜ cell < length (now parents) ⌝ }
-    requires { ⌜ Linked (now parents) ⌝ }
+    requires { ⌜ PreviousInside (now parents) ⌝ }
     requires { ⌜ length (now parents) ≤ maxVolume ⌝ }
     requires { ⌜ length (now line) ≡ length (now parents) ⌝ }
     ensures { λ r. ⌜ Traced (now (parents .entry)) cell (now (line .exit)) r ⌝ }
 {
-    trace::path_to(parents, cell, parents.len(), line)
+    trace::path_to(parents, cell, line)
 }

@@ -8,11 +8,11 @@ use room::Room;
 ghost use mathlib.Core.Path.{_≡_};
 ghost use Prim.Native.Nat.{_<_};
 ghost use lib.ListN.{length};
-ghost use Rattle.ends.specs.Ends.{tapsIn};
+ghost use Rattle.ends.specs.Ends.{tapsIn, TapsIn};
 ghost use Rattle.room.specs.Room.{volume};
 ghost use Rattle.repeaters.specs.Repeaters.{runOf, tailOf};
 ghost use Rattle.repeaters.specs.Links.{linkedCells};
-ghost use Rattle.repeaters.specs.Sinks.{TerminalsIn, Grown};
+ghost use Rattle.repeaters.specs.Sinks.{Grown};
 ghost use Rattle.basics.specs.Walks.{along};
 
 // "At a cell more than 12 steps past the last reset".
@@ -52,7 +52,7 @@ pub fn plan_repeaters(
     line: &mut [u32],
 )
     requires { ⌜ Grown room (now links) (now parents) (now forbidden) ⌝ }
-    requires { ⌜ TerminalsIn room taps ⌝ }
+    requires { ⌜ TapsIn room taps ⌝ }
     requires { ⌜ length (now repeaters) ≡ volume room ⌝ }
     requires { ⌜ length (now line) ≡ volume room ⌝ }
     ensures { λ _. ⌜ now (repeaters .exit) ≡ along (runOf room (linkedCells room (now (links .entry))) (now (parents .entry)) (now (forbidden .entry))) (tapsIn taps) (now (repeaters .entry)) ⌝ }
@@ -100,7 +100,7 @@ pub fn reinforce_wire_sink_tails(
     line: &mut [u32],
 )
     requires { ⌜ Grown room (now links) (now parents) (now forbidden) ⌝ }
-    requires { ⌜ TerminalsIn room taps ⌝ }
+    requires { ⌜ TapsIn room taps ⌝ }
     requires { ⌜ length (now repeaters) ≡ volume room ⌝ }
     requires { ⌜ length (now line) ≡ volume room ⌝ }
     ensures { λ _. ⌜ now (repeaters .exit) ≡ along (tailOf room (linkedCells room (now (links .entry))) (now (parents .entry)) (now (forbidden .entry))) (tapsIn taps) (now (repeaters .entry)) ⌝ }

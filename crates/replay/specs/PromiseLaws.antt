@@ -12,16 +12,16 @@ use Rattle.stored.specs.declared.runs.Verdict.{Verdict}
 use Rattle.stored.specs.Runs.{isSame, sumOf}
 use Rattle.stored.specs.RunLaws.{turns-one, narrowed-one}
 use Rattle.stored.specs.MemoryLaws.{rubbish-one}
-use Rattle.replay.specs.declared.compare.Lent.{Lent}
+use Rattle.replay.specs.declared.compare.LentLengths.{LentLengths}
 use Rattle.replay.specs.declared.searches.Stored.{Stored}
-use Rattle.replay.specs.declared.replay.Outcome.{Outcome}
-use Rattle.replay.specs.Verdicts.{Memory, memory, AllRubbish, lengthsIn, verdictOf, Judged, Ran, too-long, judged}
-use Rattle.replay.specs.Runs.{lent, storedLengths, longerLengths, tally, SameTwice, RanWith, ReplayedOne, differs, twice-alone, narrowed, oneFurther, Next, stopped, replayed, Replayed}
+use Rattle.replay.specs.declared.replay.Stand.{Stand}
+use Rattle.replay.specs.Verdicts.{Memory, memory, AllRubbish, lengthsOfMemory, verdictOf, Judged, Ran, too-long, judged}
+use Rattle.replay.specs.Runs.{lentLengths, storedLengths, longerLengths, tally, SameTwice, RanWith, ReplayedOne, differs, twice-alone, narrowed, oneFurther, Next, stopped, replayed, Replayed}
 
 -- ---- a run
 
 -- memory of some lengths that is full of rubbish
-memory-one : (M N : Memory) → lengthsIn M ≡ lengthsIn N → AllRubbish M → AllRubbish N → M ≡ N
+memory-one : (M N : Memory) → lengthsOfMemory M ≡ lengthsOfMemory N → AllRubbish M → AllRubbish N → M ≡ N
 memory-one M N e p q =
     let path = rubbish-one (M .path) (N .path) (ap (λ L. L .path) e) (p .path-spoiled) (q .path-spoiled) in
     let known = rubbish-one (M .known) (N .known) (ap (λ L. L .known) e) (p .known-spoiled) (q .known-spoiled) in
@@ -44,7 +44,7 @@ results-one : (S : Stored) (kinds cells : List ℕ) (L : Lengths) {v w : Verdict
 results-one S kinds cells L J K =
     let M = K .lent-before in
     let before = memory-one (J .lent-before) M (J .lengths ∙ sym (K .lengths)) (J .spoiled) (K .spoiled) in
-    one-result (input (S .room) (S .config) kinds (S .start) (S .goal) (lengthsIn M)) (M .path) (M .known) (M .previous) (M .classes) (M .queue) (resultOf J) (resultOf K)
+    one-result (input (S .room) (S .config) kinds (S .start) (S .goal) (lengthsOfMemory M)) (M .path) (M .known) (M .previous) (M .classes) (M .queue) (resultOf J) (resultOf K)
     (rw before at (J .promise)) (K .promise)
 
 judged-one : (S : Stored) (kinds cells : List ℕ) (L : Lengths) → Determines (Judged S kinds cells L)
@@ -53,7 +53,7 @@ judged-one S kinds cells L x y J K =
     ∙ ap (λ R. verdictOf (S .told) cells (R .answer) (memory (R .path) (R .known) (R .previous) (R .classes) (R .queue))) (results-one S kinds cells L J K)
     ∙ sym (K .verdict)
 
-ran-one : (S : Stored) (kinds cells : List ℕ) (L : Lengths) (N : Lent) → Determines (Ran S kinds cells L N)
+ran-one : (S : Stored) (kinds cells : List ℕ) (L : Lengths) (N : LentLengths) → Determines (Ran S kinds cells L N)
 ran-one S kinds cells L N x y (too-long a e) (too-long b f) = e ∙ sym f
 ran-one S kinds cells L N x y (too-long a e) (judged b J) = never (cc (sym a ∙ b))
 ran-one S kinds cells L N x y (judged a J) (too-long b f) = never (cc (sym b ∙ a))
@@ -78,10 +78,10 @@ module _ (file : List ℕ) (longs : ℕ) where
   one-one S x y (narrowed T m G M runs q e) (differs U f) = never (cc (twice-one S _ _ U T))
   one-one S x y (narrowed T m G M runs q e) (twice-alone U n f) = never (cc (sym n ∙ m))
   one-one S x y (narrowed T m G M runs q e) (narrowed U n H N runs′ r f) =
-      let g = narrowed-one {ran = RanWith file longs S} (λ queue. ran-one S _ _ _ (lent (S .lent) queue)) (S .places) G H M N in
+      let g = narrowed-one {ran = RanWith file longs S} (λ queue. ran-one S _ _ _ (lentLengths (S .lent) queue)) (S .places) G H M N in
       e ∙ ap (λ k. tally k (G .agreed)) q ∙ ap (λ K. tally (sumOf 2 (K .runs)) (K .agreed)) g ∙ ap (λ k. tally k (H .agreed)) (sym r) ∙ sym f
 
-  next-one : (O : Outcome) → Determines (Next file longs O)
+  next-one : (O : Stand) → Determines (Next file longs O)
   next-one O x y (stopped a e) (stopped b f) = e ∙ sym f
   next-one O x y (stopped a e) (replayed b S s T t f) = never (cc (sym a ∙ b))
   next-one O x y (replayed a S s T t e) (stopped b f) = never (cc (sym b ∙ a))

@@ -6,27 +6,28 @@ use Prim.Native.Nat.{ℕ, suc, _+_, _*_, _-_, _≤_, _<_}
 use native.Mathlib.Omega.{arith}
 use Rattle.replay.specs.declared.searches.Stored.{Stored}
 use borrow.Author.Tests.{not-true, not-false}
+use Rattle.stored.specs.TestLaws.{test-fails, test-passes}
 use Rattle.stored.specs.Runs.{isSame, longerBy, cellsMore, queueMore, sumOf, Narrowed}
-use Rattle.replay.specs.declared.compare.Lent.{Lent}
+use Rattle.replay.specs.declared.compare.LentLengths.{LentLengths}
 use Rattle.stored.specs.declared.runs.Verdict.{Verdict}
 use Rattle.stored.specs.declared.runs.Gap.{Gap}
 use Rattle.replay.specs.Searches.{storedAt}
 use Rattle.replay.specs.Verdicts.{RanIn}
-use Rattle.replay.specs.Runs.{lent, storedLengths, longerLengths, SameTwice, RanWith, isNarrowed}
+use Rattle.replay.specs.Runs.{lentLengths, storedLengths, longerLengths, SameTwice, RanWith, isNarrowed}
 use Rattle.replay.specs.Runs.{tally, ReplayedOne, differs, twice-alone, narrowed, oneMore, numberedFrom}
 
-pub lent-by : {cells cells′ queue queue′ : ℕ} → cells ≡ cells′ → queue ≡ queue′ → lent cells queue ≡ lent cells′ queue′
-lent-by p q = λ i. lent (p i) (q i)
+pub lent-by : {cells cells′ queue queue′ : ℕ} → cells ≡ cells′ → queue ≡ queue′ → lentLengths cells queue ≡ lentLengths cells′ queue′
+lent-by p q = λ i. lentLengths (p i) (q i)
 
 pub longer-lent : (S : Stored) {cells places more queue : ℕ} → cells ≡ cellsMore (S .lent) (S .told .number) → places ≡ S .places * 2
-    → more ≡ queueMore (S .told .number) → queue ≡ longerBy places more → lent cells queue ≡ longerLengths S
+    → more ≡ queueMore (S .told .number) → queue ≡ longerBy places more → lentLengths cells queue ≡ longerLengths S
 longer-lent S p q r s = lent-by p (s ∙ rw (q, r))
 
 -- ---- a stored search
 
 module _ {file : List ℕ} {longs : ℕ} {S : Stored} where
   -- two runs, of which the first left the queue as long as it was; the first that is not the stored answer decides
-  module _ {N N′ : Lent} {left : ℕ} {v w : Verdict} {a : Bool} (e : N ≡ storedLengths S) (p : RanIn file longs S N v) (f : N′ ≡ longerLengths S)
+  module _ {N N′ : LentLengths} {left : ℕ} {v w : Verdict} {a : Bool} (e : N ≡ storedLengths S) (p : RanIn file longs S N v) (f : N′ ≡ longerLengths S)
       (l : left ≡ longs) (q : RanIn file left S N′ w) (d : a ≡ isSame v) where
     pub first-decides : a ≡ false → SameTwice file longs S a
     first-decides t = let g = sym d ∙ t in record { exact = v; longer = w; at-exact = rw e at p; at-longer = rw f at (rw l at q); both = rw g t }
@@ -40,11 +41,11 @@ module _ {file : List ℕ} {longs : ℕ} {S : Stored} where
 
     module _ (n : not b ≡ false) {m : Bool} (e : m ≡ isNarrowed S) where
       pub one-twice : not m ≡ true → ReplayedOne file longs S (tally 2 true)
-      one-twice l = let t = not-false b n in twice-alone (rw t at T) (sym e ∙ not-true m l) refl
+      one-twice l = let t = not-false b n in twice-alone (rw t at T) (test-fails e l) refl
 
       pub one-narrowed : not m ≡ false → {left : ℕ} → left ≡ longs → {G : Gap} → Narrowed (RanWith file left S) (S .places) G → {runs : ℕ} → runs ≡ sumOf 2 (G .runs)
           → ReplayedOne file longs S (tally runs (G .agreed))
-      one-narrowed l e′ {G} N {runs} s = let t = not-false b n in narrowed (rw t at T) (sym e ∙ not-false m l) G (rw e′ at N) runs s refl
+      one-narrowed l e′ {G} N {runs} s = let t = not-false b n in narrowed (rw t at T) (test-passes e l) G (rw e′ at N) runs s refl
 
 -- ---- counting a number: so many records are passed, and what the rest comes to is the whole
 

@@ -6,27 +6,28 @@ use mathlib.Core.List.{List}
 use Prim.Native.Nat.{ℕ, zero, suc, _*_}
 use lib.Dec.{eqb, ltb}
 use Rattle.basics.specs.Tests.{either}
+use Rattle.stored.specs.Places.{countIn, firstPlace}
 use Rattle.stored.specs.Runs.{Turns, isSame, longerBy, cellsMore, queueMore, sumOf, Narrowed}
 use Rattle.replay.specs.declared.searches.Stored.{Stored}
 use Rattle.stored.specs.declared.runs.Verdict.{Verdict}
-use Rattle.replay.specs.declared.compare.Lent.{Lent}
+use Rattle.replay.specs.declared.compare.LentLengths.{LentLengths}
 use Rattle.stored.specs.declared.runs.Gap.{Gap}
 use Rattle.replay.specs.declared.replay.Tally.{Tally}
-use Rattle.replay.specs.declared.replay.Outcome.{Outcome}
-use Rattle.replay.specs.Searches.{storedAt, countIn, firstPlace}
+use Rattle.replay.specs.declared.replay.Stand.{Stand}
+use Rattle.replay.specs.Searches.{storedAt, letters}
 use Rattle.replay.specs.Verdicts.{RanIn}
 
 -- ---- lengths
 
-abbrev pub lent : ℕ → ℕ → Lent
-lent cells queue = record { cells = cells; queue = queue }
+abbrev pub lentLengths : ℕ → ℕ → LentLengths
+lentLengths cells queue = record { cells = cells; queue = queue }
 
-abbrev pub storedLengths : Stored → Lent
-storedLengths S = lent (S .lent) (S .places * 2)
+abbrev pub storedLengths : Stored → LentLengths
+storedLengths S = lentLengths (S .lent) (S .places * 2)
 
 -- longer buffers that change no answer. Numbers 6 and 13 hang on lengths
-abbrev pub longerLengths : Stored → Lent
-longerLengths S = lent (cellsMore (S .lent) (S .told .number)) (longerBy (S .places * 2) (queueMore (S .told .number)))
+abbrev pub longerLengths : Stored → LentLengths
+longerLengths S = lentLengths (cellsMore (S .lent) (S .told .number)) (longerBy (S .places * 2) (queueMore (S .told .number)))
 
 -- ---- the stored answer, twice
 
@@ -42,7 +43,7 @@ pub record SameTwice (file : List ℕ) (longs : ℕ) (S : Stored) (r : Bool) : T
 
 -- a run with a queue of so many numbers
 abbrev pub RanWith : List ℕ → ℕ → Stored → ℕ → Verdict → Type 0
-RanWith file longs S queue v = RanIn file longs S (lent (S .lent) queue) v
+RanWith file longs S queue v = RanIn file longs S (lentLengths (S .lent) queue) v
 
 -- small rooms whose search came to an end of its own: a route, no route, or the node limit passed
 unfoldable pub isNarrowed : Stored → Bool
@@ -62,23 +63,23 @@ pub data ReplayedOne (file : List ℕ) (longs : ℕ) (S : Stored) (r : Tally) : 
 -- ---- the file
 
 -- one search further, to the place behind it; none further than one that differs
-unfoldable pub oneFurther : Outcome → ℕ → Tally → Outcome
+unfoldable pub oneFurther : Stand → ℕ → Tally → Stand
 oneFurther O next T =
     either (T .agreed)
     (record { at = next; searches = sumOf (O .searches) 1; runs = sumOf (O .runs) (T .runs); agreed = true })
     (record { at = O .at; searches = O .searches; runs = O .runs; agreed = false })
 
-pub data Next (file : List ℕ) (longs : ℕ) (O r : Outcome) : Type 0 where
+pub data Next (file : List ℕ) (longs : ℕ) (O r : Stand) : Type 0 where
   stopped : O .agreed ≡ false → r ≡ O → Next file longs O r
   replayed : O .agreed ≡ true → (S : Stored) → S ≡ storedAt file (O .at) → (T : Tally) → ReplayedOne file longs S T
       → r ≡ oneFurther O (S .next) T → Next file longs O r
 
-abbrev pub noneYet : List ℕ → Outcome
+abbrev pub noneYet : List ℕ → Stand
 noneYet file = record { at = firstPlace file; searches = 0; runs = 0; agreed = true }
 
 -- from no search on, record by record, as many as the file says
-pub record Replayed (file : List ℕ) (longs : ℕ) (r : Outcome) : Type 0 where
-  pub searches : Turns (λ _. Next file longs) (noneYet file) (countIn file) r
+pub record Replayed (file : List ℕ) (longs : ℕ) (r : Stand) : Type 0 where
+  pub searches : Turns (λ _. Next file longs) (noneYet file) (countIn letters file) r
 
 -- ---- how many answers have a number
 
@@ -91,4 +92,4 @@ numberedFrom file number zero at met = met
 numberedFrom file number (suc n) at met = numberedFrom file number n (storedAt file at .next) (oneMore met (storedAt file at .told .number) number)
 
 unfoldable pub numbered : List ℕ → ℕ → ℕ
-numbered file number = numberedFrom file number (countIn file) (firstPlace file) 0
+numbered file number = numberedFrom file number (countIn letters file) (firstPlace file) 0

@@ -9,8 +9,8 @@ use Rattle.room.specs.declared.Room.{Room}
 use Rattle.room.specs.declared.RouterConfig.{RouterConfig}
 use Rattle.replay.specs.declared.searches.Told.{Told}
 use Rattle.replay.specs.declared.searches.Stored.{Stored}
-use Rattle.stored.specs.Places.{past}
-use Rattle.replay.specs.Searches.{byteBehind, wordBehind, roomAt, configAt, toldAt, endOf, answerPlace, storedAt, partOf}
+use Rattle.stored.specs.Places.{past, byteBehind, wordBehind}
+use Rattle.replay.specs.Searches.{roomAt, configAt, toldAt, endOf, answerPlace, storedAt, partOf}
 
 module _ (file : List ℕ) (at bytes : ℕ) where
   pub part-out : length file < at + bytes → [] ≡ partOf file at bytes

@@ -1,21 +1,14 @@
 -- The stored searches: how a file of them is read, as the oracle's README lays it out. Definitions alone; their laws are in SearchLaws.
 use mathlib.Core.List.{List, []}
 use Prim.Native.Nat.{ℕ, _+_, _*_}
-use lib.Dec.{eqb, leb}
+use lib.Dec.{leb}
 use lib.ListN.{length, take, drop}
 use Rattle.basics.specs.Tests.{either}
 use Rattle.room.specs.declared.Room.{Room}
 use Rattle.room.specs.declared.RouterConfig.{RouterConfig}
-use Rattle.stored.specs.Places.{past, byteAt, wordAt, cellsFrom}
+use Rattle.stored.specs.Places.{past, byteBehind, wordBehind, cellsFrom}
 use Rattle.replay.specs.declared.searches.Told.{Told}
 use Rattle.replay.specs.declared.searches.Stored.{Stored}
-
--- what stands so many bytes behind a place
-unfoldable pub byteBehind : List ℕ → ℕ → ℕ → ℕ
-byteBehind file at bytes = byteAt file (past file at bytes)
-
-unfoldable pub wordBehind : List ℕ → ℕ → ℕ → ℕ
-wordBehind file at bytes = wordAt file (past file at bytes)
 
 -- "x y z (a byte each), node limit, horizontal, stair, support cost"
 unfoldable pub roomAt : List ℕ → ℕ → Room
@@ -73,14 +66,6 @@ kindsIn file S = partOf file (S .kinds) (S .count)
 abbrev pub cellsIn : List ℕ → Told → List ℕ
 cellsIn file T = cellsFrom file (T .cells) (T .length)
 
--- the letters DRS1
+-- the letters that the file begins with: DRS1
 abbrev pub letters : ℕ
-letters = 1146245937
-
--- how many searches the file says that it holds: none, unless it begins with the letters
-unfoldable pub countIn : List ℕ → ℕ
-countIn file = either (eqb (wordAt file 0) letters) (wordBehind file 0 4) 0
-
--- the place of the first
-abbrev pub firstPlace : List ℕ → ℕ
-firstPlace file = past file 0 8
+letters = 0x44525331

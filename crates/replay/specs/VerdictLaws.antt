@@ -9,7 +9,7 @@ use Rattle.routing.specs.declared.Answer.{Answer}
 use Rattle.routing.specs.declared.Lengths.{Lengths}
 use Rattle.replay.specs.declared.searches.Stored.{Stored}
 use Rattle.stored.specs.declared.runs.Verdict.{Verdict}
-use Rattle.replay.specs.declared.compare.Lent.{Lent}
+use Rattle.replay.specs.declared.compare.LentLengths.{LentLengths}
 use Rattle.replay.specs.Searches.{kindsIn, cellsIn}
 use Rattle.replay.specs.Verdicts.{verdictOf, Memory, AllRubbish, Promised, Judged, lengthsBy, fits, Ran, judged, own, RanIn}
 
@@ -31,7 +31,7 @@ module _ {S : Stored} {kinds cells : List ℕ} {L : Lengths} {r : Verdict} where
   }
 
   -- the fronts that are lent have the lengths asked for
-  pub ran-at : {O : Lengths} {N : Lent} → fits O N ≡ true → Judged S kinds cells L r → L ≡ lengthsBy N → Ran S kinds cells O N r
+  pub ran-at : {O : Lengths} {N : LentLengths} → fits O N ≡ true → Judged S kinds cells L r → L ≡ lengthsBy N → Ran S kinds cells O N r
   ran-at f J e = judged f (record {
     lent-before = J .lent-before;
     lent-after = J .lent-after;
@@ -43,13 +43,13 @@ module _ {S : Stored} {kinds cells : List ℕ} {L : Lengths} {r : Verdict} where
   })
 
 -- buffers that are long enough
-pub fits-in : (L : Lengths) (N : Lent) → N .cells ≤ L .path → N .cells ≤ L .known → N .cells ≤ L .previous → N .cells ≤ L .classes
+pub fits-in : (L : Lengths) (N : LentLengths) → N .cells ≤ L .path → N .cells ≤ L .known → N .cells ≤ L .previous → N .cells ≤ L .classes
     → N .queue ≤ L .queue → fits L N ≡ true
 unfolding fits
 fits-in L N p q r s t =
     rw (le-leb (N .cells) (L .path) p, le-leb (N .cells) (L .known) q, le-leb (N .cells) (L .previous) r, le-leb (N .cells) (L .classes) s, le-leb (N .queue) (L .queue) t)
 
 -- the program's own buffers
-pub ran-in : (file : List ℕ) {S : Stored} {kinds : List ℕ} {longs : ℕ} {L : Lengths} {N : Lent} {r : Verdict} → kinds ≡ kindsIn file S → L ≡ own longs
+pub ran-in : (file : List ℕ) {S : Stored} {kinds : List ℕ} {longs : ℕ} {L : Lengths} {N : LentLengths} {r : Verdict} → kinds ≡ kindsIn file S → L ≡ own longs
     → Ran S kinds (cellsIn file (S .told)) L N r → RanIn file longs S N r
 ran-in file k e R = rw e at (rw k at R)

@@ -8,16 +8,16 @@ use Rattle.basics.specs.Tests.{either}
 use Rattle.lent.specs.Lent.{touches}
 use Rattle.stored.specs.Runs.{fullIf, sameIf}
 use Rattle.routing.specs.declared.Answer.{Answer}
-use Rattle.routing.specs.declared.Answer.the-variants.{Routed, Refused, NotRouteable, NoRoute, LimitPassed, QueueFull}
 use Rattle.routing.specs.declared.Route.{Route}
+use Rattle.reply.specs.Replies.{routeOf}
 use Rattle.routing.specs.declared.Lengths.{Lengths}
 use Rattle.routing.specs.Answers.{numberOf, detailOf, Promise, input, lengthsOf}
-use Rattle.stored.specs.Memory.{ownRoom, Rubbish, holds, fourHold}
+use Rattle.stored.specs.Memory.{ownLength, Rubbish, holds, fourHold}
 use Rattle.replay.specs.declared.searches.Told.{Told}
 use Rattle.replay.specs.declared.searches.Stored.{Stored}
 use Rattle.stored.specs.declared.runs.Verdict.{Verdict}
 use Rattle.stored.specs.declared.runs.Verdict.the-variants.{Other}
-use Rattle.replay.specs.declared.compare.Lent.{Lent}
+use Rattle.replay.specs.declared.compare.LentLengths.{LentLengths}
 use Rattle.replay.specs.Searches.{kindsIn, cellsIn}
 
 -- ---- the answer
@@ -26,13 +26,8 @@ unfoldable pub sameRoute : Route → Told → Bool
 sameRoute R T = eqb (R .cost .0) (T .cost) && eqb (R .expanded .0) (T .expanded) && eqb (R .length) (T .length)
 
 -- a route as stored; of all others the number and the detail say everything
-abbrev pub sameWay : Answer → Told → Bool
-sameWay (Routed R) T = sameRoute R T
-sameWay (Refused why) T = true
-sameWay (NotRouteable cell) T = true
-sameWay (NoRoute x) T = true
-sameWay (LimitPassed x) T = true
-sameWay (QueueFull x) T = true
+unfoldable pub sameWay : Answer → Told → Bool
+sameWay a T = either (eqb (numberOf a) 0) (sameRoute (routeOf a) T) true
 
 unfoldable pub sameAnswer : Answer → Told → Bool
 sameAnswer a T = eqb (numberOf a) (T .number) && eqb (detailOf a) (T .detail) && sameWay a T
@@ -78,13 +73,13 @@ pub record AllRubbish (M : Memory) : Type 0 where
   pub classes-spoiled : Rubbish (M .classes)
   pub queue-spoiled : Rubbish (M .queue)
 
-abbrev pub lengthsIn : Memory → Lengths
-lengthsIn M = lengthsOf (M .path) (M .known) (M .previous) (M .classes) (M .queue)
+abbrev pub lengthsOfMemory : Memory → Lengths
+lengthsOfMemory M = lengthsOf (M .path) (M .known) (M .previous) (M .classes) (M .queue)
 
 -- what `astar_route` promises of a stored search, over memory
 abbrev pub Promised : Stored → List ℕ → Memory → Answer → Memory → Type 0
 Promised S kinds M a M′ =
-    Promise (input (S .room) (S .config) kinds (S .start) (S .goal) (lengthsIn M)) (M .path) (M .known) (M .previous) (M .classes) (M .queue)
+    Promise (input (S .room) (S .config) kinds (S .start) (S .goal) (lengthsOfMemory M)) (M .path) (M .known) (M .previous) (M .classes) (M .queue)
     a (M′ .path) (M′ .known) (M′ .previous) (M′ .classes) (M′ .queue)
 
 -- what it promises over memory of these lengths that is full of rubbish, judged
@@ -92,16 +87,16 @@ pub record Judged (S : Stored) (kinds cells : List ℕ) (L : Lengths) (r : Verdi
   pub lent-before : Memory
   pub lent-after : Memory
   pub answer : Answer
-  pub lengths : lengthsIn lent-before ≡ L
+  pub lengths : lengthsOfMemory lent-before ≡ L
   pub spoiled : AllRubbish lent-before
   pub promise : Promised S kinds lent-before answer lent-after
   pub verdict : r ≡ verdictOf (S .told) cells answer lent-after
 
-abbrev pub lengthsBy : Lent → Lengths
+abbrev pub lengthsBy : LentLengths → Lengths
 lengthsBy N = record { path = N .cells; known = N .cells; previous = N .cells; classes = N .cells; queue = N .queue }
 
 -- each buffer is as long as what of it is to be lent
-unfoldable pub fits : Lengths → Lent → Bool
+unfoldable pub fits : Lengths → LentLengths → Bool
 fits L N =
     leb (N .cells) (L .path)
     && leb (N .cells) (L .known)
@@ -110,14 +105,14 @@ fits L N =
     && leb (N .queue) (L .queue)
 
 -- a run at these lengths, in the front of buffers; lengths that a buffer does not have are no run, and something else
-pub data Ran (S : Stored) (kinds cells : List ℕ) (L : Lengths) (N : Lent) (r : Verdict) : Type 0 where
+pub data Ran (S : Stored) (kinds cells : List ℕ) (L : Lengths) (N : LentLengths) (r : Verdict) : Type 0 where
   too-long : fits L N ≡ false → r ≡ Other → Ran S kinds cells L N r
   judged : fits L N ≡ true → Judged S kinds cells (lengthsBy N) r → Ran S kinds cells L N r
 
 -- the program's own buffers, with a queue of so many numbers
 abbrev pub own : ℕ → Lengths
-own longs = record { path = ownRoom; known = ownRoom; previous = ownRoom; classes = ownRoom; queue = longs }
+own longs = record { path = ownLength; known = ownLength; previous = ownLength; classes = ownLength; queue = longs }
 
 -- a run of what is stored in a file
-abbrev pub RanIn : List ℕ → ℕ → Stored → Lent → Verdict → Type 0
+abbrev pub RanIn : List ℕ → ℕ → Stored → LentLengths → Verdict → Type 0
 RanIn file longs S N r = Ran S (kindsIn file S) (cellsIn file (S .told)) (own longs) N r

@@ -4,9 +4,10 @@ use crate::searches::Told;
 use crate::searches::part;
 use reply::detail_of;
 use reply::number_of;
+use reply::route_of;
 use routing::Answer;
 use routing::Route;
-use stored::memory::ROOM;
+use stored::memory::OWN_LENGTH;
 use stored::memory::bytes_hold;
 use stored::memory::cells_hold;
 use stored::memory::longs_hold;
@@ -27,7 +28,7 @@ ghost use Rattle.replay.specs.Verdicts.{sameRoute, sameWay, sameAnswer, 
 ghost use Rattle.replay.specs.Verdicts.{verdictOf, AllRubbish, Judged, Ran, RanIn};
 
 // The lengths at which buffers are lent: those of a number a cell, and the queue.
-pub struct Lent {
+pub struct LentLengths {
     pub cells: usize,
     pub queue: usize,
 }
@@ -44,17 +45,14 @@ fn same_route(route: Route, told: Told) -> bool
     route.length == told.length as usize
 }
 
+// Of an answer other than a route the number and the detail say everything.
 fn same_way(answer: Answer, told: Told) -> bool
     ensures { λ r. ⌜ r ≡ sameWay answer told ⌝ }
 {
-    match answer {
-        Answer::Routed(route) => same_route(route, told),
-        Answer::Refused(_) => true,
-        Answer::NotRouteable(_) => true,
-        Answer::NoRoute(_) => true,
-        Answer::LimitPassed(_) => true,
-        Answer::QueueFull(_) => true,
+    if number_of(answer) != 0 {
+        return true;
     }
+    same_route(route_of(answer), told)
 }
 
 fn same_answer(answer: Answer, told: Told) -> bool
@@ -199,7 +197,7 @@ fn attempt(
 // The search in the front of each buffer, at these lengths. Lengths that a buffer doesn't have would be no search.
 fn attempt_lent(
     stored: Stored,
-    lent: Lent,
+    lent: LentLengths,
     kinds: &[u8],
     file: &[u8],
     path: &mut [u32],
@@ -240,13 +238,13 @@ fn attempt_lent(
 }
 
 // A stored search, run at these lengths, in memory of its own but for the queue.
-pub fn run_stored(file: &[u8], stored: Stored, lent: Lent, queue: &mut [u64]) -> Verdict
+pub fn run_stored(file: &[u8], stored: Stored, lent: LentLengths, queue: &mut [u64]) -> Verdict
     ensures { λ r. ⌜ RanIn (now (file .entry)) (length (now (queue .entry))) stored lent r ⌝ }
 {
-    let mut path = [0u32; ROOM];
-    let mut known = [0u32; ROOM];
-    let mut previous = [0u32; ROOM];
-    let mut classes = [0u8; ROOM];
+    let mut path = [0u32; OWN_LENGTH];
+    let mut known = [0u32; OWN_LENGTH];
+    let mut previous = [0u32; OWN_LENGTH];
+    let mut classes = [0u8; OWN_LENGTH];
     let kinds = part(file, stored.kinds, stored.count);
     attempt_lent(
         stored,

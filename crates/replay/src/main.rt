@@ -6,7 +6,7 @@ mod compare;
 mod replay;
 mod searches;
 
-use crate::replay::Outcome;
+use crate::replay::Stand;
 use crate::replay::count_number;
 use crate::replay::replay;
 use libc::STDOUT_FILENO;
@@ -35,28 +35,28 @@ fn print_numbers(file: &[u8]) {
     }
 }
 
-fn print_agreed(file: &[u8], outcome: Outcome) {
-    print_count(b"searches ", outcome.searches);
+fn print_agreed(file: &[u8], stand: Stand) {
+    print_count(b"searches ", stand.searches);
     print_numbers(file);
-    print_count(b"comparisons ", outcome.runs);
+    print_count(b"comparisons ", stand.runs);
     io::write_all(STDOUT_FILENO, b"all agree\n");
 }
 
 // A file that has not come to its end is told as such before all else: what was read of it says nothing of the rest.
-fn print_outcome(file: &[u8], ended: bool, outcome: Outcome) {
+fn print_outcome(file: &[u8], ended: bool, stand: Stand) {
     if !ended {
-        print_count(b"the file does not end after search ", outcome.searches);
+        print_count(b"the file does not end after search ", stand.searches);
         return;
     }
-    if !outcome.agreed {
-        print_count(b"differs at search ", outcome.searches);
+    if !stand.agreed {
+        print_count(b"differs at search ", stand.searches);
         return;
     }
-    if outcome.at != file.len() {
-        print_count(b"the file does not end after search ", outcome.searches);
+    if stand.at != file.len() {
+        print_count(b"the file does not end after search ", stand.searches);
         return;
     }
-    print_agreed(file, outcome);
+    print_agreed(file, stand);
 }
 
 // Room for the file, which has 659,266 bytes.
@@ -78,6 +78,6 @@ fn main() {
     let bytes = io::read_full(from, &mut file);
     libc::close(from);
     let mut queue = [0u64; 393300];
-    let outcome = replay(&file[..bytes], &mut queue);
-    print_outcome(&file[..bytes], bytes < 1000000, outcome);
+    let stand = replay(&file[..bytes], &mut queue);
+    print_outcome(&file[..bytes], bytes < 1000000, stand);
 }

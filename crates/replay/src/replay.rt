@@ -1,10 +1,11 @@
 // Every stored search is run several times, and each run is held to the stored answer.
-use crate::compare::Lent;
+use crate::compare::LentLengths;
 use crate::compare::run_stored;
+use crate::searches::LETTERS;
 use crate::searches::Stored;
-use crate::searches::count_in;
 use crate::searches::stored_at;
-use stored::places::past;
+use stored::places::count_in;
+use stored::places::first_place;
 use stored::runs::Gap;
 use stored::runs::add;
 use stored::runs::cells_more;
@@ -27,7 +28,7 @@ struct Tally {
 }
 
 // How far the file has been replayed: to which place, how many searches and runs agreed, and whether all did.
-pub struct Outcome {
+pub struct Stand {
     pub at: usize,
     pub searches: u32,
     pub runs: u32,
@@ -35,21 +36,21 @@ pub struct Outcome {
 }
 
 // Exactly the stored lengths.
-fn stored_lengths(stored: Stored) -> Lent
+fn stored_lengths(stored: Stored) -> LentLengths
     ensures { λ r. ⌜ r ≡ storedLengths stored ⌝ }
 {
-    Lent {
+    LentLengths {
         cells: stored.lent,
         queue: twice(stored.places),
     }
 }
 
 // Longer buffers that change no answer. Numbers 6 and 13 hang on lengths.
-fn longer_lengths(stored: Stored) -> Lent
+fn longer_lengths(stored: Stored) -> LentLengths
     ensures { λ r. ⌜ r ≡ longerLengths stored ⌝ }
 {
     let number = stored.told.number;
-    Lent {
+    LentLengths {
         cells: cells_more(stored.lent, number),
         queue: longer(twice(stored.places), queue_more(number)),
     }
@@ -72,7 +73,7 @@ fn narrow_once(file: &[u8], stored: Stored, gap: Gap, queue: &mut [u64]) -> Gap
         return gap;
     }
     let places = middle(gap.full, gap.enough);
-    let lent = Lent {
+    let lent = LentLengths {
         cells: stored.lent,
         queue: twice(places),
     };
@@ -139,54 +140,54 @@ fn replay_one(file: &[u8], stored: Stored, queue: &mut [u64]) -> Tally
 }
 
 // One search further, to the place behind it, unless it differs.
-fn one_further(outcome: Outcome, next: usize, tally: Tally) -> Outcome
-    ensures { λ r. ⌜ r ≡ oneFurther outcome next tally ⌝ }
+fn one_further(stand: Stand, next: usize, tally: Tally) -> Stand
+    ensures { λ r. ⌜ r ≡ oneFurther stand next tally ⌝ }
 {
     if !tally.agreed {
-        return Outcome {
-            at: outcome.at,
-            searches: outcome.searches,
-            runs: outcome.runs,
+        return Stand {
+            at: stand.at,
+            searches: stand.searches,
+            runs: stand.runs,
             agreed: false,
         };
     }
-    Outcome {
+    Stand {
         at: next,
-        searches: add(outcome.searches, 1),
-        runs: add(outcome.runs, tally.runs),
+        searches: add(stand.searches, 1),
+        runs: add(stand.runs, tally.runs),
         agreed: true,
     }
 }
 
 // The next search, unless one has differed.
-fn replay_next(file: &[u8], outcome: Outcome, queue: &mut [u64]) -> Outcome
-    ensures { λ r. ⌜ Next (now (file .entry)) (length (now (queue .entry))) outcome r ⌝ }
+fn replay_next(file: &[u8], stand: Stand, queue: &mut [u64]) -> Stand
+    ensures { λ r. ⌜ Next (now (file .entry)) (length (now (queue .entry))) stand r ⌝ }
 {
-    if !outcome.agreed {
-        return outcome;
+    if !stand.agreed {
+        return stand;
     }
-    let stored = stored_at(file, outcome.at);
+    let stored = stored_at(file, stand.at);
     let tally = replay_one(file, stored, queue);
-    one_further(outcome, stored.next, tally)
+    one_further(stand, stored.next, tally)
 }
 
 // All stored searches in their order, up to the first that differs.
-pub fn replay(file: &[u8], queue: &mut [u64]) -> Outcome
+pub fn replay(file: &[u8], queue: &mut [u64]) -> Stand
     ensures { λ r. ⌜ Replayed (now (file .entry)) (length (now (queue .entry))) r ⌝ }
 {
-    let count = count_in(file);
-    let mut outcome = Outcome {
-        at: past(file, 0, 8),
+    let count = count_in(file, LETTERS);
+    let mut stand = Stand {
+        at: first_place(file),
         searches: 0,
         runs: 0,
         agreed: true,
     };
     let mut passed: u32 = 0;
     while passed < count {
-        outcome = replay_next(file, outcome, queue);
+        stand = replay_next(file, stand, queue);
         passed += 1;
     }
-    outcome
+    stand
 }
 
 // One more, where an answer has the number.
@@ -200,9 +201,9 @@ fn one_more(met: u32, here: u32, number: u32) -> u32
 pub fn count_number(file: &[u8], number: u32) -> u32
     ensures { λ r. ⌜ r ≡ numbered (now (file .entry)) number ⌝ }
 {
-    let count = count_in(file);
+    let count = count_in(file, LETTERS);
     let mut met: u32 = 0;
-    let mut at = past(file, 0, 8);
+    let mut at = first_place(file);
     let mut passed: u32 = 0;
     while passed < count {
         let stored = stored_at(file, at);

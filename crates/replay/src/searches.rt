@@ -1,18 +1,18 @@
 // The stored searches: a file of big-endian records, each a search with its answer, as the oracle's README lays them out.
 ghost use mathlib.Core.Path.{_≡_};
-ghost use Rattle.replay.specs.Searches.{byteBehind, wordBehind, roomAt, configAt, toldAt, endOf, answerPlace, storedAt, partOf, countIn};
+ghost use Rattle.replay.specs.Searches.{roomAt, configAt, toldAt, endOf, answerPlace, storedAt, partOf};
 use room::Cost;
 use room::Nodes;
 use room::Room;
 use room::RouterConfig;
-use stored::places::byte_at;
+use stored::places::byte_behind;
 use stored::places::past;
-use stored::places::size_at;
-use stored::places::word_at;
+use stored::places::size_behind;
+use stored::places::word_behind;
 use stored::runs::twice;
 
 // The letters that the file begins with: DRS1.
-const LETTERS: u32 = 0x44525331;
+pub const LETTERS: u32 = 0x44525331;
 
 // The answer that is stored. The path's cells, as many as its length, stay in the file, at this place.
 pub struct Told {
@@ -36,24 +36,6 @@ pub struct Stored {
     pub count: usize,
     pub told: Told,
     pub next: usize,
-}
-
-fn byte_behind(file: &[u8], at: usize, bytes: usize) -> u8
-    ensures { λ r. ⌜ r ≡ byteBehind (now (file .entry)) at bytes ⌝ }
-{
-    byte_at(file, past(file, at, bytes))
-}
-
-fn word_behind(file: &[u8], at: usize, bytes: usize) -> u32
-    ensures { λ r. ⌜ r ≡ wordBehind (now (file .entry)) at bytes ⌝ }
-{
-    word_at(file, past(file, at, bytes))
-}
-
-fn size_behind(file: &[u8], at: usize, bytes: usize) -> usize
-    ensures { λ r. ⌜ r ≡ wordBehind (now (file .entry)) at bytes ⌝ }
-{
-    size_at(file, past(file, at, bytes))
 }
 
 fn room_at(file: &[u8], at: usize) -> Room
@@ -136,15 +118,4 @@ pub fn part(file: &[u8], at: usize, bytes: usize) -> &[u8]
         return &file[..0];
     }
     &file[at..at + bytes]
-}
-
-// How many searches the file says that it holds: none, unless it begins with its letters.
-pub fn count_in(file: &[u8]) -> u32
-    ensures { λ r. ⌜ r ≡ countIn (now (file .entry)) ⌝ }
-{
-    if word_at(file, 0) == LETTERS {
-        word_behind(file, 0, 4)
-    } else {
-        0
-    }
 }

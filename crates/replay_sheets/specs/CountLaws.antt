@@ -12,20 +12,20 @@ pub one-more-in : (counts : List ℕ) (place : ℕ) {n x : ℕ} → place < n �
 unfolding oneMoreAt
 one-more-in counts place {n} h e = rw (lt-ltb place n h) (ap (set counts place) e)
 
-pub first-in : (kinds : List ℕ) (kind sheet : ℕ) {x : ℕ} → kind < 5 → x ≡ firstOf (getD kinds kind 0) sheet → set kinds kind x ≡ firstAt kinds kind sheet
+pub first-in : (kinds : List ℕ) (comparison sheet : ℕ) {x : ℕ} → comparison < 5 → x ≡ firstOf (getD kinds comparison 0) sheet → set kinds comparison x ≡ firstAt kinds comparison sheet
 unfolding firstAt
-first-in kinds kind sheet h e = rw (lt-ltb kind 5 h) (ap (set kinds kind) e)
+first-in kinds comparison sheet h e = rw (lt-ltb comparison 5 h) (ap (set kinds comparison) e)
 
 module _ (t : Tally) where
   pub met-by : (number : ℕ) {sheets : ℕ} {counts : List ℕ} → sheets ≡ oneMore (t .sheets) → counts ≡ oneMoreAt 16 (t .met) number
       → _≡_ {A = Tally} (record { sheets = sheets; met = counts; compared = t .compared; differ = t .differ; first = t .first }) (met t number)
   met-by number p q = λ i. record { sheets = p i; met = q i; compared = t .compared; differ = t .differ; first = t .first }
 
-  module _ (kind : ℕ) {b : Bool} {counts : List ℕ} (p : counts ≡ oneMoreAt 5 (t .compared) kind) where
+  module _ (comparison : ℕ) {b : Bool} {counts : List ℕ} (p : counts ≡ oneMoreAt 5 (t .compared) comparison) where
     pub compared-agreed : b ≡ true
-        → _≡_ {A = Tally} (record { sheets = t .sheets; met = t .met; compared = counts; differ = t .differ; first = t .first }) (compared t kind b)
+        → _≡_ {A = Tally} (record { sheets = t .sheets; met = t .met; compared = counts; differ = t .differ; first = t .first }) (compared t comparison b)
     compared-agreed e = rw e (λ i. record { sheets = t .sheets; met = t .met; compared = p i; differ = t .differ; first = t .first })
 
-    pub compared-differing : b ≡ false → {differ first : List ℕ} → differ ≡ oneMoreAt 5 (t .differ) kind → first ≡ firstAt (t .first) kind (t .sheets)
-        → _≡_ {A = Tally} (record { sheets = t .sheets; met = t .met; compared = counts; differ = differ; first = first }) (compared t kind b)
+    pub compared-differing : b ≡ false → {differ first : List ℕ} → differ ≡ oneMoreAt 5 (t .differ) comparison → first ≡ firstAt (t .first) comparison (t .sheets)
+        → _≡_ {A = Tally} (record { sheets = t .sheets; met = t .met; compared = counts; differ = differ; first = first }) (compared t comparison b)
     compared-differing e d f = rw e (λ i. record { sheets = t .sheets; met = t .met; compared = p i; differ = d i; first = f i })

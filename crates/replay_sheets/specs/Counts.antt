@@ -19,7 +19,7 @@ unfoldable pub firstOf : ℕ → ℕ → ℕ
 firstOf first sheet = either (eqb first 0) sheet first
 
 unfoldable pub firstAt : List ℕ → ℕ → ℕ → List ℕ
-firstAt kinds kind sheet = either (ltb kind 5) (set kinds kind (firstOf (getD kinds kind 0) sheet)) kinds
+firstAt kinds comparison sheet = either (ltb comparison 5) (set kinds comparison (firstOf (getD kinds comparison 0) sheet)) kinds
 
 abbrev pub nothingYet : Tally
 nothingYet = record { sheets = 0; met = replicate 16 0; compared = replicate 5 0; differ = replicate 5 0; first = replicate 5 0 }
@@ -29,15 +29,15 @@ abbrev pub met : Tally → ℕ → Tally
 met t number =
     record { sheets = oneMore (t .sheets); met = oneMoreAt 16 (t .met) number; compared = t .compared; differ = t .differ; first = t .first }
 
--- the last sheet, compared in this kind
+-- the last sheet, in this comparison
 abbrev pub compared : Tally → ℕ → Bool → Tally
-compared t kind true =
-    record { sheets = t .sheets; met = t .met; compared = oneMoreAt 5 (t .compared) kind; differ = t .differ; first = t .first }
-compared t kind false =
+compared t comparison true =
+    record { sheets = t .sheets; met = t .met; compared = oneMoreAt 5 (t .compared) comparison; differ = t .differ; first = t .first }
+compared t comparison false =
     record {
       sheets = t .sheets;
       met = t .met;
-      compared = oneMoreAt 5 (t .compared) kind;
-      differ = oneMoreAt 5 (t .differ) kind;
-      first = firstAt (t .first) kind (t .sheets);
+      compared = oneMoreAt 5 (t .compared) comparison;
+      differ = oneMoreAt 5 (t .differ) comparison;
+      first = firstAt (t .first) comparison (t .sheets);
     }

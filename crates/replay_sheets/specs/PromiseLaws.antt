@@ -15,17 +15,17 @@ use Rattle.stored.specs.declared.runs.Verdict.{Verdict}
 use Rattle.stored.specs.RunLaws.{turns-one, narrowed-one}
 use Rattle.stored.specs.MemoryLaws.{rubbish-one}
 use Rattle.job_sheet.specs.Sheet.{jobOf}
-use Rattle.replay_sheets.specs.declared.attempt.Lens.{Lens}
+use Rattle.replay_sheets.specs.declared.attempt.LentLengths.{LentLengths}
 use Rattle.replay_sheets.specs.declared.counts.Tally.{Tally}
 use Rattle.replay_sheets.specs.declared.judging.Shortage.{Shortage}
 use Rattle.replay_sheets.specs.declared.replay.Size.{Size}
 use Rattle.replay_sheets.specs.declared.replay.Stand.{Stand}
 use Rattle.replay_sheets.specs.declared.sheets.Asked.{Asked}
-use Rattle.replay_sheets.specs.declared.sheets.Stored.{Stored}
+use Rattle.replay_sheets.specs.declared.sheets.Told.{Told}
 use Rattle.replay_sheets.specs.Counts.{compared}
 use Rattle.replay_sheets.specs.Verdicts.{AllRubbish, verdictOf, Judged, Ran, too-long, judged}
-use Rattle.replay_sheets.specs.Runs.{SizeOf, refused, accepted, lens, lensOf, agreesIn, RanWith, Narrows, AgreesIn, least-queue, one-run}
-use Rattle.replay_sheets.specs.Replays.{InKind, not-due, is-due, InKinds, Next, Replayed}
+use Rattle.replay_sheets.specs.Runs.{SizeOf, refused, accepted, lentLengths, lengthsFor, agreesIn, RanWith, Narrows, AgreesIn, least-queue, one-run}
+use Rattle.replay_sheets.specs.Replays.{InComparison, not-due, is-due, InComparisons, Next, Replayed}
 
 -- ---- a run
 
@@ -46,7 +46,7 @@ memory-one B C e p q =
     let queue = rubbish-one (B .queue) (C .queue) (ap (λ L. L .queue) e) (p .queue-spoiled) (q .queue-spoiled) in
     λ i. lent (branches i) (occupied i) (repeaters i) (kinds i) (blocked i) (classes i) (joinable i) (known i) (previous i) (path i) (best i) (queue i)
 
-module _ (sheet : List ℕ) (S : Stored) (F : Shortage) (cells covered marks : List ℕ) where
+module _ (sheet : List ℕ) (S : Told) (F : Shortage) (cells covered marks : List ℕ) where
   abbrev resultOf : {L : Lengths} {v : Verdict} → Judged sheet L S F cells covered marks v → Result
   resultOf J = record { answer = J .answer; lent = J .lent-after }
 
@@ -58,7 +58,7 @@ module _ (sheet : List ℕ) (S : Stored) (F : Shortage) (cells covered marks : L
   judged-one : (L : Lengths) → Determines (Judged sheet L S F cells covered marks)
   judged-one L x y J K = J .verdict ∙ ap (λ R. verdictOf S F cells covered marks (R .answer) (R .lent)) (results-one L J K) ∙ sym (K .verdict)
 
-  ran-one : (N : Lens) (longs : ℕ) → Determines (Ran sheet N S F cells covered marks longs)
+  ran-one : (N : LentLengths) (longs : ℕ) → Determines (Ran sheet N S F cells covered marks longs)
   ran-one N longs x y (too-long a e) (too-long b f) = e ∙ sym f
   ran-one N longs x y (too-long a e) (judged b J) = never (cc (sym a ∙ b))
   ran-one N longs x y (judged a J) (too-long b f) = never (cc (sym b ∙ a))
@@ -80,32 +80,32 @@ size-one sheet most x y (accepted j A c l) (accepted k B d m) =
     let e = one-job A B in
     size (c ∙ ap (λ job. min most (volume (job .room))) e ∙ sym d) (l ∙ ap (λ job. job .config .limit .0) e ∙ sym m)
 
--- ---- a sheet in one kind
+-- ---- a sheet in one comparison
 
-module _ (sheet : List ℕ) (A : Asked) (S : Stored) (cells covered marks : List ℕ) (longs : ℕ) where
+module _ (sheet : List ℕ) (A : Asked) (S : Told) (cells covered marks : List ℕ) (longs : ℕ) where
   narrows-one : (Z : Size) → Determines (Narrows sheet A Z S cells covered marks longs)
   narrows-one Z x y N M =
-      let g = narrowed-one {ran = RanWith sheet A Z S cells covered marks longs} (λ queue. ran-one sheet S _ cells covered marks (lens (Z .cells) (A .branch) queue) longs) (A .places) (N .gap) (M .gap) (N .narrowed) (M .narrowed) in
+      let g = narrowed-one {ran = RanWith sheet A Z S cells covered marks longs} (λ queue. ran-one sheet S _ cells covered marks (lentLengths (Z .cells) (A .branch) queue) longs) (A .places) (N .gap) (M .gap) (N .narrowed) (M .narrowed) in
       N .says ∙ ap (λ G. G .agreed) g ∙ sym (M .says)
 
-  agrees-one : (kind : ℕ) → Determines (AgreesIn kind sheet A S cells covered marks longs)
-  agrees-one kind x y (least-queue k Z z N) (least-queue k′ Z′ z′ M) = let e = size-one sheet (A .lent) Z Z′ z z′ in narrows-one Z′ x y (rw e at N) M
-  agrees-one kind x y (least-queue k Z z N) (one-run n Z′ z′ L l v r f) = absurd (n k)
-  agrees-one kind x y (one-run n Z z L l v r e) (least-queue k Z′ z′ M) = absurd (n k)
-  agrees-one kind x y (one-run n Z z L l v r e) (one-run n′ Z′ z′ L′ l′ v′ r′ f) =
+  agrees-one : (comparison : ℕ) → Determines (AgreesIn comparison sheet A S cells covered marks longs)
+  agrees-one comparison x y (least-queue k Z z N) (least-queue k′ Z′ z′ M) = let e = size-one sheet (A .lent) Z Z′ z z′ in narrows-one Z′ x y (rw e at N) M
+  agrees-one comparison x y (least-queue k Z z N) (one-run n Z′ z′ L l v r f) = absurd (n k)
+  agrees-one comparison x y (one-run n Z z L l v r e) (least-queue k Z′ z′ M) = absurd (n k)
+  agrees-one comparison x y (one-run n Z z L l v r e) (one-run n′ Z′ z′ L′ l′ v′ r′ f) =
       let same-size = size-one sheet (A .lent) Z Z′ z z′ in
-      let same-lens : L ≡ L′ = l ∙ ap (λ Y. lensOf kind A (Y .cells) S) same-size ∙ sym l′ in
-      let same-verdict = ran-one sheet S _ cells covered marks L′ longs v v′ (rw same-lens at r) r′ in
-      e ∙ ap (agreesIn kind) same-verdict ∙ sym f
+      let same-lengths : L ≡ L′ = l ∙ ap (λ Y. lengthsFor comparison A (Y .cells) S) same-size ∙ sym l′ in
+      let same-verdict = ran-one sheet S _ cells covered marks L′ longs v v′ (rw same-lengths at r) r′ in
+      e ∙ ap (agreesIn comparison) same-verdict ∙ sym f
 
-  kind-one : (kind : ℕ) (t : Tally) → Determines (InKind kind sheet A S cells covered marks longs t)
-  kind-one kind t x y (not-due a e) (not-due b f) = e ∙ sym f
-  kind-one kind t x y (not-due a e) (is-due b agreed g f) = never (cc (sym a ∙ b))
-  kind-one kind t x y (is-due a agreed g e) (not-due b f) = never (cc (sym b ∙ a))
-  kind-one kind t x y (is-due a agreed g e) (is-due b agreed′ g′ f) = e ∙ ap (compared t kind) (agrees-one kind agreed agreed′ g g′) ∙ sym f
+  comparison-one : (comparison : ℕ) (t : Tally) → Determines (InComparison comparison sheet A S cells covered marks longs t)
+  comparison-one comparison t x y (not-due a e) (not-due b f) = e ∙ sym f
+  comparison-one comparison t x y (not-due a e) (is-due b agreed g f) = never (cc (sym a ∙ b))
+  comparison-one comparison t x y (is-due a agreed g e) (not-due b f) = never (cc (sym b ∙ a))
+  comparison-one comparison t x y (is-due a agreed g e) (is-due b agreed′ g′ f) = e ∙ ap (compared t comparison) (agrees-one comparison agreed agreed′ g g′) ∙ sym f
 
-  kinds-one : (t : Tally) → Determines (InKinds sheet A S cells covered marks longs t)
-  kinds-one t = turns-one kind-one 5
+  comparisons-one : (t : Tally) → Determines (InComparisons sheet A S cells covered marks longs t)
+  comparisons-one t = turns-one comparison-one 5
 
 -- ---- the file
 
@@ -113,7 +113,7 @@ module _ (F : List ℕ) (longs : ℕ) where
   next-one : (s : Stand) → Determines (Next F longs s)
   next-one s x y p q =
       let at = p .passed ∙ sym (q .passed) in
-      let tally = kinds-one _ _ _ _ _ _ longs (s .tally) (x .tally) (y .tally) (p .replayed) (q .replayed) in
+      let tally = comparisons-one _ _ _ _ _ _ longs (s .tally) (x .tally) (y .tally) (p .replayed) (q .replayed) in
       λ i. record { at = at i; tally = tally i }
 
   pub coincide : Determines (Replayed F longs)

@@ -7,23 +7,23 @@ use Rattle.replay_sheets.specs.declared.counts.Tally.{Tally}
 use Rattle.replay_sheets.specs.declared.replay.Stand.{Stand}
 use Rattle.replay_sheets.specs.declared.sheets.Asked.{Asked}
 use Rattle.replay_sheets.specs.declared.sheets.Part.{Part}
-use Rattle.replay_sheets.specs.declared.sheets.Stored.{Stored}
+use Rattle.replay_sheets.specs.declared.sheets.Told.{Told}
 use Rattle.replay_sheets.specs.Sheets.{askedAt, sheetAt, left, answerAt, zeros, knownIf}
-use Rattle.replay_sheets.specs.Replays.{InKind, InKinds, Next}
+use Rattle.replay_sheets.specs.Replays.{InComparison, InComparisons, Next}
 
 -- a record, from its parts
-pub next-by : (F : List ℕ) {longs : ℕ} (s : Stand) {P : Part} {known S : Stored} {A : Asked} {end : ℕ} {cells covered marks : List ℕ} {t : Tally} → P ≡ sheetAt F (s .at)
+pub next-by : (F : List ℕ) {longs : ℕ} (s : Stand) {P : Part} {known S : Told} {A : Asked} {end : ℕ} {cells covered marks : List ℕ} {t : Tally} → P ≡ sheetAt F (s .at)
     → left known end cells covered marks ≡ answerAt F (P .end) zeros zeros zeros → A ≡ askedAt F (s .at) → S ≡ knownIf (P .whole) known
-    → InKinds (take (P .end - P .from) (drop (P .from) F)) A S cells covered marks longs (s .tally) t → Next F longs s (record { at = end; tally = t })
+    → InComparisons (take (P .end - P .from) (drop (P .from) F)) A S cells covered marks longs (s .tally) t → Next F longs s (record { at = end; tally = t })
 next-by F s p a b k K = record {
   passed = rw (← p, ← a);
   replayed = rw (← p, ← a, ← b, ← k) K;
 }
 
 -- the queue stays as long as it was
-pub kind-long : {kind : ℕ} {sheet : List ℕ} {A : Asked} {S : Stored} {cells covered marks : List ℕ} {longs longs′ : ℕ} {t r : Tally} → longs ≡ longs′
-    → InKind kind sheet A S cells covered marks longs t r → InKind kind sheet A S cells covered marks longs′ t r
-kind-long e h = rw (← e) h
+pub comparison-long : {comparison : ℕ} {sheet : List ℕ} {A : Asked} {S : Told} {cells covered marks : List ℕ} {longs longs′ : ℕ} {t r : Tally} → longs ≡ longs′
+    → InComparison comparison sheet A S cells covered marks longs t r → InComparison comparison sheet A S cells covered marks longs′ t r
+comparison-long e h = rw (← e) h
 
 pub next-long : {F : List ℕ} {longs longs′ : ℕ} {s r : Stand} → longs ≡ longs′ → Next F longs s r → Next F longs′ s r
 next-long e h = rw (← e) h

@@ -7,39 +7,39 @@ use Prim.Native.Nat.{ℕ}
 use lib.Dec.{eqb}
 use Rattle.basics.specs.Tests.{either}
 use Rattle.stored.specs.Runs.{Turns}
-use Rattle.stored.specs.Places.{past}
+use Rattle.stored.specs.Places.{countIn, firstPlace}
 use Rattle.replay_sheets.specs.declared.counts.Tally.{Tally}
 use Rattle.replay_sheets.specs.declared.replay.Stand.{Stand}
 use Rattle.replay_sheets.specs.declared.sheets.Asked.{Asked}
-use Rattle.replay_sheets.specs.declared.sheets.Stored.{Stored}
+use Rattle.replay_sheets.specs.declared.sheets.Told.{Told}
 use Rattle.replay_sheets.specs.Counts.{nothingYet, met, compared}
 use Rattle.replay_sheets.specs.Runs.{dueIn, AgreesIn}
-use Rattle.replay_sheets.specs.Sheets.{countIn, askedAt, sheetOf, answerOf, storedOf}
+use Rattle.replay_sheets.specs.Sheets.{letters, askedAt, sheetOf, answerOf, toldOf}
 
--- a sheet in one kind, if it is due
-pub data InKind (kind : ℕ) (sheet : List ℕ) (A : Asked) (S : Stored) (cells covered marks : List ℕ) (longs : ℕ) (t r : Tally) : Type 0 where
-  not-due : dueIn kind S ≡ false → r ≡ t → InKind kind sheet A S cells covered marks longs t r
-  is-due : dueIn kind S ≡ true → (agreed : Bool) → AgreesIn kind sheet A S cells covered marks longs agreed → r ≡ compared t kind agreed
-      → InKind kind sheet A S cells covered marks longs t r
+-- a sheet in one comparison, if it is due
+pub data InComparison (comparison : ℕ) (sheet : List ℕ) (A : Asked) (S : Told) (cells covered marks : List ℕ) (longs : ℕ) (t r : Tally) : Type 0 where
+  not-due : dueIn comparison S ≡ false → r ≡ t → InComparison comparison sheet A S cells covered marks longs t r
+  is-due : dueIn comparison S ≡ true → (agreed : Bool) → AgreesIn comparison sheet A S cells covered marks longs agreed → r ≡ compared t comparison agreed
+      → InComparison comparison sheet A S cells covered marks longs t r
 
 -- one sheet more, in each of the five
-abbrev pub InKinds : List ℕ → Asked → Stored → (cells covered marks : List ℕ) → ℕ → Tally → Tally → Type 0
-InKinds sheet A S cells covered marks longs t r = Turns (λ kind. InKind kind sheet A S cells covered marks longs) (met t (S .number)) 5 r
+abbrev pub InComparisons : List ℕ → Asked → Told → (cells covered marks : List ℕ) → ℕ → Tally → Tally → Type 0
+InComparisons sheet A S cells covered marks longs t r = Turns (λ comparison. InComparison comparison sheet A S cells covered marks longs) (met t (S .number)) 5 r
 
 -- the record that stands there, and where the next one does
 pub record Next (F : List ℕ) (longs : ℕ) (s r : Stand) : Type 0 where
   pub passed : r .at ≡ answerOf F (s .at) .end
   pub replayed :
-      InKinds (sheetOf F (s .at)) (askedAt F (s .at)) (storedOf F (s .at)) (answerOf F (s .at) .cells) (answerOf F (s .at) .covered)
+      InComparisons (sheetOf F (s .at)) (askedAt F (s .at)) (toldOf F (s .at)) (answerOf F (s .at) .cells) (answerOf F (s .at) .covered)
       (answerOf F (s .at) .marks) longs (s .tally) (r .tally)
 
--- no record yet: the first begins behind the head's eight bytes
+-- no record yet
 abbrev pub noneYet : List ℕ → Stand
-noneYet F = record { at = past F 0 8; tally = nothingYet }
+noneYet F = record { at = firstPlace F; tally = nothingYet }
 
 -- as many as the file says
 abbrev pub Replayed : List ℕ → ℕ → Stand → Type 0
-Replayed F longs r = Turns (λ _. Next F longs) (noneYet F) (countIn F) r
+Replayed F longs r = Turns (λ _. Next F longs) (noneYet F) (countIn letters F) r
 
 -- the file ends where the last record does, and within the million bytes of its buffer
 unfoldable pub endsThere : ℕ → ℕ → Bool

@@ -8,29 +8,29 @@ use lib.Dec.{eqb, leb}
 use lib.ListN.{take, drop, set, replicate}
 use Rattle.basics.specs.Tests.{either}
 use Rattle.branches.specs.declared.BranchLengths.{BranchLengths}
-use Rattle.net_tree.specs.Answers.{branchLengths}
-use Rattle.stored.specs.Memory.{ownRoom}
-use Rattle.stored.specs.Places.{past, byteAt, cellAt, wordAt}
+use Rattle.branches.specs.Branches.{branchLengths}
+use Rattle.stored.specs.Memory.{ownLength}
+use Rattle.stored.specs.Places.{past, byteAt, cellAt, wordAt, byteBehind, wordBehind}
 use Rattle.replay_sheets.specs.declared.sheets.Asked.{Asked}
 use Rattle.replay_sheets.specs.declared.sheets.Part.{Part}
-use Rattle.replay_sheets.specs.declared.sheets.Stored.{Stored}
+use Rattle.replay_sheets.specs.declared.sheets.Told.{Told}
 
 -- ---- the head, and what a record begins with
 
--- how many sheets there are: none, unless the file begins with its letters, DRT1
-unfoldable pub countIn : List ℕ → ℕ
-countIn F = either (eqb (wordAt F 0) 0x44525431) (wordAt F 4) 0
+-- the letters that the file begins with: DRT1
+abbrev pub letters : ℕ
+letters = 0x44525431
 
 -- the lengths that a sheet comes with
 unfoldable pub askedAt : List ℕ → ℕ → Asked
-askedAt F at = record { places = wordAt F at; branch = wordAt F (past F at 4); lent = wordAt F (past F at 8) }
+askedAt F at = record { places = wordAt F at; branch = wordBehind F at 4; lent = wordBehind F at 8 }
 
 abbrev pub partOf : ℕ → ℕ → ℕ → Part
 partOf from length end = record { from = from; end = end; whole = leb length (end - from) }
 
 -- where the sheet's bytes stand, and whether the file holds all of them
 unfoldable pub sheetAt : List ℕ → ℕ → Part
-sheetAt F at = partOf (past F at 16) (wordAt F (past F at 12)) (past F (past F at 16) (wordAt F (past F at 12)))
+sheetAt F at = partOf (past F at 16) (wordBehind F at 12) (past F (past F at 16) (wordBehind F at 12))
 
 -- ---- cells that stand behind one another
 
@@ -90,37 +90,37 @@ pub record Branched (F : List ℕ) (at : ℕ) (cells₀ covered₀ : List ℕ) (
 
 -- what an answer says, where its record ends, and what it leaves: a tree's cells, marks on them, and marks on the repeaters
 pub record Left : Type 0 where
-  pub stored : Stored
+  pub told : Told
   pub end : ℕ
   pub cells : List ℕ
   pub covered : List ℕ
   pub marks : List ℕ
 
-abbrev pub left : Stored → ℕ → List ℕ → List ℕ → List ℕ → Left
-left stored end cells covered marks = record { stored = stored; end = end; cells = cells; covered = covered; marks = marks }
+abbrev pub left : Told → ℕ → List ℕ → List ℕ → List ℕ → Left
+left told end cells covered marks = record { told = told; end = end; cells = cells; covered = covered; marks = marks }
 
-abbrev pub refusalOf : ℕ → ℕ → Stored
+abbrev pub refusalOf : ℕ → ℕ → Told
 refusalOf number detail = record { number = number; detail = detail; lengths = branchLengths []; total = 0; occupied = 0; repeaters = 0 }
 
-abbrev pub treeOf : ℕ → BranchLengths → ℕ → ℕ → ℕ → Stored
+abbrev pub treeOf : ℕ → BranchLengths → ℕ → ℕ → ℕ → Told
 treeOf detail lengths total occupied repeaters =
     record { number = 0; detail = detail; lengths = lengths; total = total; occupied = occupied; repeaters = repeaters }
 
 -- a tree has sixteen branches at most
 abbrev pub branchesAt : List ℕ → ℕ → ℕ
-branchesAt F at = min (byteAt F (past F at 5)) 16
+branchesAt F at = min (byteBehind F at 5) 16
 
 -- behind the branches: how many cells are occupied, how many repeaters there are, and their cells
 abbrev pub branchesEnd : List ℕ → ℕ → ℕ
 branchesEnd F at = branchAt F (past F at 6) (branchesAt F at)
 
 abbrev pub repeatersAt : List ℕ → ℕ → ℕ
-repeatersAt F at = wordAt F (past F (branchesEnd F at) 4)
+repeatersAt F at = wordBehind F (branchesEnd F at) 4
 
 unfoldable pub treeAt : List ℕ → ℕ → (cells covered marks : List ℕ) → Left
 treeAt F at cells covered marks =
     left
-    (treeOf (wordAt F (past F at 1)) (record { count = byteAt F (past F at 5); each = eachTo F (past F at 6) (branchesAt F at) })
+    (treeOf (wordBehind F at 1) (record { count = byteBehind F at 5; each = eachTo F (past F at 6) (branchesAt F at) })
     (totalTo F (past F at 6) (branchesAt F at)) (wordAt F (branchesEnd F at)) (repeatersAt F at))
     (past F (past F (branchesEnd F at) 8) (repeatersAt F at * 2))
     (cellsTo F (past F at 6) (branchesAt F at) cells)
@@ -132,7 +132,7 @@ unfoldable pub answerAt : List ℕ → ℕ → (cells covered marks : List ℕ) 
 answerAt F at cells covered marks =
     either (eqb (byteAt F at) 0)
     (treeAt F at cells covered marks)
-    (left (refusalOf (byteAt F at) (wordAt F (past F at 1))) (past F at 5) cells covered marks)
+    (left (refusalOf (byteAt F at) (wordBehind F at 1)) (past F at 5) cells covered marks)
 
 -- ---- a record: its sheet, and what its answer leaves in memory that was zero
 
@@ -140,14 +140,14 @@ abbrev pub sheetOf : List ℕ → ℕ → List ℕ
 sheetOf F at = take (sheetAt F at .end - sheetAt F at .from) (drop (sheetAt F at .from) F)
 
 unfoldable pub zeros : List ℕ
-zeros = replicate ownRoom 0
+zeros = replicate ownLength 0
 
 abbrev pub answerOf : List ℕ → ℕ → Left
 answerOf F at = answerAt F (sheetAt F at .end) zeros zeros zeros
 
 -- no answer has the number 16: it stands for the number where the file ends within the sheet
-abbrev pub knownIf : Bool → Stored → Stored
-knownIf whole stored = either whole stored (refusalOf 16 0)
+abbrev pub knownIf : Bool → Told → Told
+knownIf whole told = either whole told (refusalOf 16 0)
 
-abbrev pub storedOf : List ℕ → ℕ → Stored
-storedOf F at = knownIf (sheetAt F at .whole) (answerOf F at .stored)
+abbrev pub toldOf : List ℕ → ℕ → Told
+toldOf F at = knownIf (sheetAt F at .whole) (answerOf F at .told)

@@ -10,28 +10,29 @@ use lib.ListN.{length, getD, take, drop, length-take}
 use lib.Seq.{length-take-le, getD-take, take-at}
 use borrow.Author.Tests.{eqb-true, eqb-false, leb-true, eq-eqb, ne-eqb}
 use Rattle.basics.specs.Tests.{ask, and-left, and-right, and-both}
+use Rattle.basics.specs.Lists.{allBelow}
 use Rattle.net_tree.specs.declared.Lengths.{Lengths}
 use Rattle.net_tree.specs.Answers.{Lent, lent, lengthsOf}
-use Rattle.stored.specs.Memory.{ownRoom, Rubbish}
-use Rattle.replay_sheets.specs.declared.sheets.Stored.{Stored}
+use Rattle.stored.specs.Memory.{ownLength, Rubbish}
+use Rattle.replay_sheets.specs.declared.sheets.Told.{Told}
 use Rattle.replay_sheets.specs.declared.judging.Shortage.{Shortage}
 use Rattle.stored.specs.declared.runs.Verdict.{Verdict}
-use Rattle.replay_sheets.specs.declared.attempt.Lens.{Lens}
-use Rattle.replay_sheets.specs.Verdicts.{sameBelow, AllRubbish, Judged, OwnRubbish, hasRoom, lengthsBy, Ran, judged}
+use Rattle.replay_sheets.specs.declared.attempt.LentLengths.{LentLengths}
+use Rattle.replay_sheets.specs.Verdicts.{sameBelow, AllRubbish, Judged, OwnRubbish, fits, lengthsBy, Ran, judged}
 
 -- ---- the same numbers at the first places
 
 module _ (a b : List ℕ) where
   pub same-none : sameBelow 0 a b ≡ true
-  unfolding sameBelow
+  unfolding sameBelow allBelow
   same-none = refl
 
   pub same-next : (k : ℕ) → sameBelow k a b ≡ true → getD a k 0 ≡ getD b k 0 → sameBelow (k + 1) a b ≡ true
-  unfolding sameBelow
+  unfolding sameBelow allBelow
   same-next k e h = rw add-one (and-both (eq-eqb (getD a k 0) (getD b k 0) h) e)
 
   pub same-never : (n k : ℕ) → k < n → (getD a k 0 ≡ getD b k 0 → ⊥) → sameBelow n a b ≡ false
-  unfolding sameBelow
+  unfolding sameBelow allBelow
   same-never zero k h d = absurd (omega arith)
   same-never (suc n) k h d = ask (eqb k n) (λ t. here (eqb-true k n t)) (λ f. later (same-never n k (omega (arith, eqb-false k n f)) d))
     where
@@ -43,29 +44,29 @@ module _ (a b : List ℕ) where
 
 -- ---- the fronts that are lent have the lengths asked for
 
-module _ (N : Lens) (queue : ℕ) (e : hasRoom N queue ≡ true) where
-  fits-both : leb (N .branch) ownRoom && leb (N .cells) ownRoom ≡ true
-  unfolding hasRoom
-  fits-both = and-left (leb (N .branch) ownRoom && leb (N .cells) ownRoom) (leb (N .queue) queue) e
+module _ (N : LentLengths) (queue : ℕ) (e : fits N queue ≡ true) where
+  fits-both : leb (N .branch) ownLength && leb (N .cells) ownLength ≡ true
+  unfolding fits
+  fits-both = and-left (leb (N .branch) ownLength && leb (N .cells) ownLength) (leb (N .queue) queue) e
 
-  pub fits-branch : N .branch ≤ ownRoom
-  fits-branch = leb-true (N .branch) ownRoom (and-left (leb (N .branch) ownRoom) (leb (N .cells) ownRoom) fits-both)
+  pub fits-branch : N .branch ≤ ownLength
+  fits-branch = leb-true (N .branch) ownLength (and-left (leb (N .branch) ownLength) (leb (N .cells) ownLength) fits-both)
 
-  pub fits-cells : N .cells ≤ ownRoom
-  fits-cells = leb-true (N .cells) ownRoom (and-right (leb (N .branch) ownRoom) (leb (N .cells) ownRoom) fits-both)
+  pub fits-cells : N .cells ≤ ownLength
+  fits-cells = leb-true (N .cells) ownLength (and-right (leb (N .branch) ownLength) (leb (N .cells) ownLength) fits-both)
 
   pub fits-queue : N .queue ≤ queue
-  unfolding hasRoom
-  fits-queue = leb-true (N .queue) queue (and-right (leb (N .branch) ownRoom && leb (N .cells) ownRoom) (leb (N .queue) queue) e)
+  unfolding fits
+  fits-queue = leb-true (N .queue) queue (and-right (leb (N .branch) ownLength && leb (N .cells) ownLength) (leb (N .queue) queue) e)
 
-pub fits-again : (N : Lens) (queue queue′ : List ℕ) → hasRoom N (length queue) ≡ true → length queue′ ≡ length queue → N .queue ≤ length queue′
+pub fits-again : (N : LentLengths) (queue queue′ : List ℕ) → fits N (length queue) ≡ true → length queue′ ≡ length queue → N .queue ≤ length queue′
 fits-again N queue queue′ e k = rw k (fits-queue N (length queue) e)
 
 module _ {s : List ℕ} (R : OwnRubbish s) where
-  pub front-fits : (n : ℕ) → n ≤ ownRoom → n ≤ length s
+  pub front-fits : (n : ℕ) → n ≤ ownLength → n ≤ length s
   front-fits n h = rw (R .long) h
 
-  pub front-long : (n : ℕ) → n ≤ ownRoom → length (take n s) ≡ n
+  pub front-long : (n : ℕ) → n ≤ ownLength → length (take n s) ≡ n
   front-long n h = length-take-le n s (front-fits n h)
 
   front-rubbish : (n : ℕ) → Rubbish (take n s)
@@ -76,12 +77,12 @@ pub spoiled-front : (n : ℕ) (spoiled queue : List ℕ) → n ≤ length queue 
     → Rubbish (take n (spoiled ++ drop n queue))
 spoiled-front n spoiled queue h e R = rw (take-at spoiled (drop n queue) n (e ∙ length-take-le n queue h)) R
 
-abbrev pub fronts : Lens → (words bytes queue : List ℕ) → Lent
+abbrev pub fronts : LentLengths → (words bytes queue : List ℕ) → Lent
 fronts N words bytes queue =
     lent (take (N .branch) words) (take (N .cells) bytes) (take (N .cells) bytes) (take (N .cells) bytes) (take (N .cells) bytes) (take (N .cells) bytes)
     (take (N .cells) bytes) (take (N .cells) words) (take (N .cells) words) (take (N .cells) words) (take (N .cells) words) (take (N .queue) queue)
 
-module _ (N : Lens) {words bytes : List ℕ} (W : OwnRubbish words) (B : OwnRubbish bytes) (queue : List ℕ) where
+module _ (N : LentLengths) {words bytes : List ℕ} (W : OwnRubbish words) (B : OwnRubbish bytes) (queue : List ℕ) where
   pub fronts-rubbish : Rubbish (take (N .queue) queue) → AllRubbish (fronts N words bytes queue)
   fronts-rubbish Q = let w = front-rubbish W (N .cells) in let b = front-rubbish B (N .cells) in record {
     branches-spoiled = front-rubbish W (N .branch);
@@ -98,7 +99,7 @@ module _ (N : Lens) {words bytes : List ℕ} (W : OwnRubbish words) (B : OwnRubb
     queue-spoiled = Q;
   }
 
-  pub fronts-by : (longs : ℕ) → hasRoom N longs ≡ true → N .queue ≤ length queue → lengthsOf (fronts N words bytes queue) ≡ lengthsBy N
+  pub fronts-by : (longs : ℕ) → fits N longs ≡ true → N .queue ≤ length queue → lengthsOf (fronts N words bytes queue) ≡ lengthsBy N
   fronts-by longs e h =
       let f = front-long W (N .branch) (fits-branch N longs e) in
       let w = front-long W (N .cells) (fits-cells N longs e) in
@@ -119,8 +120,8 @@ module _ (N : Lens) {words bytes : List ℕ} (W : OwnRubbish words) (B : OwnRubb
         queue = q i;
       }
 
-pub ran-at : {sheet : List ℕ} {L : Lengths} {S : Stored} {F : Shortage} {cells covered marks : List ℕ} {r : Verdict} (N : Lens) (longs : ℕ)
-    → hasRoom N longs ≡ true → Judged sheet L S F cells covered marks r → L ≡ lengthsBy N → Ran sheet N S F cells covered marks longs r
+pub ran-at : {sheet : List ℕ} {L : Lengths} {S : Told} {F : Shortage} {cells covered marks : List ℕ} {r : Verdict} (N : LentLengths) (longs : ℕ)
+    → fits N longs ≡ true → Judged sheet L S F cells covered marks r → L ≡ lengthsBy N → Ran sheet N S F cells covered marks longs r
 ran-at N longs h J e = judged h (record {
   lent-before = J .lent-before;
   lent-after = J .lent-after;

@@ -2,48 +2,48 @@
 use mathlib.Core.Path.{_≡_}
 use mathlib.Core.Bool.{Bool, true, false, _&&_, not}
 use mathlib.Core.List.{List, []}
-use Prim.Native.Nat.{ℕ, zero, suc}
+use Prim.Native.Nat.{ℕ}
 use lib.Dec.{eqb, leb}
 use lib.ListN.{length, getD}
 use Rattle.basics.specs.Tests.{either}
+use Rattle.basics.specs.Lists.{allBelow}
 use Rattle.lent.specs.Lent.{touches}
 use Rattle.stored.specs.Runs.{fullIf, sameIf}
 use Rattle.branches.specs.declared.BranchLengths.{BranchLengths}
-use Rattle.branches.specs.Branches.{markedCount}
+use Rattle.branches.specs.Branches.{branchLengths, markedCount}
 use Rattle.net_tree.specs.declared.Lengths.{Lengths}
 use Rattle.net_tree.specs.declared.Answer.{Answer}
 use Rattle.net_tree.specs.declared.Ended.{Ended}
 use Rattle.net_tree.specs.declared.Ended.the-variants.{Routed, Refused}
-use Rattle.net_tree.specs.Answers.{Lent, lengthsOf, Promise, branchLengths}
-use Rattle.replay_sheets.specs.declared.sheets.Stored.{Stored}
+use Rattle.net_tree.specs.Answers.{Lent, lengthsOf, Promise}
+use Rattle.replay_sheets.specs.declared.sheets.Told.{Told}
 use Rattle.replay_sheets.specs.declared.judging.Shortage.{Shortage}
 use Rattle.stored.specs.declared.runs.Verdict.{Verdict}
 use Rattle.stored.specs.declared.runs.Verdict.the-variants.{Other}
-use Rattle.replay_sheets.specs.declared.attempt.Lens.{Lens}
-use Rattle.stored.specs.Memory.{ownRoom, Rubbish, holds, fourHold, covers}
+use Rattle.replay_sheets.specs.declared.attempt.LentLengths.{LentLengths}
+use Rattle.stored.specs.Memory.{ownLength, Rubbish, holds, fourHold, covers}
 
 -- ---- the answer
 
 -- the same numbers at the first n places
 unfoldable pub sameBelow : ℕ → List ℕ → List ℕ → Bool
-sameBelow zero a b = true
-sameBelow (suc n) a b = eqb (getD a n 0) (getD b n 0) && sameBelow n a b
+sameBelow n a b = allBelow (λ k. eqb (getD a k 0) (getD b k 0)) n
 
 unfoldable pub sameLengths : BranchLengths → BranchLengths → Bool
 sameLengths a b = eqb (a .count) (b .count) && sameBelow 16 (a .each) (b .each)
 
 -- a tree with as many cells and repeaters as are stored
-unfoldable pub sameCounts : ℕ → ℕ → Stored → Bool
+unfoldable pub sameCounts : ℕ → ℕ → Told → Bool
 sameCounts occupied repeaters S = eqb (S .number) 0 && eqb occupied (S .occupied) && eqb repeaters (S .repeaters)
 
-unfoldable pub sameRefusal : ℕ → ℕ → Stored → Bool
+unfoldable pub sameRefusal : ℕ → ℕ → Told → Bool
 sameRefusal number detail S = eqb number (S .number) && eqb detail (S .detail)
 
-abbrev pub sameEnd : Ended → Stored → Bool
+abbrev pub sameEnd : Ended → Told → Bool
 sameEnd (Routed occupied repeaters) S = sameCounts occupied repeaters S
 sameEnd (Refused number detail) S = sameRefusal number detail S
 
-unfoldable pub sameAnswer : Answer → Stored → Bool
+unfoldable pub sameAnswer : Answer → Told → Bool
 sameAnswer a S = sameEnd (a .ended) S && sameLengths (a .lengths) (S .lengths)
 
 -- the number that a buffer gives that is too short
@@ -80,7 +80,7 @@ memoryHolds kept count cells covered marks B =
 -- ---- both
 
 -- all as stored; or what a buffer gives that is too short, and zeros; or something else
-unfoldable pub verdictOf : Stored → Shortage → (cells covered marks : List ℕ) → Answer → Lent → Verdict
+unfoldable pub verdictOf : Told → Shortage → (cells covered marks : List ℕ) → Answer → Lent → Verdict
 verdictOf S F cells covered marks a B =
     either (sameAnswer a S)
     (sameIf (memoryHolds (not (touches (S .number))) (S .occupied) cells covered marks B))
@@ -104,7 +104,7 @@ pub record AllRubbish (B : Lent) : Type 0 where
   pub queue-spoiled : Rubbish (B .queue)
 
 -- what `route_net_tree` promises over memory of these lengths that is full of rubbish, judged
-pub record Judged (sheet : List ℕ) (L : Lengths) (S : Stored) (F : Shortage) (cells covered marks : List ℕ) (r : Verdict) : Type 0 where
+pub record Judged (sheet : List ℕ) (L : Lengths) (S : Told) (F : Shortage) (cells covered marks : List ℕ) (r : Verdict) : Type 0 where
   pub lent-before : Lent
   pub lent-after : Lent
   pub answer : Answer
@@ -115,14 +115,14 @@ pub record Judged (sheet : List ℕ) (L : Lengths) (S : Stored) (F : Shortage) (
 
 -- a buffer of the program's own, full of rubbish
 pub record OwnRubbish (s : List ℕ) : Type 0 where
-  pub long : length s ≡ ownRoom
+  pub long : length s ≡ ownLength
   pub rubbish-all : Rubbish s
 
 -- lengths that the program's own memory has, with a queue so long
-unfoldable pub hasRoom : Lens → ℕ → Bool
-hasRoom N queue = leb (N .branch) ownRoom && leb (N .cells) ownRoom && leb (N .queue) queue
+unfoldable pub fits : LentLengths → ℕ → Bool
+fits N queue = leb (N .branch) ownLength && leb (N .cells) ownLength && leb (N .queue) queue
 
-abbrev pub lengthsBy : Lens → Lengths
+abbrev pub lengthsBy : LentLengths → Lengths
 lengthsBy N = record {
   branches = N .branch;
   occupied = N .cells;
@@ -139,6 +139,6 @@ lengthsBy N = record {
 }
 
 -- a run at these lengths, with a queue so long; lengths that the program's own memory does not have are no run, and something else
-pub data Ran (sheet : List ℕ) (N : Lens) (S : Stored) (F : Shortage) (cells covered marks : List ℕ) (longs : ℕ) (r : Verdict) : Type 0 where
-  too-long : hasRoom N longs ≡ false → r ≡ Other → Ran sheet N S F cells covered marks longs r
-  judged : hasRoom N longs ≡ true → Judged sheet (lengthsBy N) S F cells covered marks r → Ran sheet N S F cells covered marks longs r
+pub data Ran (sheet : List ℕ) (N : LentLengths) (S : Told) (F : Shortage) (cells covered marks : List ℕ) (longs : ℕ) (r : Verdict) : Type 0 where
+  too-long : fits N longs ≡ false → r ≡ Other → Ran sheet N S F cells covered marks longs r
+  judged : fits N longs ≡ true → Judged sheet (lengthsBy N) S F cells covered marks r → Ran sheet N S F cells covered marks longs r

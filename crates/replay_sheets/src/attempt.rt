@@ -1,8 +1,8 @@
 // One run of a sheet, over memory full of rubbish.
 use crate::judging::Shortage;
 use crate::judging::judge;
-use crate::sheets::Stored;
-use stored::memory::ROOM;
+use crate::sheets::Told;
+use stored::memory::OWN_LENGTH;
 use stored::memory::spoil_bytes;
 use stored::memory::spoil_longs;
 use stored::memory::spoil_words;
@@ -12,28 +12,28 @@ ghost use Prim.Native.Nat.{_≤_};
 ghost use lib.ListN.{length, take};
 ghost use Rattle.net_tree.specs.Answers.{lent, lengthsOf};
 ghost use Rattle.stored.specs.Memory.{Rubbish};
-ghost use Rattle.replay_sheets.specs.Verdicts.{OwnRubbish, AllRubbish, Judged, hasRoom, Ran};
+ghost use Rattle.replay_sheets.specs.Verdicts.{OwnRubbish, AllRubbish, Judged, fits, Ran};
 
 // The lengths at which buffers are lent: those of a number a cell, the branch buffer, and the queue.
-pub struct Lens {
+pub struct LentLengths {
     pub cells: usize,
     pub branch: usize,
     pub queue: usize,
 }
 
 // Buffers of the program's own, full of rubbish.
-fn rubbish_words() -> [u32; ROOM]
+fn rubbish_words() -> [u32; OWN_LENGTH]
     ensures { λ r. ⌜ OwnRubbish r ⌝ }
 {
-    let mut words = [0u32; ROOM];
+    let mut words = [0u32; OWN_LENGTH];
     spoil_words(&mut words);
     words
 }
 
-fn rubbish_bytes() -> [u8; ROOM]
+fn rubbish_bytes() -> [u8; OWN_LENGTH]
     ensures { λ r. ⌜ OwnRubbish r ⌝ }
 {
-    let mut bytes = [0u8; ROOM];
+    let mut bytes = [0u8; OWN_LENGTH];
     spoil_bytes(&mut bytes);
     bytes
 }
@@ -49,7 +49,7 @@ fn spoil_front(queue: &mut [u64], longs: usize)
 // The answer over memory full of rubbish, and all memory behind it, held to what is stored.
 fn attempt(
     sheet: &[u8],
-    stored: Stored,
+    told: Told,
     shortage: Shortage,
     cells: &[u32],
     covered: &[u8],
@@ -68,7 +68,7 @@ fn attempt(
     queue: &mut [u64],
 ) -> Verdict
     requires { ⌜ AllRubbish (lent (now branches) (now occupied) (now repeaters) (now kinds) (now blocked) (now classes) (now joinable) (now known) (now previous) (now path) (now best) (now queue)) ⌝ }
-    ensures { λ r. ⌜ Judged (now (sheet .entry)) (lengthsOf (lent (now (branches .entry)) (now (occupied .entry)) (now (repeaters .entry)) (now (kinds .entry)) (now (blocked .entry)) (now (classes .entry)) (now (joinable .entry)) (now (known .entry)) (now (previous .entry)) (now (path .entry)) (now (best .entry)) (now (queue .entry)))) stored shortage (now (cells .entry)) (now (covered .entry)) (now (marks .entry)) r ⌝ }
+    ensures { λ r. ⌜ Judged (now (sheet .entry)) (lengthsOf (lent (now (branches .entry)) (now (occupied .entry)) (now (repeaters .entry)) (now (kinds .entry)) (now (blocked .entry)) (now (classes .entry)) (now (joinable .entry)) (now (known .entry)) (now (previous .entry)) (now (path .entry)) (now (best .entry)) (now (queue .entry)))) told shortage (now (cells .entry)) (now (covered .entry)) (now (marks .entry)) r ⌝ }
 {
     let answer = net_tree::route_net_tree(
         sheet,
@@ -87,7 +87,7 @@ fn attempt(
     );
     judge(
         answer,
-        stored,
+        told,
         shortage,
         cells,
         covered,
@@ -107,35 +107,35 @@ fn attempt(
     )
 }
 
-fn has_room(lens: Lens, longs: usize) -> bool
-    ensures { λ r. ⌜ r ≡ hasRoom lens longs ⌝ }
+fn fits(lent: LentLengths, longs: usize) -> bool
+    ensures { λ r. ⌜ r ≡ fits lent longs ⌝ }
 {
-    if ROOM < lens.branch {
+    if OWN_LENGTH < lent.branch {
         return false;
     }
-    if ROOM < lens.cells {
+    if OWN_LENGTH < lent.cells {
         return false;
     }
-    lens.queue <= longs
+    lent.queue <= longs
 }
 
 // The run at these lengths, in the front of each buffer. Lengths that a buffer doesn't have would be no run.
 pub fn run(
     sheet: &[u8],
-    stored: Stored,
-    lens: Lens,
+    told: Told,
+    lent: LentLengths,
     shortage: Shortage,
     cells: &[u32],
     covered: &[u8],
     marks: &[u8],
     queue: &mut [u64],
 ) -> Verdict
-    ensures { λ r. ⌜ Ran (now (sheet .entry)) lens stored shortage (now (cells .entry)) (now (covered .entry)) (now (marks .entry)) (length (now (queue .entry))) r ⌝ }
+    ensures { λ r. ⌜ Ran (now (sheet .entry)) lent told shortage (now (cells .entry)) (now (covered .entry)) (now (marks .entry)) (length (now (queue .entry))) r ⌝ }
 {
-    if !has_room(lens, queue.len()) {
+    if !fits(lent, queue.len()) {
         return Verdict::Other;
     }
-    spoil_front(queue, lens.queue);
+    spoil_front(queue, lent.queue);
     let words = rubbish_words();
     let bytes = rubbish_bytes();
     let mut branches = words;
@@ -151,22 +151,22 @@ pub fn run(
     let mut best = words;
     attempt(
         sheet,
-        stored,
+        told,
         shortage,
         cells,
         covered,
         marks,
-        &mut branches[..lens.branch],
-        &mut occupied[..lens.cells],
-        &mut repeaters[..lens.cells],
-        &mut kinds[..lens.cells],
-        &mut blocked[..lens.cells],
-        &mut classes[..lens.cells],
-        &mut joinable[..lens.cells],
-        &mut known[..lens.cells],
-        &mut previous[..lens.cells],
-        &mut path[..lens.cells],
-        &mut best[..lens.cells],
-        &mut queue[..lens.queue],
+        &mut branches[..lent.branch],
+        &mut occupied[..lent.cells],
+        &mut repeaters[..lent.cells],
+        &mut kinds[..lent.cells],
+        &mut blocked[..lent.cells],
+        &mut classes[..lent.cells],
+        &mut joinable[..lent.cells],
+        &mut known[..lent.cells],
+        &mut previous[..lent.cells],
+        &mut path[..lent.cells],
+        &mut best[..lent.cells],
+        &mut queue[..lent.queue],
     )
 }

@@ -29,12 +29,12 @@ fn one_more_met(met: [u32; 16], number: usize) -> [u32; 16]
     counts
 }
 
-fn one_more_of(kinds: [u32; 5], kind: usize) -> [u32; 5]
-    ensures { λ r. ⌜ r ≡ oneMoreAt 5 kinds kind ⌝ }
+fn one_more_of(kinds: [u32; 5], comparison: usize) -> [u32; 5]
+    ensures { λ r. ⌜ r ≡ oneMoreAt 5 kinds comparison ⌝ }
 {
     let mut counts = kinds;
-    if kind < 5 {
-        counts[kind] = one_more(counts[kind]);
+    if comparison < 5 {
+        counts[comparison] = one_more(counts[comparison]);
     }
     counts
 }
@@ -45,12 +45,12 @@ fn first_of(first: u32, sheet: u32) -> u32
     if first == 0 { sheet } else { first }
 }
 
-fn first_at(kinds: [u32; 5], kind: usize, sheet: u32) -> [u32; 5]
-    ensures { λ r. ⌜ r ≡ firstAt kinds kind sheet ⌝ }
+fn first_at(kinds: [u32; 5], comparison: usize, sheet: u32) -> [u32; 5]
+    ensures { λ r. ⌜ r ≡ firstAt kinds comparison sheet ⌝ }
 {
     let mut first = kinds;
-    if kind < 5 {
-        first[kind] = first_of(first[kind], sheet);
+    if comparison < 5 {
+        first[comparison] = first_of(first[comparison], sheet);
     }
     first
 }
@@ -84,9 +84,9 @@ pub fn one_sheet_more(tally: Tally, number: u32) -> Tally
     }
 }
 
-// The last sheet, compared in this kind.
-pub fn counted(tally: Tally, kind: usize, agreed: bool) -> Tally
-    ensures { λ r. ⌜ r ≡ compared tally kind agreed ⌝ }
+// The last sheet, in this comparison.
+pub fn counted(tally: Tally, comparison: usize, agreed: bool) -> Tally
+    ensures { λ r. ⌜ r ≡ compared tally comparison agreed ⌝ }
 {
     let met = tally.met;
     let before = tally.compared;
@@ -96,7 +96,7 @@ pub fn counted(tally: Tally, kind: usize, agreed: bool) -> Tally
         return Tally {
             sheets: tally.sheets,
             met,
-            compared: one_more_of(before, kind),
+            compared: one_more_of(before, comparison),
             differ,
             first,
         };
@@ -104,8 +104,8 @@ pub fn counted(tally: Tally, kind: usize, agreed: bool) -> Tally
     Tally {
         sheets: tally.sheets,
         met,
-        compared: one_more_of(before, kind),
-        differ: one_more_of(differ, kind),
-        first: first_at(first, kind, tally.sheets),
+        compared: one_more_of(before, comparison),
+        differ: one_more_of(differ, comparison),
+        first: first_at(first, comparison, tally.sheets),
     }
 }

@@ -1,5 +1,5 @@
 // Whether an answer, and all lent memory behind it, are as stored.
-use crate::sheets::Stored;
+use crate::sheets::Told;
 use crate::sheets::no_lengths;
 use branches::BranchLengths;
 use branches::count_marks;
@@ -44,48 +44,48 @@ fn same_lengths(a: BranchLengths, b: BranchLengths) -> bool
     true
 }
 
-fn same_counts(occupied: usize, repeaters: usize, stored: Stored) -> bool
-    ensures { λ r. ⌜ r ≡ sameCounts occupied repeaters stored ⌝ }
+fn same_counts(occupied: usize, repeaters: usize, told: Told) -> bool
+    ensures { λ r. ⌜ r ≡ sameCounts occupied repeaters told ⌝ }
 {
-    if stored.number != 0 {
+    if told.number != 0 {
         return false;
     }
-    if occupied != stored.occupied {
+    if occupied != told.occupied {
         return false;
     }
-    repeaters == stored.repeaters
+    repeaters == told.repeaters
 }
 
-fn same_refusal(number: u32, detail: usize, stored: Stored) -> bool
-    ensures { λ r. ⌜ r ≡ sameRefusal number detail stored ⌝ }
+fn same_refusal(number: u32, detail: usize, told: Told) -> bool
+    ensures { λ r. ⌜ r ≡ sameRefusal number detail told ⌝ }
 {
-    if number != stored.number {
+    if number != told.number {
         return false;
     }
-    detail == stored.detail
+    detail == told.detail
 }
 
-fn same_end(ended: Ended, stored: Stored) -> bool
-    ensures { λ r. ⌜ r ≡ sameEnd ended stored ⌝ }
+fn same_end(ended: Ended, told: Told) -> bool
+    ensures { λ r. ⌜ r ≡ sameEnd ended told ⌝ }
 {
     match ended {
         Ended::Routed {
             occupied,
             repeaters,
-        } => same_counts(occupied, repeaters, stored),
-        Ended::Refused { number, detail } => same_refusal(number, detail, stored),
+        } => same_counts(occupied, repeaters, told),
+        Ended::Refused { number, detail } => same_refusal(number, detail, told),
     }
 }
 
-fn same_answer(answer: Answer, stored: Stored) -> bool
-    ensures { λ r. ⌜ r ≡ sameAnswer answer stored ⌝ }
+fn same_answer(answer: Answer, told: Told) -> bool
+    ensures { λ r. ⌜ r ≡ sameAnswer answer told ⌝ }
 {
     let ended = answer.ended;
-    if !same_end(ended, stored) {
+    if !same_end(ended, told) {
         return false;
     }
     let lengths = answer.lengths;
-    let expected = stored.lengths;
+    let expected = told.lengths;
     same_lengths(lengths, expected)
 }
 
@@ -308,7 +308,7 @@ fn memory_emptied(
 // The answer and all memory, held to what is stored, or to what a buffer leaves that is too short.
 pub fn judge(
     answer: Answer,
-    stored: Stored,
+    told: Told,
     shortage: Shortage,
     cells: &[u32],
     covered: &[u8],
@@ -326,13 +326,13 @@ pub fn judge(
     best: &[u32],
     queue: &[u64],
 ) -> Verdict
-    ensures { λ r. ⌜ r ≡ verdictOf stored shortage (now (cells .entry)) (now (covered .entry)) (now (marks .entry)) answer (lent (now (branches .entry)) (now (occupied .entry)) (now (repeaters .entry)) (now (kinds .entry)) (now (blocked .entry)) (now (classes .entry)) (now (joinable .entry)) (now (known .entry)) (now (previous .entry)) (now (path .entry)) (now (best .entry)) (now (queue .entry))) ⌝ }
+    ensures { λ r. ⌜ r ≡ verdictOf told shortage (now (cells .entry)) (now (covered .entry)) (now (marks .entry)) answer (lent (now (branches .entry)) (now (occupied .entry)) (now (repeaters .entry)) (now (kinds .entry)) (now (blocked .entry)) (now (classes .entry)) (now (joinable .entry)) (now (known .entry)) (now (previous .entry)) (now (path .entry)) (now (best .entry)) (now (queue .entry))) ⌝ }
 {
-    if same_answer(answer, stored) {
-        let kept = !lent::touches(stored.number);
+    if same_answer(answer, told) {
+        let kept = !lent::touches(told.number);
         return same_if(memory_holds(
             kept,
-            stored.occupied,
+            told.occupied,
             cells,
             covered,
             marks,

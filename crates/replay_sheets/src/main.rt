@@ -45,42 +45,48 @@ fn print_numbers(met: [u32; 16]) {
 }
 
 // A line for a kind of comparison, with the first sheet that differs, if any does.
-fn print_kind(word: &[u8], kind: usize, compared: [u32; 5], differ: [u32; 5], first: [u32; 5])
-    requires { ⌜ kind < 5 ⌝ }
+fn print_comparison(
+    word: &[u8],
+    comparison: usize,
+    compared: [u32; 5],
+    differ: [u32; 5],
+    first: [u32; 5],
+)
+    requires { ⌜ comparison < 5 ⌝ }
 {
-    print_count(word, compared[kind]);
-    print_count(b" sheets, ", differ[kind]);
+    print_count(word, compared[comparison]);
+    print_count(b" sheets, ", differ[comparison]);
     io::write_all(STDOUT_FILENO, b" differ");
-    if first[kind] != 0 {
-        print_count(b", the first is sheet ", first[kind]);
+    if first[comparison] != 0 {
+        print_count(b", the first is sheet ", first[comparison]);
     }
     end_line();
 }
 
-fn print_kinds(compared: [u32; 5], differ: [u32; 5], first: [u32; 5]) {
-    print_kind(
+fn print_comparisons(compared: [u32; 5], differ: [u32; 5], first: [u32; 5]) {
+    print_comparison(
         b"buffers of exactly V cells: ",
         EXACT,
         compared,
         differ,
         first,
     );
-    print_kind(b"longer buffers: ", LONGER, compared, differ, first);
-    print_kind(
+    print_comparison(b"longer buffers: ", LONGER, compared, differ, first);
+    print_comparison(
         b"branch buffer exactly full: ",
         BRANCH_FULL,
         compared,
         differ,
         first,
     );
-    print_kind(
+    print_comparison(
         b"branch buffer one cell short: ",
         BRANCH_SHORT,
         compared,
         differ,
         first,
     );
-    print_kind(
+    print_comparison(
         b"least queue, and one place less: ",
         QUEUE,
         compared,
@@ -107,7 +113,7 @@ fn print_tally(tally: Tally, whole: bool) {
     let compared = tally.compared;
     let differ = tally.differ;
     let first = tally.first;
-    print_kinds(compared, differ, first);
+    print_comparisons(compared, differ, first);
     if !whole {
         io::write_all(STDOUT_FILENO, b"the file does not end there\n");
     }

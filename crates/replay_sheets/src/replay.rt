@@ -1,5 +1,5 @@
 // Every stored sheet is run several times, and each run is held to the stored answer.
-use crate::attempt::Lens;
+use crate::attempt::LentLengths;
 use crate::attempt::run;
 use crate::counts::Tally;
 use crate::counts::counted;
@@ -7,14 +7,15 @@ use crate::counts::nothing_yet;
 use crate::counts::one_sheet_more;
 use crate::judging::Shortage;
 use crate::sheets::Asked;
-use crate::sheets::Stored;
+use crate::sheets::LETTERS;
+use crate::sheets::Told;
 use crate::sheets::answer_at;
 use crate::sheets::asked_at;
-use crate::sheets::count_in;
 use crate::sheets::known_if;
 use crate::sheets::sheet_at;
-use stored::memory::ROOM;
-use stored::places::past;
+use stored::memory::OWN_LENGTH;
+use stored::places::count_in;
+use stored::places::first_place;
 use stored::runs::Gap;
 use stored::runs::Verdict;
 use stored::runs::cells_more;
@@ -27,12 +28,10 @@ use stored::runs::queue_more;
 use stored::runs::twice;
 ghost use mathlib.Core.Path.{_≡_};
 ghost use Prim.Native.Nat.{_-_, min};
-ghost use lib.Dec.{eqb};
 ghost use lib.ListN.{length};
-ghost use Rattle.basics.specs.Tests.{either};
-ghost use Rattle.stored.specs.Runs.{longerBy, Halved};
-ghost use Rattle.replay_sheets.specs.Runs.{SizeOf, longerLens, branchOf, lensOf, isFull, agreesIn, dueIn, RanWith, Narrows, AgreesIn};
-ghost use Rattle.replay_sheets.specs.Replays.{InKind, InKinds, Next, Replayed};
+ghost use Rattle.stored.specs.Runs.{Halved};
+ghost use Rattle.replay_sheets.specs.Runs.{SizeOf, branchMore, longerLengths, branchOf, lengthsFor, isFull, agreesIn, dueIn, RanWith, Narrows, AgreesIn};
+ghost use Rattle.replay_sheets.specs.Replays.{InComparison, InComparisons, Next, Replayed};
 
 // The kinds of comparison: buffers of exactly V cells, longer ones, a branch buffer exactly full, one that is one cell short, and
 // the least queue.
@@ -83,7 +82,7 @@ fn lesser(a: usize, b: usize) -> usize
 }
 
 fn branch_more(branch: usize, number: u32) -> usize
-    ensures { λ r. ⌜ r ≡ either (eqb number 15) branch (longerBy branch 100) ⌝ }
+    ensures { λ r. ⌜ r ≡ branchMore branch number ⌝ }
 {
     if number == 15 {
         branch
@@ -93,10 +92,10 @@ fn branch_more(branch: usize, number: u32) -> usize
 }
 
 // Longer buffers that change no answer. Numbers 6, 13 and 15 hang on lengths.
-fn longer_lens(asked: Asked, number: u32) -> Lens
-    ensures { λ r. ⌜ r ≡ longerLens asked number ⌝ }
+fn longer_lengths(asked: Asked, number: u32) -> LentLengths
+    ensures { λ r. ⌜ r ≡ longerLengths asked number ⌝ }
 {
-    Lens {
+    LentLengths {
         cells: cells_more(asked.lent, number),
         branch: branch_more(asked.branch, number),
         queue: longer(twice(asked.places), queue_more(number)),
@@ -109,40 +108,40 @@ fn one_less(count: usize) -> usize
     if count == 0 { 0 } else { count - 1 }
 }
 
-fn branch_of(kind: usize, branch: usize, total: usize) -> usize
-    ensures { λ r. ⌜ r ≡ branchOf kind branch total ⌝ }
+fn branch_of(comparison: usize, branch: usize, total: usize) -> usize
+    ensures { λ r. ⌜ r ≡ branchOf comparison branch total ⌝ }
 {
-    if kind == BRANCH_FULL {
+    if comparison == BRANCH_FULL {
         return total;
     }
-    if kind == BRANCH_SHORT {
+    if comparison == BRANCH_SHORT {
         return one_less(total);
     }
     branch
 }
 
-// The lengths of a kind, whose buffers of a number a cell have so many unless they are longer ones.
-fn lens_of(kind: usize, asked: Asked, cells: usize, stored: Stored) -> Lens
-    ensures { λ r. ⌜ r ≡ lensOf kind asked cells stored ⌝ }
+// The lengths of a comparison, whose buffers of a number a cell have so many unless they are longer ones.
+fn lengths_of(comparison: usize, asked: Asked, cells: usize, told: Told) -> LentLengths
+    ensures { λ r. ⌜ r ≡ lengthsFor comparison asked cells told ⌝ }
 {
-    if kind == LONGER {
-        return longer_lens(asked, stored.number);
+    if comparison == LONGER {
+        return longer_lengths(asked, told.number);
     }
-    Lens {
+    LentLengths {
         cells,
-        branch: branch_of(kind, asked.branch, stored.total),
+        branch: branch_of(comparison, asked.branch, told.total),
         queue: twice(asked.places),
     }
 }
 
 // Every sheet in the first two kinds; a tree with a branch in the others.
-fn is_due(kind: usize, stored: Stored) -> bool
-    ensures { λ r. ⌜ r ≡ dueIn kind stored ⌝ }
+fn is_due(comparison: usize, told: Told) -> bool
+    ensures { λ r. ⌜ r ≡ dueIn comparison told ⌝ }
 {
-    if kind <= LONGER {
+    if comparison <= LONGER {
         return true;
     }
-    if stored.total == 0 {
+    if told.total == 0 {
         return false;
     }
     true
@@ -158,10 +157,10 @@ fn is_full(verdict: Verdict) -> bool
     }
 }
 
-fn agrees(kind: usize, verdict: Verdict) -> bool
-    ensures { λ r. ⌜ r ≡ agreesIn kind verdict ⌝ }
+fn agrees(comparison: usize, verdict: Verdict) -> bool
+    ensures { λ r. ⌜ r ≡ agreesIn comparison verdict ⌝ }
 {
-    if kind == BRANCH_SHORT {
+    if comparison == BRANCH_SHORT {
         return is_full(verdict);
     }
     is_same(verdict)
@@ -173,19 +172,19 @@ fn narrow_once(
     gap: Gap,
     asked: Asked,
     size: Size,
-    stored: Stored,
+    told: Told,
     cells: &[u32],
     covered: &[u8],
     marks: &[u8],
     queue: &mut [u64],
 ) -> Gap
-    ensures { λ r. ⌜ Halved (RanWith (now (sheet .entry)) asked size stored (now (cells .entry)) (now (covered .entry)) (now (marks .entry)) (length (now (queue .entry)))) gap r ⌝ }
+    ensures { λ r. ⌜ Halved (RanWith (now (sheet .entry)) asked size told (now (cells .entry)) (now (covered .entry)) (now (marks .entry)) (length (now (queue .entry)))) gap r ⌝ }
 {
     if !is_open(gap) {
         return gap;
     }
     let places = middle(gap.full, gap.enough);
-    let lens = Lens {
+    let lent = LentLengths {
         cells: size.cells,
         branch: asked.branch,
         queue: twice(places),
@@ -194,7 +193,7 @@ fn narrow_once(
         number: 13,
         most: size.limit,
     };
-    let verdict = run(sheet, stored, lens, shortage, cells, covered, marks, queue);
+    let verdict = run(sheet, told, lent, shortage, cells, covered, marks, queue);
     narrowed(gap, places, verdict)
 }
 
@@ -203,13 +202,13 @@ fn narrows(
     sheet: &[u8],
     asked: Asked,
     size: Size,
-    stored: Stored,
+    told: Told,
     cells: &[u32],
     covered: &[u8],
     marks: &[u8],
     queue: &mut [u64],
 ) -> bool
-    ensures { λ r. ⌜ Narrows (now (sheet .entry)) asked size stored (now (cells .entry)) (now (covered .entry)) (now (marks .entry)) (length (now (queue .entry))) r ⌝ }
+    ensures { λ r. ⌜ Narrows (now (sheet .entry)) asked size told (now (cells .entry)) (now (covered .entry)) (now (marks .entry)) (length (now (queue .entry))) r ⌝ }
 {
     let mut gap = Gap {
         full: 0,
@@ -219,118 +218,108 @@ fn narrows(
     };
     let mut turns: u32 = 0;
     while turns < 32 {
-        gap = narrow_once(
-            sheet,
-            gap,
-            asked,
-            size,
-            stored,
-            cells,
-            covered,
-            marks,
-            queue,
-        );
+        gap = narrow_once(sheet, gap, asked, size, told, cells, covered, marks, queue);
         turns += 1;
     }
     gap.agreed
 }
 
 fn agrees_in(
-    kind: usize,
+    comparison: usize,
     sheet: &[u8],
     asked: Asked,
-    stored: Stored,
+    told: Told,
     cells: &[u32],
     covered: &[u8],
     marks: &[u8],
     queue: &mut [u64],
 ) -> bool
-    ensures { λ r. ⌜ AgreesIn kind (now (sheet .entry)) asked stored (now (cells .entry)) (now (covered .entry)) (now (marks .entry)) (length (now (queue .entry))) r ⌝ }
+    ensures { λ r. ⌜ AgreesIn comparison (now (sheet .entry)) asked told (now (cells .entry)) (now (covered .entry)) (now (marks .entry)) (length (now (queue .entry))) r ⌝ }
 {
     let size = size_of(sheet, asked.lent);
-    if kind == QUEUE {
-        return narrows(sheet, asked, size, stored, cells, covered, marks, queue);
+    if comparison == QUEUE {
+        return narrows(sheet, asked, size, told, cells, covered, marks, queue);
     }
-    let lens = lens_of(kind, asked, size.cells, stored);
+    let lent = lengths_of(comparison, asked, size.cells, told);
     let shortage = Shortage {
         number: 15,
-        most: stored.lengths.count,
+        most: told.lengths.count,
     };
-    let verdict = run(sheet, stored, lens, shortage, cells, covered, marks, queue);
-    agrees(kind, verdict)
+    let verdict = run(sheet, told, lent, shortage, cells, covered, marks, queue);
+    agrees(comparison, verdict)
 }
 
-// A sheet in one kind, if it is due.
-fn replay_kind(
+// A sheet in one comparison, if it is due.
+fn replay_comparison(
     tally: Tally,
-    kind: usize,
+    comparison: usize,
     sheet: &[u8],
     asked: Asked,
-    stored: Stored,
+    told: Told,
     cells: &[u32],
     covered: &[u8],
     marks: &[u8],
     queue: &mut [u64],
 ) -> Tally
-    ensures { λ r. ⌜ InKind kind (now (sheet .entry)) asked stored (now (cells .entry)) (now (covered .entry)) (now (marks .entry)) (length (now (queue .entry))) tally r ⌝ }
+    ensures { λ r. ⌜ InComparison comparison (now (sheet .entry)) asked told (now (cells .entry)) (now (covered .entry)) (now (marks .entry)) (length (now (queue .entry))) tally r ⌝ }
 {
-    if !is_due(kind, stored) {
+    if !is_due(comparison, told) {
         return tally;
     }
-    let agreed = agrees_in(kind, sheet, asked, stored, cells, covered, marks, queue);
-    counted(tally, kind, agreed)
+    let agreed = agrees_in(comparison, sheet, asked, told, cells, covered, marks, queue);
+    counted(tally, comparison, agreed)
 }
 
-// A sheet in each kind.
-fn replay_kinds(
+// A sheet in each comparison.
+fn replay_comparisons(
     tally: Tally,
     sheet: &[u8],
     asked: Asked,
-    stored: Stored,
+    told: Told,
     cells: &[u32],
     covered: &[u8],
     marks: &[u8],
     queue: &mut [u64],
 ) -> Tally
-    ensures { λ r. ⌜ InKinds (now (sheet .entry)) asked stored (now (cells .entry)) (now (covered .entry)) (now (marks .entry)) (length (now (queue .entry))) tally r ⌝ }
+    ensures { λ r. ⌜ InComparisons (now (sheet .entry)) asked told (now (cells .entry)) (now (covered .entry)) (now (marks .entry)) (length (now (queue .entry))) tally r ⌝ }
 {
-    let mut now = one_sheet_more(tally, stored.number);
-    let mut kind: usize = 0;
-    while kind < 5 {
-        now = replay_kind(
+    let mut now = one_sheet_more(tally, told.number);
+    let mut comparison: usize = 0;
+    while comparison < 5 {
+        now = replay_comparison(
             now,
-            kind,
+            comparison,
             sheet,
             asked,
-            stored,
+            told,
             cells,
             covered,
             marks,
             queue,
         );
-        kind += 1;
+        comparison += 1;
     }
     now
 }
 
-// The record that stands there: its sheet in each kind. The next one stands where it ends.
+// The record that stands there: its sheet in each comparison. The next one stands where it ends.
 fn replay_next(file: &[u8], stand: Stand, queue: &mut [u64]) -> Stand
     ensures { λ r. ⌜ Next (now (file .entry)) (length (now (queue .entry))) stand r ⌝ }
 {
-    let mut cells = [0u32; ROOM];
-    let mut covered = [0u8; ROOM];
-    let mut marks = [0u8; ROOM];
+    let mut cells = [0u32; OWN_LENGTH];
+    let mut covered = [0u8; OWN_LENGTH];
+    let mut marks = [0u8; OWN_LENGTH];
     let tally = stand.tally;
     let part = sheet_at(file, stand.at);
     let from = part.from;
     let end = part.end;
     let answered = answer_at(file, end, &mut cells, &mut covered, &mut marks);
-    let stored = answered.stored;
-    let after = replay_kinds(
+    let told = answered.told;
+    let after = replay_comparisons(
         tally,
         &file[from..end],
         asked_at(file, stand.at),
-        known_if(part.whole, stored),
+        known_if(part.whole, told),
         &cells,
         &covered,
         &marks,
@@ -342,13 +331,13 @@ fn replay_next(file: &[u8], stand: Stand, queue: &mut [u64]) -> Stand
     }
 }
 
-// All stored sheets in their order, behind the head's eight bytes.
+// All stored sheets in their order.
 pub fn replay(file: &[u8], queue: &mut [u64]) -> Stand
     ensures { λ r. ⌜ Replayed (now (file .entry)) (length (now (queue .entry))) r ⌝ }
 {
-    let count = count_in(file);
+    let count = count_in(file, LETTERS);
     let mut stand = Stand {
-        at: past(file, 0, 8),
+        at: first_place(file),
         tally: nothing_yet(),
     };
     let mut passed: u32 = 0;

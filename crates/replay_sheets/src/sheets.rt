@@ -2,19 +2,21 @@
 // file's end everything reads as 0.
 use branches::BranchLengths;
 use stored::places::byte_at;
+use stored::places::byte_behind;
 use stored::places::cell_at;
 use stored::places::past;
 use stored::places::size_at;
+use stored::places::size_behind;
 use stored::places::word_at;
 ghost use mathlib.Core.Path.{_≡_};
 ghost use mathlib.Core.List.{[]};
 ghost use Prim.Native.Nat.{_+_, _≤_, _<_, min};
 ghost use lib.ListN.{set};
-ghost use Rattle.net_tree.specs.Answers.{branchLengths};
-ghost use Rattle.replay_sheets.specs.Sheets.{countIn, askedAt, sheetAt, marksOf, cellsOf, Branched, left, refusalOf, treeAt, answerAt, knownIf};
+ghost use Rattle.branches.specs.Branches.{branchLengths};
+ghost use Rattle.replay_sheets.specs.Sheets.{askedAt, sheetAt, marksOf, cellsOf, Branched, left, refusalOf, treeAt, answerAt, knownIf};
 
-// The file's letters, DRT1.
-const LETTERS: u32 = 0x44525431;
+// The letters that the file begins with: DRT1.
+pub const LETTERS: u32 = 0x44525431;
 
 // Stands for the number where the file ends within a sheet: no answer has it.
 const NOT_READ: u32 = 16;
@@ -35,7 +37,7 @@ pub struct Part {
 
 // A stored answer: its number, 0 for a tree, and its detail; the branches' lengths, and how many cells they have together; how many
 // cells are occupied, and how many repeaters there are.
-pub struct Stored {
+pub struct Told {
     pub number: u32,
     pub detail: usize,
     pub lengths: BranchLengths,
@@ -46,7 +48,7 @@ pub struct Stored {
 
 // A stored answer, and where its record ends.
 pub struct Answered {
-    pub stored: Stored,
+    pub told: Told,
     pub end: usize,
 }
 
@@ -57,30 +59,20 @@ struct Branches {
     end: usize,
 }
 
-// How many sheets the file says that it holds: none, unless it begins with its letters.
-pub fn count_in(file: &[u8]) -> u32
-    ensures { λ r. ⌜ r ≡ countIn (now (file .entry)) ⌝ }
-{
-    if word_at(file, 0) == LETTERS {
-        return word_at(file, 4);
-    }
-    0
-}
-
 pub fn asked_at(file: &[u8], at: usize) -> Asked
     ensures { λ r. ⌜ r ≡ askedAt (now (file .entry)) at ⌝ }
 {
     Asked {
         places: word_at(file, at),
-        branch: size_at(file, past(file, at, 4)),
-        lent: size_at(file, past(file, at, 8)),
+        branch: size_behind(file, at, 4),
+        lent: size_behind(file, at, 8),
     }
 }
 
 pub fn sheet_at(file: &[u8], at: usize) -> Part
     ensures { λ r. ⌜ r ≡ sheetAt (now (file .entry)) at ⌝ }
 {
-    let length = size_at(file, past(file, at, 12));
+    let length = size_behind(file, at, 12);
     let from = past(file, at, 16);
     let end = past(file, from, length);
     Part {
@@ -175,10 +167,10 @@ pub fn no_lengths() -> BranchLengths
     }
 }
 
-fn refusal(number: u32, detail: usize) -> Stored
+fn refusal(number: u32, detail: usize) -> Told
     ensures { λ r. ⌜ r ≡ refusalOf number detail ⌝ }
 {
-    Stored {
+    Told {
         number,
         detail,
         lengths: no_lengths(),
@@ -196,10 +188,10 @@ fn tree_at(
     covered: &mut [u8],
     marks: &mut [u8],
 ) -> Answered
-    ensures { λ r. ⌜ left (r .stored) (r .end) (now (cells .exit)) (now (covered .exit)) (now (marks .exit)) ≡ treeAt (now (file .entry)) at (now (cells .entry)) (now (covered .entry)) (now (marks .entry)) ⌝ }
+    ensures { λ r. ⌜ left (r .told) (r .end) (now (cells .exit)) (now (covered .exit)) (now (marks .exit)) ≡ treeAt (now (file .entry)) at (now (cells .entry)) (now (covered .entry)) (now (marks .entry)) ⌝ }
 {
-    let detail = size_at(file, past(file, at, 1));
-    let count = byte_at(file, past(file, at, 5));
+    let detail = size_behind(file, at, 1);
+    let count = byte_behind(file, at, 5);
     let branches = branches_at(
         file,
         past(file, at, 6),
@@ -210,11 +202,11 @@ fn tree_at(
     let each = branches.each;
     let behind = branches.end;
     let occupied = size_at(file, behind);
-    let repeaters = size_at(file, past(file, behind, 4));
+    let repeaters = size_behind(file, behind, 4);
     let from = past(file, behind, 8);
     mark_cells(file, from, repeaters, marks);
     Answered {
-        stored: Stored {
+        told: Told {
             number: 0,
             detail,
             lengths: BranchLengths {
@@ -237,25 +229,25 @@ pub fn answer_at(
     covered: &mut [u8],
     marks: &mut [u8],
 ) -> Answered
-    ensures { λ r. ⌜ left (r .stored) (r .end) (now (cells .exit)) (now (covered .exit)) (now (marks .exit)) ≡ answerAt (now (file .entry)) at (now (cells .entry)) (now (covered .entry)) (now (marks .entry)) ⌝ }
+    ensures { λ r. ⌜ left (r .told) (r .end) (now (cells .exit)) (now (covered .exit)) (now (marks .exit)) ≡ answerAt (now (file .entry)) at (now (cells .entry)) (now (covered .entry)) (now (marks .entry)) ⌝ }
 {
     let number = byte_at(file, at);
     if number == 0 {
         return tree_at(file, at, cells, covered, marks);
     }
-    let detail = size_at(file, past(file, at, 1));
+    let detail = size_behind(file, at, 1);
     Answered {
-        stored: refusal(number as u32, detail),
+        told: refusal(number as u32, detail),
         end: past(file, at, 5),
     }
 }
 
 // The stored answer, where the file holds the whole sheet; else an answer that no run gives.
-pub fn known_if(whole: bool, stored: Stored) -> Stored
-    ensures { λ r. ⌜ r ≡ knownIf whole stored ⌝ }
+pub fn known_if(whole: bool, told: Told) -> Told
+    ensures { λ r. ⌜ r ≡ knownIf whole told ⌝ }
 {
     if whole {
-        return stored;
+        return told;
     }
     refusal(NOT_READ, 0)
 }

@@ -1,8 +1,12 @@
 // An answer by its number and detail, as "Numbers that come back" lists them.
 ghost use mathlib.Core.Path.{_≡_};
 ghost use Rattle.routing.specs.Answers.{refusalNumber, numberOf, detailOf};
+ghost use Rattle.reply.specs.Replies.{routeOf};
+use room::Cost;
+use room::Nodes;
 use routing::Answer;
 use routing::Refusal;
+use routing::Route;
 
 // The number of a refusal.
 pub fn refusal_number(why: Refusal) -> u32
@@ -42,5 +46,24 @@ pub fn detail_of(answer: Answer) -> usize
         Answer::NoRoute(expanded) => expanded.0 as usize,
         Answer::LimitPassed(expanded) => expanded.0 as usize,
         Answer::QueueFull(expanded) => expanded.0 as usize,
+    }
+}
+
+// The route of a search's answer, all zero where there is none.
+pub fn route_of(answer: Answer) -> Route
+    ensures { λ r. ⌜ r ≡ routeOf answer ⌝ }
+{
+    let none = Route {
+        length: 0,
+        cost: Cost(0),
+        expanded: Nodes(0),
+    };
+    match answer {
+        Answer::Routed(route) => route,
+        Answer::Refused(_) => none,
+        Answer::NotRouteable(_) => none,
+        Answer::NoRoute(_) => none,
+        Answer::LimitPassed(_) => none,
+        Answer::QueueFull(_) => none,
     }
 }

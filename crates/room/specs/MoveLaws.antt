@@ -5,6 +5,7 @@ use mathlib.Core.Logic.{inl, inr}
 use mathlib.Core.Bool.{Bool, true, false, _&&_}
 use mathlib.Core.List.{List, [], _∷_}
 use Prim.Native.Nat.{ℕ, zero, suc, _+_, _-_, _≤_, _<_}
+use native.Mathlib.Nat.{sub-add-cancel}
 use native.Mathlib.Omega.{arith}
 use lib.Dec.{leb, eqb}
 use borrow.Author.Tests.{eqb-true, le-leb, eq-eqb}
@@ -14,14 +15,17 @@ use Rattle.room.specs.declared.Room.{Room}
 use Rattle.room.specs.declared.Pos.{Pos}
 use Rattle.room.specs.declared.Move.{Move}
 use Rattle.room.specs.declared.Neighbour.the-variants.{Inside, Outside}
-use Rattle.room.specs.Room.{Good, Within, Moved, by, volume, cellOf, posOf, moves, moveAt, flat, between, stays, shifted, neighbourAt, neighbour, apart, distanceAt, distance}
+use Rattle.room.specs.Room.{Good, Within, by, volume, cellOf, posOf, moves, moveAt, flat, between, stays, shifted, neighbourAt, neighbour, apart, distanceAt, distance}
 use Rattle.room.specs.Units.{north, east, south, facingHorizontal, facingMove, ahead}
 use Rattle.room.specs.RoomLaws.{passed, cell-in, cell-pos, pos-cell, pos-in}
 
 -- ---- a neighbour is inside exactly when its position is
 
-pub one-less : {a : ℕ} → 1 ≤ a → a - 1 + 1 ≡ a
-one-less h = omega arith
+-- q is where the move m leads from p
+pub record Moved (p : Pos) (m : Move) (q : Pos) : Type 0 where
+  pub x-by : q .x + 1 ≡ p .x + m .x
+  pub y-by : q .y + 1 ≡ p .y + m .y
+  pub z-by : q .z + 1 ≡ p .z + m .z
 
 pub one-less-in : {a side : ℕ} → 1 ≤ a → a ≤ side → a - 1 < side
 one-less-in h k = omega arith
@@ -35,11 +39,11 @@ reached R p m e =
     let d : p .y + m .y ≤ R .high = search passed in
     let f : 1 ≤ p .z + m .z = search passed in
     let g : p .z + m .z ≤ R .deep = search passed in (
-      record { x-by = one-less a; y-by = one-less c; z-by = one-less f },
+      record { x-by = sub-add-cancel a; y-by = sub-add-cancel c; z-by = sub-add-cancel f },
       record { x-in = one-less-in a b; y-in = one-less-in c d; z-in = one-less-in f g },
     )
 
-pub stays-by : (R : Room) (p : Pos) (m : Move) (q : Pos) → Moved p m q → Within R q → stays R p m ≡ true
+stays-by : (R : Room) (p : Pos) (m : Move) (q : Pos) → Moved p m q → Within R q → stays R p m ≡ true
 unfolding stays between
 stays-by R p m q v w = and-both (one (v .x-by) (w .x-in)) (and-both (one (v .y-by) (w .y-in)) (one (v .z-by) (w .z-in)))
   where
@@ -47,7 +51,7 @@ stays-by R p m q v w = and-both (one (v .x-by) (w .x-in)) (and-both (one (v .y-b
     one {a} {b} {side} e h = and-both (le-leb 1 a (omega arith)) (le-leb a side (omega arith))
 
 -- a move leads to one position only
-pub moved-one : (p : Pos) (m : Move) (q r : Pos) → Moved p m q → Moved p m r → q ≡ r
+moved-one : (p : Pos) (m : Move) (q r : Pos) → Moved p m q → Moved p m r → q ≡ r
 moved-one p m q r v w =
     let a : q .x ≡ r .x = omega (arith, v .x-by, w .x-by) in
     let b : q .y ≡ r .y = omega (arith, v .y-by, w .y-by) in
@@ -187,7 +191,7 @@ pub move-small : (k : ℕ) → k < 12 → Small (moveAt k)
 unfolding moves
 move-small k h = small (moveAt k) (in-at moves k (by 0 0 0) h)
 
-pub moved-back : (p : Pos) (m : Move) (q : Pos) → Small m → Moved p m q → Moved q (opposite m) p
+moved-back : (p : Pos) (m : Move) (q : Pos) → Small m → Moved p m q → Moved q (opposite m) p
 moved-back p m q s v = record {
   x-by = omega (arith, s .x-small, v .x-by);
   y-by = omega (arith, s .y-small, v .y-by);

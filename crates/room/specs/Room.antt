@@ -3,7 +3,7 @@
 use mathlib.Core.Path.{_≡_}
 use mathlib.Core.Bool.{Bool, true, false, _&&_}
 use mathlib.Core.List.{List, [], _∷_}
-use Prim.Native.Nat.{ℕ, _+_, _-_, _*_, _/_, _%_, _≤_, _<_}
+use Prim.Native.Nat.{ℕ, zero, suc, _+_, _-_, _*_, _/_, _%_, _≤_, _<_}
 use lib.Dec.{leb, ltb, eqb}
 use lib.ListN.{getD}
 use Rattle.room.specs.declared.Room.{Room}
@@ -60,6 +60,12 @@ pub record Within (R : Room) (p : Pos) : Type 0 where
 unfoldable pub within : Room → Pos → Bool
 within R p = ltb (p .x) (R .wide) && (ltb (p .y) (R .high) && ltb (p .z) (R .deep))
 
+-- each part of the position is below the longest side
+pub record SmallPos (p : Pos) : Type 0 where
+  pub x-small : p .x < maxSide
+  pub y-small : p .y < maxSide
+  pub z-small : p .z < maxSide
+
 -- "The twelve moves in order: (1,0), (-1,0), (0,1), (0,-1) in (x,z), each with dy -1, 0, 1." Each part is one more than its change, so that 0, 1
 -- and 2 stand for -1, 0 and 1
 abbrev pub by : ℕ → ℕ → ℕ → Move
@@ -80,12 +86,7 @@ moveAt k = getD moves k (by 0 0 0)
 abbrev pub flat : Move → Bool
 flat m = eqb (m .y) 1
 
--- q is where the move m leads from p
-pub record Moved (p : Pos) (m : Move) (q : Pos) : Type 0 where
-  pub x-by : q .x + 1 ≡ p .x + m .x
-  pub y-by : q .y + 1 ≡ p .y + m .y
-  pub z-by : q .z + 1 ≡ p .z + m .z
-
+-- cell n where the test passes, else no cell of the room
 abbrev pub inOrOut : Bool → ℕ → Neighbour
 inOrOut true n = Inside n
 inOrOut false n = Outside
@@ -95,11 +96,22 @@ abbrev pub holdsAt : (ℕ → Bool) → Neighbour → Bool
 holdsAt test (Inside v) = test v
 holdsAt test Outside = false
 
+-- the first place, and where that is outside the other one
+abbrev pub orElse : Neighbour → Neighbour → Neighbour
+orElse (Inside v) other = Inside v
+orElse Outside other = other
+
+-- of the numbers below n, the least that passes the test; `Outside` where none does
+unfoldable pub firstBelow : ℕ → (ℕ → Bool) → Neighbour
+firstBelow zero test = Outside
+firstBelow (suc n) test = orElse (firstBelow n test) (inOrOut (test n) n)
+
 -- the move m from p stays in the room
 unfoldable pub stays : Room → Pos → Move → Bool
 stays R p m =
     between 1 (p .x + m .x) (R .wide) && (between 1 (p .y + m .y) (R .high) && between 1 (p .z + m .z) (R .deep))
 
+-- where the move m leads from p, if it stays in the room
 abbrev pub shifted : Pos → Move → Pos
 shifted p m = at (p .x + m .x - 1) (p .y + m .y - 1) (p .z + m .z - 1)
 

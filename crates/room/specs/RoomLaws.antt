@@ -13,7 +13,7 @@ use Rattle.basics.specs.Tests.{and-left, and-right, never}
 use Rattle.room.specs.declared.Room.{Room}
 use Rattle.room.specs.declared.Pos.{Pos}
 use Rattle.room.specs.declared.Neighbour.the-variants.{Inside}
-use Rattle.room.specs.Room.{Good, Within, maxSide, maxVolume, volume, between, sidesGood, at, cellOf, posOf, within, inOrOut, beneath, above}
+use Rattle.room.specs.Room.{Good, Within, SmallPos, maxVolume, volume, between, sidesGood, at, cellOf, posOf, within, inOrOut, beneath, above}
 
 -- what a conjunction of tests says of numbers
 pub ruleset passed = (and-left, and-right, leb-true, ltb-true)
@@ -46,7 +46,7 @@ unfolding cellOf posOf
 cell-pos R n = rw (div-add-mod' (n / R .deep) (R .high), div-add-mod' n (R .deep))
 
 module _ (R : Room) (p : Pos) (w : Within R p) where
-  pub pos-cell-x : posOf R (cellOf R p) .x ≡ p .x
+  pos-cell-x : posOf R (cellOf R p) .x ≡ p .x
   unfolding posOf cellOf
   pos-cell-x = rw (digits-div (p .x * R .high + p .y) (w .z-in), digits-div (p .x) (w .y-in))
 
@@ -54,7 +54,7 @@ module _ (R : Room) (p : Pos) (w : Within R p) where
   unfolding posOf cellOf
   pos-cell-y = rw (digits-div (p .x * R .high + p .y) (w .z-in), digits-mod (p .x) (w .y-in))
 
-  pub pos-cell-z : posOf R (cellOf R p) .z ≡ p .z
+  pos-cell-z : posOf R (cellOf R p) .z ≡ p .z
   unfolding posOf cellOf
   pos-cell-z = rw (digits-mod (p .x * R .high + p .y) (w .z-in))
 
@@ -147,7 +147,7 @@ module _ (R : Room) (G : Good R) where
       omega (arith, mul-le-mul-right (R .deep) q, div-mul-le-self n (R .deep))
 
   -- each part of a cell's position is below a side
-  pub small-pos : (n : ℕ) → n < volume R → (p : Pos) → p ≡ posOf R n → (p .x < maxSide) × (p .y < maxSide) × (p .z < maxSide)
+  pub small-pos : (n : ℕ) → n < volume R → (p : Pos) → p ≡ posOf R n → SmallPos p
   small-pos n h p e =
       let w : Within R p = rw e (pos-in R G n h) in
-      (omega (arith, w .x-in, G .x-most), omega (arith, w .y-in, G .y-most), omega (arith, w .z-in, G .z-most))
+      record { x-small = omega (arith, w .x-in, G .x-most); y-small = omega (arith, w .y-in, G .y-most); z-small = omega (arith, w .z-in, G .z-most) }

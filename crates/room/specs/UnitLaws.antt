@@ -2,10 +2,10 @@
 use mathlib.Core.Path.{_≡_}
 use mathlib.Core.Bool.{true}
 use Rattle.room.specs.declared.RouterConfig.{RouterConfig}
-use Rattle.room.specs.Units.{configGood, Fair}
+use Rattle.room.specs.Units.{configGood, GoodConfig}
 use Rattle.room.specs.RoomLaws.{passed}
 
--- a config that passes the test of number 3 is fair
-pub fair : (C : RouterConfig) → configGood C ≡ true → Fair C
+-- a config that passes the test of number 3 is good
+pub good-config : (C : RouterConfig) → configGood C ≡ true → GoodConfig C
 unfolding configGood
-fair C e = record { limit-most = search passed; horizontal-most = search passed; stair-most = search passed; support-most = search passed }
+good-config C e = record { limit-most = search passed; horizontal-most = search passed; stair-most = search passed; support-most = search passed }

@@ -38,6 +38,7 @@ redstoneBlock = 11
 abbrev pub maxKind : ℕ
 maxKind = 12
 
+-- number 5 is due where this is false
 abbrev pub kindKnown : ℕ → Bool
 kindKnown kind = leb kind maxKind
 
@@ -45,6 +46,7 @@ kindKnown kind = leb kind maxKind
 abbrev pub maxFacing : ℕ
 maxFacing = 6
 
+-- number 5 is due where this is false
 abbrev pub facingKnown : ℕ → Bool
 facingKnown facing = leb facing maxFacing
 
@@ -82,6 +84,7 @@ wire = 0
 abbrev pub maxPort : ℕ
 maxPort = 1
 
+-- number 5 is due where this is false
 abbrev pub portKnown : ℕ → Bool
 portKnown port = leb port maxPort
 
@@ -98,7 +101,7 @@ configGood C =
     leb (C .limit .0) maxNodes && (leb (C .horizontal .0) maxCost && (leb (C .stair .0) maxCost && leb (C .support .0) maxCost))
 
 -- a config that number 3 does not refuse: its test, read as inequalities
-pub record Fair (C : RouterConfig) : Type 0 where
+pub record GoodConfig (C : RouterConfig) : Type 0 where
   pub limit-most : C .limit .0 ≤ maxNodes
   pub horizontal-most : C .horizontal .0 ≤ maxCost
   pub stair-most : C .stair .0 ≤ maxCost

@@ -2,18 +2,18 @@
 // facings and port kinds; cost and node count as units of their own; the config with its ranges.
 ghost use mathlib.Core.Path.{_≡_};
 ghost use Prim.Native.Nat.{_≤_, _<_, _^_};
-ghost use Rattle.room.specs.Room.{Good, Within, between, sidesGood, volume, cellOf, posOf, within, maxSide, moveAt, neighbourAt, neighbour, beneath, above, apart, distanceAt, distance};
-ghost use Rattle.room.specs.Units.{kindKnown, facingKnown, facingHorizontal, facingMove, ahead, portKnown, configGood, usualConfig};
+ghost use Rattle.room.specs.Room.{Good, Within, SmallPos, between, sidesGood, volume, cellOf, posOf, within, moveAt, neighbourAt, neighbour, beneath, above, apart, distanceAt, distance};
+ghost use Rattle.room.specs.Units.{kindKnown, facingKnown, facingHorizontal, facingMove, ahead, portKnown, configGood};
 
-pub const MAX_SIDE: usize = 64;
+const MAX_SIDE: usize = 64;
 
-pub const MAX_VOLUME: usize = 16384;
+const MAX_VOLUME: usize = 16384;
 
-pub const MAX_COST: u32 = 100000;
+const MAX_COST: u32 = 100000;
 
-pub const MAX_NODES: u32 = 200000;
+const MAX_NODES: u32 = 200000;
 
-// The kinds of a block, in the order of DustRoute's BlockKind.
+// The kinds of a block, in the order of DustRoute's BlockKind: all of them, though no rule names some.
 pub const AIR: u8 = 0;
 
 pub const SOLID: u8 = 1;
@@ -40,7 +40,7 @@ pub const REDSTONE_BLOCK: u8 = 11;
 
 pub const PISTON: u8 = 12;
 
-// The facings: none, four horizontal ones, two others.
+// The facings: none, four horizontal ones, two others. All of them, though no rule names Up.
 pub const NO_FACING: u8 = 0;
 
 pub const NORTH: u8 = 1;
@@ -110,12 +110,14 @@ fn in_range(low: usize, a: usize, high: usize) -> bool
     a <= high
 }
 
+// Number 5 is due where this is false.
 pub fn kind_known(kind: u8) -> bool
     ensures { λ r. ⌜ r ≡ kindKnown kind ⌝ }
 {
     kind <= PISTON
 }
 
+// Number 5 is due where this is false.
 pub fn facing_known(facing: u8) -> bool
     ensures { λ r. ⌜ r ≡ facingKnown facing ⌝ }
 {
@@ -144,6 +146,7 @@ fn facing_move(facing: u8) -> Move
     Move { x: 0, y: 1, z: 1 }
 }
 
+// Number 5 is due where this is false.
 pub fn port_known(port: u8) -> bool
     ensures { λ r. ⌜ r ≡ portKnown port ⌝ }
 {
@@ -151,18 +154,6 @@ pub fn port_known(port: u8) -> bool
 }
 
 impl RouterConfig {
-    // DustRoute's default.
-    pub fn usual() -> RouterConfig
-        ensures { λ r. ⌜ r ≡ usualConfig ⌝ }
-    {
-        RouterConfig {
-            limit: Nodes(30000),
-            horizontal: Cost(10),
-            stair: Cost(25),
-            support: Cost(15),
-        }
-    }
-
     // Number 3 is due where this is false.
     pub fn good(self) -> bool
         ensures { λ r. ⌜ r ≡ configGood self ⌝ }
@@ -203,8 +194,8 @@ fn apart(a: usize, b: usize) -> usize
 
 // The distance |dx|+|dy|+|dz| of two positions, of which each part is below the longest side.
 pub fn distance_at(p: Pos, q: Pos) -> usize
-    requires { ⌜ (p .x < maxSide) × (p .y < maxSide) × (p .z < maxSide) ⌝ }
-    requires { ⌜ (q .x < maxSide) × (q .y < maxSide) × (q .z < maxSide) ⌝ }
+    requires { ⌜ SmallPos p ⌝ }
+    requires { ⌜ SmallPos q ⌝ }
     ensures { λ r. ⌜ r ≡ distanceAt p q ⌝ }
 {
     apart(p.x, q.x) + apart(p.y, q.y) + apart(p.z, q.z)

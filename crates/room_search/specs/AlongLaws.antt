@@ -3,6 +3,7 @@ use mathlib.Core.Path.{_≡_, refl, sym, ap, _∙_}
 use mathlib.Core.Bool.{false}
 use mathlib.Core.List.{List, [], _∷_, _++_}
 use Prim.Native.Nat.{ℕ, zero, suc, _+_, _-_, _*_, _≤_, _<_}
+use native.Mathlib.Nat.{sub-add-cancel}
 use native.Mathlib.Omega.{arith}
 use lib.Dec.{leb}
 use lib.ListN.{length, take, drop}
@@ -13,7 +14,7 @@ use Rattle.room.specs.declared.RouterConfig.{RouterConfig}
 use Rattle.room.specs.declared.Neighbour.the-variants.{Outside}
 use Rattle.room.specs.Room.{Good, Within, at, by, moves, cellOf, posOf, between, stays, neighbour, moveAt}
 use Rattle.room.specs.RoomLaws.{cell-in, pos-cell, pos-in}
-use Rattle.room.specs.MoveLaws.{not-stays, one-less, one-less-in, move-small}
+use Rattle.room.specs.MoveLaws.{not-stays, one-less-in, move-small}
 use Rattle.room_search.specs.declared.Line.{Line}
 use Rattle.room_search.specs.declared.Spot.{Spot}
 use Rattle.room_search.specs.declared.Step.the-variants.{On, Full}
@@ -140,9 +141,9 @@ module _ (R : Room) (G : Good R) (from : Spot) (P : Placed R from) (m : Move) (x
       → Aside R from (record { cell = cell; at = at (from .at .x + m .x - 1) (from .at .y) (from .at .z + m .z - 1) }) m
   beside-aside cell e = record {
     there = record { inside = rw e (cell-in R _ beside-within); is = sym (ap (posOf R) e ∙ pos-cell R _ beside-within) };
-    x-by = one-less x-low;
+    x-by = sub-add-cancel x-low;
     level = refl;
-    z-by = one-less z-low;
+    z-by = sub-add-cancel z-low;
   }
 
 -- ---- the four columns are the twelve moves

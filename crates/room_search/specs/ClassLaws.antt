@@ -20,12 +20,12 @@ use Rattle.room_search.specs.Routing.{kindAt, classFor, classAt}
 use Rattle.room_search.specs.Classes.{Plain}
 
 -- one more, counted around
-pub around-next : (v area : ℕ) → 0 < area → v % area + 1 < area → (v + 1) % area ≡ v % area + 1
+around-next : (v area : ℕ) → 0 < area → v % area + 1 < area → (v + 1) % area ≡ v % area + 1
 around-next v area p h =
     let e : v + 1 ≡ v / area * area + (v % area + 1) = omega (arith, div-add-mod' v area) in
     ap (λ (n : ℕ). n % area) e ∙ digits-mod (v / area) h
 
-pub around-back : (v area : ℕ) → 0 < area → v % area + 1 ≡ area → (v + 1) % area ≡ 0
+around-back : (v area : ℕ) → 0 < area → v % area + 1 ≡ area → (v + 1) % area ≡ 0
 around-back v area p h =
     let e : v + 1 ≡ suc (v / area) * area + 0 = omega (arith, div-add-mod' v area, suc-mul (v / area) area) in
     ap (λ (n : ℕ). n % area) e ∙ digits-mod (suc (v / area)) p
@@ -36,7 +36,7 @@ module _ (R : Room) (G : Good R) (v : ℕ) where
   floor-in = mod-mul v (G .y-some) (G .z-some)
 
   -- the kind beneath, as it is counted out
-  pub below-is : (kinds : List ℕ) → either (ltb (v % (R .high * R .deep)) (R .deep)) solid (getD kinds (v - R .deep) 0) ≡ kindAt kinds (beneath R v)
+  below-is : (kinds : List ℕ) → either (ltb (v % (R .high * R .deep)) (R .deep)) solid (getD kinds (v - R .deep) 0) ≡ kindAt kinds (beneath R v)
   unfolding beneath
   below-is kinds = go (ℕ-discrete (posOf R v .y) 0)
     where
@@ -49,7 +49,7 @@ module _ (R : Room) (G : Good R) (v : ℕ) where
           let k : R .deep ≤ v % (R .high * R .deep) = omega (arith, floor-in, mul-le-mul-right (R .deep) y) in
           rw (le-ltb _ _ k, le-leb 1 (posOf R v .y) y)
 
-pub area-some : (R : Room) → Good R → 0 < R .high * R .deep
+area-some : (R : Room) → Good R → 0 < R .high * R .deep
 area-some R G = mul-le-mul (G .y-some) (G .z-some)
 
 -- the first v cells have their class
@@ -67,7 +67,7 @@ module _ {R : Room} {kinds : List ℕ} where
     pub layer-le : layer ≤ v
     layer-le = omega (arith, I .counted, mod-le v (R .high * R .deep))
 
-    pub layer-lt : layer < R .high * R .deep
+    layer-lt : layer < R .high * R .deep
     layer-lt = omega (arith, I .counted, mod-lt v (area-some R G))
 
     filled : (class : ℕ) → class ≡ classAt false R kinds v → (k : ℕ) → k < v + 1 → getD (set classes v class) k 0 ≡ classAt false R kinds k

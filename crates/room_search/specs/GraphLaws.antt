@@ -3,7 +3,7 @@
 use mathlib.Core.Path.{_≡_, refl}
 use mathlib.Core.Logic.{inl, inr}
 use mathlib.Core.List.{List, [], _∷_, _++_}
-use Prim.Native.Nat.{ℕ, suc, _+_, _*_, _≤_, _<_, max, zero-le}
+use Prim.Native.Nat.{ℕ, suc, _+_, _≤_, _<_, max, zero-le}
 use native.Mathlib.Omega.{arith}
 use lib.Dec.{eqb}
 use lib.ListN.{length}
@@ -19,8 +19,8 @@ use Rattle.room.specs.Room.{volume, moves, neighbour, distance, flat}
 use Rattle.room.specs.MoveLaws.{most, leads, nearer}
 use Rattle.best_first.specs.Search
 use Rattle.best_first.specs.Ways.{Sound, Consistent}
-use Rattle.room_search.specs.Routing.{total, priceOf, moveInto, movesBy, graphOf}
-use Rattle.room.specs.Units.{Fair}
+use Rattle.room_search.specs.Routing.{total, priceOf, moveInto, movesBy, estimateOf, graphOf}
+use Rattle.room.specs.Units.{GoodConfig}
 
 -- a move of the graph is one of the room's moves, which leads to a cell that can be entered
 pub record Made (R : Room) (C : RouterConfig) (class : ℕ → ℕ) (u : ℕ) (ms : List Move) (g : Search.Move) : Type 0 where
@@ -52,7 +52,7 @@ module _ (R : Room) (C : RouterConfig) (class : ℕ → ℕ) (u : ℕ) where
           ask (eqb (class v) 0) (λ t. later m ms g (ih (rw t at j))) (λ f. first v e (eqb-false _ _ f) (rw f at j) ih)
 
   -- each of the room's moves makes at most one
-  pub few-moves : (ms : List Move) → length (movesBy R C class u ms) ≤ length ms
+  few-moves : (ms : List Move) → length (movesBy R C class u ms) ≤ length ms
   unfolding movesBy
   few-moves [] = zero-le
   few-moves (m ∷ ms) = go (neighbour R u m) (few-moves ms)
@@ -72,7 +72,7 @@ price-low C m class =
     let support : priceOf C m class .support ≤ C .support .0 = ask (eqb class 2) (λ t. rw t (omega arith)) (λ f. rw f (omega arith)) in
     omega arith
 
-pub dearest-most : {C : RouterConfig} → Fair C → dearest C ≤ 200000
+pub dearest-most : {C : RouterConfig} → GoodConfig C → dearest C ≤ 200000
 unfolding dearest
 dearest-most F = omega (arith, F .horizontal-most, F .stair-most, F .support-most)
 
@@ -99,7 +99,7 @@ module _ (R : Room) (C : RouterConfig) (class : ℕ → ℕ) (start goal places 
 
   -- with a flat step of at least 10 and a stair of at least 20
   module _ (flat-least : 10 ≤ C .horizontal .0) (stair-least : 20 ≤ C .stair .0) where
-    covers : (m : Move) (k : ℕ) → 10 * most m ≤ total (priceOf C m k)
+    covers : (m : Move) (k : ℕ) → estimateOf (most m) ≤ total (priceOf C m k)
     unfolding most priceOf
     covers m k = ask (flat m) (λ t. rw t (omega arith)) (λ f. rw f (omega arith))
 
@@ -107,5 +107,5 @@ module _ (R : Room) (C : RouterConfig) (class : ℕ → ℕ) (start goal places 
     unfolding graphOf distance
     consistent = record { goal-zero = omega arith; falls = λ u m i. falls u m (made R C class u moves m i) }
       where
-        falls : (u : ℕ) (m : Search.Move) → Made R C class u moves m → 10 * distance R u goal ≤ m .cost + 10 * distance R (m .to) goal
+        falls : (u : ℕ) (m : Search.Move) → Made R C class u moves m → estimateOf (distance R u goal) ≤ m .cost + estimateOf (distance R (m .to) goal)
         falls u m a = rw (a .is) (omega (arith, nearer R u (a .by) (a .into) goal (a .listed) (a .leads-in), covers (a .by) (class (a .into))))

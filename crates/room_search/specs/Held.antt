@@ -2,11 +2,11 @@
 use mathlib.Core.List.{List, map}
 use Prim.Native.Nat.{ℕ, _+_, _*_, _/_, _%_, _^_}
 use Rattle.best_first.specs.Search.{Entry, State}
-use Rattle.queue.specs.Queue.{bag, entry}
+use Rattle.queue.specs.Queue.{asOne, bag, entry}
 use Rattle.room_search.specs.declared.Line.{Line}
 
 abbrev pub packed : ℕ → ℕ → ℕ → ℕ
-packed key serial cell = (key * 2 ^ 32 + serial) * 2 ^ 64 + cell
+packed key serial cell = asOne (key * 2 ^ 32 + serial) cell
 
 unfoldable pub unpacked : ℕ → Entry
 unpacked e = record { key = e / 2 ^ 96; serial = e / 2 ^ 64 % 2 ^ 32; cell = e % 2 ^ 64 }

@@ -2,20 +2,20 @@
 use mathlib.Core.Path.{_≡_, _∙_}
 use mathlib.Core.Logic.{_⊎_, inl, inr}
 use mathlib.Core.List.{List, [], _∷_, map}
-use Prim.Native.Nat.{ℕ, zero, suc, _+_, _-_, _*_, _/_, _%_, _^_, _≤_, _<_}
+use Prim.Native.Nat.{ℕ, zero, suc, _-_, _/_, _%_, _^_, _≤_, _<_}
 use native.Mathlib.Omega.{arith}
 use lib.ListN.{length, getD, length-map}
 use Rattle.basics.specs.Lists.{In}
 use Rattle.best_first.specs.Search.{Entry}
 use Rattle.best_first.specs.Entries.{Late, by-key, by-serial, Same, same-refl, same-trans, same-cons, same-swap, Popped}
-use Rattle.queue.specs.Queue.{insert, bag, entry, Pushed, Taken}
+use Rattle.queue.specs.Queue.{asOne, insert, bag, entry, Pushed, Taken}
 use Rattle.queue.specs.BagLaws.{le-or-lt, insert-nil, insert-le, insert-gt, bag-zero, bag-suc, length-bag}
 use Rattle.room_search.specs.Held.{packed, unpacked, entriesIn}
 
 -- ---- packing
 
 module _ (key serial cell : ℕ) (s : serial < 2 ^ 32) (c : cell < 2 ^ 64) where
-  pub unpacked-packed : unpacked (packed key serial cell) ≡ record { key = key; serial = serial; cell = cell }
+  unpacked-packed : unpacked (packed key serial cell) ≡ record { key = key; serial = serial; cell = cell }
   unfolding unpacked
   unpacked-packed = λ i. record { key = k i; serial = r i; cell = l i }
     where
@@ -99,12 +99,12 @@ low-entries a (x ∷ w) k y (inr i) = low-entries a w (k .1) y i
 
 -- the entry that is taken for a cell, whose rank stands first in the queue
 unfoldable pub takenEntry : List ℕ → ℕ → Entry
-takenEntry h cell = record { key = (getD h 0 0 * 2 ^ 64 + cell) / 2 ^ 96; serial = (getD h 0 0 * 2 ^ 64 + cell) / 2 ^ 64 % 2 ^ 32; cell = cell }
+takenEntry h cell = record { key = asOne (getD h 0 0) cell / 2 ^ 96; serial = asOne (getD h 0 0) cell / 2 ^ 64 % 2 ^ 32; cell = cell }
 
 pub taken-entries : (h : List ℕ) (n cell : ℕ) (h′ : List ℕ) → cell < 2 ^ 64 → Taken h n cell h′ → Popped (entriesIn h n) (takenEntry h cell) (entriesIn h′ (n - 1))
 unfolding entriesIn Ascending AtLeast unpacked takenEntry
 taken-entries h n cell h′ c T =
-    let first : ℕ = getD h 0 0 * 2 ^ 64 + cell in
+    let first : ℕ = asOne (getD h 0 0) cell in
     let e : first % 2 ^ 64 ≡ cell = omega arith in
     let top : unpacked first ≡ takenEntry h cell = λ i. record { key = first / 2 ^ 96; serial = first / 2 ^ 64 % 2 ^ 32; cell = e i } in
     let asc : Ascending (first ∷ bag (entry h′) (n - 1)) = rw (T .holds) at (ascending-bag (entry h) n) in

@@ -10,12 +10,12 @@ use Rattle.room.specs.Room.{volume, posOf, beneath, apart}
 use Rattle.room.specs.Units.{air}
 use Rattle.room_search.specs.Routing.{Task, kindAt, routeable, bearing}
 
+-- the kind right beneath a cell
 abbrev pub supportOf : Task → ℕ → ℕ
 supportOf T v = kindAt (T .kinds) (beneath (T .room) v)
 
 -- one step from u to v: a neighbour aside, at most one higher or lower, that may be entered and whose support bears
 pub record LawfulStep (T : Task) (u v : ℕ) : Type 0 where
-  pub from-in : u < volume (T .room)
   pub to-in : v < volume (T .room)
   pub aside : apart (posOf (T .room) u .x) (posOf (T .room) v .x) + apart (posOf (T .room) u .z) (posOf (T .room) v .z) ≡ 1
   pub rise : apart (posOf (T .room) u .y) (posOf (T .room) v .y) ≤ 1
@@ -33,15 +33,18 @@ abbrev pub Leads : Task → ℕ → List ℕ → ℕ → Type 0
 Leads T u [] t = u ≡ t
 Leads T u (v ∷ l) t = LawfulStep T u v × Leads T v l t
 
+-- what these steps cost in all
 abbrev pub costFrom : Task → ℕ → List ℕ → ℕ
 costFrom T u [] = 0
 costFrom T u (v ∷ l) = stepCost T u v + costFrom T v l
 
--- a lawful way: the start, and the cells after it
+-- a lawful way: the start, a cell of the room, and the cells after it
 pub record LawfulWay (T : Task) (after : List ℕ) : Type 0 where
+  pub start-in : T .start < volume (T .room)
   pub start-free : routeable T (T .start) ≡ true
   pub goal-free : routeable T (T .goal) ≡ true
   pub leads : Leads T (T .start) after (T .goal)
 
+-- what a way costs
 abbrev pub wayCost : Task → List ℕ → ℕ
 wayCost T after = costFrom T (T .start) after

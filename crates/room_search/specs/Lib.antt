@@ -10,6 +10,7 @@ pub mod AlongLaws
 pub mod Turns
 pub mod TurnLaws
 pub mod RunLaws
+pub mod EndLaws
 pub mod Classes
 pub mod ClassLaws
-pub mod SameGraph
+pub mod SameGraphLaws

@@ -7,7 +7,6 @@ use Prim.Native.Nat.{ℕ, _+_, _/_, _^_, _≤_, _<_}
 use native.Mathlib.Numerals.{add-one}
 use native.Mathlib.Omega.{arith}
 use lib.ListN.{length, getD, set}
-use Rattle.best_first.specs.Search
 use Rattle.best_first.specs.Search.{cheaper, push}
 use Rattle.best_first.specs.Equations.{is-cheaper, no-cheaper}
 use Rattle.best_first.specs.Loops.{trying-skip, trying-push, trying-full}

@@ -1,6 +1,6 @@
 -- "One search" of the requirement, in its order: which cells may be entered and what that costs make a graph of the room, and the search is
 -- `bestFirst` over that graph. Definitions alone.
-use mathlib.Core.Bool.{Bool, true, false}
+use mathlib.Core.Bool.{Bool, true, false, _||_}
 use mathlib.Core.List.{List, [], _∷_, _++_}
 use Prim.Native.Nat.{ℕ, _+_, _*_}
 use lib.Dec.{eqb}
@@ -36,7 +36,7 @@ unfoldable pub routeableKind : Bool → ℕ → Bool
 routeableKind isEnd kind = either (eqb kind air) true (either isEnd (eqb kind redstoneWire) false)
 
 abbrev pub anEnd : ℕ → ℕ → ℕ → Bool
-anEnd start goal v = either (eqb v start) true (eqb v goal)
+anEnd start goal v = eqb v start || eqb v goal
 
 unfoldable pub routeable : Task → ℕ → Bool
 routeable T v = routeableKind (anEnd (T .start) (T .goal) v) (getD (T .kinds) v air)
@@ -55,6 +55,7 @@ classFor isEnd kind below = either (routeableKind isEnd kind) (bearing below) 0
 abbrev pub classAt : Bool → Room → List ℕ → ℕ → ℕ
 classAt isEnd R kinds v = classFor isEnd (getD kinds v air) (kindAt kinds (beneath R v))
 
+-- what it takes to enter a cell in that search
 abbrev pub entering : Task → ℕ → ℕ
 entering T v = classAt (anEnd (T .start) (T .goal) v) (T .room) (T .kinds) v
 
@@ -81,17 +82,22 @@ unfoldable pub movesBy : Room → RouterConfig → (ℕ → ℕ) → ℕ → Lis
 movesBy R C class u [] = []
 movesBy R C class u (m ∷ ms) = moveInto C class m (neighbour R u m) ++ movesBy R C class u ms
 
--- "plus 10 times |dx|+|dy|+|dz| to the goal"
+-- the estimate: "10 times |dx|+|dy|+|dz| to the goal"
+abbrev pub estimateOf : ℕ → ℕ
+estimateOf far = 10 * far
+
+-- the graph of a room whose cells have classes
 unfoldable pub graphOf : Room → RouterConfig → (ℕ → ℕ) → ℕ → ℕ → ℕ → Graph
 graphOf R C class start goal places = record {
   moves = λ u. movesBy R C class u moves;
-  estimate = λ u. 10 * distance R u goal;
+  estimate = λ u. estimateOf (distance R u goal);
   size = volume R;
   start = start;
   goal = goal;
   places = places;
 }
 
+-- the graph that is searched
 abbrev pub graph : Task → Graph
 graph T = graphOf (T .room) (T .config) (entering T) (T .start) (T .goal) (T .places)
 

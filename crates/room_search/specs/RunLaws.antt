@@ -7,23 +7,23 @@ use native.Mathlib.Omega.{arith}
 use lib.ListN.{length, getD, set, replicate}
 use Rattle.room.specs.declared.Room.{Room}
 use Rattle.room.specs.declared.RouterConfig.{RouterConfig}
-use Rattle.room.specs.Room.{Good, volume, distance, posOf}
-use Rattle.room.specs.Units.{Fair}
+use Rattle.room.specs.Room.{Good, volume, distanceAt, distance, posOf}
+use Rattle.room.specs.Units.{GoodConfig}
 use Rattle.best_first.specs.Search.{Graph, no-route, outset, bestFirst, Answer}
 use Rattle.best_first.specs.Entries.{Same}
 use Rattle.best_first.specs.Statements.{Bounded}
 use Rattle.best_first.specs.Loops.{Going, going-outset, going-alike, going-bounded, going-none}
-use Rattle.queue.specs.Queue.{entry, Pushed}
+use Rattle.queue.specs.Queue.{asOne, Pushed}
 use Rattle.queue.specs.BagLaws.{bag-zero}
 use Rattle.room_search.specs.declared.Line.{Line}
 use Rattle.room_search.specs.declared.Spot.{Spot}
 use Rattle.room_search.specs.declared.Outcome.{Outcome}
 use Rattle.room_search.specs.declared.Turn.the-variants.{GoesOn, Ended}
-use Rattle.room_search.specs.Routing.{graphOf}
+use Rattle.room_search.specs.Routing.{estimateOf, graphOf}
 use Rattle.room_search.specs.Held.{entriesIn, held}
 use Rattle.room_search.specs.HeldLaws.{pushed-entries}
 use Rattle.room_search.specs.GraphLaws.{dearest, sound, dearest-most}
-use Rattle.room_search.specs.Steps.{maxKnown, estimateOf, placesOf, Ready, Placed}
+use Rattle.room_search.specs.Steps.{maxKnown, placesOf, Ready, Placed}
 use Rattle.room_search.specs.Turns.{graphIn, Takeable, Told, Turned, Fresh, Searchable, Showable}
 use Rattle.room_search.specs.declared.Outcome.the-variants.{Arrived, NoRoute, LimitPassed, QueueFull}
 use Rattle.room.specs.declared.Pos.{Pos}
@@ -31,7 +31,7 @@ use Rattle.room.specs.declared.Pos.{Pos}
 -- what a search is over, and stays over
 pub record Arena (R : Room) (C : RouterConfig) (classes : List ℕ) (start : ℕ) (goal : Spot) : Type 0 where
   pub good : Good R
-  pub fair : Fair C
+  pub fair : GoodConfig C
   pub classes-length : length classes ≡ volume R
   pub start-in : start < volume R
   pub goal-placed : Placed R goal
@@ -56,8 +56,8 @@ pub record Running (R : Room) (C : RouterConfig) (classes queue₀ : List ℕ) (
 
 -- the start is known at cost 0 and waits
 pub running-outset : {R : Room} {C : RouterConfig} {classes known previous queue₀ : List ℕ} {start goal : Spot} → Fresh R C classes known previous queue₀ start goal
-    → (queue : List ℕ) (rank : ℕ) → length queue ≡ length queue₀ → rank ≡ estimateOf (start .at) (goal .at) * 2 ^ 32
-    → Pushed queue₀ 0 (rank * 2 ^ 64 + start .cell) queue
+    → (queue : List ℕ) (rank : ℕ) → length queue ≡ length queue₀ → rank ≡ estimateOf (distanceAt (start .at) (goal .at)) * 2 ^ 32
+    → Pushed queue₀ 0 (asOne rank (start .cell)) queue
     → Running R C classes queue (start .cell) goal (set known (start .cell) 1) previous queue (record { waiting = 1; serial = 0 }) 0
 unfolding graphOf outset held distance entriesIn
 running-outset {R} {C} {classes} {known} {previous} {queue₀} {start} {goal} F queue rank same e P = record {
@@ -75,10 +75,10 @@ running-outset {R} {C} {classes} {known} {previous} {queue₀} {start} {goal} F 
     some : 1 ≤ placesOf queue
     some = omega (arith, F .places-some, ap (λ (n : ℕ). n / 2) same)
 
-    first : Same (record { key = estimateOf (start .at) (goal .at); serial = 0; cell = start .cell } ∷ []) (entriesIn queue 1)
+    first : Same (record { key = estimateOf (distanceAt (start .at) (goal .at)); serial = 0; cell = start .cell } ∷ []) (entriesIn queue 1)
     first =
-        let k : rank ≡ estimateOf (start .at) (goal .at) * 2 ^ 32 + 0 = omega arith in
-        rw bag-zero at (pushed-entries queue₀ 0 (estimateOf (start .at) (goal .at)) 0 (start .cell) queue (omega arith)
+        let k : rank ≡ estimateOf (distanceAt (start .at) (goal .at)) * 2 ^ 32 + 0 = omega arith in
+        rw bag-zero at (pushed-entries queue₀ 0 (estimateOf (distanceAt (start .at) (goal .at))) 0 (start .cell) queue (omega arith)
         (omega (arith, F .start-placed .inside, F .good .few)) (rw k at P))
 
 module _ {R : Room} {C : RouterConfig} {classes queue₀ : List ℕ} {start : ℕ} {goal : Spot} (A : Arena R C classes start goal)

@@ -2,14 +2,13 @@
 -- moves goes on from the slices as they were to the slices as they are.
 use mathlib.Core.Path.{_≡_}
 use mathlib.Core.List.{List, [], _∷_, _++_}
-use Prim.Native.Nat.{ℕ, _+_, _*_, _/_, _^_, _≤_, _<_}
+use Prim.Native.Nat.{ℕ, _+_, _/_, _^_, _≤_, _<_}
 use lib.ListN.{length, getD}
 use Rattle.room.specs.declared.Room.{Room}
-use Rattle.room.specs.declared.Pos.{Pos}
 use Rattle.room.specs.declared.Move.{Move}
 use Rattle.room.specs.declared.RouterConfig.{RouterConfig}
-use Rattle.room.specs.Room.{Good, maxSide, by, volume, posOf, distanceAt}
-use Rattle.room.specs.Units.{Fair}
+use Rattle.room.specs.Room.{Good, by, volume, posOf}
+use Rattle.room.specs.Units.{GoodConfig}
 use Rattle.best_first.specs.Search
 use Rattle.best_first.specs.Search.{Graph, Pushed, full}
 use Rattle.best_first.specs.Ways.{Sound}
@@ -21,16 +20,6 @@ use Rattle.room_search.specs.declared.Step.{Step}
 use Rattle.room_search.specs.declared.Step.the-variants.{On, Full}
 use Rattle.room_search.specs.Routing.{movesBy, graphOf}
 use Rattle.room_search.specs.Held.{held}
-
--- each part of a position is below a side
-pub record Small (p : Pos) : Type 0 where
-  pub x-small : p .x < maxSide
-  pub y-small : p .y < maxSide
-  pub z-small : p .z < maxSide
-
--- ten times the distance of two positions
-abbrev pub estimateOf : Pos → Pos → ℕ
-estimateOf p q = 10 * distanceAt p q
 
 -- two numbers a place
 abbrev pub placesOf : List ℕ → ℕ
@@ -131,7 +120,7 @@ pub record Aside (R : Room) (from beside : Spot) (m : Move) : Type 0 where
 -- what these functions ask of their parameters to try so many moves
 pub record Able (tries : ℕ) (R : Room) (C : RouterConfig) (classes : List ℕ) (goal : Spot) (from : Spot) (cost : ℕ) (known previous queue : List ℕ) (line : Line) : Type 0 where
   pub good : Good R
-  pub fair : Fair C
+  pub fair : GoodConfig C
   pub classes-length : length classes ≡ volume R
   pub known-length : length known ≡ volume R
   pub previous-length : length previous ≡ volume R

@@ -14,17 +14,16 @@ use Rattle.room.specs.declared.Pos.{Pos}
 use Rattle.room.specs.declared.Move.{Move}
 use Rattle.room.specs.declared.RouterConfig.{RouterConfig}
 use Rattle.room.specs.declared.Neighbour.the-variants.{Inside, Outside}
-use Rattle.room.specs.Room.{Good, Within, Moved, at, volume, posOf, cellOf, between, stays, neighbour, distance}
+use Rattle.room.specs.Room.{Good, Within, SmallPos, at, volume, posOf, cellOf, between, stays, neighbour, distanceAt, distance}
 use Rattle.room.specs.RoomLaws.{cell-pos, pos-cell, pos-in, cell-in, small-pos}
-use Rattle.room.specs.MoveLaws.{leads-to, not-stays, one-less-in}
-use Rattle.best_first.specs.Search
+use Rattle.room.specs.MoveLaws.{Moved, leads-to, not-stays, one-less-in}
 use Rattle.best_first.specs.Search.{Graph}
 use Rattle.room_search.specs.declared.Line.{Line}
 use Rattle.room_search.specs.declared.Spot.{Spot}
 use Rattle.room_search.specs.declared.Step.{Step}
 use Rattle.room_search.specs.declared.Step.the-variants.{On, Full}
-use Rattle.room_search.specs.Routing.{total, priceOf, movesBy, graphOf}
-use Rattle.room_search.specs.Steps.{Small, estimateOf, Ready, Readied, Placed, Offered, Setting, setting, dueOf, Tried, Aside}
+use Rattle.room_search.specs.Routing.{total, priceOf, movesBy, estimateOf, graphOf}
+use Rattle.room_search.specs.Steps.{Ready, Readied, Placed, Offered, Setting, setting, dueOf, Tried, Aside}
 
 -- ---- what one move adds to the moves due
 
@@ -101,7 +100,7 @@ module _ (R : Room) (G : Good R) (from beside : Spot) (m : Move) (P : Placed R f
       pub inside : cell < volume R
       pub leads : neighbour R (from .cell) m ≡ Inside cell
       pub place : at (beside .at .x) (beside .at .y + m .y - 1) (beside .at .z) ≡ posOf R cell
-      pub small : Small (at (beside .at .x) (beside .at .y + m .y - 1) (beside .at .z))
+      pub small : SmallPos (at (beside .at .x) (beside .at .y + m .y - 1) (beside .at .z))
 
     pub landed : Landing (beside .cell + m .y * R .deep - R .deep)
     unfolding landing
@@ -119,10 +118,8 @@ module _ (R : Room) (G : Good R) (from beside : Spot) (m : Move) (P : Placed R f
 -- ---- numbers on the way
 
 module _ (R : Room) (G : Good R) (s : Spot) (P : Placed R s) where
-  pub placed-small : Small (s .at)
-  placed-small =
-      let t = small-pos R G (s .cell) (P .inside) (s .at) (P .is) in
-      record { x-small = t .0; y-small = t .1; z-small = t .2 }
+  pub placed-small : SmallPos (s .at)
+  placed-small = small-pos R G (s .cell) (P .inside) (s .at) (P .is)
 
 pub rise-few : (R : Room) → Good R → (k : ℕ) → k ≤ 2 → k * R .deep ≤ 128
 rise-few R G k h = mul-le-mul h (G .z-most)
@@ -143,7 +140,7 @@ module _ (R : Room) (C : RouterConfig) (classes : List ℕ) (goal : Spot) (from 
 
   pub tried-offered : (v : ℕ) (p : Pos) → neighbour R (from .cell) m ≡ Inside v → getD classes v 0 ≢ 0 → Placed R goal → p ≡ posOf R v
       → (r : Step) (known′ previous′ queue′ : List ℕ)
-      → Offered (from .cell) v (cost + total (priceOf C m (getD classes v 0))) (estimateOf p (goal .at)) known previous queue line r known′ previous′ queue′
+      → Offered (from .cell) v (cost + total (priceOf C m (getD classes v 0))) (estimateOf (distanceAt p (goal .at))) known previous queue line r known′ previous′ queue′
       → Tried S (m ∷ []) known previous queue line r known′ previous′ queue′
   unfolding graphOf distance
   tried-offered v p e z P q r known′ previous′ queue′ O = record {

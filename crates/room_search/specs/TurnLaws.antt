@@ -9,7 +9,7 @@ use lib.ListN.{length, getD}
 use Rattle.room.specs.declared.Room.{Room}
 use Rattle.room.specs.declared.RouterConfig.{RouterConfig}
 use Rattle.room.specs.Room.{volume, moves}
-use Rattle.best_first.specs.Search.{Graph, Answer, State, full, counted}
+use Rattle.best_first.specs.Search.{Graph, Answer, State, counted}
 use Rattle.best_first.specs.Search as search
 use Rattle.best_first.specs.Entries.{Popped, popped-taking}
 use Rattle.best_first.specs.Statements.{costOf}

@@ -6,9 +6,9 @@ use lib.ListN.{length, getD, replicate}
 use Rattle.room.specs.declared.Room.{Room}
 use Rattle.room.specs.declared.RouterConfig.{RouterConfig}
 use Rattle.room.specs.Room.{Good, volume, posOf}
-use Rattle.room.specs.Units.{Fair}
+use Rattle.room.specs.Units.{GoodConfig}
 use Rattle.basics.specs.Lists.{In}
-use Rattle.trace.specs.Traces.{Linked}
+use Rattle.trace.specs.Traces.{PreviousInside}
 use Rattle.best_first.specs.Search.{Graph, Answer, Entry, trace, route, no-route, limit-passed, queue-full, bestFirst}
 use Rattle.best_first.specs.Loops.{Going}
 use Rattle.room_search.specs.declared.Line.{Line}
@@ -28,7 +28,7 @@ graphIn R C classes start goal queue = graphOf R C (λ v. getD classes v 0) star
 -- what one taking asks of its parameters
 pub record Takeable (R : Room) (C : RouterConfig) (classes known previous queue : List ℕ) (line : Line) (goal : Spot) : Type 0 where
   pub good : Good R
-  pub fair : Fair C
+  pub fair : GoodConfig C
   pub classes-length : length classes ≡ volume R
   pub known-length : length known ≡ volume R
   pub previous-length : length previous ≡ volume R
@@ -68,7 +68,7 @@ pub record Turned (R : Room) (C : RouterConfig) (classes known previous queue : 
 -- what a whole search asks of its parameters: nothing is known yet
 pub record Fresh (R : Room) (C : RouterConfig) (classes known previous queue : List ℕ) (start goal : Spot) : Type 0 where
   pub good : Good R
-  pub fair : Fair C
+  pub fair : GoodConfig C
   pub classes-length : length classes ≡ volume R
   pub known-zero : known ≡ replicate (volume R) 0
   pub previous-zero : previous ≡ replicate (volume R) 0
@@ -83,7 +83,7 @@ spotOf R v = record { cell = v; at = posOf R v }
 -- what a search over class bytes asks, whatever its memory holds: work memory of exactly V cells, and a place in the queue
 pub record Searchable (R : Room) (C : RouterConfig) (classes known previous queue : List ℕ) (start goal : ℕ) : Type 0 where
   pub good : Good R
-  pub fair : Fair C
+  pub fair : GoodConfig C
   pub classes-long : length classes ≡ volume R
   pub known-long : length known ≡ volume R
   pub previous-long : length previous ≡ volume R
@@ -98,7 +98,7 @@ pub record Ran (R : Room) (C : RouterConfig) (classes queue : List ℕ) (start g
 
 -- what the outcome asks of the slices, so that the path can be written
 abbrev pub Showable : Outcome → ℕ → List ℕ → List ℕ → Type 0
-Showable (Arrived x) goal known previous = Linked previous × (0 < getD known goal 0)
+Showable (Arrived x) goal known previous = PreviousInside previous × (0 < getD known goal 0)
 Showable (NoRoute x) goal known previous = Unit {0}
 Showable (LimitPassed x) goal known previous = Unit {0}
 Showable (QueueFull x) goal known previous = Unit {0}

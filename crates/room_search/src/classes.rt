@@ -1,7 +1,6 @@
 // The class byte of each cell: what it takes to enter it. 0: it can't be entered; 1: the step alone; 2: the step and a
 // new support.
 ghost use mathlib.Core.Path.{_≡_};
-ghost use mathlib.Core.Bool.{true, false};
 ghost use Prim.Native.Nat.{_-_, _≤_, _<_};
 ghost use lib.Dec.{ltb};
 ghost use lib.ListN.{length, getD};
@@ -81,7 +80,8 @@ pub fn make_end(room: Room, kinds: &[u8], classes: &mut [u8], cell: usize)
 }
 
 // The kind right beneath the cell v, which is the `layer`-th of those that share its x: the first `deep` of them have
-// nothing but the room's floor beneath.
+// nothing but the room's floor beneath. It stands beside `kind_beneath` for where the whole room is filled in: it spares
+// two divisions a cell.
 fn kind_below(kinds: &[u8], v: usize, layer: usize, deep: usize) -> u8
     requires { ⌜ (v < length (now kinds)) × (layer ≤ v) ⌝ }
     ensures { λ r. ⌜ r ≡ either (ltb layer deep) solid (getD (now (kinds .entry)) (v - deep) 0) ⌝ }

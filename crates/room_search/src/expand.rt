@@ -1,12 +1,12 @@
 // The moves of one cell: each neighbour that can be entered is offered at its cost.
 ghost use mathlib.Core.Path.{_≡_};
-ghost use Prim.Native.Nat.{_+_, _*_, _≤_, _<_, _^_};
+ghost use Prim.Native.Nat.{_+_, _≤_, _<_, _^_};
 ghost use lib.ListN.{length};
 ghost use mathlib.Core.List.{[], _∷_};
-ghost use Rattle.room.specs.Room.{moves};
-ghost use Rattle.room.specs.Units.{Fair};
-ghost use Rattle.room_search.specs.Routing.{total, priceOf};
-ghost use Rattle.room_search.specs.Steps.{estimateOf, maxKnown, Small, Ready, Offered, Able, Aside, setting, Tried, column};
+ghost use Rattle.room.specs.Room.{maxVolume, SmallPos, moves, distanceAt};
+ghost use Rattle.room.specs.Units.{GoodConfig};
+ghost use Rattle.room_search.specs.Routing.{total, priceOf, estimateOf};
+ghost use Rattle.room_search.specs.Steps.{maxKnown, Ready, Offered, Able, Aside, setting, Tried, column};
 use crate::Line;
 use crate::Spot;
 use crate::Step;
@@ -16,11 +16,14 @@ use room::Room;
 use room::RouterConfig;
 use room::long;
 
-// Ten times the distance of two positions, of which each part is below 64.
+// A rank is its key times this, plus its serial, which fits 32 bits.
+pub const KEY_UNIT: u64 = 4294967296;
+
+// Ten times the distance of two positions, of which each part is below the longest side.
 pub fn estimate(p: Pos, q: Pos) -> u64
-    requires { ⌜ Small p ⌝ }
-    requires { ⌜ Small q ⌝ }
-    ensures { λ r. ⌜ r ≡ estimateOf p q ⌝ }
+    requires { ⌜ SmallPos p ⌝ }
+    requires { ⌜ SmallPos q ⌝ }
+    ensures { λ r. ⌜ r ≡ estimateOf (distanceAt p q) ⌝ }
 {
     10 * (room::distance_at(p, q) as u64)
 }
@@ -37,12 +40,12 @@ fn offer(
     at: Pos,
     goal: Pos,
 ) -> Step
-    requires { ⌜ (cell < length (now known)) × (length (now previous) ≡ length (now known)) × (length (now known) ≤ 16384) ⌝ }
-    requires { ⌜ (from < 16384) × (cost ≤ maxKnown + 200000) × (line .serial + 1 < 2 ^ 32) ⌝ }
+    requires { ⌜ (cell < length (now known)) × (length (now previous) ≡ length (now known)) × (length (now known) ≤ maxVolume) ⌝ }
+    requires { ⌜ (from < maxVolume) × (cost ≤ maxKnown + 200000) × (line .serial + 1 < 2 ^ 32) ⌝ }
     requires { ⌜ Ready (now queue) line ⌝ }
-    requires { ⌜ Small at ⌝ }
-    requires { ⌜ Small goal ⌝ }
-    ensures { λ r. ⌜ Offered from cell cost (estimateOf at goal) (now (known .entry)) (now (previous .entry)) (now (queue .entry)) line r (now (known .exit)) (now (previous .exit)) (now (queue .exit)) ⌝ }
+    requires { ⌜ SmallPos at ⌝ }
+    requires { ⌜ SmallPos goal ⌝ }
+    ensures { λ r. ⌜ Offered from cell cost (estimateOf (distanceAt at goal)) (now (known .entry)) (now (previous .entry)) (now (queue .entry)) line r (now (known .exit)) (now (previous .exit)) (now (queue .exit)) ⌝ }
 {
     let old = known[cell];
     if old != 0 {
@@ -58,7 +61,7 @@ fn offer(
     let key = long(cost) + estimate(at, goal);
     known[cell] = cost + 1;
     previous[cell] = (from + 1) as u32;
-    queue::push(queue, waiting, key * 4294967296 + serial, cell as u64);
+    queue::push(queue, waiting, key * KEY_UNIT + serial, cell as u64);
     Step::On(Line {
         waiting: waiting + 1,
         serial: serial,
@@ -78,7 +81,7 @@ fn step_cost(config: RouterConfig, m: Move) -> u32
 
 // What entering a cell of that class costs: the step, and a new support where there is none.
 fn price(config: RouterConfig, m: Move, class: u8) -> u32
-    requires { ⌜ Fair config ⌝ }
+    requires { ⌜ GoodConfig config ⌝ }
     ensures { λ r. ⌜ r ≡ total (priceOf config m class) ⌝ }
 {
     let step = step_cost(config, m);

@@ -1,5 +1,5 @@
 // The search over a room: what it takes to enter each cell, the moves tried from a cell, and the takings one after another.
-mod classes; // classes.rt: which cells can be entered, and at which price
+mod classes; // classes.rt: what it takes to enter each cell
 mod expand; // expand.rt: the moves of a cell, each offered to the queue
 mod search; // search.rt: the takings
 

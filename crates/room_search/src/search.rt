@@ -1,11 +1,12 @@
 // The takings of one search, until the goal is taken, nothing waits, or a limit is met.
-ghost use Prim.Native.Nat.{_+_, _≤_, _<_};
+ghost use Prim.Native.Nat.{_≤_};
 ghost use Rattle.room_search.specs.Turns.{Fresh, Ran, Takeable, Turned, spotOf, Searchable};
 use crate::Line;
 use crate::Outcome;
 use crate::Spot;
 use crate::Step;
 use crate::Turn;
+use crate::expand::KEY_UNIT;
 use crate::expand::estimate;
 use crate::expand::expand;
 use room::Nodes;
@@ -81,7 +82,7 @@ fn run(
     queue::push(
         queue,
         0,
-        estimate(start.at, goal.at) * 4294967296,
+        estimate(start.at, goal.at) * KEY_UNIT,
         first as u64,
     );
     let mut line = Line {

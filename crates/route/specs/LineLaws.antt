@@ -10,9 +10,11 @@ use lib.ListN.{length, take, drop, getD, drop-of-length-le}
 use lib.Seq.{drop-cons}
 use borrow.Author.Tests.{leb-true, leb-false, lt-ltb, le-ltb, eq-eqb, ne-eqb}
 use Rattle.basics.specs.Tests.{ask, never}
+use Rattle.basics.specs.Lists.{drop-next}
 use Rattle.io.specs.Digits.{digits, glyph, Fewest}
 use Rattle.route.specs.Lines.{decimalWithin, decimal, number, numbers, line}
-use Rattle.route.specs.Putting.{Put, Fits, Going, both, then-fits, first-fits, going-on, going-done, going-fits}
+use Rattle.route.specs.Putting.{Put, Fits, Going}
+use Rattle.route.specs.PutLaws.{both, then-fits, first-fits, going-on, going-done, going-fits}
 use Rattle.route.specs.Marked.{ifMarked, markedFrom}
 
 -- ---- numbers
@@ -24,7 +26,7 @@ last-digit : (n : ℕ) → glyph (n % 10) ≡ 48 + n % 10
 last-digit n = glyph-digit (n % 10) (mod-lt n (omega arith))
 
 -- the fewest digits that hold a number are its decimal
-pub fewest-decimal : (most k n : ℕ) → k ≤ most → Fewest 10 1 n k → digits 10 k n ≡ decimalWithin most n
+fewest-decimal : (most k n : ℕ) → k ≤ most → Fewest 10 1 n k → digits 10 k n ≡ decimalWithin most n
 unfolding decimalWithin
 fewest-decimal most zero n h f = never (omega (arith, f .0))
 fewest-decimal zero (suc k) n h f = never (omega (arith, h))
@@ -102,14 +104,14 @@ module _ (word : List ℕ) (a b : ℕ) {out : List ℕ} {at : ℕ} {out1 : List 
 
 -- ---- the loops
 
-pub numbers-append : (xs ys : List ℕ) → numbers (xs ++ ys) ≡ numbers xs ++ numbers ys
+numbers-append : (xs ys : List ℕ) → numbers (xs ++ ys) ≡ numbers xs ++ numbers ys
 unfolding numbers
 numbers-append [] ys = refl
 numbers-append (x ∷ xs) ys = ap (λ l. number x ++ l) (numbers-append xs ys) ∙ sym (append-assoc (number x) (numbers xs) (numbers ys))
 
 numbers-next : (cells : List ℕ) (i : ℕ) → i < length cells → numbers (drop i cells) ≡ number (getD cells i 0) ++ numbers (drop (i + 1) cells)
 unfolding numbers
-numbers-next cells i h = rw (add-one i, drop-cons cells i 0 h) refl
+numbers-next cells i h = ap numbers (drop-next cells i 0 h)
 
 -- cells are put, one after another
 module _ {out whole : List ℕ} {at : ℕ} (cells : List ℕ) (i : ℕ) {out′ : List ℕ} {end : ℕ} (g : Going out at whole (numbers (drop i cells)) out′ end) where
@@ -148,10 +150,6 @@ module _ {out whole : List ℕ} {at : ℕ} (marks : List ℕ) (i : ℕ) {out′ 
   pub marks-done : length marks ≤ i → Put out at whole out′ end
   unfolding numbers markedFrom
   marks-done h = going-done (rw (drop-of-length-le marks h) at g)
-
--- a cell that is not marked puts nothing
-pub put-nothing : {out : List ℕ} {at : ℕ} → Put out at [] out at
-put-nothing {out} {at} = record { ends = omega arith; front = sym (append-nil (take at out)); same = refl }
 
 pub if-unmarked : (mark cell : ℕ) → (mark ≡ 1 → ⊥) → numbers (ifMarked mark cell) ≡ []
 unfolding numbers

@@ -1,10 +1,10 @@
 -- What `route` prints, byte for byte: the end of "Sample rooms" of the requirement.
-use mathlib.Core.List.{List, [], _∷_, _++_}
+use mathlib.Core.List.{List, [], _∷_, _++_, map}
 use Prim.Native.Nat.{ℕ, zero, suc, _+_, _/_, _%_}
 use lib.Dec.{ltb}
-use lib.ListN.{take, drop}
 use Rattle.basics.specs.Tests.{either}
-use Rattle.branches.specs.Branches.{lengthsIn}
+use Rattle.job_sheet.specs.Sheet.{joined}
+use Rattle.branches.specs.Branches.{branchesOf}
 use Rattle.branches.specs.declared.BranchLengths.{BranchLengths}
 use Rattle.net_tree.specs.declared.Answer.{Answer}
 use Rattle.net_tree.specs.declared.Ended.{Ended}
@@ -61,6 +61,10 @@ netLine branches occupied = line netWord (branches ∷ occupied ∷ [])
 abbrev pub branchLine : List ℕ → List ℕ
 branchLine cells = line branchWord cells
 
+-- "for each sink in sheet order"
+abbrev pub branchLines : List (List ℕ) → List ℕ
+branchLines branches = joined (map branchLine branches)
+
 -- "a line `repeaters` with their cells ascending, the bare word if there are none"
 abbrev pub repeatersLine : List ℕ → List ℕ
 repeatersLine cells = line repeatersWord cells
@@ -71,16 +75,8 @@ refusedLine number detail = line refusedWord (number ∷ detail ∷ [])
 
 -- ---- the lines of an answer, with the branch buffer and the repeaters' marks that come with it
 
--- branches one after another, by their lengths
-unfoldable pub branchLinesBy : List ℕ → List ℕ → List ℕ
-branchLinesBy cells [] = []
-branchLinesBy cells (n ∷ ns) = branchLine (take n cells) ++ branchLinesBy (drop n cells) ns
-
-abbrev pub branchLines : List ℕ → BranchLengths → List ℕ
-branchLines cells lengths = branchLinesBy cells (lengthsIn lengths)
-
 abbrev pub treeText : BranchLengths → ℕ → List ℕ → List ℕ → List ℕ
-treeText lengths occupied cells repeaters = netLine (lengths .count) occupied ++ (branchLines cells lengths ++ repeatersLine (marked repeaters))
+treeText lengths occupied cells repeaters = netLine (lengths .count) occupied ++ (branchLines (branchesOf lengths cells) ++ repeatersLine (marked repeaters))
 
 abbrev pub endedText : Ended → BranchLengths → List ℕ → List ℕ → List ℕ
 endedText (Routed occupied count) lengths cells repeaters = treeText lengths occupied cells repeaters

@@ -9,7 +9,6 @@ use Rattle.basics.specs.Tests.{either, ask, never}
 use Rattle.net_tree.specs.declared.Lengths.{Lengths}
 use Rattle.outset.specs.declared.Outset.{Outset}
 use Rattle.room.specs.declared.Neighbour.{Neighbour}
-use Rattle.turns.specs.Turns.{sinkAt, far}
 use Rattle.branches.specs.Branches.{branchOf}
 use Rattle.room.specs.declared.Room.{Room}
 use Rattle.room.specs.declared.Neighbour.the-variants.{Inside, Outside}
@@ -17,12 +16,11 @@ use Rattle.room.specs.Room.{volume}
 use Rattle.job_sheet.specs.declared.Verdict.{Verdict}
 use Rattle.job_sheet.specs.declared.Verdict.the-variants.{Good, Sheet, Sides, Config, Position, Code}
 use Rattle.job_sheet.specs.Sheet.{numberOf, Contents}
-use Rattle.blocks.specs.declared.Placement.{Placement}
-use Rattle.ends.specs.declared.Fault.{Fault}
 use Rattle.outset.specs.SetOut.{numberBy, ready}
 use Rattle.goals.specs.Goals.{Trial, found, failed, full, routeToTree}
-use Rattle.multinet.specs.Tree.{Plot, Tree, Growth, grown, stopped, fitsIn, afterSink, growSink, growOn, growFrom, growthOf, tapAt, siteAt, withBranch, planted}
+use Rattle.multinet.specs.Tree.{Plot, Tree, Growth, grown, stopped, fitsIn, afterSink, growSink, sinkNow, growOn, growFrom, growthOf, tapAt, siteAt, withBranch, planted}
 use Rattle.net_tree.specs.Answers.{buffersGood, Outcome, numberFor, outcomeOf, jobOutcome, unread, unlent, set-out, plotFor}
+use Rattle.net_tree.specs.JobLaws.{late}
 use Rattle.route.specs.Printed.{maxCells, programLengths, ComesHere, over, not-over}
 
 -- ---- a sheet that is refused has one of 1 to 5
@@ -42,12 +40,6 @@ unfolding buffersGood
 lent-enough R h = rw (le-leb (volume R) maxCells h)
 
 -- ---- a job that is set out has one of 7 to 9, or of 13 to 15
-
-set-out-high : (p : Placement) (f : Fault) → numberBy p f ≡ 6 → ⊥
-set-out-high (Placement.RepeatAt cell) f e = omega arith
-set-out-high Placement.Placed Fault.Good e = omega arith
-set-out-high Placement.Placed (Fault.NoFacing place) e = omega arith
-set-out-high Placement.Placed (Fault.Outside place) e = omega arith
 
 -- a growth that stops has a number above 12
 abbrev StopsHigh : Growth → Type 0
@@ -77,7 +69,7 @@ growth-high : (n : ℕ) (P : Plot) (turn : ℕ) (T : Tree) → StopsHigh (growFr
 unfolding growFrom
 growth-high zero P turn T = tt
 growth-high (suc n) P turn T =
-    let k = sinkAt (far (P .room) (P .source) (P .taps .taps)) (P .taps .count) turn in
+    let k = sinkNow P turn in
     on-high (growFrom n P (turn + 1)) (growth-high n P (turn + 1)) (growSink P k T) (sink-high P k T)
 
 outcome-high : (P : Plot) (g : Growth) → StopsHigh g → numberFor (outcomeOf P g) ≡ 6 → ⊥
@@ -90,15 +82,12 @@ job-high J L O kinds blocked e =
     let P = plotFor J L O kinds in
     ask (ready O)
     (λ t. outcome-high P (growthOf P blocked) (growth-high (P .taps .count) P 0 (planted P blocked)) (rw t at e))
-    (λ f. set-out-high (O .placement) (O .ends .fault) (rw f at e))
+    (λ f. let six : numberBy (O .placement) (O .ends .fault) ≡ 6 = rw f at e in omega (arith, late (O .placement) (O .ends .fault) f, six))
 
 -- ---- so it never says 6
 
 pub no-six : {sheet : List ℕ} {o : Outcome} → ComesHere sheet o → numberFor o ≡ 6 → ⊥
 no-six (over J m h e) n = let k : _≡_ {A = ℕ} 2 6 = sym (ap numberFor e) ∙ n in omega (arith, k)
 no-six (not-over small (unread r p f e)) n = refused-low (r .verdict) (sym (ap numberFor e) ∙ n)
-no-six (not-over small (unlent J m g b e)) n = never (clash (sym b ∙ lent-enough (J .room) (small J m)))
-  where
-    clash : false ≡ true → _≡_ {A = ℕ} 0 1
-    clash c = cc
+no-six (not-over small (unlent J m g b e)) n = never (cc (sym b ∙ lent-enough (J .room) (small J m)))
 no-six (not-over small (set-out J m g b O kinds nodes blocked s e)) n = job-high J programLengths O kinds blocked (sym (ap numberFor e) ∙ n)

@@ -1,15 +1,15 @@
 -- What `route` prints of a sheet.
 use mathlib.Core.Path.{_≡_}
 use mathlib.Core.Bool.{Bool, true, false}
-use mathlib.Core.List.{List, _++_, map}
+use mathlib.Core.List.{List, _++_}
 use Prim.Native.Nat.{ℕ, _≤_, _<_}
 use lib.ListN.{length, take}
 use Rattle.room.specs.Room.{volume}
-use Rattle.job_sheet.specs.Sheet.{Contents, Means, joined}
+use Rattle.job_sheet.specs.Sheet.{Contents, Means}
 use Rattle.branches.specs.Branches.{markedCount}
 use Rattle.net_tree.specs.declared.Lengths.{Lengths}
 use Rattle.net_tree.specs.Answers.{Outcome, routed, refused, Comes}
-use Rattle.route.specs.Lines.{netLine, branchLine, repeatersLine, refusedLine}
+use Rattle.route.specs.Lines.{netLine, branchLines, repeatersLine, refusedLine}
 use Rattle.route.specs.Marked.{marked}
 
 -- "Over 4,096 cells it prints `refused 2 0`"
@@ -41,7 +41,7 @@ pub data ComesHere (sheet : List ℕ) (o : Outcome) : Type 0 where
 -- the lines: `net`, "a line `branch` with its cells for each sink in sheet order", `repeaters`; or `refused`
 abbrev pub printed : Outcome → List ℕ
 printed (routed branches occupied repeaters) =
-    netLine (length branches) (markedCount occupied) ++ (joined (map branchLine branches) ++ repeatersLine (marked repeaters))
+    netLine (length branches) (markedCount occupied) ++ (branchLines branches ++ repeatersLine (marked repeaters))
 printed (refused number detail) = refusedLine number detail
 
 -- the first `end` bytes of the buffer are the lines of what comes

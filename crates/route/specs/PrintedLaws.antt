@@ -1,34 +1,35 @@
 -- What is printed of an answer is printed of what comes; the limit of the program's own; how long the text can be.
 use mathlib.Core.Path.{_≡_, refl, sym, ap, _∙_}
 use mathlib.Core.Bool.{Bool, true, false}
-use mathlib.Core.List.{List, [], _∷_, _++_, map, append-assoc}
+use mathlib.Core.List.{List, [], _∷_, _++_, map}
 use Prim.Native.Nat.{ℕ, zero, suc, _+_, _-_, _*_, _/_, _%_, _≤_}
-use native.Mathlib.Nat.{mul-le-mul}
 use native.Mathlib.Omega.{arith}
 use lib.Dec.{ltb, eqb}
 use lib.ListN.{length, take, drop, getD, replicate, length-append, length-map, length-take, length-replicate}
-use lib.Seq.{take-at, take-append-seam, drop-append-seam}
+use lib.Seq.{take-at}
 use borrow.Author.Tests.{ltb-true, ltb-false}
 use Rattle.basics.specs.Tests.{ask, never}
 use Rattle.basics.specs.Promises.{Determines}
+use Rattle.basics.specs.Padding.{padded-long}
 use Rattle.lent.specs.Lent.{filled}
 use Rattle.room.specs.Room.{volume}
 use Rattle.job_sheet.specs.declared.Reading.{Reading}
 use Rattle.job_sheet.specs.declared.Verdict.{Verdict}
 use Rattle.job_sheet.specs.declared.Verdict.the-variants.{Good, Sheet, Sides, Config, Position, Code}
-use Rattle.job_sheet.specs.Sheet.{Contents, Means, Read, meaning, nothing, bytesBy, rest, numberOf, joined}
+use Rattle.job_sheet.specs.Sheet.{Contents, Means, Read, meaning, nothing, bytesBy, rest, numberOf, joined, maxSinks}
 use Rattle.job_sheet.specs.Theorems.{number-one}
 use Rattle.branches.specs.declared.BranchLengths.{BranchLengths}
-use Rattle.branches.specs.Branches.{total, lengthsIn}
+use Rattle.branches.specs.Branches.{sum, lengthsIn, cutInto, branchesOf, Branched}
+use Rattle.branches.specs.BranchLaws.{cut-joined}
 use Rattle.net_tree.specs.declared.Lengths.{Lengths}
 use Rattle.net_tree.specs.declared.Answer.{Answer}
 use Rattle.net_tree.specs.declared.Ended.{Ended}
 use Rattle.net_tree.specs.declared.Ended.the-variants.{Routed, Refused}
 use Rattle.net_tree.specs.Answers.{Lent, Outcome, routed, refused, Comes, Promise, answerOf, lentAfter, lengthsOf, lent}
 use Rattle.net_tree.specs.PromiseLaws.{comes-one}
-use Rattle.route.specs.Lines.{decimalWithin, number, numbers, line, netLine, branchLine, repeatersLine, refusedLine, branchLinesBy, branchLines, treeText, endedText, answerText}
+use Rattle.route.specs.Lines.{decimalWithin, number, numbers, line, netWord, branchWord, repeatersWord, refusedWord, netLine, branchLine, branchLines, repeatersLine, refusedLine, treeText, endedText, answerText}
 use Rattle.route.specs.Marked.{ifMarked, markedFrom, marked}
-use Rattle.route.specs.Putting.{Put, Fits, Branched}
+use Rattle.route.specs.Putting.{Put, Fits}
 use Rattle.route.specs.CountLaws.{few-branches}
 use Rattle.route.specs.Printed.{maxCells, programLengths, ComesHere, over, not-over, printed, Shown, Printed, SizeJudged, is-over, is-not, longestText}
 
@@ -65,20 +66,7 @@ size-judged {sheet} M {cells} e =
     ask (ltb maxCells cells) (λ t. is-over (M .0) (M .1) (omega (arith, ltb-true maxCells cells t, at (M .0) (M .1))) t)
     (λ f. is-not (λ K m. omega (arith, ltb-false maxCells cells f, at K m)) f)
 
--- three sides of a byte each
-pub product-fits : {a b : ℕ} → a ≤ 255 → b ≤ 255 → a * b ≤ 65025
-product-fits h k = mul-le-mul h k
-
-pub cells-fit : {a b c : ℕ} → a ≤ 255 → b ≤ 255 → c ≤ 255 → a * b * c ≤ 16581375
-cells-fit h k l = mul-le-mul (mul-le-mul h k) l
-
 -- ---- the lines of an answer are those of what comes
-
-branch-lines : (bs : List (List ℕ)) (behind : List ℕ) → branchLinesBy (joined bs ++ behind) (map length bs) ≡ joined (map branchLine bs)
-unfolding branchLinesBy
-branch-lines [] behind = refl
-branch-lines (b ∷ bs) behind =
-    rw (append-assoc b (joined bs) behind, take-append-seam b (joined bs ++ behind), drop-append-seam b (joined bs ++ behind), branch-lines bs behind) refl
 
 lengths-are : (bs : List (List ℕ)) (behind : List ℕ) → take (length bs) (map length bs ++ behind) ≡ map length bs
 lengths-are bs behind = take-at (map length bs) behind (length bs) (length-map bs length)
@@ -93,12 +81,12 @@ unfolding markedFrom
 marked-filled cell [] n = none-marked cell n
 marked-filled cell (m ∷ marks) n = ap (λ l. ifMarked m cell ++ l) (marked-filled (suc cell) marks n)
 
-pub answer-printed : (o : Outcome) (B : Lent) → answerText (answerOf o) (lentAfter o B .branches) (lentAfter o B .repeaters) ≡ printed o
+answer-printed : (o : Outcome) (B : Lent) → answerText (answerOf o) (lentAfter o B .branches) (lentAfter o B .repeaters) ≡ printed o
 answer-printed (routed bs occupied repeaters) B =
-    let lines = ap (λ l. branchLinesBy (filled (joined bs) (B .branches)) l) (lengths-are bs (replicate (16 - length bs) 0))
-    ∙ branch-lines bs (replicate (length (B .branches) - length (joined bs)) 0) in
+    let cut = ap (λ l. cutInto l (filled (joined bs) (B .branches))) (lengths-are bs (replicate (maxSinks - length bs) 0))
+    ∙ cut-joined bs (replicate (length (B .branches) - length (joined bs)) 0) in
     let marks = marked-filled 0 repeaters (length (B .repeaters) - length repeaters) in
-    rw (lines, marks) refl
+    rw (cut, marks) refl
 answer-printed (refused number detail) B = refl
 
 -- ---- how long the text is
@@ -117,11 +105,11 @@ numbers-length (n ∷ ns) = omega (arith, length-append (number n) (numbers ns),
 line-length : (word ns : List ℕ) → length (line word ns) ≤ length word + 1 + 21 * length ns
 line-length word ns = omega (arith, length-append word (numbers ns ++ (10 ∷ [])), length-append (numbers ns) (10 ∷ []), numbers-length ns)
 
-branch-lines-length : (cells ns : List ℕ) → length (branchLinesBy cells ns) ≤ 7 * length ns + 21 * total ns
-unfolding branchLinesBy total
+branch-lines-length : (cells ns : List ℕ) → length (branchLines (cutInto ns cells)) ≤ 7 * length ns + 21 * sum ns
+unfolding cutInto sum
 branch-lines-length cells [] = omega arith
 branch-lines-length cells (n ∷ ns) =
-    omega (arith, length-append (branchLine (take n cells)) (branchLinesBy (drop n cells) ns), line-length (98 ∷ 114 ∷ 97 ∷ 110 ∷ 99 ∷ 104 ∷ []) (take n cells), length-take n cells, branch-lines-length (drop n cells) ns)
+    omega (arith, length-append (branchLine (take n cells)) (branchLines (cutInto ns (drop n cells))), line-length branchWord (take n cells), length-take n cells, branch-lines-length (drop n cells) ns)
 
 if-marked-length : (mark cell : ℕ) → length (ifMarked mark cell) ≤ 1
 if-marked-length mark cell = ask (eqb mark 1) (λ t. rw t (omega arith)) (λ f. rw f (omega arith))
@@ -132,28 +120,28 @@ marked-length cell [] = omega arith
 marked-length cell (m ∷ marks) = omega (arith, length-append (ifMarked m cell) (markedFrom (suc cell) marks), if-marked-length m cell, marked-length (suc cell) marks)
 
 refused-length : (number detail : ℕ) → length (refusedLine number detail) ≤ 50
-refused-length number detail = line-length (114 ∷ 101 ∷ 102 ∷ 117 ∷ 115 ∷ 101 ∷ 100 ∷ []) (number ∷ detail ∷ [])
+refused-length number detail = line-length refusedWord (number ∷ detail ∷ [])
 
-tree-length : {cells : List ℕ} {lengths : BranchLengths} → Branched cells lengths → (occupied : ℕ) (marks : List ℕ)
+tree-length : {cells : List ℕ} {lengths : BranchLengths} → Branched lengths cells → (occupied : ℕ) (marks : List ℕ)
     → length (treeText lengths occupied cells marks) ≤ 168 + 21 * length cells + 21 * length marks
 tree-length {cells} {lengths} B occupied marks =
-    let net = line-length (110 ∷ 101 ∷ 116 ∷ []) (lengths .count ∷ occupied ∷ []) in
+    let net = line-length netWord (lengths .count ∷ occupied ∷ []) in
     let branches = branch-lines-length cells (lengthsIn lengths) in
-    let repeaters = line-length (114 ∷ 101 ∷ 112 ∷ 101 ∷ 97 ∷ 116 ∷ 101 ∷ 114 ∷ 115 ∷ []) (marked marks) in
+    let repeaters = line-length repeatersWord (marked marks) in
     omega (
       arith,
-      length-append (netLine (lengths .count) occupied) (branchLines cells lengths ++ repeatersLine (marked marks)),
-      length-append (branchLines cells lengths) (repeatersLine (marked marks)),
+      length-append (netLine (lengths .count) occupied) (branchLines (branchesOf lengths cells) ++ repeatersLine (marked marks)),
+      length-append (branchLines (branchesOf lengths cells)) (repeatersLine (marked marks)),
       net,
       branches,
       repeaters,
       length-take (lengths .count) (lengths .each),
-      B .count,
+      B .few,
       B .within,
       marked-length 0 marks,
     )
 
-pub answer-length : (A : Answer) {cells : List ℕ} → Branched cells (A .lengths) → (marks : List ℕ) → length (answerText A cells marks) ≤ 168 + 21 * length cells + 21 * length marks
+answer-length : (A : Answer) {cells : List ℕ} → Branched (A .lengths) cells → (marks : List ℕ) → length (answerText A cells marks) ≤ 168 + 21 * length cells + 21 * length marks
 answer-length A {cells} B marks = ended-length (A .ended)
   where
     ended-length : (e : Ended) → length (endedText e (A .lengths) cells marks) ≤ 168 + 21 * length cells + 21 * length marks
@@ -162,29 +150,29 @@ answer-length A {cells} B marks = ended-length (A .ended)
 
 -- ---- from the promise of `route_net_tree` to the lines
 
-total-lengths : (bs : List (List ℕ)) → total (map length bs) ≡ length (joined bs)
-unfolding total
-total-lengths [] = refl
-total-lengths (b ∷ bs) = ap (λ n. length b + n) (total-lengths bs) ∙ sym (length-append b (joined bs))
+sum-lengths : (bs : List (List ℕ)) → sum (map length bs) ≡ length (joined bs)
+unfolding sum
+sum-lengths [] = refl
+sum-lengths (b ∷ bs) = ap (λ n. length b + n) (sum-lengths bs) ∙ sym (length-append b (joined bs))
 
-outcome-branched : (o : Outcome) {sheet : List ℕ} {L : Lengths} → Comes sheet L o → (B : Lent) → Branched (lentAfter o B .branches) (answerOf o .lengths)
-unfolding total
+outcome-branched : (o : Outcome) {sheet : List ℕ} {L : Lengths} → Comes sheet L o → (B : Lent) → Branched (answerOf o .lengths) (lentAfter o B .branches)
+unfolding sum
 outcome-branched (routed bs occupied repeaters) c B =
     let few = few-branches c in
     record {
-      count = few;
-      whole = length-append (map length bs) (replicate (16 - length bs) 0) ∙ rw (length-map bs length, length-replicate {A = ℕ} (16 - length bs) 0) (omega arith);
+      few = few;
+      whole = padded-long (map length bs) maxSinks (length bs) 0 (length-map bs length) few;
       within = omega (
         arith,
-        ap total (lengths-are bs (replicate (16 - length bs) 0)),
-        total-lengths bs,
+        ap sum (lengths-are bs (replicate (maxSinks - length bs) 0)),
+        sum-lengths bs,
         length-append (joined bs) (replicate (length (B .branches) - length (joined bs)) 0),
       );
     }
-outcome-branched (refused code detail) c B = record { count = omega arith; whole = refl; within = omega arith }
+outcome-branched (refused code detail) c B = record { whole = refl; few = omega arith; within = omega arith }
 
 module _ {sheet : List ℕ} {B : Lent} {r : Answer} {B′ : Lent} (P : Promise sheet B r B′) where
-  pub promise-branched : Branched (B′ .branches) (r .lengths)
+  pub promise-branched : Branched (r .lengths) (B′ .branches)
   promise-branched = rw (P .lent-is, P .answer) (outcome-branched (P .outcome) (P .comes) B)
 
   pub promise-fits : {out : List ℕ} → length (B′ .branches) ≡ 16384 → length (B′ .repeaters) ≡ maxCells → longestText ≤ length out

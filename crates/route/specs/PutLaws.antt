@@ -1,39 +1,57 @@
--- The loop that puts bytes into a buffer.
-use mathlib.Core.Path.{_≡_, refl, ap, _∙_}
-use mathlib.Core.List.{List, _++_}
-use Prim.Native.Nat.{ℕ, _+_, _≤_, _<_}
-use native.Mathlib.Numerals.{add-one}
+-- Laws of putting text: pieces one after another, a loop that puts one after another, and bytes.
+use mathlib.Core.Path.{_≡_, refl, sym, ap, _∙_}
+use mathlib.Core.List.{List, [], _++_, append-assoc, append-nil}
+use Prim.Native.Nat.{ℕ, _+_, _≤_}
 use native.Mathlib.Omega.{arith}
-use lib.ListN.{length, getD, take, set}
-use lib.Seq.{paste, paste-zero, paste-suc, length-paste, take-paste, take-length}
-use Rattle.route.specs.Putting.{Put, Fits}
+use lib.ListN.{length, take, length-append}
+use lib.Seq.{paste, take-paste, take-length}
+use Rattle.basics.specs.Copies.{Copied, copied-all}
+use Rattle.route.specs.Putting.{Put, Fits, Going}
 
--- the first i bytes are put
-pub record Pasted (out : List ℕ) (at : ℕ) (bytes out′ : List ℕ) (i : ℕ) : Type 0 where
-  pub most : i ≤ length bytes
-  pub is : out′ ≡ paste out at bytes i
-  pub same : length out′ ≡ length out
+-- ---- pieces one after another
 
-module _ {out : List ℕ} {at : ℕ} {bytes : List ℕ} (f : Fits out at bytes) where
-  pub pasted-none : Pasted out at bytes out 0
-  pasted-none = record { most = omega arith; is = paste-zero out at bytes; same = refl }
+module _ {out : List ℕ} {at : ℕ} {first out′ : List ℕ} {end : ℕ} (p : Put out at first out′ end) {then : List ℕ} where
+  pub both : {out″ : List ℕ} {end′ : ℕ} → Put out′ end then out″ end′ → Put out at (first ++ then) out″ end′
+  both q = record {
+    ends = omega (arith, length-append first then, p .ends, q .ends);
+    front = q .front ∙ ap (λ l. l ++ then) (p .front) ∙ append-assoc (take at out) first then;
+    same = q .same ∙ p .same;
+  }
 
-  pub pasted-next : {out′ : List ℕ} {i : ℕ} → Pasted out at bytes out′ i → i < length bytes → Pasted out at bytes (set out′ (at + i) (getD bytes i 0)) (i + 1)
-  pasted-next {out′} {i} p h =
-      let e : set out′ (at + i) (getD bytes i 0) ≡ paste out at bytes (i + 1) =
-      ap (λ l. set l (at + i) (getD bytes i 0)) (p .is) ∙ paste-suc out at bytes i 0 (omega (arith, f .place)) h ∙ rw (add-one i) refl in
-      record {
-        most = omega arith;
-        is = e;
-        same = ap length e ∙ length-paste out at bytes (i + 1) (omega (arith, f .place)) (omega arith);
-      }
+  -- where both fit, there is place for the second
+  pub then-fits : Fits out at (first ++ then) → Fits out′ end then
+  then-fits f = record { place = omega (arith, f .place, length-append first then, p .ends, p .same) }
 
-  pub pasted-all : {out′ : List ℕ} {i : ℕ} → Pasted out at bytes out′ i → length bytes ≤ i → Put out at bytes out′ (at + length bytes)
-  pasted-all {out′} {i} p h =
-      let e : i ≡ length bytes = omega (arith, p .most) in
-      let q : out′ ≡ paste out at bytes (length bytes) = rw e at (p .is) in
-      record {
-        ends = refl;
-        front = ap (take (at + length bytes)) q ∙ take-paste out at bytes (length bytes) (omega (arith, f .place)) (omega arith) ∙ ap (λ l. take at out ++ l) (take-length bytes);
-        same = p .same;
-      }
+pub first-fits : {out : List ℕ} {at : ℕ} {first : List ℕ} (then : List ℕ) → Fits out at (first ++ then) → Fits out at first
+first-fits {first = first} then f = record { place = omega (arith, f .place, length-append first then) }
+
+-- ---- a loop
+
+pub put-nothing : {out : List ℕ} {at : ℕ} → Put out at [] out at
+put-nothing {out} {at} = record { ends = omega arith; front = sym (append-nil (take at out)); same = refl }
+
+module _ {out : List ℕ} {at : ℕ} {whole : List ℕ} where
+  pub going-begun : Going out at whole whole out at
+  going-begun = record { done = []; put = put-nothing; is = refl }
+
+  pub going-on : {text left out′ out″ : List ℕ} {end end′ : ℕ} → Going out at whole (text ++ left) out′ end → Put out′ end text out″ end′ → Going out at whole left out″ end′
+  going-on {text} {left} g p = record { done = g .done ++ text; put = both (g .put) p; is = append-assoc (g .done) text left ∙ g .is }
+
+  pub going-done : {out′ : List ℕ} {end : ℕ} → Going out at whole [] out′ end → Put out at whole out′ end
+  going-done g = rw (sym (g .is) ∙ append-nil (g .done)) (g .put)
+
+  pub going-fits : {text : List ℕ} (left : List ℕ) {out′ : List ℕ} {end : ℕ} → Going out at whole (text ++ left) out′ end → Fits out at whole → Fits out′ end text
+  going-fits {text} left g f =
+      first-fits left (record { place = omega (arith, f .place, g .put .ends, g .put .same, length-append (g .done) (text ++ left), ap length (g .is)) })
+
+-- ---- bytes, once they are all copied
+
+pub copied-put : {out out′ : List ℕ} {at : ℕ} {bytes : List ℕ} {i : ℕ} → Fits out at bytes → Copied bytes out at (length bytes) i out′ → length bytes ≤ i
+    → Put out at bytes out′ (at + length bytes)
+copied-put {out} {at = at} {bytes} f C h =
+    let q : _ ≡ paste out at bytes (length bytes) = copied-all bytes out at (length bytes) (omega arith) (omega (arith, f .place)) C h in
+    record {
+      ends = refl;
+      front = ap (take (at + length bytes)) q ∙ take-paste out at bytes (length bytes) (omega (arith, f .place)) (omega arith) ∙ ap (λ l. take at out ++ l) (take-length bytes);
+      same = C .kept;
+    }

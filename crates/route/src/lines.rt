@@ -3,8 +3,9 @@ use branches::BranchLengths;
 use net_tree::Answer;
 use net_tree::Ended;
 use room::long;
+ghost use Rattle.branches.specs.Branches.{branchesOf, Branched};
 ghost use Rattle.route.specs.Lines.{number, numbers, netLine, branchLine, branchLines, repeatersLine, refusedLine, treeText, answerText};
-ghost use Rattle.route.specs.Putting.{Put, Fits, Branched};
+ghost use Rattle.route.specs.Putting.{Put, Fits};
 ghost use Rattle.route.specs.Marked.{ifMarked, marked};
 
 // Puts bytes at a place, and answers the place behind them.
@@ -92,9 +93,9 @@ fn put_branch(out: &mut [u8], at: usize, cells: &[u32]) -> usize
 
 // "for each sink in sheet order"
 fn put_branches(out: &mut [u8], at: usize, cells: &[u32], lengths: BranchLengths) -> usize
-    requires { ⌜ Branched (now cells) lengths ⌝ }
-    requires { ⌜ Fits (now out) at (branchLines (now cells) lengths) ⌝ }
-    ensures { λ r. ⌜ Put (now (out .entry)) at (branchLines (now (cells .entry)) lengths) (now (out .exit)) r ⌝ }
+    requires { ⌜ Branched lengths (now cells) ⌝ }
+    requires { ⌜ Fits (now out) at (branchLines (branchesOf lengths (now cells))) ⌝ }
+    ensures { λ r. ⌜ Put (now (out .entry)) at (branchLines (branchesOf lengths (now (cells .entry)))) (now (out .exit)) r ⌝ }
 {
     let mut end = at;
     let mut from: usize = 0;
@@ -136,7 +137,7 @@ fn put_tree(
     cells: &[u32],
     repeaters: &[u8],
 ) -> usize
-    requires { ⌜ Branched (now cells) lengths ⌝ }
+    requires { ⌜ Branched lengths (now cells) ⌝ }
     requires { ⌜ Fits (now out) 0 (treeText lengths occupied (now cells) (now repeaters)) ⌝ }
     ensures { λ r. ⌜ Put (now (out .entry)) 0 (treeText lengths occupied (now (cells .entry)) (now (repeaters .entry))) (now (out .exit)) r ⌝ }
 {
@@ -147,7 +148,7 @@ fn put_tree(
 
 // All lines of an answer: the branches' cells and the repeaters' marks are as `route_net_tree` leaves them.
 pub fn put_answer(out: &mut [u8], answer: Answer, cells: &[u32], repeaters: &[u8]) -> usize
-    requires { ⌜ Branched (now cells) (answer .lengths) ⌝ }
+    requires { ⌜ Branched (answer .lengths) (now cells) ⌝ }
     requires { ⌜ Fits (now out) 0 (answerText answer (now cells) (now repeaters)) ⌝ }
     ensures { λ r. ⌜ Put (now (out .entry)) 0 (answerText answer (now (cells .entry)) (now (repeaters .entry))) (now (out .exit)) r ⌝ }
 {

@@ -32,6 +32,7 @@ pub record Input : Type 0 where
   pub goal : ℕ
   pub lengths : Lengths
 
+-- the task that is searched
 abbrev pub taskOf : Input → Task
 taskOf I = record { room = I .room; config = I .config; kinds = I .kinds; start = I .start; goal = I .goal; places = I .lengths .queue / 2 }
 
@@ -54,6 +55,7 @@ judged I =
     (either (every kindKnown (I .kinds)) (either (endsInside (I .room) (I .start) (I .goal)) Fit (Unfit Position)) (Unfit Code)) (Unfit Buffer)) (Unfit Config))
     (Unfit Sides)
 
+-- the defined search's answer, as the code gives it
 abbrev pub answered : search.Answer → Answer
 answered (search.route path cost x) = Routed (record { length = length path; cost = record { 0 = cost }; expanded = record { 0 = x } })
 answered (search.no-route x) = NoRoute (record { 0 = x })
@@ -67,10 +69,12 @@ fitAnswer I =
     (either (routeable (taskOf I) (I .goal)) (answered (searched (taskOf I))) (NotRouteable (I .goal)))
     (NotRouteable (I .start))
 
+-- the answer to an input, by its judgement
 abbrev pub answerFor : Judgement → Input → Answer
 answerFor Fit I = fitAnswer I
 answerFor (Unfit why) I = Refused why
 
+-- the answer that each input determines
 unfoldable pub answerOf : Input → Answer
 answerOf I = answerFor (judged I) I
 
@@ -99,21 +103,21 @@ detailOf (LimitPassed x) = x .0
 detailOf (QueueFull x) = x .0
 
 -- a route's cost, and its expanded count
-abbrev pub costOf : Answer → ℕ
-costOf (Routed r) = r .cost .0
-costOf (Refused why) = 0
-costOf (NotRouteable cell) = 0
-costOf (NoRoute x) = 0
-costOf (LimitPassed x) = 0
-costOf (QueueFull x) = 0
+abbrev pub routeCost : Answer → ℕ
+routeCost (Routed r) = r .cost .0
+routeCost (Refused why) = 0
+routeCost (NotRouteable cell) = 0
+routeCost (NoRoute x) = 0
+routeCost (LimitPassed x) = 0
+routeCost (QueueFull x) = 0
 
-abbrev pub expandedOf : Answer → ℕ
-expandedOf (Routed r) = r .expanded .0
-expandedOf (Refused why) = 0
-expandedOf (NotRouteable cell) = 0
-expandedOf (NoRoute x) = 0
-expandedOf (LimitPassed x) = 0
-expandedOf (QueueFull x) = 0
+abbrev pub routeExpanded : Answer → ℕ
+routeExpanded (Routed r) = r .expanded .0
+routeExpanded (Refused why) = 0
+routeExpanded (NotRouteable cell) = 0
+routeExpanded (NoRoute x) = 0
+routeExpanded (LimitPassed x) = 0
+routeExpanded (QueueFull x) = 0
 
 -- ---- the lent buffers
 
@@ -124,6 +128,7 @@ cellsOf (search.no-route x) = []
 cellsOf (search.limit-passed x) = []
 cellsOf (search.queue-full x) = []
 
+-- the cells that an answer writes
 abbrev pub cellsFor : Answer → Input → List ℕ
 cellsFor (Routed r) I = cellsOf (searched (taskOf I))
 cellsFor (Refused why) I = []
@@ -141,6 +146,7 @@ pub record Promise (I : Input) (path known previous classes queue : List ℕ) (r
   pub classes-is : classes′ ≡ workAfter (numberOf (answerOf I)) classes
   pub queue-is : queue′ ≡ workAfter (numberOf (answerOf I)) queue
 
+-- the lent buffers' lengths
 abbrev pub lengthsOf : List ℕ → List ℕ → List ℕ → List ℕ → List ℕ → Lengths
 lengthsOf path known previous classes queue = record {
   path = length path;
@@ -150,5 +156,6 @@ lengthsOf path known previous classes queue = record {
   queue = length queue;
 }
 
+-- what is handed over, as one value
 abbrev pub input : Room → RouterConfig → List ℕ → ℕ → ℕ → Lengths → Input
 input R C kinds start goal L = record { room = R; config = C; kinds = kinds; start = start; goal = goal; lengths = L }

@@ -2,14 +2,14 @@
 use mathlib.Core.Path.{_≡_}
 use mathlib.Core.Bool.{true}
 use mathlib.Core.List.{List, [], _++_}
-use Prim.Native.Nat.{ℕ, _-_, _/_, _≤_, _<_, pred}
-use lib.ListN.{length, getD, drop, replicate}
+use Prim.Native.Nat.{ℕ, _/_, _≤_, _<_, pred}
+use lib.ListN.{length, getD, drop}
 use Rattle.room.specs.declared.Room.{Room}
 use Rattle.room.specs.declared.RouterConfig.{RouterConfig}
 use Rattle.room.specs.Room.{Good, volume}
 use Rattle.basics.specs.Tests.{either}
-use Rattle.lent.specs.Lent.{Emptied}
-use Rattle.room.specs.Units.{Fair, air}
+use Rattle.lent.specs.Lent.{Emptied, filled}
+use Rattle.room.specs.Units.{GoodConfig, air}
 use Rattle.room_search.specs.declared.Outcome.{Outcome}
 use Rattle.best_first.specs.Search as search
 use Rattle.best_first.specs.Search.{trace}
@@ -24,10 +24,11 @@ use Rattle.room_search.specs.Steps.{placesOf}
 use Rattle.room_search.specs.Turns.{Told, Searchable}
 use Rattle.routing.specs.Answers.{answered, cellsOf}
 
+-- the task of a search over that queue
 abbrev pub searchTask : Room → RouterConfig → List ℕ → ℕ → ℕ → List ℕ → Task
 searchTask R C kinds start goal queue = record { room = R; config = C; kinds = kinds; start = start; goal = goal; places = placesOf queue }
 
--- an input that no number from 2 to 6 refuses, with work memory of exactly V cells
+-- what an input has that no number from 2 to 6 refuses, with work memory of exactly V cells
 pub record RoomSearchable (R : Room) (C : RouterConfig) (kinds : List ℕ) (start goal : ℕ) (known previous classes queue : List ℕ) : Type 0 where
   pub kinds-length : length kinds ≡ volume R
   pub memory : Searchable R C classes known previous queue start goal
@@ -37,26 +38,26 @@ pub record Found (T : Task) (o : Outcome) (known previous : List ℕ) : Type 0 w
   pub told : Told (graph T) (searched T) known previous o
 
 -- the answer, and the path written to a cleared buffer
-pub record Shown (o : Outcome) (cells goal : ℕ) (known previous path : List ℕ) (r : Answer) (path′ : List ℕ) : Type 0 where
-  pub shows : (T : Task) → volume (T .room) ≡ cells → T .goal ≡ goal → Found T o known previous
-      → (r ≡ answered (searched T)) × (path′ ≡ cellsOf (searched T) ++ replicate (length path - length (cellsOf (searched T))) 0)
+pub record Shown (o : Outcome) (goal : ℕ) (known previous path : List ℕ) (r : Answer) (path′ : List ℕ) : Type 0 where
+  pub shows : (T : Task) → volume (T .room) ≡ length previous → T .goal ≡ goal → Found T o known previous
+      → (r ≡ answered (searched T)) × (path′ ≡ filled (cellsOf (searched T)) path)
 
 -- the path by predecessors, and the goal's known cost
-pub record Written (cells goal : ℕ) (known previous path : List ℕ) (expanded : Nodes) (r : Route) (path′ : List ℕ) : Type 0 where
-  pub length-is : r .length ≡ length (trace cells previous goal [])
+pub record Written (goal : ℕ) (known previous path : List ℕ) (expanded : Nodes) (r : Route) (path′ : List ℕ) : Type 0 where
+  pub length-is : r .length ≡ length (trace (length previous) previous goal [])
   pub cost-is : r .cost .0 ≡ pred (getD known goal 0)
   pub expanded-is : r .expanded ≡ expanded
-  pub path-is : path′ ≡ trace cells previous goal [] ++ drop (length (trace cells previous goal [])) path
+  pub path-is : path′ ≡ trace (length previous) previous goal [] ++ drop (length (trace (length previous) previous goal [])) path
 
 -- which end is not routeable: the start, else the goal
 abbrev pub endsOf : List ℕ → ℕ → ℕ → Ends
 endsOf kinds start goal =
     either (routeableKind true (getD kinds start air)) (either (routeableKind true (getD kinds goal air)) EndsGood (EndsBad goal)) (EndsBad start)
 
--- an input that no number from 2 to 6 refuses
+-- what an input has that no number from 2 to 6 refuses
 pub record Roomy (R : Room) (C : RouterConfig) (kinds : List ℕ) (start goal : ℕ) (L : Lengths) : Type 0 where
   pub good : Good R
-  pub fair : Fair C
+  pub fair : GoodConfig C
   pub kinds-length : length kinds ≡ volume R
   pub start-in : start < volume R
   pub goal-in : goal < volume R
@@ -69,7 +70,7 @@ pub record Roomy (R : Room) (C : RouterConfig) (kinds : List ℕ) (start goal : 
 -- a search's answer, its path in the cleared output, and all work memory cleared
 pub record Fitted (a : search.Answer) (path known previous classes queue : List ℕ) (r : Answer) (path′ known′ previous′ classes′ queue′ : List ℕ) : Type 0 where
   pub answer : r ≡ answered a
-  pub path-is : path′ ≡ cellsOf a ++ replicate (length path - length (cellsOf a)) 0
+  pub path-is : path′ ≡ filled (cellsOf a) path
   pub known-is : Emptied known known′
   pub previous-is : Emptied previous previous′
   pub classes-is : Emptied classes classes′

@@ -6,7 +6,7 @@ use native.Mathlib.Nat.{sub-zero}
 use lib.ListN.{length, getD, take, drop, replicate}
 use lib.Seq.{take-at, length-take-le, length-front}
 use Rattle.basics.specs.Zeros.{drop-zeros}
-use Rattle.lent.specs.Lent.{Emptied}
+use Rattle.lent.specs.Lent.{Emptied, filled}
 use Rattle.room.specs.declared.Room.{Room}
 use Rattle.room.specs.declared.RouterConfig.{RouterConfig}
 use Rattle.room.specs.Room.{volume}
@@ -18,7 +18,7 @@ use Rattle.room_search.specs.declared.Outcome.{Outcome}
 use Rattle.room_search.specs.declared.Outcome.the-variants.{Arrived, NoRoute, LimitPassed, QueueFull}
 use Rattle.room_search.specs.Routing.{Task, graphOf, searched}
 use Rattle.room_search.specs.Classes.{Plain, withEnd}
-use Rattle.room_search.specs.SameGraph.{made-length, made-graph}
+use Rattle.room_search.specs.SameGraphLaws.{made-length, made-graph}
 use Rattle.room_search.specs.Turns.{Ran, spotOf, Searchable}
 use Rattle.routing.specs.Entry.{searchTask, Found, Written, Roomy, RoomSearchable}
 use Rattle.routing.specs.Answers.{lengthsOf, answered, cellsOf}
@@ -49,31 +49,31 @@ module _ {R : Room} {C : RouterConfig} {kinds : List ℕ} {start goal : ℕ} {kn
 -- ---- the answer
 
 -- there is no route: the buffer stays cleared
-bare : (path : List ℕ) → path ≡ replicate (length path) 0 → path ≡ [] ++ replicate (length path - 0) 0
+bare : (path : List ℕ) → path ≡ replicate (length path) 0 → path ≡ filled [] path
 bare path z = rw sub-zero z
 
-module _ {cells goal : ℕ} {known previous path : List ℕ} where
-  module _ {T : Task} (v : volume (T .room) ≡ cells) (g : T .goal ≡ goal) where
+module _ {goal : ℕ} {known previous path : List ℕ} where
+  module _ {T : Task} (v : volume (T .room) ≡ length previous) (g : T .goal ≡ goal) where
     pub shown-route : {x : Nodes} {r : Route} {path′ : List ℕ} → path ≡ replicate (length path) 0 → Found T (Arrived x) known previous
-        → Written cells goal known previous path x r path′
-        → (Routed r ≡ answered (searched T)) × (path′ ≡ cellsOf (searched T) ++ replicate (length path - length (cellsOf (searched T))) 0)
+        → Written goal known previous path x r path′
+        → (Routed r ≡ answered (searched T)) × (path′ ≡ filled (cellsOf (searched T)) path)
     unfolding graphOf
     shown-route {x} {r} {path′} z F W =
-        let e : searched T ≡ route (trace cells previous goal []) (pred (getD known goal 0)) (x .0) = rw (← v, ← g) (F .told .is) in
-        let d : drop (length (trace cells previous goal [])) path ≡ replicate (length path - length (trace cells previous goal [])) 0 =
-        ap (drop (length (trace cells previous goal []))) z ∙ drop-zeros (length (trace cells previous goal [])) (length path) in
-        let s : Routed r ≡ answered (route (trace cells previous goal []) (pred (getD known goal 0)) (x .0)) =
+        let e : searched T ≡ route (trace (length previous) previous goal []) (pred (getD known goal 0)) (x .0) = rw (← v, ← g) (F .told .is) in
+        let d : drop (length (trace (length previous) previous goal [])) path ≡ replicate (length path - length (trace (length previous) previous goal [])) 0 =
+        ap (drop (length (trace (length previous) previous goal []))) z ∙ drop-zeros (length (trace (length previous) previous goal [])) (length path) in
+        let s : Routed r ≡ answered (route (trace (length previous) previous goal []) (pred (getD known goal 0)) (x .0)) =
         λ i. Routed (record { length = W .length-is i; cost = record { 0 = W .cost-is i }; expanded = W .expanded-is i }) in
-        (rw e s, rw e (W .path-is ∙ ap (λ (l : List ℕ). trace cells previous goal [] ++ l) d))
+        (rw e s, rw e (W .path-is ∙ ap (λ (l : List ℕ). trace (length previous) previous goal [] ++ l) d))
 
     module _ (z : path ≡ replicate (length path) 0) (x : Nodes) where
-      pub shown-none : Found T (NoRoute x) known previous → (NoRoute′ x ≡ answered (searched T)) × (path ≡ cellsOf (searched T) ++ replicate (length path - length (cellsOf (searched T))) 0)
+      pub shown-none : Found T (NoRoute x) known previous → (NoRoute′ x ≡ answered (searched T)) × (path ≡ filled (cellsOf (searched T)) path)
       shown-none F = rw (F .told) (refl, bare path z)
 
-      pub shown-limit : Found T (LimitPassed x) known previous → (LimitPassed′ x ≡ answered (searched T)) × (path ≡ cellsOf (searched T) ++ replicate (length path - length (cellsOf (searched T))) 0)
+      pub shown-limit : Found T (LimitPassed x) known previous → (LimitPassed′ x ≡ answered (searched T)) × (path ≡ filled (cellsOf (searched T)) path)
       shown-limit F = rw (F .told) (refl, bare path z)
 
-      pub shown-full : Found T (QueueFull x) known previous → (QueueFull′ x ≡ answered (searched T)) × (path ≡ cellsOf (searched T) ++ replicate (length path - length (cellsOf (searched T))) 0)
+      pub shown-full : Found T (QueueFull x) known previous → (QueueFull′ x ≡ answered (searched T)) × (path ≡ filled (cellsOf (searched T)) path)
       shown-full F = rw (F .told) (refl, bare path z)
 
 -- ---- work memory of which the first V numbers are lent on

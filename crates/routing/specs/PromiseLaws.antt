@@ -6,8 +6,8 @@ use Prim.Native.Nat.{ℕ, _/_}
 use native.Mathlib.Nat.{sub-zero}
 use lib.Dec.{leb, ltb, eqb}
 use lib.ListN.{length, getD}
-use borrow.Author.Tests.{leb-true, ltb-true, eqb-true, eq-eqb}
-use Rattle.basics.specs.Tests.{ask, and-left, and-right, never, either-same}
+use borrow.Author.Tests.{leb-true, ltb-true, eqb-true}
+use Rattle.basics.specs.Tests.{ask, and-left, and-right, never}
 use Rattle.basics.specs.Lists.{every}
 use Rattle.basics.specs.Promises.{Determines}
 use Rattle.lent.specs.Lent.{touches, Emptied}
@@ -16,7 +16,7 @@ use Rattle.room.specs.declared.RouterConfig.{RouterConfig}
 use Rattle.room.specs.Room.{sidesGood, volume}
 use Rattle.room.specs.Units.{configGood, kindKnown, air}
 use Rattle.room.specs.RoomLaws.{good}
-use Rattle.room.specs.UnitLaws.{fair}
+use Rattle.room.specs.UnitLaws.{good-config}
 use Rattle.best_first.specs.Search as search
 use Rattle.routing.specs.declared.Lengths.{Lengths}
 use Rattle.routing.specs.declared.Refusal.{Refusal}
@@ -26,6 +26,7 @@ use Rattle.routing.specs.declared.Ends.the-variants.{Good as EndsGood, B
 use Rattle.routing.specs.declared.Answer.{Answer}
 use Rattle.routing.specs.declared.Answer.the-variants.{Refused, NotRouteable}
 use Rattle.room_search.specs.Routing.{routeableKind, routeable, searched}
+use Rattle.room_search.specs.EndLaws.{start-is-end, goal-is-end}
 use Rattle.routing.specs.Answers.{Input, taskOf, buffersGood, endsInside, judged, answered, fitAnswer, answerOf, refusalNumber, numberOf, cellsOf, cellsFor, Promise, input, lengthsOf}
 use Rattle.routing.specs.Entry.{endsOf, Roomy, Fitted, searchTask}
 
@@ -68,7 +69,7 @@ module _ {R : Room} {C : RouterConfig} {kinds : List ℕ} {start goal : ℕ} {L 
       let i : (ltb start (volume R) && ltb goal (volume R)) ≡ true = p .ends in
       record {
         good = good R (p .sides);
-        fair = fair C (p .config);
+        fair = good-config C (p .config);
         kinds-length = search tests;
         start-in = search tests;
         goal-in = search tests;
@@ -117,11 +118,11 @@ module _ (R : Room) (C : RouterConfig) (kinds : List ℕ) (start goal : ℕ) (pa
   module _ (fit : judged I ≡ Fit) where
     start-is : routeable (taskOf I) start ≡ routeableKind true (getD kinds start air)
     unfolding routeable
-    start-is = rw (eq-eqb start start refl)
+    start-is = rw (start-is-end start goal)
 
     goal-is : routeable (taskOf I) goal ≡ routeableKind true (getD kinds goal air)
     unfolding routeable
-    goal-is = rw (eq-eqb goal goal refl, either-same (eqb goal start) true)
+    goal-is = rw (goal-is-end start goal)
 
     -- number 10
     pub promise-end : (cell : ℕ) {path′ known′ previous′ classes′ queue′ : List ℕ} → EndsBad cell ≡ endsOf kinds start goal → Emptied path path′ → Emptied known known′ → Emptied previous previous′

@@ -1,12 +1,11 @@
 // The public search, over lent memory.
 ghost use mathlib.Core.Path.{_≡_};
-ghost use mathlib.Core.Bool.{true};
-ghost use Prim.Native.Nat.{_-_, _≤_, _<_};
+ghost use Prim.Native.Nat.{_≤_, _<_};
 ghost use lib.ListN.{length, getD, replicate};
 ghost use Rattle.room_search.specs.Turns.{Showable};
 ghost use Rattle.lent.specs.Lent.{Emptied};
-ghost use Rattle.trace.specs.Traces.{Linked};
-ghost use Rattle.room.specs.Room.{volume};
+ghost use Rattle.trace.specs.Traces.{PreviousInside};
+ghost use Rattle.room.specs.Room.{maxVolume};
 ghost use Rattle.routing.specs.Answers.{input, lengthsOf, Promise};
 ghost use Rattle.routing.specs.Entry.{RoomSearchable, Found, searchTask, Shown, Written, endsOf, Roomy, Fitted};
 ghost use Rattle.room_search.specs.Routing.{searched};
@@ -49,19 +48,18 @@ fn search_room(
 
 // The path is counted and written to a cleared buffer.
 fn show_route(
-    cells: usize,
     goal: usize,
     known: &[u32],
     previous: &[u32],
     path: &mut [u32],
     expanded: Nodes,
 ) -> Route
-    requires { ⌜ (goal < cells) × (cells ≤ 16384) × (length (now known) ≡ cells) × (length (now previous) ≡ cells) × (cells ≤ length (now path)) ⌝ }
-    requires { ⌜ Linked (now previous) ⌝ }
+    requires { ⌜ (goal < length (now previous)) × (length (now previous) ≤ maxVolume) × (length (now known) ≡ length (now previous)) × (length (now previous) ≤ length (now path)) ⌝ }
+    requires { ⌜ PreviousInside (now previous) ⌝ }
     requires { ⌜ 0 < getD (now known) goal 0 ⌝ }
-    ensures { λ r. ⌜ Written cells goal (now (known .entry)) (now (previous .entry)) (now (path .entry)) expanded r (now (path .exit)) ⌝ }
+    ensures { λ r. ⌜ Written goal (now (known .entry)) (now (previous .entry)) (now (path .entry)) expanded r (now (path .exit)) ⌝ }
 {
-    let length = trace::path_to(previous, goal, cells, path);
+    let length = trace::path_to(previous, goal, path);
     Route {
         length: length,
         cost: Cost(known[goal] - 1),
@@ -69,22 +67,22 @@ fn show_route(
     }
 }
 
+// What an outcome answers; the path goes to a cleared buffer.
 fn answer_of(
     outcome: Outcome,
-    cells: usize,
     goal: usize,
     known: &[u32],
     previous: &[u32],
     path: &mut [u32],
 ) -> Answer
-    requires { ⌜ (goal < cells) × (cells ≤ 16384) × (length (now known) ≡ cells) × (length (now previous) ≡ cells) × (cells ≤ length (now path)) ⌝ }
+    requires { ⌜ (goal < length (now previous)) × (length (now previous) ≤ maxVolume) × (length (now known) ≡ length (now previous)) × (length (now previous) ≤ length (now path)) ⌝ }
     requires { ⌜ now path ≡ replicate (length (now path)) 0 ⌝ }
     requires { ⌜ Showable outcome goal (now known) (now previous) ⌝ }
-    ensures { λ r. ⌜ Shown outcome cells goal (now (known .entry)) (now (previous .entry)) (now (path .entry)) r (now (path .exit)) ⌝ }
+    ensures { λ r. ⌜ Shown outcome goal (now (known .entry)) (now (previous .entry)) (now (path .entry)) r (now (path .exit)) ⌝ }
 {
     match outcome {
         Outcome::Arrived(expanded) => {
-            Answer::Routed(show_route(cells, goal, known, previous, path, expanded))
+            Answer::Routed(show_route(goal, known, previous, path, expanded))
         }
         Outcome::NoRoute(expanded) => Answer::NoRoute(expanded),
         Outcome::LimitPassed(expanded) => Answer::LimitPassed(expanded),
@@ -145,14 +143,7 @@ fn answer_fit(
         queue,
     );
     lent::clear_words(path);
-    let answer = answer_of(
-        outcome,
-        cells,
-        goal,
-        &known[..cells],
-        &previous[..cells],
-        path,
-    );
+    let answer = answer_of(outcome, goal, &known[..cells], &previous[..cells], path);
     clear_work(known, previous, classes, queue);
     answer
 }

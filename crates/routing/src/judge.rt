@@ -49,6 +49,7 @@ fn buffers_good(room: Room, kinds: &[u8], lengths: Lengths) -> bool
     1 <= lengths.queue / 2
 }
 
+// Whether both ends are cells of the room.
 fn ends_inside(room: Room, start: usize, goal: usize) -> bool
     requires { ⌜ Good room ⌝ }
     ensures { λ r. ⌜ r ≡ endsInside room start goal ⌝ }
@@ -60,6 +61,7 @@ fn ends_inside(room: Room, start: usize, goal: usize) -> bool
     goal < v
 }
 
+// Whether the input can be searched, or the first number that refuses it.
 pub fn judge(
     room: Room,
     config: RouterConfig,

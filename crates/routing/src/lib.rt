@@ -29,6 +29,7 @@ pub enum Refusal {
     Position,
 }
 
+// Whether an input can be searched, or why it is refused.
 pub enum Judgement {
     Fit,
     Unfit(Refusal),

@@ -11,7 +11,7 @@ use lib.Seq.{getD-set-same, getD-set-other, ext-getD}
 use borrow.Author.Tests.{eqb-true, eqb-false}
 use Rattle.basics.specs.Tests.{either, ask}
 use Rattle.basics.specs.Lists.{any, drop-next}
-use Rattle.routing_resources.specs.Marks.{withByte, markedBy, unmarkedBy, isMarked, noMarks, CellsBelow}
+use Rattle.routing_resources.specs.Marks.{withByte, markedBy, unmarkedBy, isMarked, noMarks, Marks, CellsBelow}
 
 both-bytes : (byte m : ℕ) (p q : Bool) → either q byte (either p byte m) ≡ either (p || q) byte m
 both-bytes byte m true true = refl
@@ -38,7 +38,7 @@ module _ (byte : ℕ) where
   with-at p (m ∷ ms) (suc v) h = with-at (λ v. p (suc v)) ms v (le-of-suc-le-suc h)
 
   -- a list of these bytes is no other
-  pub with-is : (p : ℕ → Bool) (ms ls : List ℕ) → length ls ≡ length ms
+  with-is : (p : ℕ → Bool) (ms ls : List ℕ) → length ls ≡ length ms
       → ((v : ℕ) → v < length ms → getD ls v 0 ≡ either (p v) byte (getD ms v 0))
       → ls ≡ withByte byte p ms
   with-is p ms ls e f =
@@ -127,3 +127,13 @@ taken-out p q n = with-is 1 _ (noMarks n) _ (with-length 0 q (markedBy p (noMark
 -- a cell read from a list of cells
 pub read-below : {n : ℕ} {cells : List ℕ} → CellsBelow n cells → (i : ℕ) → i < length cells → (v : ℕ) → v ≡ getD cells i 0 → v < n
 read-below all i h v e = rw e (all .below i h)
+
+-- each byte stays a mark or none
+pub marks-none : (n : ℕ) → Marks (noMarks n)
+marks-none n = record { small = λ v h. rw (getD-replicate {A = ℕ} n v 0 0 (rw (length-replicate {A = ℕ} n 0) at h)) (omega arith) }
+
+pub marks-with : (byte : ℕ) → byte ≤ 1 → (test : ℕ → Bool) (bytes : List ℕ) → Marks bytes → Marks (withByte byte test bytes)
+marks-with byte few test bytes marks = record { small = λ v h. go v (rw (with-length byte test bytes) at h) }
+  where
+    go : (v : ℕ) → v < length bytes → getD (withByte byte test bytes) v 0 ≤ 1
+    go v h = rw (with-at byte test bytes v h) (ask (test v) (λ t. rw t few) (λ f. rw f (marks .small v h)))

@@ -1,19 +1,20 @@
 -- What a wire keeps clear of others, as "The tree of one net" of the requirement has it. Definitions alone; their laws are in ResourceLaws.
 use mathlib.Core.Bool.{Bool, false, _||_}
 use mathlib.Core.List.{List, [], _∷_}
-use Prim.Native.Nat.{ℕ}
+use Prim.Native.Nat.{ℕ, _+_}
 use lib.Dec.{ltb, eqb}
 use Rattle.basics.specs.Tests.{either}
 use Rattle.basics.specs.Lists.{any}
 use Rattle.room.specs.declared.Room.{Room}
 use Rattle.room.specs.declared.Neighbour.{Neighbour}
-use Rattle.room.specs.Room.{posOf, by, neighbour, above}
+use Rattle.room.specs.Room.{posOf, moveAt, neighbour, above}
 use Rattle.room.specs.declared.Move.{Move}
 use Rattle.routing_resources.specs.Marks.{isCell}
 
--- the four moves that end on the level of the middle part `rise`: 0, 1 and 2 stand for one down, the same and one up
+-- the four moves that end on the level of the middle part `rise`: 0, 1 and 2 stand for one down, the same and one up. The moves stand in threes, one
+-- for each level
 unfoldable pub directions : ℕ → List Move
-directions rise = by 2 rise 1 ∷ by 0 rise 1 ∷ by 1 rise 2 ∷ by 1 rise 0 ∷ []
+directions rise = moveAt rise ∷ moveAt (3 + rise) ∷ moveAt (6 + rise) ∷ moveAt (9 + rise) ∷ []
 
 -- v is one of the cell's four neighbours on that level
 unfoldable pub isNeighbour : Room → ℕ → ℕ → ℕ → Bool
@@ -23,6 +24,7 @@ isNeighbour R cell rise v = any (λ m. isCell (neighbour R cell m) v) (direction
 unfoldable pub inKeepout : Room → ℕ → ℕ → Bool
 inKeepout R cell v = (isNeighbour R cell 1 v || isNeighbour R cell 2 v) || isNeighbour R cell 0 v
 
+-- the y of a cell
 abbrev pub level : Room → ℕ → ℕ
 level R cell = posOf R cell .y
 

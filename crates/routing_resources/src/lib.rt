@@ -15,6 +15,7 @@ pub const UNMARKED: u8 = 0;
 
 pub const MARKED: u8 = 1;
 
+// Marks a cell.
 pub fn mark(marks: &mut [u8], cell: usize)
     requires { ⌜ cell < length (now marks) ⌝ }
     ensures { λ _. ⌜ now (marks .exit) ≡ markedBy (eqb cell) (now (marks .entry)) ⌝ }
@@ -22,6 +23,7 @@ pub fn mark(marks: &mut [u8], cell: usize)
     marks[cell] = MARKED;
 }
 
+// Takes a cell's mark away.
 pub fn unmark(marks: &mut [u8], cell: usize)
     requires { ⌜ cell < length (now marks) ⌝ }
     ensures { λ _. ⌜ now (marks .exit) ≡ unmarkedBy (eqb cell) (now (marks .entry)) ⌝ }

@@ -34,8 +34,8 @@ use Rattle.job_sheet.proofs.Part as Part′
 use Rattle.job_sheet.proofs.Part.Laws as PartLaws
 use Rattle.job_sheet.proofs.Sinks as Sinks′
 use Rattle.job_sheet.proofs.Sinks.Laws as SinksLaws
-use Rattle.job_sheet.specs.Places.{fourIn, positionIn, endpointIn, Listed}
-use Rattle.sheet_reader.specs.Reader.{Stands, onward, Counted, sinksFound}
+use Rattle.job_sheet.specs.Places.{fourIn, positionIn, endpointIn, Listed, SinksListed}
+use Rattle.sheet_reader.specs.Reader.{Stands, onward, sinksFound}
 use Rattle.sheet_reader.specs.declared.Reader.{Reader}
 use Rattle.sheet_reader.proofs.Calling.{Require, none, this, Wants, Promise, Promised, Sought, promises, Token, type-at, laws-at, reader, Held, gone, Lawful, bytes, Bytes, twice}
 use Rattle.sheet_reader.proofs.Reader.Laws as T′
@@ -43,26 +43,26 @@ use Rattle.sheet_reader.proofs.Reader.Laws as T′
 -- ---- the methods that read
 
 -- what one gives, of which MIR type, what it requires of the reader, and what it tells of the reader and the result
-pub record Reading : Type 2 where
+pub record ReadingMethod : Type 2 where
   pub type : RattleType
   pub mir : Ty
   pub typed : {M : Type 1} (𝓤 : URA M) (H : Heap 𝓤) (A : Atoms 𝓤) → Given 𝓤 H A → (r : type .Denot) (vs : List Val) → Is type r vs → Typed (mir ∷ []) vs
   pub requires : Reader → Require
   pub Tells : Reader → type .Denot → Type 0
 
-abbrev pub reading : (m : Reading) → Promise (reader ∷ []) (plain (λ _. m .type))
+abbrev pub reading : (m : ReadingMethod) → Promise (reader ∷ []) (plain (λ _. m .type))
 reading m = record { requires = λ _ a. m .requires (a .0); Ensures = λ _ a. m .Tells (a .0) }
 
 abbrev standing : Reader → Require
 standing h = this (Stands (now (h .sheet)) (h .place))
 
-abbrev pub byte : Reading
+abbrev pub byte : ReadingMethod
 byte = record { type = u8; mir = tyInt w8; typed = λ 𝓤 H A W. uint-lawful 𝓤 H A W w8 .typed; requires = standing; Tells = λ h r. r ≡ getD (drop (h .place) (now (h .sheet))) 0 0 }
 
-abbrev pub four : Reading
+abbrev pub four : ReadingMethod
 four = record { type = u32; mir = tyInt w32; typed = λ 𝓤 H A W. uint-lawful 𝓤 H A W w32 .typed; requires = standing; Tells = λ h r. r ≡ fourIn (drop (h .place) (now (h .sheet))) 0 }
 
-abbrev pub position : Reading
+abbrev pub position : ReadingMethod
 position = record {
   type = Pos′.the-row;
   mir = PosLaws.mir;
@@ -71,7 +71,7 @@ position = record {
   Tells = λ h r. r ≡ positionIn (drop (h .place) (now (h .sheet))) 0;
 }
 
-abbrev pub endpoint : Reading
+abbrev pub endpoint : ReadingMethod
 endpoint = record {
   type = Endpoint′.the-row;
   mir = EndpointLaws.mir;
@@ -80,7 +80,7 @@ endpoint = record {
   Tells = λ h r. r ≡ endpointIn (drop (h .place) (now (h .sheet)));
 }
 
-abbrev pub list : Reading
+abbrev pub list : ReadingMethod
 list = record {
   type = Part′.the-row;
   mir = PartLaws.mir;
@@ -89,16 +89,16 @@ list = record {
   Tells = λ h. Listed (now (h .sheet)) (h .place);
 }
 
-abbrev pub sinks-list : Reading
+abbrev pub sinks-list : ReadingMethod
 sinks-list = record {
   type = Part′.the-row;
   mir = PartLaws.mir;
   typed = λ 𝓤 H A W. LL.lawful Part′.the-type PartLaws.the-laws 𝓤 H A W .typed;
   requires = standing;
-  Tells = λ h. Counted (now (h .sheet)) (h .place);
+  Tells = λ h. SinksListed (now (h .sheet)) (h .place);
 }
 
-abbrev pub sinks : Reading
+abbrev pub sinks : ReadingMethod
 sinks = record {
   type = Sinks′.the-row;
   mir = SinksLaws.mir;
@@ -107,7 +107,7 @@ sinks = record {
   Tells = λ h r. r ≡ sinksFound (now (h .sheet)) (h .place);
 }
 
-abbrev pub at-end : Reading
+abbrev pub at-end : ReadingMethod
 at-end = record { type = bool; mir = tyBool; typed = λ 𝓤 H A W. bool-lawful 𝓤 H A W .typed; requires = λ _. none; Tells = λ h r. r ≡ eqb (h .place) (length (now (h .sheet))) }
 
 -- ---- those that make a reader
@@ -152,7 +152,7 @@ behind = record { requires = λ _ a. this ((a .1 .0 ≤ 7) × (a .1 .1 .0 .count
 
 module _ {M : Type 1} {𝓤 : URA M} {H : Heap 𝓤} {A : Atoms 𝓤} {K : Type 0} {W : Given 𝓤 H A} {Γ : List (Item 𝓤)} {E : Env 𝓤 H} {C : Calls 𝓤 H} {Λ : Loops 𝓤 H} {f : Name} {xs : List Operand} {p : Post 𝓤 H} {d : Place} {rest : Body} where
   -- a method that reads is given a copy of the reader
-  pub reads : K → FmC 𝓤 H (W .laws) C → (m : Reading) → Triple 𝓤 (C f) (Promised 𝓤 H A (reading m)) → (κ : Lft) (q : Share) (h : Reader) → Wants (m .requires h)
+  pub reads : K → FmC 𝓤 H (W .laws) C → (m : ReadingMethod) → Triple 𝓤 (C f) (Promised 𝓤 H A (reading m)) → (κ : Lft) (q : Share) (h : Reader) → Wants (m .requires h)
       → Opds K W (Sought 𝓤 H A (reading m) (κ, tt) (q, tt) (h, tt) (T′.lowered h ∷ [], tt) ∷ ‵ (Held κ h) ∷ Γ) E xs (T′.lowered h ∷ [])
       → ((w : Val) (r : m .type .Denot) → m .Tells h r → Is (m .type) r (w ∷ []) → Seq K W (Token 𝓤 A κ q ∷ ‵ (Held κ h) ∷ Γ) (lands C Λ E d w rest p))
       → Seq K W (Token 𝓤 A κ q ∷ ‵ (Held κ h) ∷ Γ) (runs C Λ E (seq (call f xs d) rest) p)

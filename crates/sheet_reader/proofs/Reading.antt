@@ -30,7 +30,7 @@ use denote.Triple.Clauses.{Clauses, Lasts, atExit}
 use denote.Triple.Statement.{Triple}
 use Rattle.sheet_reader.specs.declared.Reader.{Reader}
 use Rattle.sheet_reader.proofs.Calling.{Takes, Taking, takes, wanted, clausesOf, Promised, Token, reader, Held, Lawful, bytes, lends, lawful-at}
-use Rattle.sheet_reader.proofs.Methods.{Reading, reading}
+use Rattle.sheet_reader.proofs.Methods.{ReadingMethod, reading}
 use Rattle.sheet_reader.proofs.Reader.Laws as T′
 use Rattle.sheet_reader.proofs.Walking.{reader-told, Before, After, ends, meets}
 
@@ -71,7 +71,7 @@ module _ {M : Type 1} {𝓤 : URA M} {H : Heap 𝓤} {A : Atoms 𝓤} {W : Given
   }
 
 -- a method m, and its callee f with the clauses c
-module _ {M : Type 1} (𝓤 : URA M) (H : Heap 𝓤) (A : Atoms 𝓤) (W : Given 𝓤 H A) (m : Reading) (more : Constants W) where
+module _ {M : Type 1} (𝓤 : URA M) (H : Heap 𝓤) (A : Atoms 𝓤) (W : Given 𝓤 H A) (m : ReadingMethod) (more : Constants W) where
   abbrev params : List (Slot 1)
   params = bytes ∷ plain (λ _. usize) ∷ more .types
 
@@ -119,7 +119,7 @@ module _ {M : Type 1} (𝓤 : URA M) (H : Heap 𝓤) (A : Atoms 𝓤) (W : Given
         by ! (ends 𝓤 H A (reader ∷ []) result (clausesOf 𝓤 (reading m)) κ q (h, tt) (T′.lowered h ∷ [], tt) tt W u r (tt, tt)))))))
 
 -- in an environment γ where the method's name is k
-pub reads-by : {M : Type 1} (𝓤 : URA M) (H : Heap 𝓤) (𝓜 : Model 𝓤 H) (𝓖 : GhostRules 𝓤 H) (𝓡 : Running 𝓤 H 𝓜) (m : Reading) (more : Constants (givenOf 𝓤 H 𝓜 𝓖)) (c : Clauses 𝓤 (Takes (bytes ∷ plain (λ _. usize) ∷ more .types) (plain (λ _. m .type))))
+pub reads-by : {M : Type 1} (𝓤 : URA M) (H : Heap 𝓤) (𝓜 : Model 𝓤 H) (𝓖 : GhostRules 𝓤 H) (𝓡 : Running 𝓤 H 𝓜) (m : ReadingMethod) (more : Constants (givenOf 𝓤 H 𝓜 𝓖)) (c : Clauses 𝓤 (Takes (bytes ∷ plain (λ _. usize) ∷ more .types) (plain (λ _. m .type))))
     → Follows 𝓤 H (𝓖 .A) (givenOf 𝓤 H 𝓜 𝓖) m more c → (k f : Name) (γ : Env) → Closed 𝓤 H (tables 𝓤 H 𝓜 𝓡 γ .C) (tables 𝓤 H 𝓜 𝓡 γ .Λ) k (code (m .mir) f (more .operands))
     → Triple 𝓤 (𝓡 .run (γ f)) (Taking 𝓤 H (𝓖 .A) (bytes ∷ plain (λ _. usize) ∷ more .types) (plain (λ _. m .type)) c)
     → Triple 𝓤 (𝓡 .run (γ k)) (Promised 𝓤 H (𝓖 .A) (reading m))

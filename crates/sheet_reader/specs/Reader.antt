@@ -3,7 +3,7 @@
 use mathlib.Core.Path.{_≡_}
 use mathlib.Core.Bool.{Bool, true, _&&_}
 use mathlib.Core.List.{List}
-use Prim.Native.Nat.{ℕ, _+_, _≤_, _<_}
+use Prim.Native.Nat.{ℕ, _+_, _≤_}
 use lib.Dec.{leb, eqb}
 use lib.ListN.{length, getD, drop}
 use Rattle.basics.specs.Tests.{either}
@@ -14,7 +14,7 @@ use Rattle.job_sheet.specs.declared.Endpoint.{Endpoint}
 use Rattle.job_sheet.specs.declared.places.Layout.{Layout}
 use Rattle.job_sheet.specs.declared.Sinks.{Sinks}
 use Rattle.job_sheet.specs.Sheet.{maxSinks, endpointSize, behind, noPart, sinksOf, sidesPlace, configPlace}
-use Rattle.job_sheet.specs.Places.{fourIn, roomIn, configIn, endpointIn, endpointsIn, layoutIn}
+use Rattle.job_sheet.specs.Places.{fourIn, roomIn, configIn, endpointIn, endpointsIn, sinksAt, layoutIn}
 use Rattle.sheet_reader.specs.declared.Head.{Head}
 use Rattle.sheet_reader.specs.declared.Body.{Body}
 
@@ -26,20 +26,12 @@ Stands s place = place ≤ length s + 1
 unfoldable pub onward : List ℕ → ℕ → ℕ → ℕ
 onward s place n = either (leb (place + n) (length s)) (place + n) (length s + 1)
 
--- "one-byte sink count": the sinks whose count stands at a place
-abbrev pub sinksHere : List ℕ → ℕ → Part
-sinksHere s place = record { from = place + 1; count = getD (drop place s) 0 0 }
-
-pub record Counted (s : List ℕ) (place : ℕ) (r : Part) : Type 0 where
-  pub is : r ≡ sinksHere s place
-  pub count-most : r .count < 65536
-
 -- at most sixteen endpoints that the sheet has whole, or none
 unfoldable pub held : List ℕ → Part → Part
 held s p = either (leb (p .count) maxSinks && leb (behind endpointSize p) (length s)) p noPart
 
 abbrev pub sinksFound : List ℕ → ℕ → Sinks
-sinksFound s place = sinksOf (endpointsIn s (held s (sinksHere s place)))
+sinksFound s place = sinksOf (endpointsIn s (held s (sinksAt s place)))
 
 -- ---- what a reader finds from the front of a sheet to its end
 

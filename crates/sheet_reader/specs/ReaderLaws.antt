@@ -3,7 +3,7 @@ use mathlib.Core.Path.{_≡_, refl, sym, ap, _∙_}
 use mathlib.Core.Bool.{Bool, true}
 use mathlib.Core.List.{List}
 use Prim.Native.Nat.{ℕ, _+_, _*_, _≤_, _<_}
-use native.Mathlib.Nat.{le-of-lt, add-zero}
+use native.Mathlib.Nat.{le-of-lt}
 use native.Mathlib.Omega.{arith}
 use borrow.Author.Tests.{leb-true, leb-false, eqb-true, le-leb, lt-leb, eq-eqb, ne-eqb}
 use lib.Dec.{leb, eqb}
@@ -20,7 +20,7 @@ use Rattle.job_sheet.specs.RecordLaws.{Bytes}
 use Rattle.job_sheet.specs.ReadLaws.{job-forth}
 use Rattle.sheet_reader.specs.declared.Head.{Head}
 use Rattle.sheet_reader.specs.declared.Body.{Body}
-use Rattle.sheet_reader.specs.Reader.{Stands, onward, sinksHere, held, sinksFound, headOf, headIn, layoutFrom, bodyOf, Found, jobFound}
+use Rattle.sheet_reader.specs.Reader.{Stands, onward, held, sinksFound, headOf, headIn, layoutFrom, bodyOf, Found, jobFound}
 
 -- ---- where a reader stands
 
@@ -169,28 +169,17 @@ module _ (s : List ℕ) where
   unfolding listAt
   behind-on size p = omega arith
 
-  -- the sinks' count stands behind the source
-  count-at : (p : ℕ) → getD (drop (p + endpointSize) s) 0 0 ≡ getD (drop p s) endpointSize 0
-  count-at p = simp (getD-drop, add-zero)
-
-  count-along : (a p : ℕ) → Along s a (p + endpointSize) → getD (drop a s) 0 0 ≡ getD (drop p s) endpointSize 0
-  count-along a p A = rw (along-drop s a (p + endpointSize) A) (count-at p)
-
-  sinks-along : (a p : ℕ) → Along s a (p + endpointSize) → Along s (after s endpointSize (sinksHere s a)) (behind endpointSize (sinksAt s p))
+  sinks-along : (a p : ℕ) → Along s a p → Along s (after s endpointSize (sinksAt s a)) (behind endpointSize (sinksAt s p))
   unfolding sinksAt
-  sinks-along a p A = rw (count-along a p A) (along-on s 1 (endpointSize * getD (drop p s) endpointSize 0) a (p + endpointSize) A)
+  sinks-along a p A = rw (along-drop s a p A) (along-on s 1 (endpointSize * getD (drop p s) 0 0) a p A)
 
-  sinks-count : (a p : ℕ) → Along s a (p + endpointSize) → getD (drop a s) 0 0 ≡ sinksAt s p .count
+  sinks-count : (a p : ℕ) → Along s a p → sinksAt s a .count ≡ sinksAt s p .count
   unfolding sinksAt
-  sinks-count = count-along
+  sinks-count a p A = ap (λ l. getD l 0 0) (along-drop s a p A)
 
-  sinks-on : (p : ℕ) → p + endpointSize ≤ behind endpointSize (sinksAt s p)
+  sinks-on : (p : ℕ) → p ≤ behind endpointSize (sinksAt s p)
   unfolding sinksAt
   sinks-on p = omega arith
-
-  sinks-same : (a p : ℕ) → a ≡ p + endpointSize → sinksHere s a ≡ sinksAt s p
-  unfolding sinksAt
-  sinks-same a p e = rw e (λ i. record { from = p + endpointSize + 1; count = count-at p i })
 
   pub body-read : (b c l t r k : Part) (e : Endpoint) (n : Sinks) (w : Bool)
       → b ≡ listAt s (onward s 0 listsPlace)
@@ -199,7 +188,7 @@ module _ (s : List ℕ) where
       → t ≡ listAt s (after s positionSize l)
       → r ≡ listAt s (after s positionSize t)
       → e ≡ endpointIn (drop (after s positionSize r) s)
-      → k ≡ sinksHere s (onward s (after s positionSize r) endpointSize)
+      → k ≡ sinksAt s (onward s (after s positionSize r) endpointSize)
       → n ≡ sinksFound s (onward s (after s positionSize r) endpointSize)
       → w ≡ eqb (after s endpointSize k) (length s)
       → Found s (bodyOf (layoutFrom b c l t r (after s positionSize r) k) e n w)
@@ -211,7 +200,8 @@ module _ (s : List ℕ) where
       let q₄ : ℕ = behind positionSize (listAt s q₃) in
       let q₅ : ℕ = behind positionSize (listAt s q₄) in
       let q₆ : ℕ = behind positionSize (listAt s q₅) in
-      let q₈ : ℕ = behind endpointSize (sinksAt s q₆) in
+      let q₇ : ℕ = q₆ + endpointSize in
+      let q₈ : ℕ = behind endpointSize (sinksAt s q₇) in
       let a₇ : ℕ = onward s (after s positionSize r) endpointSize in
       let A₁ : Along s (onward s 0 listsPlace) q₁ = along-past s listsPlace 0 0 (along-start s) in
       let A₂ : Along s (after s blockSize b) q₂ = list-along blockSize b _ q₁ eb A₁ in
@@ -219,8 +209,8 @@ module _ (s : List ℕ) where
       let A₄ : Along s (after s positionSize l) q₄ = list-along positionSize l _ q₃ el A₃ in
       let A₅ : Along s (after s positionSize t) q₅ = list-along positionSize t _ q₄ et A₄ in
       let A₆ : Along s (after s positionSize r) q₆ = list-along positionSize r _ q₅ er A₅ in
-      let A₇ : Along s a₇ (q₆ + endpointSize) = along-past s endpointSize _ q₆ A₆ in
-      let A₈ : Along s (after s endpointSize k) q₈ = rw ek (sinks-along a₇ q₆ A₇) in
+      let A₇ : Along s a₇ q₇ = along-past s endpointSize _ q₆ A₆ in
+      let A₈ : Along s (after s endpointSize k) q₈ = rw ek (sinks-along a₇ q₇ A₇) in
       let whole : w ≡ eqb q₈ (length s) = ew ∙ along-end s _ q₈ A₈ in
       let ends : w ≡ true → q₈ ≡ length s = λ z. eqb-true _ _ (sym whole ∙ z) in
       let on₂ = behind-on blockSize q₁ in
@@ -228,22 +218,22 @@ module _ (s : List ℕ) where
       let on₄ = behind-on positionSize q₃ in
       let on₅ = behind-on positionSize q₄ in
       let on₆ = behind-on positionSize q₅ in
-      let on₈ = sinks-on q₆ in
+      let on₈ = sinks-on q₇ in
       let p₁ : w ≡ true → onward s 0 listsPlace ≡ q₁ = λ z. along-near s _ q₁ A₁ (omega (arith, ends z, on₂, on₃, on₄, on₅, on₆, on₈)) in
       let p₂ : w ≡ true → after s blockSize b ≡ q₂ = λ z. along-near s _ q₂ A₂ (omega (arith, ends z, on₃, on₄, on₅, on₆, on₈)) in
       let p₃ : w ≡ true → after s positionSize c ≡ q₃ = λ z. along-near s _ q₃ A₃ (omega (arith, ends z, on₄, on₅, on₆, on₈)) in
       let p₄ : w ≡ true → after s positionSize l ≡ q₄ = λ z. along-near s _ q₄ A₄ (omega (arith, ends z, on₅, on₆, on₈)) in
       let p₅ : w ≡ true → after s positionSize t ≡ q₅ = λ z. along-near s _ q₅ A₅ (omega (arith, ends z, on₆, on₈)) in
       let p₆ : w ≡ true → after s positionSize r ≡ q₆ = λ z. along-near s _ q₆ A₆ (omega (arith, ends z, on₈)) in
-      let p₇ : w ≡ true → a₇ ≡ q₆ + endpointSize = λ z. along-near s _ (q₆ + endpointSize) A₇ (omega (arith, ends z, on₈)) in
-      let k-is : w ≡ true → k ≡ sinksAt s q₆ = λ z. ek ∙ sinks-same a₇ q₆ (p₇ z) in
+      let p₇ : w ≡ true → a₇ ≡ q₇ = λ z. along-near s _ q₇ A₇ (omega (arith, ends z, on₈)) in
+      let k-is : w ≡ true → k ≡ sinksAt s q₇ = λ z. ek ∙ ap (sinksAt s) (p₇ z) in
       record {
         whole-is = whole;
-        count-is = ap (λ x. x .count) ek ∙ sinks-count a₇ q₆ A₇;
+        count-is = ap (λ x. x .count) ek ∙ sinks-count a₇ q₇ A₇;
         layout-is = λ z i. layoutFrom ((eb ∙ ap (listAt s) (p₁ z)) i) ((ec ∙ ap (listAt s) (p₂ z)) i) ((el ∙ ap (listAt s) (p₃ z)) i) ((et ∙ ap (listAt s) (p₄ z)) i) ((er ∙ ap (listAt s) (p₅ z)) i) (p₆ z i) (k-is z i);
         source-is = λ z. ee ∙ ap (λ x. endpointIn (drop x s)) (p₆ z);
         sinks-are = λ z few.
-            en ∙ ap (λ x. sinksOf (endpointsIn s (held s x))) (sinks-same a₇ q₆ (p₇ z)) ∙ ap (λ x. sinksOf (endpointsIn s x)) (held-some s (sinksAt s q₆) few (omega (arith, ends z)));
+            en ∙ ap (λ x. sinksOf (endpointsIn s (held s (sinksAt s x)))) (p₇ z) ∙ ap (λ x. sinksOf (endpointsIn s x)) (held-some s (sinksAt s q₇) few (omega (arith, ends z)));
       }
 
   pub found-as : (x y : Body) → x ≡ y → Found s y → Found s x

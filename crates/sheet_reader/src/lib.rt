@@ -8,8 +8,8 @@ ghost use Prim.Native.Nat.{_*_, _≤_, _<_};
 ghost use lib.Dec.{eqb};
 ghost use lib.ListN.{length, getD, drop};
 ghost use Rattle.job_sheet.specs.Sheet.{Read};
-ghost use Rattle.job_sheet.specs.Places.{fourIn, positionIn, endpointIn, Listed, shaped};
-ghost use Rattle.sheet_reader.specs.Reader.{Stands, onward, Counted, sinksFound, headOf, headIn, layoutFrom, bodyOf, Found, jobFound};
+ghost use Rattle.job_sheet.specs.Places.{fourIn, positionIn, endpointIn, Listed, SinksListed, shaped};
+ghost use Rattle.sheet_reader.specs.Reader.{Stands, onward, sinksFound, headOf, headIn, layoutFrom, bodyOf, Found, jobFound};
 use job_sheet::Endpoint;
 use job_sheet::Job;
 use job_sheet::Part;
@@ -50,12 +50,14 @@ struct Body {
 }
 
 impl<'a> Reader<'a> {
+    // At the front of a sheet.
     pub fn new(sheet: &'a [u8]) -> Reader<'a>
         ensures { λ r. ⌜ (r .sheet ≡ sheet .entry) × (r .place ≡ 0) ⌝ }
     {
         Reader { sheet, place: 0 }
     }
 
+    // The byte that stands here.
     pub fn byte(self) -> u8
         requires { ⌜ Stands (now (self .sheet)) (self .place) ⌝ }
         ensures { λ r. ⌜ r ≡ getD (drop (self .entry .place) (now (self .entry .sheet))) 0 0 ⌝ }
@@ -63,6 +65,7 @@ impl<'a> Reader<'a> {
         places::byte(self.sheet, self.place, 0)
     }
 
+    // The number whose four bytes stand here.
     pub fn four(self) -> u32
         requires { ⌜ Stands (now (self .sheet)) (self .place) ⌝ }
         ensures { λ r. ⌜ r ≡ fourIn (drop (self .entry .place) (now (self .entry .sheet))) 0 ⌝ }
@@ -97,9 +100,9 @@ impl<'a> Reader<'a> {
     // The sinks whose one-byte count stands here: where they stand.
     pub fn sinks_list(self) -> Part
         requires { ⌜ Stands (now (self .sheet)) (self .place) ⌝ }
-        ensures { λ r. ⌜ Counted (now (self .entry .sheet)) (self .entry .place) r ⌝ }
+        ensures { λ r. ⌜ SinksListed (now (self .entry .sheet)) (self .entry .place) r ⌝ }
     {
-        steps::sinks_list(self.sheet, self.place)
+        places::sinks_at(self.sheet, self.place)
     }
 
     // The sinks whose one-byte count stands here: none where they are over sixteen, or the sheet is too short for them.
@@ -131,6 +134,7 @@ impl<'a> Reader<'a> {
         }
     }
 
+    // Whether nothing is left over and nothing was too short.
     pub fn at_end(self) -> bool
         ensures { λ r. ⌜ r ≡ eqb (self .entry .place) (length (now (self .entry .sheet))) ⌝ }
     {
@@ -138,7 +142,7 @@ impl<'a> Reader<'a> {
     }
 }
 
-// What was read, put together.
+// What was read, put together: apart from `read_head`, whose proof by hand needs to know of it no more than its contract.
 fn head_of(
     version: u8,
     rest: u32,
@@ -214,7 +218,7 @@ fn layout_of(
     }
 }
 
-// What was read, put together.
+// What was read, put together: apart from `read_body`, as `head_of` is from `read_head`.
 fn body_of(layout: Layout, source: Endpoint, sinks: Sinks, whole: bool) -> Body
     ensures { λ r. ⌜ r ≡ bodyOf layout source sinks whole ⌝ }
 {
@@ -261,25 +265,18 @@ fn read_body(sheet: &[u8]) -> Body
     body_of(layout, source, sinks, whole)
 }
 
-// Number 1, over the whole sheet: "sheet length, version, count past the end, bytes left over, over 16 sinks". A count past
-// the end has led the reader off the sheet, so that it is not at the end.
+// Number 1, over the whole sheet. A count past the end has led the reader off the sheet, so that it is not at the end.
 fn shaped(sheet: &[u8], head: Head, body: Body) -> bool
     requires { ⌜ (head ≡ headIn (now sheet)) × Found (now sheet) body ⌝ }
     ensures { λ r. ⌜ r ≡ shaped (now (sheet .entry)) ⌝ }
 {
-    if job_sheet::MAX_BYTES < sheet.len() {
-        return false;
-    }
-    if head.version != job_sheet::VERSION {
-        return false;
-    }
-    if head.rest as usize + places::SIDES != sheet.len() {
-        return false;
-    }
-    if job_sheet::MAX_SINKS < body.layout.sinks.count {
-        return false;
-    }
-    body.whole
+    places::shape_holds(
+        sheet.len(),
+        head.version,
+        head.rest,
+        body.layout.sinks.count,
+        body.whole,
+    )
 }
 
 // The job that was read.

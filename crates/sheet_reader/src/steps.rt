@@ -3,7 +3,7 @@ ghost use mathlib.Core.Path.{_≡_};
 ghost use Prim.Native.Nat.{_+_, _*_, _≤_, _<_};
 ghost use lib.Dec.{eqb};
 ghost use lib.ListN.{length};
-ghost use Rattle.sheet_reader.specs.Reader.{Stands, onward, Counted, held, sinksFound};
+ghost use Rattle.sheet_reader.specs.Reader.{Stands, onward, held, sinksFound};
 use job_sheet::Part;
 use job_sheet::Sinks;
 use job_sheet::places;
@@ -38,17 +38,6 @@ pub fn at_end(sheet: &[u8], place: usize) -> bool
     place == sheet.len()
 }
 
-// The sinks whose one-byte count stands at a place.
-pub fn sinks_list(sheet: &[u8], place: usize) -> Part
-    requires { ⌜ Stands (now sheet) place ⌝ }
-    ensures { λ r. ⌜ Counted (now (sheet .entry)) place r ⌝ }
-{
-    Part {
-        from: place + 1,
-        count: places::byte(sheet, place, 0) as usize,
-    }
-}
-
 // The part itself where it is of at most sixteen endpoints that the sheet has whole, else a part of none.
 fn held(sheet: &[u8], part: Part) -> Part
     requires { ⌜ part .from ≤ length (now sheet) + 2 ⌝ }
@@ -70,5 +59,5 @@ pub fn sinks(sheet: &[u8], place: usize) -> Sinks
     requires { ⌜ Stands (now sheet) place ⌝ }
     ensures { λ r. ⌜ r ≡ sinksFound (now (sheet .entry)) place ⌝ }
 {
-    job_sheet::sinks_from(sheet, held(sheet, sinks_list(sheet, place)))
+    job_sheet::sinks_from(sheet, held(sheet, places::sinks_at(sheet, place)))
 }

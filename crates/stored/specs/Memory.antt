@@ -9,8 +9,8 @@ use lib.ListN.{length, getD}
 use Rattle.basics.specs.Tests.{either}
 
 -- how many numbers the programs' own buffers have
-abbrev pub ownRoom : ℕ
-ownRoom = 16600
+abbrev pub ownLength : ℕ
+ownLength = 16600
 
 -- the rubbish at a place: never 0 nor a mark
 unfoldable pub rubbish : ℕ → ℕ

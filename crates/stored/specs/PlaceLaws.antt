@@ -2,7 +2,7 @@
 use mathlib.Core.Path.{_≡_, refl, sym, ap, _∙_}
 use mathlib.Core.List.{List}
 use Prim.Native.Nat.{ℕ, zero, suc, _+_, _*_, _≤_, _<_}
-use native.Mathlib.Nat.{le-of-suc-le-suc, not-suc-le-zero, min-eq-left, min-eq-right}
+use native.Mathlib.Nat.{le-of-suc-le-suc, not-suc-le-zero, min-eq-left, min-eq-right, min-le-right}
 use native.Mathlib.Omega.{arith}
 use lib.Dec.{leb}
 use lib.ListN.{length, getD, List·getD-eq-default}
@@ -18,6 +18,15 @@ module _ (file : List ℕ) where
   past-out : (at bytes : ℕ) → length file ≤ at + bytes → past file at bytes ≡ length file
   unfolding past
   past-out at bytes h = min-eq-right h
+
+  -- a place is within the file, and the next one not before it
+  pub past-within : (at bytes : ℕ) {p : ℕ} → p ≡ past file at bytes → p ≤ length file
+  unfolding past
+  past-within at bytes e = rw e (min-le-right (at + bytes) (length file))
+
+  pub past-behind : (bytes : ℕ) {p q : ℕ} → p ≤ length file → q ≡ past file p bytes → p ≤ q
+  unfolding past
+  past-behind bytes h e = rw e (omega arith)
 
   -- no cell stands at the end or behind it
   none-behind : (at : ℕ) → length file ≤ at → cellAt file at ≡ 0

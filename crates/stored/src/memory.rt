@@ -8,9 +8,8 @@ ghost use Rattle.stored.specs.Places.{cellsFrom};
 use crate::places::cell_at;
 use crate::places::past;
 
-// How many numbers the programs' own buffers have: room for the longest buffer that is stored, of 16,484
-// numbers, and some more.
-pub const ROOM: usize = 16600;
+// How many numbers the programs' own buffers have: those of the longest buffer that is stored, 16,484, and some more.
+pub const OWN_LENGTH: usize = 16600;
 
 // The rubbish at a place: a small number, which could pass for a cell, a cost or an entry, and is never 0 nor a mark.
 fn rubbish(i: usize) -> u8

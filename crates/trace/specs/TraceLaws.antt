@@ -8,45 +8,55 @@ use native.Mathlib.Omega.{arith}
 use lib.ListN.{length, getD, set, drop, length-set}
 use lib.Seq.{drop-cons, getD-set-same, drop-set-lt}
 use Rattle.best_first.specs.Search.{trace}
-use Rattle.best_first.specs.Equations.{trace-start, trace-back, trace-short}
-use Rattle.trace.specs.Traces.{traceLength, Linked}
+use Rattle.best_first.specs.Equations.{trace-start, trace-back}
+use Rattle.trace.specs.Traces.{PreviousInside}
 
-length-start : (n : ℕ) (previous : List ℕ) (v : ℕ) → getD previous v 0 ≡ 0 → traceLength (suc n) previous v ≡ 1
-unfolding traceLength
-length-start n previous v e = rw (e, traceLength)
-
-length-back : (n : ℕ) (previous : List ℕ) (v u : ℕ) → getD previous v 0 ≡ suc u → traceLength (suc n) previous v ≡ suc (traceLength n previous u)
-unfolding traceLength
-length-back n previous v u e = rw (e, traceLength)
-
-pub trace-length : (n : ℕ) (previous : List ℕ) (v : ℕ) (rest : List ℕ) → length (trace n previous v rest) ≡ traceLength n previous v + length rest
-unfolding trace traceLength
-trace-length zero previous v rest = omega arith
-trace-length (suc n) previous v rest = go (getD previous v 0) refl (λ u. trace-length n previous u (v ∷ rest))
+-- the path has at most n cells
+pub trace-short : (n : ℕ) (previous : List ℕ) (v : ℕ) (rest : List ℕ) → length (trace n previous v rest) ≤ n + length rest
+unfolding trace
+trace-short zero previous v rest = omega arith
+trace-short (suc n) previous v rest = go (getD previous v 0) refl (λ u. trace-short n previous u (v ∷ rest))
   where
-    go : (k : ℕ) → getD previous v 0 ≡ k → ((u : ℕ) → length (trace n previous u (v ∷ rest)) ≡ traceLength n previous u + suc (length rest))
-        → length (trace (suc n) previous v rest) ≡ traceLength (suc n) previous v + length rest
-    go zero e ih = rw (trace-start n previous v rest e, length-start n previous v e) (omega arith)
-    go (suc u) e ih = rw (trace-back n previous v u rest e, length-back n previous v u e) (omega (arith, ih u))
+    go : (k : ℕ) → getD previous v 0 ≡ k → ((u : ℕ) → length (trace n previous u (v ∷ rest)) ≤ n + suc (length rest))
+        → length (trace (suc n) previous v rest) ≤ suc n + length rest
+    go zero e ih = rw (e, trace) (omega arith)
+    go (suc u) e ih = rw (e, trace) (omega (arith, ih u))
+
+-- what stands behind the path does not change how many cells lead to v
+trace-length : (n : ℕ) (previous : List ℕ) (v : ℕ) (rest : List ℕ) → length (trace n previous v rest) ≡ length (trace n previous v []) + length rest
+unfolding trace
+trace-length zero previous v rest = omega arith
+trace-length (suc n) previous v rest = go (getD previous v 0) refl (trace-length n previous)
+  where
+    go : (k : ℕ) → getD previous v 0 ≡ k → ((u : ℕ) (l : List ℕ) → length (trace n previous u l) ≡ length (trace n previous u []) + length l)
+        → length (trace (suc n) previous v rest) ≡ length (trace (suc n) previous v []) + length rest
+    go zero e ih = rw (trace-start n previous v rest e, trace-start n previous v [] e) (omega arith)
+    go (suc u) e ih = rw (trace-back n previous v u rest e, trace-back n previous v u [] e) (omega (arith, ih u (v ∷ rest), ih u (v ∷ [])))
+
+length-start : (n : ℕ) (previous : List ℕ) (v : ℕ) → getD previous v 0 ≡ 0 → length (trace (suc n) previous v []) ≡ 1
+length-start n previous v e = ap length (trace-start n previous v [] e)
+
+length-back : (n : ℕ) (previous : List ℕ) (v u : ℕ) → getD previous v 0 ≡ suc u → length (trace (suc n) previous v []) ≡ suc (length (trace n previous u []))
+length-back n previous v u e = omega (arith, ap length (trace-back n previous v u [] e), trace-length n previous u (v ∷ []))
 
 -- as much fuel as the path has cells is enough
-pub trace-enough : (n : ℕ) (previous : List ℕ) (v : ℕ) (rest : List ℕ) → trace (traceLength n previous v) previous v rest ≡ trace n previous v rest
-unfolding trace traceLength
+trace-enough : (n : ℕ) (previous : List ℕ) (v : ℕ) (rest : List ℕ) → trace (length (trace n previous v [])) previous v rest ≡ trace n previous v rest
+unfolding trace
 trace-enough zero previous v rest = refl
 trace-enough (suc n) previous v rest = go (getD previous v 0) refl (λ u. trace-enough n previous u (v ∷ rest))
   where
-    go : (k : ℕ) → getD previous v 0 ≡ k → ((u : ℕ) → trace (traceLength n previous u) previous u (v ∷ rest) ≡ trace n previous u (v ∷ rest))
-        → trace (traceLength (suc n) previous v) previous v rest ≡ trace (suc n) previous v rest
+    go : (k : ℕ) → getD previous v 0 ≡ k → ((u : ℕ) → trace (length (trace n previous u [])) previous u (v ∷ rest) ≡ trace n previous u (v ∷ rest))
+        → trace (length (trace (suc n) previous v [])) previous v rest ≡ trace (suc n) previous v rest
     go zero e ih = rw (length-start n previous v e, trace-start n previous v rest e, trace-start 0 previous v rest e)
     go (suc u) e ih =
-        rw (length-back n previous v u e, trace-back n previous v u rest e, trace-back (traceLength n previous u) previous v u rest e) (ih u)
+        rw (length-back n previous v u e, trace-back n previous v u rest e, trace-back (length (trace n previous u [])) previous v u rest e) (ih u)
 
 -- ---- the loop that counts
 
 pub record Counting (previous : List ℕ) (most from n v : ℕ) : Type 0 where
   pub within : n ≤ most
   pub inside : v < length previous
-  pub same : n + traceLength (most - n) previous v ≡ traceLength most previous from
+  pub same : n + length (trace (most - n) previous v []) ≡ length (trace most previous from [])
 
 module _ {previous : List ℕ} {most from : ℕ} where
   pub counting-none : from < length previous → Counting previous most from 0 from
@@ -56,23 +66,23 @@ module _ {previous : List ℕ} {most from : ℕ} where
     left : n < most → most - n ≡ suc (most - (n + 1))
     left h = omega arith
 
-    pub counting-start : n < most → getD previous v 0 ≡ 0 → n + 1 ≡ traceLength most previous from
-    counting-start h e = omega (arith, I .same, ap (λ (k : ℕ). traceLength k previous v) (left h), length-start (most - (n + 1)) previous v e)
+    pub counting-start : n < most → getD previous v 0 ≡ 0 → n + 1 ≡ length (trace most previous from [])
+    counting-start h e = omega (arith, I .same, ap (λ (k : ℕ). length (trace k previous v [])) (left h), length-start (most - (n + 1)) previous v e)
 
-    pub counting-next : Linked previous → n < most → getD previous v 0 ≢ 0 → Counting previous most from (n + 1) (getD previous v 0 - 1)
+    pub counting-next : PreviousInside previous → n < most → getD previous v 0 ≢ 0 → Counting previous most from (n + 1) (getD previous v 0 - 1)
     counting-next L h e =
         let s : getD previous v 0 ≡ suc (getD previous v 0 - 1) = omega arith in
         record {
           within = omega arith;
           inside = omega (arith, L v);
-          same = omega (arith, I .same, ap (λ (k : ℕ). traceLength k previous v) (left h), length-back (most - (n + 1)) previous v (getD previous v 0 - 1) s);
+          same = omega (arith, I .same, ap (λ (k : ℕ). length (trace k previous v [])) (left h), length-back (most - (n + 1)) previous v (getD previous v 0 - 1) s);
         }
 
-    pub counting-all : most ≤ n → n ≡ traceLength most previous from
-    unfolding traceLength
+    pub counting-all : most ≤ n → n ≡ length (trace most previous from [])
+    unfolding trace
     counting-all h =
         let z : most - n ≡ 0 = omega arith in
-        let e : n + traceLength 0 previous v ≡ traceLength most previous from = rw z at (I .same) in
+        let e : n + length (trace 0 previous v []) ≡ length (trace most previous from []) = rw z at (I .same) in
         omega arith
 
 -- ---- the loop that writes
@@ -80,7 +90,7 @@ module _ {previous : List ℕ} {most from : ℕ} where
 -- `left` cells are still to be written, from v back; `written` stand behind them
 pub record Writing (previous : List ℕ) (path : List ℕ) (path₀ : List ℕ) (count left v : ℕ) (whole : List ℕ) : Type 0 where
   pub fuel : ℕ
-  pub cells : left ≡ traceLength fuel previous v
+  pub cells : left ≡ length (trace fuel previous v [])
   pub inside : v < length previous
   pub kept : length path ≡ length path₀
   pub room : left ≤ length path
@@ -89,7 +99,7 @@ pub record Writing (previous : List ℕ) (path : List ℕ) (path₀ : List ℕ) 
   pub same : trace left previous v written ≡ whole
 
 module _ {previous path₀ whole : List ℕ} {count : ℕ} where
-  pub writing-none : (most from : ℕ) → count ≡ traceLength most previous from → from < length previous → count ≤ length path₀
+  pub writing-none : (most from : ℕ) → count ≡ length (trace most previous from []) → from < length previous → count ≤ length path₀
       → whole ≡ trace most previous from [] → Writing previous path₀ path₀ count count from whole
   writing-none most from e h r w = record {
     fuel = most;
@@ -123,10 +133,10 @@ module _ {previous path₀ whole : List ℕ} {count : ℕ} where
 
     -- the first cell has no predecessor, and is the last to be written
     pub writing-first : getD previous v 0 ≡ 0 → Writing previous (set path k v) path₀ count k v whole
-    unfolding traceLength trace
+    unfolding trace
     writing-first e = go (I .fuel) (I .cells)
       where
-        go : (f : ℕ) → left ≡ traceLength f previous v → Writing previous (set path k v) path₀ count k v whole
+        go : (f : ℕ) → left ≡ length (trace f previous v []) → Writing previous (set path k v) path₀ count k v whole
         go zero c = absurd (omega arith)
         go (suc f) c =
             let z : k ≡ 0 = omega (arith, c, length-start f previous v e) in
@@ -142,14 +152,14 @@ module _ {previous path₀ whole : List ℕ} {count : ℕ} where
               same = rw z (sym (trace-start k previous v (I .written) e) ∙ w);
             }
 
-    pub writing-next : Linked previous → getD previous v 0 ≢ 0 → Writing previous (set path k v) path₀ count k (getD previous v 0 - 1) whole
-    unfolding traceLength
+    pub writing-next : PreviousInside previous → getD previous v 0 ≢ 0 → Writing previous (set path k v) path₀ count k (getD previous v 0 - 1) whole
+    unfolding trace
     writing-next L e = go (I .fuel) (I .cells)
       where
         s : getD previous v 0 ≡ suc (getD previous v 0 - 1)
         s = omega arith
 
-        go : (f : ℕ) → left ≡ traceLength f previous v → Writing previous (set path k v) path₀ count k (getD previous v 0 - 1) whole
+        go : (f : ℕ) → left ≡ length (trace f previous v []) → Writing previous (set path k v) path₀ count k (getD previous v 0 - 1) whole
         go zero c = absurd (omega arith)
         go (suc f) c =
             let w : trace (suc k) previous v (I .written) ≡ whole = rw suc-k at (I .same) in
@@ -167,11 +177,3 @@ module _ {previous path₀ whole : List ℕ} {count : ℕ} where
   pub writing-all : {path : List ℕ} {v : ℕ} → Writing previous path path₀ count 0 v whole → path ≡ whole ++ drop count path₀
   unfolding trace
   writing-all I = I .behind ∙ ap (λ (l : List ℕ). l ++ drop count path₀) (I .same)
-
--- the path has at most V cells
-pub path-short : (cells : ℕ) (previous : List ℕ) (goal : ℕ) → length (trace cells previous goal []) ≤ cells
-path-short cells previous goal = omega (arith, trace-short cells previous goal [])
-
--- as many are counted as it has
-pub counted-is : (cells : ℕ) (previous : List ℕ) (goal : ℕ) → traceLength cells previous goal ≡ length (trace cells previous goal [])
-counted-is cells previous goal = omega (arith, trace-length cells previous goal [])

@@ -1,11 +1,10 @@
 -- `refresh` meets its contract: the cell's class, and that of the cell above where there is one.
 use mathlib.Core.Path.{sym, ap, _∙_}
 use native.Mathlib.Omega.{arith}
-use lib.ListN.{length}
+use lib.ListN.{length, length-set}
 use Rattle.room.specs.RoomLaws.{above-in}
 use borrow.Author.Needs.{needs}
 use Rattle.blocked_world.specs.BlockedWorld.{refreshed}
-use Rattle.blocked_world.specs.SeenLaws.{renewed-length}
 use Rattle.blocked_world.proofs.refresh.Statement.{statement}
 use Rattle.blocked_world.proofs.refresh.Tie as tie
 
@@ -21,7 +20,7 @@ enum-known-over c = search needs
 renew-requires-2 : tie.Need-renew-requires-2
 renew-requires-2 c κs =
     let s = c .before .before .before .before .before .before .before .before .before .before .before .before in
-    let long = ap length (c .before .before .before .before .before .before .before .renew .ensures) ∙ renewed-length _ _ _ _ _ _ (s .args .classes .now) ∙ s .pre .1 .0 in
+    let long = ap length (c .before .before .before .before .before .before .before .renew .ensures) ∙ length-set (s .args .classes .now) _ _ ∙ s .pre .1 .0 in
     let inside = above-in _ (s .pre .0 .good) _ _ (s .pre .1 .1) (sym (c .before .before .before .before .above .ensures) ∙ c .before .before .over .given .1) in
     (s .pre .0, (long, omega (arith, s .pre .1 .1)))
 

@@ -27,7 +27,7 @@ place-block-requires : tie.Need-place-block-requires Inv-loop μ-loop
 place-block-requires c κs =
     let pre = c .before .before .before .before .before .before .before .before .pre in
     let kept = c .before .before .before .before .loop .inv .1 in
-    (pre .0, (c .before .before .block-at .ensures .accepted _ _ (pre .1 .0) .1 .within, (kept .kinds-long, kept .nodes-long)))
+    (pre .0, (rw (c .before .before .block-at .ensures) (pre .1 .0 .within _ (c .before .before .before .loop-test .taken)), (kept .kinds-long, kept .nodes-long)))
 
 add-i : tie.Need-add-i Inv-loop μ-loop
 add-i c = search needs
@@ -41,9 +41,9 @@ loop-again c =
     let at = c .before .before .before .before .before .before .before .before .before .loop in
     let more = c .before .before .before .before .before .before .before .before .loop-test .taken in
     let block = c .before .before .before .before .before .before .before .block-at in
-    let inside = cell-in _ _ (pre .1 .0 .sound (at .i) more .within) in
+    let inside = cell-in _ _ (pre .1 .0 .within (at .i) more) in
     let added = c .before .before .before .before .place-block .ensures in
-    (omega arith, kept-next _ _ (at .i) _ _ _ (at .inv .1) inside (block .result) (block .ensures .is) added)
+    (omega arith, kept-next _ _ (at .i) _ _ _ (at .inv .1) inside (block .result) (block .ensures) added)
 
 same-length : tie.Need-same-length Inv-loop μ-loop
 same-length c = c .before .loop .inv .1 .kinds-long ∙ sym (zeros-long (c .before .before .before .before .before .pre .1 .1 .0))

@@ -4,18 +4,18 @@ use Prim.Native.Nat.{_≤_, _-_}
 use mathlib.Core.Path.{_≡_}
 use native.Mathlib.Omega.{arith}
 use Rattle.branches.specs.Branches.{longestBranch}
-use Rattle.branches.specs.LoopLaws.{Summed, summed-none, summed-next}
+use Rattle.branches.specs.LoopLaws.{Summed, summed-none, summed-next, summed-most}
 use Rattle.branches.proofs.joined_length.Statement.{statement}
 use Rattle.branches.proofs.joined_length.Tie as tie
 
 abbrev Inv-loop : tie.InvT-loop
-Inv-loop k lengths sum₀ i₀ sum i = (i ≤ k) × Summed (lengths .each) longestBranch sum i
+Inv-loop k lengths sum₀ i₀ sum i = (i ≤ k) × Summed (lengths .each) sum i
 
 abbrev μ-loop : tie.MeasureT-loop
 μ-loop k lengths sum₀ i₀ sum i = k - i
 
 loop-holds : tie.Need-loop-holds Inv-loop μ-loop
-loop-holds c = (omega arith, summed-none _ _)
+loop-holds c = (omega arith, summed-none _)
 
 mul-sum : tie.Need-mul-sum Inv-loop μ-loop
 mul-sum c = search needs
@@ -27,7 +27,7 @@ add-sum : tie.Need-add-sum Inv-loop μ-loop
 add-sum c =
     let short = c .before .before .before .pre .0 .short in
     let turn = c .before .before .loop in
-    omega (arith, turn .inv .1 .low, short (turn .i) (omega arith))
+    omega (arith, summed-most (turn .inv .1) longestBranch (λ i h. short i (omega arith)), short (turn .i) (omega arith))
 
 add-i : tie.Need-add-i Inv-loop μ-loop
 add-i c = search needs
@@ -39,7 +39,7 @@ loop-again : tie.Need-loop-again Inv-loop μ-loop
 loop-again c =
     let lengths = c .before .before .before .pre .0 in
     let turn = c .before .before .loop in
-    (omega arith, summed-next (turn .inv .1) (omega (arith, lengths .whole)) (lengths .short (turn .i) (omega arith)))
+    (omega arith, summed-next (turn .inv .1) (omega (arith, lengths .whole)))
 
 returns : tie.Need-returns Inv-loop μ-loop
 returns c = let e : c .before .loop .i ≡ c .before .before .args .k = omega arith in rw e at (c .before .loop .inv .1 .is)

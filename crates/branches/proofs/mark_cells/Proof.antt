@@ -3,13 +3,14 @@ use borrow.Author.Needs.{needs}
 use Prim.Native.Nat.{_≤_, _-_}
 use native.Mathlib.Omega.{arith}
 use lib.ListN.{length}
-use Rattle.branches.specs.LoopLaws.{cellsFrom, cells-next, cells-end}
-use Rattle.routing_resources.specs.MarkLaws.{Turn, first-turn, next-turn, last-turn}
+use lib.Dec.{eqb}
+use Rattle.routing_resources.specs.MarkLaws.{Turn, first-turn, restOf, turn-on, turn-done}
+use Rattle.geometry.specs.Geometry.{standsIn}
 use Rattle.branches.proofs.mark_cells.Statement.{statement}
 use Rattle.branches.proofs.mark_cells.Tie as tie
 
 abbrev Inv-loop : tie.InvT-loop
-Inv-loop marks₀ cells i₀ marks i = (i ≤ length cells) × Turn 1 (cellsFrom cells) marks₀ marks i
+Inv-loop marks₀ cells i₀ marks i = (i ≤ length cells) × Turn 1 (restOf (λ v cell. eqb cell v) cells) marks₀ marks i
 
 abbrev μ-loop : tie.MeasureT-loop
 μ-loop marks₀ cells i₀ marks i = length cells - i
@@ -40,14 +41,14 @@ loop-less c = search needs
 loop-again : tie.Need-loop-again Inv-loop μ-loop
 loop-again c =
     let turn = c .before .before .before .before .before .before .before .loop in
-    let more = cells-next _ (turn .i) (c .before .before .before .before .before .before .loop-test .taken) in
-    (omega arith, next-turn (turn .inv .1) _ (c .before .before .mark .ensures) (rw (c .before .before .before .wide .ensures .0) more))
+    (omega arith, turn-on (λ v cell. eqb cell v) _ (turn .inv .1) 0 _ (c .before .before .before .wide .ensures .0) (c .before .before .before .before .before .before .loop-test .taken) (c .before .before .mark .ensures))
 
 same-length : tie.Need-same-length Inv-loop μ-loop
 same-length c = c .before .loop .inv .1 .long
 
 returns : tie.Need-returns Inv-loop μ-loop
-returns c = last-turn (c .before .loop .inv .1) (cells-end _ _ (c .loop-test .left))
+unfolding standsIn
+returns c = turn-done (λ v cell. eqb cell v) _ (c .before .loop .inv .1) (c .loop-test .left)
 
 pub mark-cells-spec : {M : Type 1} → statement M
 mark-cells-spec =

@@ -4,12 +4,12 @@ use mathlib.Core.Bool.{Bool}
 use Prim.Native.Nat.{ℕ}
 use borrow.Author.Needs.{needs}
 use Rattle.geometry.specs.Geometry.{conflictAmong}
-use Rattle.geometry.specs.LayLaws.{cells-in, laid-length, laid-is, laid-on-path, taken-up}
+use Rattle.geometry.specs.LayLaws.{laid-length, laid-is, laid-on-path, taken-up}
 use Rattle.geometry.proofs.geometry_conflict.Statement.{statement}
 use Rattle.geometry.proofs.geometry_conflict.Tie as tie
 
 replace-requires : tie.Need-replace-requires
-replace-requires c κs = let pre = c .before .before .before .before .pre in λ v i. rw (pre .1 .0 .1) (cells-in _ _ (pre .1 .1 .0) v i)
+replace-requires c κs = let pre = c .before .before .before .before .pre in rw (pre .1 .0 .1) (pre .1 .1 .0)
 
 first-conflict-requires : tie.Need-first-conflict-requires
 first-conflict-requires c κs =
@@ -23,7 +23,7 @@ replace-requires-2 : tie.Need-replace-requires-2
 replace-requires-2 c κs =
     let pre = c .before .before .before .before .before .before .before .before .before .before .pre in
     let long = laid-length _ _ _ _ (pre .1 .0 .1) (pre .1 .1 .0) (pre .1 .1 .1 .0) (c .before .before .before .before .before .replace .ensures) in
-    λ v i. rw long (cells-in _ _ (pre .1 .1 .0) v i)
+    rw long (pre .1 .1 .0)
 
 same-length : tie.Need-same-length
 same-length c = search needs

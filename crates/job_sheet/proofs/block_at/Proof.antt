@@ -1,5 +1,5 @@
 -- `block_at` meets its contract: record i begins 7i bytes behind the first.
-use Rattle.job_sheet.specs.AcceptedLaws.{block-at}
+use Rattle.job_sheet.specs.RecordLaws.{block-at}
 use borrow.Author.Needs.{needs}
 use Rattle.job_sheet.proofs.block_at.Statement.{statement}
 use Rattle.job_sheet.proofs.block_at.Tie as tie

@@ -1,5 +1,5 @@
 -- `position_at` meets its contract: record i begins 3i bytes behind the first.
-use Rattle.job_sheet.specs.AcceptedLaws.{position-at}
+use Rattle.job_sheet.specs.RecordLaws.{position-at}
 use borrow.Author.Needs.{needs}
 use Rattle.job_sheet.proofs.position_at.Statement.{statement}
 use Rattle.job_sheet.proofs.position_at.Tie as tie

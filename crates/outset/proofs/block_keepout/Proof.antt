@@ -15,7 +15,7 @@ powers-requires : tie.Need-powers-requires
 powers-requires c κs = search needs
 
 electrical-keepout-for-wire-requires : tie.Need-electrical-keepout-for-wire-requires
-electrical-keepout-for-wire-requires c κs = (c .before .before .before .before .before .before .before .pre .0 .good, (rw (c .before .before .before .cell .ensures) (cell-in _ _ (c .before .before .before .before .before .before .before .pre .1 .within)), c .before .before .before .before .before .before .before .pre .0 .long))
+electrical-keepout-for-wire-requires c κs = (c .before .before .before .before .before .before .before .pre .0 .good, (rw (c .before .before .before .cell .ensures) (cell-in _ _ (c .before .before .before .before .before .before .before .pre .1)), c .before .before .before .before .before .before .before .pre .0 .long))
 
 same-length : tie.Need-same-length
 same-length c = c .before .before .electrical-keepout-for-wire .kept .1 .0
@@ -24,7 +24,7 @@ returns : tie.Need-returns
 returns c = source-powers _ _ _ _ (c .before .before .before .before .before .before .before .before .before .before .args .block) (c .before .before .before .before .before .before .cell .ensures) (sym (c .before .before .before .before .before .powers .ensures) ∙ c .before .before .before .before .if1 .taken) (c .before .before .electrical-keepout-for-wire .ensures)
 
 ahead-requires : tie.Need-ahead-requires
-ahead-requires c κs = (c .before .before .before .before .before .before .before .before .pre .0 .good, rw (c .before .before .before .before .cell .ensures) (cell-in _ _ (c .before .before .before .before .before .before .before .before .pre .1 .within)))
+ahead-requires c κs = (c .before .before .before .before .before .before .before .before .pre .0 .good, rw (c .before .before .before .before .cell .ensures) (cell-in _ _ (c .before .before .before .before .before .before .before .before .pre .1)))
 
 output-keepout-requires : tie.Need-output-keepout-requires
 output-keepout-requires c κs = record { sized = c .before .before .before .before .before .before .before .before .before .before .pre .0; output-in = λ v e. ahead-in _ _ _ v (sym (c .before .ahead .ensures) ∙ e) }

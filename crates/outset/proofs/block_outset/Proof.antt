@@ -1,5 +1,6 @@
 -- `block_outset` meets its contract: list by list, then the net's own cells are taken out.
-use mathlib.Core.Path.{refl, _∙_}
+use mathlib.Core.Path.{_∙_}
+use Rattle.blocks.specs.BlockLaws.{own-list}
 use Rattle.outset.specs.OutsetLaws.{outset-marked}
 use borrow.Author.Needs.{needs}
 use Rattle.outset.proofs.block_outset.Statement.{statement}
@@ -18,7 +19,9 @@ mark-positions-requires-3 : tie.Need-mark-positions-requires-3
 mark-positions-requires-3 c κs = search needs
 
 cell-source-keepout-requires : tie.Need-cell-source-keepout-requires
-cell-source-keepout-requires c κs = (record { good = c .before .before .before .before .before .before .before .before .before .before .before .before .before .before .before .before .before .before .before .before .before .before .pre .sized .good; kinds-long = c .before .before .before .before .before .before .before .before .before .before .before .before .before .before .before .before .before .before .before .before .before .before .pre .sized .kinds-long; nodes-long = c .before .before .before .before .before .before .before .before .before .before .before .before .before .before .before .before .before .before .before .before .before .before .pre .sized .nodes-long; long = c .before .before .before .mark-positions3 .kept .1 .1 .1 .0 ∙ c .before .before .before .before .before .before .before .mark-positions2 .kept .1 .1 .1 .0 ∙ c .before .before .before .before .before .before .before .before .before .before .before .mark-positions .kept .1 .1 .1 .0 ∙ c .before .before .before .before .before .before .before .before .before .before .before .before .before .before .before .mark-conductors .kept .1 .1 .1 .0 ∙ c .before .before .before .before .before .before .before .before .before .before .before .before .before .before .before .before .before .before .before .before .before .before .pre .sized .long }, record { inside = c .before .before .before .before .before .before .before .before .before .before .before .before .before .before .before .before .before .before .before .before .before .before .pre .usable .blocks .inside; are = refl; sound = c .before .before .before .before .before .before .before .before .before .before .before .before .before .before .before .before .before .before .before .before .before .before .pre .usable .blocks .sound })
+cell-source-keepout-requires c κs =
+    let start = c .before .before .before .before .before .before .before .before .before .before .before .before .before .before .before .before .before .before .before .before .before .before .pre in
+    (record { good = start .sized .good; kinds-long = start .sized .kinds-long; nodes-long = start .sized .nodes-long; long = c .before .before .before .mark-positions3 .kept .1 .1 .1 .0 ∙ c .before .before .before .before .before .before .before .mark-positions2 .kept .1 .1 .1 .0 ∙ c .before .before .before .before .before .before .before .before .before .before .before .mark-positions .kept .1 .1 .1 .0 ∙ c .before .before .before .before .before .before .before .before .before .before .before .before .before .before .before .mark-conductors .kept .1 .1 .1 .0 ∙ start .sized .long }, own-list (start .usable .blocks))
 
 take-out-ends-requires : tie.Need-take-out-ends-requires
 take-out-ends-requires c κs = (c .before .before .before .before .before .before .before .before .before .before .before .before .before .before .before .before .before .before .before .before .before .before .before .before .before .before .pre .sized .good, (c .before .before .before .before .before .before .before .before .before .before .before .before .before .before .before .before .before .before .before .before .before .before .before .before .before .before .pre .net, c .before .before .before .cell-source-keepout .kept .1 .1 .1 .1 .1 .0 ∙ c .before .before .before .before .before .before .before .mark-positions3 .kept .1 .1 .1 .0 ∙ c .before .before .before .before .before .before .before .before .before .before .before .mark-positions2 .kept .1 .1 .1 .0 ∙ c .before .before .before .before .before .before .before .before .before .before .before .before .before .before .before .mark-positions .kept .1 .1 .1 .0 ∙ c .before .before .before .before .before .before .before .before .before .before .before .before .before .before .before .before .before .before .before .mark-conductors .kept .1 .1 .1 .0 ∙ c .before .before .before .before .before .before .before .before .before .before .before .before .before .before .before .before .before .before .before .before .before .before .before .before .before .before .pre .sized .long))

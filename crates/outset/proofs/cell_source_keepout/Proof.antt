@@ -22,7 +22,7 @@ block-at-requires : tie.Need-block-at-requires Inv-loop μ-loop
 block-at-requires c κs = (c .if1 .taken, c .before .before .before .before .before .before .before .pre .1 .inside)
 
 block-keepout-requires : tie.Need-block-keepout-requires Inv-loop μ-loop
-block-keepout-requires c κs = (record { good = c .before .before .before .before .before .before .before .before .before .pre .0 .good; kinds-long = c .before .before .before .before .before .before .before .before .before .pre .0 .kinds-long; nodes-long = c .before .before .before .before .before .before .before .before .before .pre .0 .nodes-long; long = rw (c .before .before .before .before .loop .inv .1 .long) (c .before .before .before .before .before .before .before .before .before .pre .0 .long) }, c .before .block-at .ensures .accepted _ _ (c .before .before .before .before .before .before .before .before .before .pre .1) .1)
+block-keepout-requires c κs = (record { good = c .before .before .before .before .before .before .before .before .before .pre .0 .good; kinds-long = c .before .before .before .before .before .before .before .before .before .pre .0 .kinds-long; nodes-long = c .before .before .before .before .before .before .before .before .before .pre .0 .nodes-long; long = rw (c .before .before .before .before .loop .inv .1 .long) (c .before .before .before .before .before .before .before .before .before .pre .0 .long) }, rw (c .before .block-at .ensures) (c .before .before .before .before .before .before .before .before .before .pre .1 .within _ (c .before .before .if1 .taken)))
 
 add-i : tie.Need-add-i Inv-loop μ-loop
 add-i c = search needs
@@ -31,7 +31,7 @@ loop-less : tie.Need-loop-less Inv-loop μ-loop
 loop-less c = search needs
 
 loop-again : tie.Need-loop-again Inv-loop μ-loop
-loop-again c = (omega (arith, c .before .before .before .before .before .if1 .taken), turn-on (sourceKeepout _ _ _) _ (c .before .before .before .before .before .before .before .loop .inv .1) noBlock _ (c .before .before .before .before .block-at .ensures .is) (rw (blocks-long _ _) (c .before .before .before .before .before .if1 .taken)) (c .before .before .block-keepout .ensures))
+loop-again c = (omega (arith, c .before .before .before .before .before .if1 .taken), turn-on (sourceKeepout _ _ _) _ (c .before .before .before .before .before .before .before .loop .inv .1) noBlock _ (c .before .before .before .before .block-at .ensures) (rw (blocks-long _ _) (c .before .before .before .before .before .if1 .taken)) (c .before .before .block-keepout .ensures))
 
 same-length : tie.Need-same-length Inv-loop μ-loop
 same-length c = c .before .before .loop .inv .1 .long

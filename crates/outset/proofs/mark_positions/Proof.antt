@@ -23,10 +23,10 @@ position-at-requires : tie.Need-position-at-requires Inv-loop μ-loop
 position-at-requires c κs = (c .if1 .taken, c .before .before .before .before .before .pre .list .inside)
 
 cell-requires : tie.Need-cell-requires Inv-loop μ-loop
-cell-requires c κs = (c .before .before .before .before .before .before .before .pre .good, c .before .position-at .ensures .accepted _ _ (c .before .before .before .before .before .before .before .pre .list) .1)
+cell-requires c κs = (c .before .before .before .before .before .before .before .pre .good, rw (c .before .position-at .ensures) (c .before .before .before .before .before .before .before .pre .list .within _ (c .before .before .if1 .taken)))
 
 mark-requires : tie.Need-mark-requires Inv-loop μ-loop
-mark-requires c κs = rw (c .before .before .before .before .before .loop .inv .1 .long, c .before .before .before .before .before .before .before .before .pre .long) (rw (c .cell .ensures) (cell-in _ _ (c .before .before .position-at .ensures .accepted _ _ (c .before .before .before .before .before .before .before .before .pre .list) .1)))
+mark-requires c κs = rw (c .before .before .before .before .before .loop .inv .1 .long, c .before .before .before .before .before .before .before .before .pre .long) (rw (c .cell .ensures) (cell-in _ _ (rw (c .before .before .position-at .ensures) (c .before .before .before .before .before .before .before .before .pre .list .within _ (c .before .before .before .if1 .taken)))))
 
 add-i : tie.Need-add-i Inv-loop μ-loop
 add-i c = search needs
@@ -35,7 +35,7 @@ loop-less : tie.Need-loop-less Inv-loop μ-loop
 loop-less c = search needs
 
 loop-again : tie.Need-loop-again Inv-loop μ-loop
-loop-again c = (omega (arith, c .before .before .before .before .before .before .if1 .taken), turn-on (standsAt _) _ (c .before .before .before .before .before .before .before .before .loop .inv .1) noPosition _ (c .before .before .before .before .before .position-at .ensures .is) (rw (positions-long _ _) (c .before .before .before .before .before .before .if1 .taken)) (rw (c .before .before .before .cell .ensures) at (c .before .before .mark .ensures)))
+loop-again c = (omega (arith, c .before .before .before .before .before .before .if1 .taken), turn-on (standsAt _) _ (c .before .before .before .before .before .before .before .before .loop .inv .1) noPosition _ (c .before .before .before .before .before .position-at .ensures) (rw (positions-long _ _) (c .before .before .before .before .before .before .if1 .taken)) (rw (c .before .before .before .cell .ensures) at (c .before .before .mark .ensures)))
 
 same-length : tie.Need-same-length Inv-loop μ-loop
 same-length c = c .before .before .loop .inv .1 .long

@@ -23,28 +23,28 @@ loop-holds : tie.Need-loop-holds Inv-loop μ-loop
 loop-holds c = (omega arith, first-turn _ _ _)
 
 mul-take-out-tap : tie.Need-mul-take-out-tap Inv-loop μ-loop
-mul-take-out-tap c = omega (arith, c .before .loop-test .taken, c .before .before .before .before .before .before .before .before .pre .1 .0 .few)
+mul-take-out-tap c = omega (arith, c .before .loop-test .taken, c .before .before .before .before .before .before .before .before .pre .1 .0 .taps-in .few)
 
 element-copy-out-take-out-tap : tie.Need-element-copy-out-take-out-tap Inv-loop μ-loop
-element-copy-out-take-out-tap c = omega (arith, c .before .loop-test .taken, c .before .before .before .before .before .before .before .before .pre .1 .0 .few)
+element-copy-out-take-out-tap c = omega (arith, c .before .loop-test .taken, c .before .before .before .before .before .before .before .before .pre .1 .0 .taps-in .few)
 
 take-out-tap-requires : tie.Need-take-out-tap-requires Inv-loop μ-loop
-take-out-tap-requires c κs = (c .before .before .before .before .before .before .before .before .before .pre .0, ((c .before .before .before .before .before .before .before .before .before .pre .1 .0 .terminal-in _ (c .before .before .loop-test .taken), c .before .before .before .before .before .before .before .before .before .pre .1 .0 .approach-in _ (c .before .before .loop-test .taken)), rw (c .before .before .before .loop .inv .1 .long, c .before .before .before .before .before .before .take-out .kept .1 .0) (c .before .before .before .before .before .before .before .before .before .pre .1 .1)))
+take-out-tap-requires c κs = (c .before .before .before .before .before .before .before .before .before .pre .0, ((c .before .before .before .before .before .before .before .before .before .pre .1 .0 .taps-in .terminal-in _ (c .before .before .loop-test .taken), c .before .before .before .before .before .before .before .before .before .pre .1 .0 .taps-in .approach-in _ (c .before .before .loop-test .taken)), rw (c .before .before .before .loop .inv .1 .long, c .before .before .before .before .before .before .take-out .kept .1 .0) (c .before .before .before .before .before .before .before .before .before .pre .1 .1)))
 
 add-i : tie.Need-add-i Inv-loop μ-loop
-add-i c = omega (arith, c .before .before .before .before .before .loop-test .taken, c .before .before .before .before .before .before .before .before .before .before .before .before .pre .1 .0 .few)
+add-i c = omega (arith, c .before .before .before .before .before .loop-test .taken, c .before .before .before .before .before .before .before .before .before .before .before .before .pre .1 .0 .taps-in .few)
 
 loop-less : tie.Need-loop-less Inv-loop μ-loop
 loop-less c = omega (arith, c .before .before .before .before .before .loop-test .taken)
 
 loop-again : tie.Need-loop-again Inv-loop μ-loop
-loop-again c = (omega (arith, c .before .before .before .before .before .loop-test .taken), turn-on (tapCell _) _ (c .before .before .before .before .before .before .loop .inv .1) noTap _ (tap-is _ _ (c .before .before .before .before .before .loop-test .taken)) (rw (taps-long (c .before .before .before .before .before .before .before .before .before .before .before .before .pre .1 .0)) (c .before .before .before .before .before .loop-test .taken)) (c .before .before .take-out-tap .ensures))
+loop-again c = (omega (arith, c .before .before .before .before .before .loop-test .taken), turn-on (tapCell _) _ (c .before .before .before .before .before .before .loop .inv .1) noTap _ (tap-is _ _ (c .before .before .before .before .before .loop-test .taken)) (rw (taps-long (c .before .before .before .before .before .before .before .before .before .before .before .before .pre .1 .0 .taps-in)) (c .before .before .before .before .before .loop-test .taken)) (c .before .before .take-out-tap .ensures))
 
 same-length : tie.Need-same-length Inv-loop μ-loop
 same-length c = c .before .loop .inv .1 .long ∙ c .before .before .before .before .take-out .kept .1 .0
 
 returns : tie.Need-returns Inv-loop μ-loop
-returns c = out-ends _ _ _ _ (c .before .before .before .before .take-out .ensures) (turn-done (tapCell _) _ (c .before .loop .inv .1) (rw (taps-long (c .before .before .before .before .before .before .before .pre .1 .0)) (c .loop-test .left)))
+returns c = out-ends _ _ _ _ (c .before .before .before .before .take-out .ensures) (turn-done (tapCell _) _ (c .before .loop .inv .1) (rw (taps-long (c .before .before .before .before .before .before .before .pre .1 .0 .taps-in)) (c .loop-test .left)))
 
 pub take-out-ends-spec : {M : Type 1} → statement M
 take-out-ends-spec =

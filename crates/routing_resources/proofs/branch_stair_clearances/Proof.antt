@@ -4,15 +4,15 @@ use mathlib.Core.Bool.{Bool, false, _||_}
 use mathlib.Core.List.{List, [], _∷_}
 use Prim.Native.Nat.{ℕ, _+_, _-_, _≤_, _<_}
 use native.Mathlib.Nat.{le-of-suc-le-suc, not-suc-le-zero}
-use native.Mathlib.Numerals.{add-one}
 use native.Mathlib.Omega.{arith}
 use lib.ListN.{length, getD, drop, length-drop}
 use lib.Seq.{drop-cons}
 use borrow.Author.Needs.{needs}
+use Rattle.basics.specs.Lists.{drop-next}
 use Rattle.room.specs.declared.Room.{Room}
 use Rattle.room.specs.Room.{volume}
 use Rattle.routing_resources.specs.Marks.{isCell, AllCells}
-use Rattle.routing_resources.specs.MarkLaws.{Turn, first-turn, next-turn, last-turn}
+use Rattle.routing_resources.specs.MarkLaws.{Turn, first-turn, next-turn, last-turn, read-below}
 use Rattle.routing_resources.specs.Resources.{clearanceOf, isClearance}
 use Rattle.routing_resources.specs.ResourceLaws.{clearance-in}
 use Rattle.routing_resources.proofs.branch_stair_clearances.Statement.{statement}
@@ -26,9 +26,7 @@ one-more : (R : Room) (branch : List ℕ) (i : ℕ) → i + 1 < length branch �
     → clears R branch i v ≡ isCell (clearanceOf R (getD branch i 0) (getD branch (i + 1) 0)) v || clears R branch (i + 1) v
 unfolding isClearance
 one-more R branch i h v =
-    let rest = drop-cons branch (i + 1) 0 h in
-    let all : drop i branch ≡ getD branch i 0 ∷ drop (i + 1) branch = rw add-one (drop-cons branch i 0 (omega arith)) in
-    rw (all, rest)
+    rw (drop-next branch i 0 (omega arith), drop-cons branch (i + 1) 0 h)
 
 one-cell : (R : Room) (branch : List ℕ) → length branch ≤ 1 → (v : ℕ) → isClearance R branch v ≡ false
 unfolding isClearance
@@ -41,7 +39,7 @@ all-cleared R branch i h v = one-cell R (drop i branch) (rw (length-drop i branc
 
 ends-in : (R : Room) (branch : List ℕ) → AllCells R branch → (i : ℕ) → i + 1 < length branch → (a b : ℕ) → a ≡ getD branch i 0 → b ≡ getD branch (i + 1) 0
     → (a < volume R) × (b < volume R)
-ends-in R branch cells i h a b e f = (rw e (cells .below i (omega arith)), rw f (cells .below (i + 1) h))
+ends-in R branch cells i h a b e f = (read-below cells i (omega arith) a e, read-below cells (i + 1) h b f)
 
 abbrev Inv-loop : tie.InvT-loop
 Inv-loop room branch marks₀ i₀ marks i = (i ≤ length branch) × Turn 1 (clears room branch) marks₀ marks i

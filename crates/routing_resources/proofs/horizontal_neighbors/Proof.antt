@@ -3,6 +3,7 @@ use mathlib.Core.Path.{_≡_, refl, _∙_}
 use mathlib.Core.Bool.{Bool}
 use mathlib.Core.List.{List}
 use Prim.Native.Nat.{ℕ, zero, suc, _+_, _-_, _*_, _≤_, _<_}
+use native.Mathlib.Nat.{zero-add}
 use native.Mathlib.Omega.{arith}
 use lib.ListN.{length, getD}
 use borrow.Author.Needs.{needs}
@@ -10,7 +11,7 @@ use Rattle.basics.specs.Lists.{any}
 use Rattle.room.specs.declared.Room.{Room}
 use Rattle.room.specs.declared.Pos.{Pos}
 use Rattle.room.specs.declared.Move.{Move}
-use Rattle.room.specs.Room.{posOf, by, moves, moveAt, neighbourAt, neighbour}
+use Rattle.room.specs.Room.{posOf, by, moveAt, neighbourAt, neighbour}
 use Rattle.room.specs.RoomLaws.{pos-in}
 use Rattle.room.specs.MoveLaws.{leads, move-small}
 use Rattle.routing_resources.specs.Marks.{markedBy, isCell}
@@ -32,25 +33,13 @@ unfolding isNeighbour neighbour
 beside R cell rise start = refl
 
 -- the moves stand in threes: the k-th three has the k-th direction on each level
-in-threes : (k rise : ℕ) → k < 4 → rise < 3 → moveAt (3 * k + rise) ≡ getD (directions rise) k (by 0 0 0)
-unfolding moves directions
-in-threes zero zero h l = refl
-in-threes zero (suc zero) h l = refl
-in-threes zero (suc (suc zero)) h l = refl
-in-threes zero (suc (suc (suc rise))) h l = absurd (omega arith)
-in-threes (suc zero) zero h l = refl
-in-threes (suc zero) (suc zero) h l = refl
-in-threes (suc zero) (suc (suc zero)) h l = refl
-in-threes (suc zero) (suc (suc (suc rise))) h l = absurd (omega arith)
-in-threes (suc (suc zero)) zero h l = refl
-in-threes (suc (suc zero)) (suc zero) h l = refl
-in-threes (suc (suc zero)) (suc (suc zero)) h l = refl
-in-threes (suc (suc zero)) (suc (suc (suc rise))) h l = absurd (omega arith)
-in-threes (suc (suc (suc zero))) zero h l = refl
-in-threes (suc (suc (suc zero))) (suc zero) h l = refl
-in-threes (suc (suc (suc zero))) (suc (suc zero)) h l = refl
-in-threes (suc (suc (suc zero))) (suc (suc (suc rise))) h l = absurd (omega arith)
-in-threes (suc (suc (suc (suc k)))) rise h l = absurd (omega arith)
+in-threes : (k rise : ℕ) → k < 4 → moveAt (3 * k + rise) ≡ getD (directions rise) k (by 0 0 0)
+unfolding directions
+in-threes zero rise h = rw zero-add
+in-threes (suc zero) rise h = refl
+in-threes (suc (suc zero)) rise h = refl
+in-threes (suc (suc (suc zero))) rise h = refl
+in-threes (suc (suc (suc (suc k)))) rise h = absurd (omega arith)
 
 abbrev Inv-loop : tie.InvT-loop
 Inv-loop room marks₀ cell rise p k₀ marks k = (k ≤ 4) × Turn 1 (restOf (leadsTo room p) (directions rise)) marks₀ marks k
@@ -96,10 +85,9 @@ loop-again : tie.Need-loop-again Inv-loop μ-loop
 unfolding directions
 loop-again c =
     let args = c .before .before .before .before .before .before .before .before .before .before .args in
-    let pre = c .before .before .before .before .before .before .before .before .before .before .pre in
     let loop = c .before .before .before .before .before .before .before .loop in
     let more = c .before .before .before .before .before .before .loop-test .taken in
-    let move = c .before .before .before .before .before .move-at .ensures ∙ in-threes (loop .k) (args .rise) more (pre .1 .1 .0) in
+    let move = c .before .before .before .before .before .move-at .ensures ∙ in-threes (loop .k) (args .rise) more in
     (omega arith, turn-on (leadsTo _ _) _ (loop .inv .1) (by 0 0 0) _ move more (c .before .before .put-mark .ensures ∙ rw (c .before .before .before .before .neighbour-at .ensures)))
 
 same-length : tie.Need-same-length Inv-loop μ-loop

@@ -163,7 +163,7 @@ module _ {M : Type 1} (𝓤 : URA M) (H : Heap 𝓤) (A : Atoms 𝓤) (W : Given
         reads ! fm sinks known-sinks κ q (past-at (reached 3 r₁₂) 5) (onward-stands _ _ _) (and-then ! (load ! (from ! (stop !)) (look ! 7 refl)) (no-more !)) (λ w₁₈ r₁₈ e₁₈ i₁₈.
         land ! (from ! (stop !)) (init ! 43 refl (sinks .typed 𝓤 H A W r₁₈ _ i₁₈ .0)) $
         assigns ! (of-opd ! (load ! (from ! (stop !)) (look ! 47 refl))) (from ! (stop !)) (init ! 5 refl (lawful-at W erased κ (past-at (reached 3 r₁₂) 5) is₇)) $
-        behind-call ! fm known-behind κ q (past-at (reached 3 r₁₂) 5) 5 (lit< tt) r₁₇ w₁₇ i₁₇ (omega arith, e₁₇ .count-most) (and-then ! (load ! (from ! (stop !)) (look ! 4 refl)) (and-then ! (lit ! tt) (and-then ! (load ! (from ! (stop !)) (look ! 44 refl)) (no-more !)))) (λ is₈.
+        behind-call ! fm known-behind κ q (past-at (reached 3 r₁₂) 5) 5 (lit< tt) r₁₇ w₁₇ i₁₇ (omega arith, omega (arith, e₁₇ .count-most)) (and-then ! (load ! (from ! (stop !)) (look ! 4 refl)) (and-then ! (lit ! tt) (and-then ! (load ! (from ! (stop !)) (look ! 44 refl)) (no-more !)))) (λ is₈.
         land ! (from ! (stop !)) (init ! 41 refl (lawful-at W erased κ (reached 5 r₁₇) is₈)) $
         assigns ! (of-opd ! (load ! (from ! (stop !)) (look ! 41 refl))) (from ! (stop !)) (init ! 3 refl (lawful-at W erased κ (reached 5 r₁₇) is₈)) $
         reads ! fm at-end known-at-end κ q (reached 5 r₁₇) tt (and-then ! (load ! (from ! (stop !)) (look ! 3 refl)) (no-more !)) (λ w₂₀ r₂₀ e₂₀ i₂₀.

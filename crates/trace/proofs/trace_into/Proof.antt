@@ -2,6 +2,7 @@
 use native.Mathlib.Omega.{arith}
 use borrow.Author.Needs.{needs}
 use mathlib.Core.Path.{_≡_, refl}
+use lib.ListN.{length}
 use mathlib.Core.List.{[]}
 use Rattle.best_first.specs.Search.{trace}
 use Rattle.trace.specs.TraceLaws.{Writing, writing-none, writing-first, writing-next, writing-all}
@@ -9,14 +10,14 @@ use Rattle.trace.proofs.trace_into.Statement.{statement}
 use Rattle.trace.proofs.trace_into.Tie as tie
 
 abbrev Inv-loop : tie.InvT-loop
-Inv-loop previous to most path₀ count cell₀ left₀ path cell left =
-    Writing previous path path₀ count left cell (trace most previous to [])
+Inv-loop previous to path₀ count cell₀ left₀ path cell left =
+    Writing previous path path₀ count left cell (trace (length previous) previous to [])
 
 abbrev μ-loop : tie.MeasureT-loop
-μ-loop previous to most path₀ count cell₀ left₀ path cell left = left
+μ-loop previous to path₀ count cell₀ left₀ path cell left = left
 
 loop-holds : tie.Need-loop-holds Inv-loop μ-loop
-loop-holds c = let s = c in writing-none _ _ (s .pre .1 .1 .1 .0) (s .pre .0) (s .pre .1 .1 .1 .1) refl
+loop-holds c = writing-none _ _ (c .pre .1 .1 .1 .0) (c .pre .0) (c .pre .1 .1 .1 .1) refl
 
 sub-left : tie.Need-sub-left Inv-loop μ-loop
 sub-left c = search needs

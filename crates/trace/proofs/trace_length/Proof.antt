@@ -2,15 +2,16 @@
 use native.Mathlib.Omega.{arith}
 use borrow.Author.Needs.{needs}
 use Prim.Native.Nat.{_-_}
+use lib.ListN.{length}
 use Rattle.trace.specs.TraceLaws.{Counting, counting-none, counting-start, counting-next, counting-all}
 use Rattle.trace.proofs.trace_length.Statement.{statement}
 use Rattle.trace.proofs.trace_length.Tie as tie
 
 abbrev Inv-loop : tie.InvT-loop
-Inv-loop previous to most cell₀ n₀ cell n = Counting previous most to n cell
+Inv-loop previous to most cell₀ n₀ cell n = Counting previous (length previous) to n cell
 
 abbrev μ-loop : tie.MeasureT-loop
-μ-loop previous to most cell₀ n₀ cell n = most - n
+μ-loop previous to most cell₀ n₀ cell n = length previous - n
 
 loop-holds : tie.Need-loop-holds Inv-loop μ-loop
 loop-holds c = counting-none (c .pre .0)

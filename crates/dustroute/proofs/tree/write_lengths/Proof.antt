@@ -6,7 +6,7 @@ use native.Mathlib.Omega.{arith}
 use lib.ListN.{length, length-map, drop}
 use lib.Seq.{take-length}
 use Rattle.branches.specs.declared.BranchLengths.{BranchLengths}
-use Rattle.basics.specs.Copies.{Copied, copied-none, copied-next, copied-all}
+use Rattle.basics.specs.Copies.{Copied, copied-none, front-next, front-all}
 use borrow.Author.Needs.{needs}
 use Rattle.job_sheet.specs.Sheet.{maxSinks}
 use Rattle.dustroute.proofs.tree.write_lengths.Statement.{statement}
@@ -17,19 +17,17 @@ each-whole : (L : BranchLengths) → length (map (λ v. v) (L .each)) ≡ 16 →
 each-whole L e = sym (length-map (L .each) (λ v. v)) ∙ e
 
 -- all sixteen are copied
-each-copied : {each out₀ out : List ℕ} {i : ℕ} → length each ≡ 16 → 16 ≤ length out₀ → Copied each out₀ 16 i out → 16 ≤ i → out ≡ each ++ drop (length each) out₀
-each-copied {each} {out₀} e h C l = copied-all each out₀ 16 (omega (arith, e)) h C l ∙ rw e (ap (λ s. s ++ drop 16 out₀) (rw e at (take-length each)))
+each-copied : {each out₀ out : List ℕ} {i : ℕ} → length each ≡ 16 → 16 ≤ length out₀ → Copied each out₀ 0 16 i out → 16 ≤ i → out ≡ each ++ drop (length each) out₀
+each-copied {each} {out₀} e h C l = front-all each out₀ 16 (omega (arith, e)) h C l ∙ rw e (ap (λ s. s ++ drop 16 out₀) (rw e at (take-length each)))
 
 abbrev Inv-loop : tie.InvT-loop
-Inv-loop out₀ lengths sink₀ out sink = Copied (lengths .each) out₀ maxSinks sink out
+Inv-loop out₀ lengths sink₀ out sink = Copied (lengths .each) out₀ 0 maxSinks sink out
 
 abbrev μ-loop : tie.MeasureT-loop
 μ-loop out₀ lengths sink₀ out sink = 16 - sink
 
 loop-holds : tie.Need-loop-holds Inv-loop μ-loop
-loop-holds c =
-    let whole = each-whole (c .args .t1) (c .good .0 .1 .1 .1 .0 .1 .0 .1) in
-    copied-none _ _ _ (omega (arith, whole)) (c .pre)
+loop-holds c = copied-none
 
 mul-out : tie.Need-mul-out Inv-loop μ-loop
 mul-out c = search needs
@@ -52,7 +50,7 @@ loop-less c = search needs
 loop-again : tie.Need-loop-again Inv-loop μ-loop
 loop-again c =
     let whole = each-whole (c .before .before .before .args .t1) (c .before .before .before .good .0 .1 .1 .1 .0 .1 .0 .1) in
-    copied-next _ _ _ (omega (arith, whole)) (c .before .before .before .pre) (c .before .before .loop .inv) (c .before .loop-test .taken)
+    front-next _ _ _ (omega (arith, whole)) (c .before .before .before .pre) (c .before .before .loop .inv) (c .before .loop-test .taken)
 
 same-length : tie.Need-same-length Inv-loop μ-loop
 same-length c = c .before .loop .inv .kept

@@ -5,7 +5,7 @@ use mathlib.Core.Path.{refl, ap, _∙_}
 use native.Mathlib.Omega.{arith}
 use lib.Dec.{eqb}
 use Rattle.routing_resources.specs.Marks.{withByte}
-use Rattle.goals.specs.AttemptLaws.{able-fitting, able-kept, able-marked, able-next, site-same, attempts-none, attempts-ended, attempts-repeat, blocked-back, classes-back}
+use Rattle.goals.specs.AttemptLaws.{able-fits, able-kept, able-marked, able-next, site-same, attempts-none, attempts-ended, attempts-repeat, blocked-back, classes-back}
 use Prim.Native.Nat.{ℕ, suc, _*_, _<_}
 use borrow.Fn.Kinds.{In}
 use borrow.Fn.PlainCycle.{Measures, is, falls, and}
@@ -60,7 +60,7 @@ attempt-goal-claims t = (attempt-once-reads.Asked, attempt-once-reads.Learnt, at
 attempt-again-set-blocked-requires : (t : ℕ) → attempt-again-lts.Need-set-blocked-requires (attempt-again-claims t) (attempt-again-at t) attempt-again.Post
 attempt-again-set-blocked-requires t c κs =
     let pre = c .before .before .before .before .before .before .before .before .before .before .pre in
-    (able-fitting (pre .1 .0), (pre .1 .0 .says, pre .1 .1 .0))
+    (able-fits (pre .1 .0), (pre .1 .0 .says, pre .1 .1 .0))
 
 attempt-again-attempt-goal-requires : (t : ℕ) → attempt-again-lts.Need-attempt-goal-requires (attempt-again-claims t) (attempt-again-at t) attempt-again.Post
 attempt-again-attempt-goal-requires t c κs =

@@ -1,20 +1,18 @@
 -- `copy_cells` meets its contract: the law of the copying loop.
 use borrow.Author.Needs.{needs}
 use Prim.Native.Nat.{_-_}
-use Rattle.basics.specs.Copies.{Copied, copied-none, copied-next, copied-all}
+use Rattle.basics.specs.Copies.{Copied, copied-none, front-next, front-all}
 use Rattle.goals.proofs.cheapest.copy_cells.Statement.{statement}
 use Rattle.goals.proofs.cheapest.copy_cells.Tie as tie
 
 abbrev Inv-loop : tie.InvT-loop
-Inv-loop from to₀ count i₀ to i = Copied from to₀ count i to
+Inv-loop from to₀ count i₀ to i = Copied from to₀ 0 count i to
 
 abbrev μ-loop : tie.MeasureT-loop
 μ-loop from to₀ count i₀ to i = count - i
 
 loop-holds : tie.Need-loop-holds Inv-loop μ-loop
-loop-holds c =
-    let pre = c .pre in
-    copied-none _ _ _ (pre .0) (pre .1)
+loop-holds c = copied-none
 
 mul-to : tie.Need-mul-to Inv-loop μ-loop
 mul-to c = search needs
@@ -37,7 +35,7 @@ loop-less c = search needs
 loop-again : tie.Need-loop-again Inv-loop μ-loop
 loop-again c =
     let pre = c .before .before .before .pre in
-    copied-next _ _ _ (pre .0) (pre .1) (c .before .before .loop .inv) (c .before .loop-test .taken)
+    front-next _ _ _ (pre .0) (pre .1) (c .before .before .loop .inv) (c .before .loop-test .taken)
 
 same-length : tie.Need-same-length Inv-loop μ-loop
 same-length c = c .before .loop .inv .kept
@@ -45,7 +43,7 @@ same-length c = c .before .loop .inv .kept
 returns : tie.Need-returns Inv-loop μ-loop
 returns c =
     let pre = c .before .before .pre in
-    copied-all _ _ _ (pre .0) (pre .1) (c .before .loop .inv) (c .loop-test .left)
+    front-all _ _ _ (pre .0) (pre .1) (c .before .loop .inv) (c .loop-test .left)
 
 pub copy-cells-spec : {M : Type 1} → statement M
 copy-cells-spec =

@@ -30,7 +30,7 @@ tried-of-requires c κs =
     let previous = search-classes .kept .1 .1 .1 .1 .0 ∙ pre .0 .previous-long in
     let args = c .before .before .before .before .before .before .before .before .before .before .before .before .before .before .before .before .before .before .before .before .before .args in
     let G = graphIn (args .room) (args .config) (args .classes .now) (args .start) (args .goal) (args .queue .now) in
-    ((rw (pre .1 .0) (pre .0 .goal-in), rw (pre .1 .0) (pre .0 .good .few), known ∙ sym (pre .1 .0), previous ∙ sym (pre .1 .0), pre .1 .1 ∙ sym (pre .1 .0)), told-showable G (bestFirst G (args .config .limit .0)) (search-classes .result) _ _ previous (search-classes .ensures .told))
+    ((rw previous (pre .0 .goal-in), rw previous (pre .0 .good .few), known ∙ sym previous, pre .1 .1 ∙ sym previous), told-showable G (bestFirst G (args .config .limit .0)) (search-classes .result) _ _ previous (search-classes .ensures .told))
 
 same-length : tie.Need-same-length
 same-length c = c .before .before .before .before .before .before .before .before .before .before .before .before .search-classes .kept .1 .1 .1 .0
@@ -39,7 +39,7 @@ same-length-2 : tie.Need-same-length-2
 same-length-2 c = c .before .before .before .before .before .before .before .before .before .before .before .before .search-classes .kept .1 .1 .1 .1 .0
 
 same-length-3 : tie.Need-same-length-3
-same-length-3 c = c .before .before .tried-of .kept .1 .1 .1 .1 .1 .0
+same-length-3 c = c .before .before .tried-of .kept .1 .1 .1 .1 .0
 
 same-length-4 : tie.Need-same-length-4
 same-length-4 c = c .before .before .before .before .before .before .before .before .before .before .before .before .search-classes .kept .1 .1 .1 .1 .1 .0
@@ -50,7 +50,7 @@ returns-2 c =
     let both-routeable = c .before .before .before .before .before .before .before .before .before .before .before .before .before .before .before .before .before .both-routeable in
     let if1 = c .before .before .before .before .before .before .before .before .before .before .before .before .before .before .before .before .if1 in
     let search-classes = c .before .before .before .before .before .before .before .before .before .before .before .before .search-classes in
-    told-searched _ (pre .1 .0) (pre .0 .start-in) (pre .0 .goal-in) (sym (both-routeable .ensures) ∙ not-false _ (if1 .left)) (search-classes .ensures) (rw (pre .1 .0) at (c .before .before .tried-of .ensures))
+    told-searched _ (pre .1 .0) (pre .0 .start-in) (pre .0 .goal-in) (sym (both-routeable .ensures) ∙ not-false _ (if1 .left)) (search-classes .ensures) (search-classes .kept .1 .1 .1 .1 .0 ∙ pre .0 .previous-long) (c .before .before .tried-of .ensures)
 
 pub search-for-spec : {M : Type 1} → statement M
 search-for-spec =

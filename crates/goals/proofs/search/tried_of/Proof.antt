@@ -1,5 +1,5 @@
 -- `tried_of` meets its contract: each outcome is a trial's.
-use Rattle.goals.specs.SearchLaws.{shown-route, shown-none, shown-limit, shown-full}
+use Rattle.goals.specs.SearchLaws.{outcome-route, outcome-none, outcome-limit, outcome-full}
 use borrow.Author.Needs.{needs}
 use Rattle.goals.proofs.search.tried_of.Statement.{statement}
 use Rattle.goals.proofs.search.tried_of.Tie as tie
@@ -25,16 +25,16 @@ same-length : tie.Need-same-length
 same-length c = search needs
 
 returns : tie.Need-returns
-returns c = rw (c .before .before .before .before .enum-told .given .1) (shown-route _ (c .before .before .write-route .ensures))
+returns c = rw (c .before .before .before .before .enum-told .given .1) (outcome-route _ (c .before .before .write-route .ensures))
 
 returns-2 : tie.Need-returns-2
-returns-2 c = rw (c .enum-told2 .given .1) (shown-none _ _)
+returns-2 c = rw (c .enum-told2 .given .1) (outcome-none _ _)
 
 returns-3 : tie.Need-returns-3
-returns-3 c = rw (c .enum-told3 .given .1) (shown-limit _ _)
+returns-3 c = rw (c .enum-told3 .given .1) (outcome-limit _ _)
 
 returns-4 : tie.Need-returns-4
-returns-4 c = rw (c .before .outcome .given .1) (shown-full _ _)
+returns-4 c = rw (c .before .outcome .given .1) (outcome-full _ _)
 
 pub tried-of-spec : {M : Type 1} → statement M
 tried-of-spec =

@@ -10,7 +10,7 @@ use Rattle.goals.proofs.Tried as tried
 use Rattle.goals.specs.declared.Tried.{Tried}
 use Rattle.goals.specs.declared.Tried.the-variants.{Found, Failed, Full}
 use Rattle.goals.specs.Trials.{siteOf, GoesOn}
-use Rattle.goals.specs.GoalLaws.{Going, going-first, going-able, going-tells, going-told, going-next, tree-full, tree-all}
+use Rattle.goals.specs.GoalLaws.{GoalsTried, goals-first, goals-able, goals-tells, goals-told, goals-next, tree-full, tree-all}
 use Rattle.goals.proofs.tree.route_to_tree.Statement.{statement}
 use Rattle.goals.proofs.tree.route_to_tree.Tie as tie
 
@@ -22,13 +22,13 @@ goes-on (Full x) (inr e) = omega arith
 
 abbrev Inv-loop : tie.InvT-loop
 Inv-loop room config kinds joinable₀ blocked₀ classes₀ known₀ previous₀ path₀ best₀ queue₀ start cells kept₀ goal₀ joinable blocked classes known previous path best queue kept goal =
-    Going (siteOf room config kinds joinable₀ queue₀) start goal kept joinable₀ joinable blocked₀ blocked classes₀ classes known₀ known previous₀ previous path₀ path best₀ best queue₀ queue
+    GoalsTried (siteOf room config kinds joinable₀ queue₀) start goal kept joinable₀ joinable blocked₀ blocked classes₀ classes known₀ known previous₀ previous path₀ path best₀ best queue₀ queue
 
 abbrev μ-loop : tie.MeasureT-loop
 μ-loop room config kinds joinable₀ blocked₀ classes₀ known₀ previous₀ path₀ best₀ queue₀ start cells kept₀ goal₀ joinable blocked classes known previous path best queue kept goal = cells - goal
 
 loop-holds : tie.Need-loop-holds Inv-loop μ-loop
-loop-holds c = going-first _ _ _ _ _ _ _ _ _ _
+loop-holds c = goals-first _ _ _ _ _ _ _ _ _ _
 
 try-next-requires : tie.Need-try-next-requires Inv-loop μ-loop
 try-next-requires c κs =
@@ -37,7 +37,7 @@ try-next-requires c κs =
     let args = c .before .before .before .before .before .before .before .before .before .before .before .before .before .before .before .before .before .before .before .args in
     let loop = c .before .before .before .before .before .before .before .before .before .loop in
     let h = rw (pre .0 .grounds .kinds-long) at (loop-test .taken) in
-    (going-able (args .room) (args .config) (args .kinds .now) (loop .inv) (pre .0), ((h, loop .inv .best-long ∙ pre .1), (loop .inv .on, going-tells (args .room) (args .config) (args .kinds .now) (loop .inv))))
+    (goals-able (args .room) (args .config) (args .kinds .now) (loop .inv) (pre .0), ((h, loop .inv .best-long ∙ pre .1), (loop .inv .on, goals-tells (args .room) (args .config) (args .kinds .now) (loop .inv))))
 
 enum-told : tie.Need-enum-told Inv-loop μ-loop
 enum-told c = search needs
@@ -99,7 +99,7 @@ returns c =
     let try-next = c .before .before .before .before .before .before .before .before .before .before .before .before .before .before .before .before .before .before .try-next in
     let enum-told = c .enum-told in
     let h = rw (pre .0 .grounds .kinds-long) at (loop-test .taken) in
-    let t = going-told (args .room) (args .config) (args .kinds .now) (loop .inv) (loop .goal + 1) (try-next .ensures .0) in
+    let t = goals-told (args .room) (args .config) (args .kinds .now) (loop .inv) (loop .goal + 1) (try-next .ensures .0) in
     let same = try-next .ensures .1 in (
       rw (enum-told .given .1) (tree-full (siteOf (args .room) (args .config) (args .kinds .now) (args .joinable .now) (args .queue .now)) (args .start) (loop .goal + 1) (args .blocked .now) (rw (enum-told .given .1) at t) (omega arith)),
       (same .0 ∙ loop .inv .joinable-is, same .1 ∙ loop .inv .blocked-is, same .2 ∙ loop .inv .classes-is),
@@ -123,7 +123,7 @@ loop-again c =
     let loop = c .before .before .before .before .before .before .before .before .before .before .before .before .before .before .before .before .before .before .before .before .before .before .before .before .before .before .before .loop in
     let try-next = c .before .before .before .before .before .before .before .before .before .before .before .before .before .before .before .before .before .try-next in
     let h = rw (pre .0 .grounds .kinds-long) at (loop-test .taken) in
-    going-next (args .room) (args .config) (args .kinds .now) (loop .inv) h (goes-on (try-next .result) (c .match .keys2)) (try-next .ensures .0) (try-next .ensures .1) (try-next .kept .1 .1 .1 .1 .1 .1 .0) (try-next .kept .1 .1 .1 .1 .1 .1 .1 .0) (try-next .kept .1 .1 .1 .1 .1 .1 .1 .1 .0) (try-next .kept .1 .1 .1 .1 .1 .1 .1 .1 .1 .0) (try-next .kept .1 .1 .1 .1 .1 .1 .1 .1 .1 .1 .0)
+    goals-next (args .room) (args .config) (args .kinds .now) (loop .inv) h (goes-on (try-next .result) (c .match .keys2)) (try-next .ensures .0) (try-next .ensures .1) (try-next .kept .1 .1 .1 .1 .1 .1 .0) (try-next .kept .1 .1 .1 .1 .1 .1 .1 .0) (try-next .kept .1 .1 .1 .1 .1 .1 .1 .1 .0) (try-next .kept .1 .1 .1 .1 .1 .1 .1 .1 .1 .0) (try-next .kept .1 .1 .1 .1 .1 .1 .1 .1 .1 .1 .0)
 
 same-length-9 : tie.Need-same-length-9 Inv-loop μ-loop
 same-length-9 c = ap length (c .before .loop .inv .joinable-is)

@@ -2,7 +2,7 @@
 use mathlib.Core.Path.{ap, _∙_}
 use lib.ListN.{length}
 use Rattle.goals.specs.GoalLaws.{able-towards, classes-left}
-use Rattle.goals.specs.AttemptLaws.{able-fitting}
+use Rattle.goals.specs.AttemptLaws.{able-fits}
 use borrow.Author.Needs.{needs}
 use Rattle.goals.proofs.tree.try_goal.Statement.{statement}
 use Rattle.goals.proofs.tree.try_goal.Tie as tie
@@ -25,7 +25,7 @@ refresh-requires-2 c κs =
     let attempt-goal = c .before .before .before .before .before .before .before .before .before .before .before .before .before .before .before .before .attempt-goal in
     let able = able-towards (pre .0) (args .goal) (pre .1) (refresh .ensures) in
     let same = attempt-goal .ensures .1 in
-    (rw (same .1) (able-fitting able), (ap length (same .2) ∙ able .says .long, pre .1))
+    (rw (same .1) (able-fits able), (ap length (same .2) ∙ able .says .long, pre .1))
 
 same-length : tie.Need-same-length
 same-length c = c .before .before .before .before .before .before .before .before .before .before .before .before .before .before .before .before .before .before .before .attempt-goal .kept .1 .1 .1 .0

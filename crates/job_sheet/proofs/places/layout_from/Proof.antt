@@ -1,6 +1,6 @@
 -- `layout_from` meets its contract: it goes from part to part as the definition does.
 use native.Mathlib.Omega.{arith}
-use Rattle.job_sheet.specs.Places.{sinksAt, layoutIn}
+use Rattle.job_sheet.specs.Places.{layoutIn}
 use borrow.Author.Needs.{needs}
 use Rattle.job_sheet.proofs.places.layout_from.Statement.{statement}
 use Rattle.job_sheet.proofs.places.layout_from.Tie as tie
@@ -35,23 +35,17 @@ list-at-requires-5 c κs = omega arith
 behind-requires-5 : tie.Need-behind-requires-5
 behind-requires-5 c κs = omega arith
 
-add-t8 : tie.Need-add-t8
-add-t8 c = search needs
+add-sinks-at : tie.Need-add-sinks-at
+add-sinks-at c = search needs
 
-add-t10 : tie.Need-add-t10
-add-t10 c = search needs
-
-byte-requires : tie.Need-byte-requires
-byte-requires c κs = omega arith
-
-cast-t12 : tie.Need-cast-t12
-cast-t12 c = search needs
+sinks-at-requires : tie.Need-sinks-at-requires
+sinks-at-requires c κs = omega arith
 
 returns : tie.Need-returns
-unfolding layoutIn sinksAt
+unfolding layoutIn
 returns c = record {
   is = rw (
-    c .byte .ensures,
+    c .sinks-at .ensures .is,
     c .before .behind5 .ensures,
     c .before .before .list-at5 .ensures .is,
     c .before .before .before .behind4 .ensures,
@@ -64,6 +58,7 @@ returns c = record {
     c .before .before .before .before .before .before .before .before .before .before .list-at .ensures .is,
   );
   sinks-near = omega arith;
+  sinks-most = omega arith;
 }
 
 pub layout-from-spec : {M : Type 1} → statement M
@@ -80,8 +75,6 @@ layout-from-spec =
     behind-requires-4
     list-at-requires-5
     behind-requires-5
-    add-t8
-    add-t10
-    byte-requires
-    cast-t12
+    add-sinks-at
+    sinks-at-requires
     returns)

@@ -23,28 +23,28 @@ loop-holds : tie.Need-loop-holds Inv-loop μ-loop
 loop-holds c = (omega arith, first-turn _ _ _)
 
 mul-mark-end : tie.Need-mul-mark-end Inv-loop μ-loop
-mul-mark-end c = omega (arith, c .before .loop-test .taken, c .before .before .before .before .before .before .before .before .pre .net .few)
+mul-mark-end c = omega (arith, c .before .loop-test .taken, c .before .before .before .before .before .before .before .before .pre .net .taps-in .few)
 
 element-copy-out-mark-end : tie.Need-element-copy-out-mark-end Inv-loop μ-loop
-element-copy-out-mark-end c = omega (arith, c .before .loop-test .taken, c .before .before .before .before .before .before .before .before .pre .net .few)
+element-copy-out-mark-end c = omega (arith, c .before .loop-test .taken, c .before .before .before .before .before .before .before .before .pre .net .taps-in .few)
 
 mark-end-requires : tie.Need-mark-end-requires Inv-loop μ-loop
 mark-end-requires c κs = rw (c .before .before .before .loop .inv .1 .long, c .before .before .before .before .before .before .mark .kept .0) (tap-there (c .before .before .before .before .before .before .before .before .before .pre) _ (c .before .before .loop-test .taken))
 
 add-i : tie.Need-add-i Inv-loop μ-loop
-add-i c = omega (arith, c .before .before .before .before .before .loop-test .taken, c .before .before .before .before .before .before .before .before .before .before .before .before .pre .net .few)
+add-i c = omega (arith, c .before .before .before .before .before .loop-test .taken, c .before .before .before .before .before .before .before .before .before .before .before .before .pre .net .taps-in .few)
 
 loop-less : tie.Need-loop-less Inv-loop μ-loop
 loop-less c = omega (arith, c .before .before .before .before .before .loop-test .taken)
 
 loop-again : tie.Need-loop-again Inv-loop μ-loop
-loop-again c = (omega (arith, c .before .before .before .before .before .loop-test .taken), turn-on endAt _ (c .before .before .before .before .before .before .loop .inv .1) noTap _ (tap-is _ _ (c .before .before .before .before .before .loop-test .taken)) (rw (taps-long (c .before .before .before .before .before .before .before .before .before .before .before .before .pre .net)) (c .before .before .before .before .before .loop-test .taken)) (c .before .before .mark-end .ensures))
+loop-again c = (omega (arith, c .before .before .before .before .before .loop-test .taken), turn-on endAt _ (c .before .before .before .before .before .before .loop .inv .1) noTap _ (tap-is _ _ (c .before .before .before .before .before .loop-test .taken)) (rw (taps-long (c .before .before .before .before .before .before .before .before .before .before .before .before .pre .net .taps-in)) (c .before .before .before .before .before .loop-test .taken)) (c .before .before .mark-end .ensures))
 
 same-length : tie.Need-same-length Inv-loop μ-loop
 same-length c = c .before .loop .inv .1 .long ∙ c .before .before .before .before .mark .kept .0
 
 returns : tie.Need-returns Inv-loop μ-loop
-returns c = ends-marked (c .before .before .before .before .before .before .before .pre) (c .before .before .before .before .mark .ensures) (turn-done endAt _ (c .before .loop .inv .1) (rw (taps-long (c .before .before .before .before .before .before .before .pre .net)) (c .loop-test .left)))
+returns c = ends-marked (c .before .before .before .before .before .before .before .pre) (c .before .before .before .before .mark .ensures) (turn-done endAt _ (c .before .loop .inv .1) (rw (taps-long (c .before .before .before .before .before .before .before .pre .net .taps-in)) (c .loop-test .left)))
 
 pub mark-ends-spec : {M : Type 1} → statement M
 mark-ends-spec =

@@ -8,10 +8,10 @@ use Rattle.multinet.proofs.growing.grow_sink.Statement.{statement}
 use Rattle.multinet.proofs.growing.grow_sink.Tie as tie
 
 mul-tap : tie.Need-mul-tap
-mul-tap c = let s = sink-in (c .before .before .before .before .before .before .before .before .before .before .pre .0 .sound) (c .before .before .before .before .before .before .before .before .before .before .pre .0 .growing) (c .before .before .before .before .before .before .before .before .before .before .pre .0 .count-is) _ (c .before .before .before .before .before .before .before .before .before .before .pre .1) in record { fits = omega (arith, s, c .before .before .before .before .before .before .before .before .before .before .pre .0 .sound .net .few) }
+mul-tap c = let s = sink-in (c .before .before .before .before .before .before .before .before .before .before .pre .0 .sound) (c .before .before .before .before .before .before .before .before .before .before .pre .0 .growing) (c .before .before .before .before .before .before .before .before .before .before .pre .0 .count-is) _ (c .before .before .before .before .before .before .before .before .before .before .pre .1) in record { fits = omega (arith, s, c .before .before .before .before .before .before .before .before .before .before .pre .0 .sound .net .taps-in .few) }
 
 element-copy-out-tap : tie.Need-element-copy-out-tap
-element-copy-out-tap c = let s = sink-in (c .before .before .before .before .before .before .before .before .before .before .pre .0 .sound) (c .before .before .before .before .before .before .before .before .before .before .pre .0 .growing) (c .before .before .before .before .before .before .before .before .before .before .pre .0 .count-is) _ (c .before .before .before .before .before .before .before .before .before .before .pre .1) in omega (arith, s, c .before .before .before .before .before .before .before .before .before .before .pre .0 .sound .net .few)
+element-copy-out-tap c = let s = sink-in (c .before .before .before .before .before .before .before .before .before .before .pre .0 .sound) (c .before .before .before .before .before .before .before .before .before .before .pre .0 .growing) (c .before .before .before .before .before .before .before .before .before .before .pre .0 .count-is) _ (c .before .before .before .before .before .before .before .before .before .before .pre .1) in omega (arith, s, c .before .before .before .before .before .before .before .before .before .before .pre .0 .sound .net .taps-in .few)
 
 find-route-requires : tie.Need-find-route-requires
 find-route-requires c κs = findable (c .before .before .before .before .before .before .before .before .before .before .before .before .before .before .before .before .before .before .before .pre .0) _ (c .before .before .before .before .before .before .before .before .before .before .before .before .before .before .before .before .before .before .before .pre .1)

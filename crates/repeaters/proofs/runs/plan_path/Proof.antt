@@ -1,7 +1,7 @@
 -- `plan_path` meets its contract. The loop's invariant: the steps left from here come to the same as all from the source.
 use mathlib.Core.Path.{_∙_}
 use Rattle.repeaters.specs.Links.{fitBy}
-use Rattle.repeaters.specs.Runs.{ahead}
+use Rattle.repeaters.specs.Runs.{stepsLeft}
 use Rattle.repeaters.specs.RunLaws.{Running, running-outset, running-next, running-all}
 use Rattle.repeaters.proofs.runs.plan_path.Statement.{statement}
 use Rattle.repeaters.proofs.runs.plan_path.Tie as tie
@@ -10,7 +10,7 @@ abbrev Inv-loop : tie.InvT-loop
 Inv-loop room links forbidden path repeaters₀ limit s₀ repeaters s = Running limit (fitBy room links forbidden path) path repeaters₀ repeaters s
 
 abbrev μ-loop : tie.MeasureT-loop
-μ-loop room links forbidden path repeaters₀ limit s₀ repeaters s = ahead path s
+μ-loop room links forbidden path repeaters₀ limit s₀ repeaters s = stepsLeft path s
 
 loop-holds : tie.Need-loop-holds Inv-loop μ-loop
 loop-holds c = running-outset

@@ -26,7 +26,7 @@ element-copy-out-tap : tie.Need-element-copy-out-tap Inv-loop μ-loop
 element-copy-out-tap c = search needs
 
 plan-sink-requires : tie.Need-plan-sink-requires Inv-loop μ-loop
-plan-sink-requires c κs = (c .before .before .before .before .before .before .before .before .before .before .pre .0, (c .before .before .before .before .before .before .before .before .before .before .pre .1 .0 .terminals (c .before .before .before .before .loop .k) (c .before .before .before .loop-test .taken), (c .before .before .before .before .loop .inv .1 .long ∙ c .before .before .before .before .before .before .before .before .before .before .pre .1 .1 .0, c .before .before .before .before .loop .inv .0 ∙ c .before .before .before .before .before .before .before .before .before .before .pre .1 .1 .1)))
+plan-sink-requires c κs = (c .before .before .before .before .before .before .before .before .before .before .pre .0, (c .before .before .before .before .before .before .before .before .before .before .pre .1 .0 .terminal-in (c .before .before .before .before .loop .k) (c .before .before .before .loop-test .taken), (c .before .before .before .before .loop .inv .1 .long ∙ c .before .before .before .before .before .before .before .before .before .before .pre .1 .1 .0, c .before .before .before .before .loop .inv .0 ∙ c .before .before .before .before .before .before .before .before .before .before .pre .1 .1 .1)))
 
 add-k : tie.Need-add-k Inv-loop μ-loop
 add-k c = search needs
@@ -35,7 +35,7 @@ loop-less : tie.Need-loop-less Inv-loop μ-loop
 loop-less c = search needs
 
 loop-again : tie.Need-loop-again Inv-loop μ-loop
-loop-again c = (c .before .before .before .before .plan-sink .kept .1 .1 .1 .1 .1 .1 .0 ∙ c .before .before .before .before .before .before .before .before .before .loop .inv .0, sown-next (c .before .before .before .before .before .before .before .before .before .loop .inv .1) (omega (arith, c .before .before .before .before .before .before .before .before .before .before .before .before .before .before .before .pre .1 .0 .few, c .before .before .before .before .before .before .before .before .before .before .before .before .before .before .before .pre .1 .0 .full)) (c .before .before .before .before .before .before .before .before .loop-test .taken) _ refl (c .before .before .before .before .plan-sink .kept .1 .1 .1 .1 .1 .0) (c .before .before .before .before .plan-sink .ensures))
+loop-again c = (c .before .before .before .before .plan-sink .kept .1 .1 .1 .1 .1 .1 .0 ∙ c .before .before .before .before .before .before .before .before .before .loop .inv .0, sown-next (c .before .before .before .before .before .before .before .before .before .loop .inv .1) (omega (arith, c .before .before .before .before .before .before .before .before .before .before .before .before .before .before .before .pre .1 .0 .few, c .before .before .before .before .before .before .before .before .before .before .before .before .before .before .before .pre .1 .0 .whole)) (c .before .before .before .before .before .before .before .before .loop-test .taken) _ refl (c .before .before .before .before .plan-sink .kept .1 .1 .1 .1 .1 .0) (c .before .before .before .before .plan-sink .ensures))
 
 same-length : tie.Need-same-length Inv-loop μ-loop
 same-length c = c .before .loop .inv .1 .long
@@ -44,7 +44,7 @@ same-length-2 : tie.Need-same-length-2 Inv-loop μ-loop
 same-length-2 c = c .before .loop .inv .0
 
 returns : tie.Need-returns Inv-loop μ-loop
-returns c = sown-all (c .before .loop .inv .1) (omega (arith, c .before .before .before .before .before .before .before .pre .1 .0 .few, c .before .before .before .before .before .before .before .pre .1 .0 .full)) (c .loop-test .left)
+returns c = sown-all (c .before .loop .inv .1) (omega (arith, c .before .before .before .before .before .before .before .pre .1 .0 .few, c .before .before .before .before .before .before .before .pre .1 .0 .whole)) (c .loop-test .left)
 
 pub plan-repeaters-spec : {M : Type 1} → statement M
 plan-repeaters-spec =

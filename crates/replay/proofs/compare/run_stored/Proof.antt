@@ -1,7 +1,7 @@
 -- `run_stored` meets its contract: the kinds are those of the file, and the buffers its own.
 use Prim.Native.Nat.{ℕ}
 use lib.ListN.{length, length-replicate}
-use Rattle.stored.specs.Memory.{ownRoom}
+use Rattle.stored.specs.Memory.{ownLength}
 use Rattle.replay.specs.VerdictLaws.{ran-in}
 use borrow.Author.Needs.{needs}
 use Rattle.replay.proofs.compare.run_stored.Statement.{statement}
@@ -29,7 +29,7 @@ same-length : tie.Need-same-length
 same-length c = search needs
 
 returns : tie.Need-returns
-returns c = ran-in _ (c .before .before .before .before .before .before .before .before .before .before .before .before .part .ensures) (λ i. record { path = length-replicate {0} {A = ℕ} ownRoom 0 i; known = length-replicate {0} {A = ℕ} ownRoom 0 i; previous = length-replicate {0} {A = ℕ} ownRoom 0 i; classes = length-replicate {0} {A = ℕ} ownRoom 0 i; queue = length (c .before .before .before .before .before .before .before .before .before .before .before .before .before .before .before .args .queue .now) }) (c .before .before .before .before .before .before .attempt-lent .ensures)
+returns c = ran-in _ (c .before .before .before .before .before .before .before .before .before .before .before .before .part .ensures) (λ i. record { path = length-replicate {0} {A = ℕ} ownLength 0 i; known = length-replicate {0} {A = ℕ} ownLength 0 i; previous = length-replicate {0} {A = ℕ} ownLength 0 i; classes = length-replicate {0} {A = ℕ} ownLength 0 i; queue = length (c .before .before .before .before .before .before .before .before .before .before .before .before .before .before .before .args .queue .now) }) (c .before .before .before .before .before .before .attempt-lent .ensures)
 
 pub run-stored-spec : {M : Type 1} → statement M
 run-stored-spec =

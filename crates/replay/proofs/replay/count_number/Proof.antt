@@ -15,8 +15,8 @@ abbrev μ-loop : tie.MeasureT-loop
 count-in-requires : tie.Need-count-in-requires Inv-loop μ-loop
 count-in-requires c κs = search needs
 
-past-requires : tie.Need-past-requires Inv-loop μ-loop
-past-requires c κs = search needs
+first-place-requires : tie.Need-first-place-requires Inv-loop μ-loop
+first-place-requires c κs = search needs
 
 loop-holds : tie.Need-loop-holds Inv-loop μ-loop
 loop-holds c = counted-none
@@ -38,7 +38,7 @@ loop-again c = counted-next (c .before .before .before .loop .inv) (c .before .b
 
 returns : tie.Need-returns Inv-loop μ-loop
 unfolding numbered
-returns c = rw (← (c .before .before .before .count-in .ensures), ← (c .before .before .past .ensures)) (counted-done (c .before .loop .inv) (c .loop-test .left))
+returns c = rw (← (c .before .before .before .count-in .ensures), ← (c .before .before .first-place .ensures)) (counted-done (c .before .loop .inv) (c .loop-test .left))
 
 pub count-number-spec : {M : Type 1} → statement M
 count-number-spec =
@@ -47,7 +47,7 @@ count-number-spec =
     Inv-loop
     μ-loop
     count-in-requires
-    past-requires
+    first-place-requires
     loop-holds
     stored-at-requires
     one-more-requires

@@ -11,16 +11,16 @@ use Rattle.replay.proofs.replay.replay.Statement.{statement}
 use Rattle.replay.proofs.replay.replay.Tie as tie
 
 abbrev Inv-loop : tie.InvT-loop
-Inv-loop file queue₀ count outcome₀ passed₀ queue outcome passed = (passed ≤ count) × Turns (λ _. Next file (length queue₀)) outcome₀ passed outcome × (length queue ≡ length queue₀)
+Inv-loop file queue₀ count stand₀ passed₀ queue stand passed = (passed ≤ count) × Turns (λ _. Next file (length queue₀)) stand₀ passed stand × (length queue ≡ length queue₀)
 
 abbrev μ-loop : tie.MeasureT-loop
-μ-loop file queue₀ count outcome₀ passed₀ queue outcome passed = count - passed
+μ-loop file queue₀ count stand₀ passed₀ queue stand passed = count - passed
 
 count-in-requires : tie.Need-count-in-requires Inv-loop μ-loop
 count-in-requires c κs = search needs
 
-past-requires : tie.Need-past-requires Inv-loop μ-loop
-past-requires c κs = search needs
+first-place-requires : tie.Need-first-place-requires Inv-loop μ-loop
+first-place-requires c κs = search needs
 
 loop-holds : tie.Need-loop-holds Inv-loop μ-loop
 loop-holds c = (search needs, none refl, refl)
@@ -41,7 +41,7 @@ same-length : tie.Need-same-length Inv-loop μ-loop
 same-length c = c .before .loop .inv .2
 
 returns : tie.Need-returns Inv-loop μ-loop
-returns c = let e : c .before .loop .passed ≡ c .before .before .before .count-in .result = omega arith in record { searches = rw (← (c .before .before .past .ensures)) (rw (e, c .before .before .before .count-in .ensures) at (c .before .loop .inv .1)) }
+returns c = let e : c .before .loop .passed ≡ c .before .before .before .count-in .result = omega arith in record { searches = rw (← (c .before .before .first-place .ensures)) (rw (e, c .before .before .before .count-in .ensures) at (c .before .loop .inv .1)) }
 
 pub replay-spec : {M : Type 1} → statement M
 replay-spec =
@@ -50,7 +50,7 @@ replay-spec =
     Inv-loop
     μ-loop
     count-in-requires
-    past-requires
+    first-place-requires
     loop-holds
     replay-next-requires
     add-passed

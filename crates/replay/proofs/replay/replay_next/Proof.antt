@@ -7,7 +7,7 @@ use Rattle.replay.proofs.replay.replay_next.Statement.{statement}
 use Rattle.replay.proofs.replay.replay_next.Tie as tie
 
 returns : tie.Need-returns
-returns c = stopped (not-true (c .before .before .before .before .args .outcome .agreed) (c .if1 .taken)) refl
+returns c = stopped (not-true (c .before .before .before .before .args .stand .agreed) (c .if1 .taken)) refl
 
 stored-at-requires : tie.Need-stored-at-requires
 stored-at-requires c κs = search needs
@@ -22,7 +22,7 @@ same-length : tie.Need-same-length
 same-length c = search needs
 
 returns-2 : tie.Need-returns-2
-returns-2 c = replayed (not-false (c .before .before .before .before .before .before .before .before .before .before .args .outcome .agreed) (c .before .before .before .before .before .before .if1 .left)) _ (c .before .before .before .before .before .stored-at .ensures) _ (c .before .before .before .replay-one .ensures) (c .one-further .ensures)
+returns-2 c = replayed (not-false (c .before .before .before .before .before .before .before .before .before .before .args .stand .agreed) (c .before .before .before .before .before .before .if1 .left)) _ (c .before .before .before .before .before .stored-at .ensures) _ (c .before .before .before .replay-one .ensures) (c .one-further .ensures)
 
 pub replay-next-spec : {M : Type 1} → statement M
 replay-next-spec =

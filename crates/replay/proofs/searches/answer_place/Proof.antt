@@ -15,7 +15,7 @@ past-requires-2 c κs = search needs
 
 returns : tie.Need-returns
 unfolding answerPlace
-returns c = rw (← (c .before .before .past .ensures), ← (c .before .size-behind .ensures)) (c .past2 .ensures)
+returns c = rw (← (c .before .before .past .ensures), ← (c .before .size-behind .ensures .0)) (c .past2 .ensures)
 
 pub answer-place-spec : {M : Type 1} → statement M
 answer-place-spec = tie.close (tie.spec past-requires size-behind-requires past-requires-2 returns)

@@ -38,7 +38,7 @@ end-of-requires : tie.Need-end-of-requires
 end-of-requires c κs = search needs
 
 returns : tie.Need-returns
-returns c = stored-by _ _ (c .before .before .before .before .before .before .before .before .before .before .answer-place .ensures) (c .before .before .before .before .before .before .before .before .before .room-at .ensures) (c .before .before .before .before .before .before .before .before .config-at .ensures) (c .before .before .before .before .before .before .before .size-behind .ensures) (c .before .before .before .before .before .before .size-behind2 .ensures) (c .before .before .before .before .before .word-behind .ensures) (c .before .before .before .before .size-behind3 .ensures) (c .before .before .before .past .ensures) (c .before .before .size-behind4 .ensures) (c .before .told-at .ensures) (c .end-of .ensures)
+returns c = stored-by _ _ (c .before .before .before .before .before .before .before .before .before .before .answer-place .ensures) (c .before .before .before .before .before .before .before .before .before .room-at .ensures) (c .before .before .before .before .before .before .before .before .config-at .ensures) (c .before .before .before .before .before .before .before .size-behind .ensures .0) (c .before .before .before .before .before .before .size-behind2 .ensures .0) (c .before .before .before .before .before .word-behind .ensures) (c .before .before .before .before .size-behind3 .ensures .0) (c .before .before .before .past .ensures) (c .before .before .size-behind4 .ensures .0) (c .before .told-at .ensures) (c .end-of .ensures)
 
 pub stored-at-spec : {M : Type 1} → statement M
 stored-at-spec =

@@ -26,7 +26,7 @@ past-requires : tie.Need-past-requires
 past-requires c κs = search needs
 
 returns : tie.Need-returns
-returns c = told-by _ _ (c .before .before .before .before .before .byte-behind .ensures) (c .before .before .before .before .size-behind .ensures) (c .before .before .before .word-behind .ensures) (c .before .before .word-behind2 .ensures) (c .before .word-behind3 .ensures) (c .past .ensures)
+returns c = told-by _ _ (c .before .before .before .before .before .byte-behind .ensures) (c .before .before .before .before .size-behind .ensures .0) (c .before .before .before .word-behind .ensures) (c .before .before .word-behind2 .ensures) (c .before .word-behind3 .ensures) (c .past .ensures)
 
 pub told-at-spec : {M : Type 1} → statement M
 told-at-spec =

@@ -1,4 +1,4 @@
--- `first_at` meets its contract: the one kind, where there is a place for it.
+-- `first_at` meets its contract: the one comparison, where there is a place for it.
 use borrow.Author.Tests.{le-ltb}
 use Rattle.replay_sheets.specs.Counts.{firstAt}
 use Rattle.replay_sheets.specs.CountLaws.{first-in}

@@ -1,4 +1,4 @@
--- `agrees_in` meets its contract: the least queue, or one run at the lengths of its kind.
+-- `agrees_in` meets its contract: the least queue, or one run at the lengths of its comparison.
 use Rattle.replay_sheets.specs.Runs.{least-queue, one-run}
 use borrow.Author.Needs.{needs}
 use Rattle.replay_sheets.proofs.replay.agrees_in.Statement.{statement}
@@ -16,8 +16,8 @@ same-length c = search needs
 returns : tie.Need-returns
 returns c = least-queue (c .before .before .before .before .if1 .taken) _ (c .before .before .before .before .before .size-of .ensures) (c .before .before .narrows .ensures)
 
-lens-of-requires : tie.Need-lens-of-requires
-lens-of-requires c κs = search needs
+lengths-of-requires : tie.Need-lengths-of-requires
+lengths-of-requires c κs = search needs
 
 run-requires : tie.Need-run-requires
 run-requires c κs = search needs
@@ -29,7 +29,7 @@ same-length-2 : tie.Need-same-length-2
 same-length-2 c = search needs
 
 returns-2 : tie.Need-returns-2
-returns-2 c = one-run (c .before .before .before .before .before .before .if1 .left) _ (c .before .before .before .before .before .before .before .size-of .ensures) _ (c .before .before .before .before .before .lens-of .ensures) _ (c .before .before .before .run .ensures) (c .agrees .ensures)
+returns-2 c = one-run (c .before .before .before .before .before .before .if1 .left) _ (c .before .before .before .before .before .before .before .size-of .ensures) _ (c .before .before .before .before .before .lengths-of .ensures) _ (c .before .before .before .run .ensures) (c .agrees .ensures)
 
 pub agrees-in-spec : {M : Type 1} → statement M
 agrees-in-spec =
@@ -39,7 +39,7 @@ agrees-in-spec =
     narrows-requires
     same-length
     returns
-    lens-of-requires
+    lengths-of-requires
     run-requires
     agrees-requires
     same-length-2

@@ -1,4 +1,4 @@
--- `branch_of` meets its contract, kind by kind.
+-- `branch_of` meets its contract, comparison by comparison.
 use borrow.Author.Tests.{eq-eqb, ne-eqb}
 use Rattle.replay_sheets.specs.Runs.{branchOf}
 use borrow.Author.Needs.{needs}

@@ -11,10 +11,10 @@ use Rattle.replay_sheets.proofs.replay.narrows.Statement.{statement}
 use Rattle.replay_sheets.proofs.replay.narrows.Tie as tie
 
 abbrev Inv-loop : tie.InvT-loop
-Inv-loop sheet asked size stored cells covered marks queue₀ gap₀ turns₀ queue gap turns = (length queue ≡ length queue₀) × (turns ≤ 32) × Turns (λ _. Halved (RanWith sheet asked size stored cells covered marks (length queue₀))) gap₀ turns gap
+Inv-loop sheet asked size told cells covered marks queue₀ gap₀ turns₀ queue gap turns = (length queue ≡ length queue₀) × (turns ≤ 32) × Turns (λ _. Halved (RanWith sheet asked size told cells covered marks (length queue₀))) gap₀ turns gap
 
 abbrev μ-loop : tie.MeasureT-loop
-μ-loop sheet asked size stored cells covered marks queue₀ gap₀ turns₀ queue gap turns = 32 - turns
+μ-loop sheet asked size told cells covered marks queue₀ gap₀ turns₀ queue gap turns = 32 - turns
 
 loop-holds : tie.Need-loop-holds Inv-loop μ-loop
 loop-holds c = (search needs, search needs, none refl)

@@ -20,14 +20,14 @@ abbrev μ-loop : tie.MeasureT-loop
 count-in-requires : tie.Need-count-in-requires Inv-loop μ-loop
 count-in-requires c κs = search needs
 
-past-requires : tie.Need-past-requires Inv-loop μ-loop
-past-requires c κs = search needs
+first-place-requires : tie.Need-first-place-requires Inv-loop μ-loop
+first-place-requires c κs = search needs
 
 nothing-yet-requires : tie.Need-nothing-yet-requires Inv-loop μ-loop
 nothing-yet-requires c κs = search needs
 
 loop-holds : tie.Need-loop-holds Inv-loop μ-loop
-loop-holds c = (search needs, search needs, none (λ i. record { at = c .before .past .ensures i; tally = c .nothing-yet .ensures i }))
+loop-holds c = (search needs, search needs, none (λ i. record { at = c .before .first-place .ensures i; tally = c .nothing-yet .ensures i }))
 
 replay-next-requires : tie.Need-replay-next-requires Inv-loop μ-loop
 replay-next-requires c κs = search needs
@@ -54,7 +54,7 @@ replay-spec =
     Inv-loop
     μ-loop
     count-in-requires
-    past-requires
+    first-place-requires
     nothing-yet-requires
     loop-holds
     replay-next-requires

@@ -22,11 +22,8 @@ same-length-3 c = search needs
 returns : tie.Need-returns
 returns c = answer-tree _ _ _ _ _ (c .before .before .before .before .before .before .before .before .before .before .before .byte-at .ensures) (c .before .before .before .before .before .before .before .before .before .before .if1 .taken) (c .before .before .before .before .before .before .tree-at .ensures)
 
-past-requires : tie.Need-past-requires
-past-requires c κs = search needs
-
-size-at-requires : tie.Need-size-at-requires
-size-at-requires c κs = search needs
+size-behind-requires : tie.Need-size-behind-requires
+size-behind-requires c κs = search needs
 
 cast-refusal : tie.Need-cast-refusal
 cast-refusal c = search needs
@@ -34,11 +31,11 @@ cast-refusal c = search needs
 refusal-requires : tie.Need-refusal-requires
 refusal-requires c κs = search needs
 
-past-requires-2 : tie.Need-past-requires-2
-past-requires-2 c κs = search needs
+past-requires : tie.Need-past-requires
+past-requires c κs = search needs
 
 returns-2 : tie.Need-returns-2
-returns-2 c = answer-refused _ _ _ _ _ (c .before .before .before .before .before .byte-at .ensures) (c .before .before .before .before .if1 .left) (c .before .before .before .past .ensures) (c .before .before .size-at .ensures .0) (c .before .refusal .ensures) (c .past2 .ensures)
+returns-2 c = answer-refused _ _ _ _ _ (c .before .before .before .before .byte-at .ensures) (c .before .before .before .if1 .left) (c .before .before .size-behind .ensures .0) (c .before .refusal .ensures) (c .past .ensures)
 
 pub answer-at-spec : {M : Type 1} → statement M
 answer-at-spec =
@@ -50,9 +47,8 @@ answer-at-spec =
     same-length-2
     same-length-3
     returns
-    past-requires
-    size-at-requires
+    size-behind-requires
     cast-refusal
     refusal-requires
-    past-requires-2
+    past-requires
     returns-2)

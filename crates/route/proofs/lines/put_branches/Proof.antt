@@ -4,14 +4,14 @@ use Prim.Native.Nat.{_-_}
 use native.Mathlib.Omega.{arith}
 use mathlib.Core.Path.{refl}
 use lib.ListN.{getD, drop}
-use Rattle.branches.specs.Branches.{lengthsIn}
+use Rattle.branches.specs.Branches.{lengthsIn, branchesOf}
 use Rattle.route.specs.Lines.{branchLines}
 use Rattle.route.specs.BranchLineLaws.{Branching, branching-begun, next-within, branch-fits, branching-on, branching-done, lengths-count, length-at, part-is}
 use Rattle.route.proofs.lines.put_branches.Statement.{statement}
 use Rattle.route.proofs.lines.put_branches.Tie as tie
 
 abbrev Inv-loop : tie.InvT-loop
-Inv-loop out₀ at cells lengths end₀ from₀ k₀ out end from k = Branching out₀ at (branchLines cells lengths) cells (lengthsIn lengths) from k out end
+Inv-loop out₀ at cells lengths end₀ from₀ k₀ out end from k = Branching out₀ at (branchLines (branchesOf lengths cells)) cells (lengthsIn lengths) from k out end
 
 abbrev μ-loop : tie.MeasureT-loop
 μ-loop out₀ at cells lengths end₀ from₀ k₀ out end from k = lengths .count - k
@@ -20,10 +20,10 @@ loop-holds : tie.Need-loop-holds Inv-loop μ-loop
 loop-holds c = branching-begun refl (c .before .before .pre .0 .within)
 
 mul-to : tie.Need-mul-to Inv-loop μ-loop
-mul-to c = omega (arith, c .before .before .before .before .pre .0 .count)
+mul-to c = omega (arith, c .before .before .before .before .pre .0 .few)
 
 element-copy-out-to : tie.Need-element-copy-out-to Inv-loop μ-loop
-element-copy-out-to c = omega (arith, c .before .before .before .before .pre .0 .count)
+element-copy-out-to c = omega (arith, c .before .before .before .before .pre .0 .few)
 
 add-to : tie.Need-add-to Inv-loop μ-loop
 add-to c = omega (arith, next-within (c .before .before .loop .inv) (omega (arith, lengths-count (c .before .before .before .before .before .pre .0))) (length-at (c .before .before .before .before .before .pre .0) (c .before .before .loop .k) (omega arith)))

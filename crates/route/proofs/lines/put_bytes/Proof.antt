@@ -2,18 +2,20 @@
 use borrow.Author.Needs.{needs}
 use Prim.Native.Nat.{_-_}
 use lib.ListN.{length}
-use Rattle.route.specs.PutLaws.{Pasted, pasted-none, pasted-next, pasted-all}
+use native.Mathlib.Omega.{arith}
+use Rattle.basics.specs.Copies.{Copied, copied-none, copied-next}
+use Rattle.route.specs.PutLaws.{copied-put}
 use Rattle.route.proofs.lines.put_bytes.Statement.{statement}
 use Rattle.route.proofs.lines.put_bytes.Tie as tie
 
 abbrev Inv-loop : tie.InvT-loop
-Inv-loop out₀ at bytes i₀ out i = Pasted out₀ at bytes out i
+Inv-loop out₀ at bytes i₀ out i = Copied bytes out₀ at (length bytes) i out
 
 abbrev μ-loop : tie.MeasureT-loop
 μ-loop out₀ at bytes i₀ out i = length bytes - i
 
 loop-holds : tie.Need-loop-holds Inv-loop μ-loop
-loop-holds c = pasted-none (c .pre)
+loop-holds c = copied-none
 
 shared-slice-read-out : tie.Need-shared-slice-read-out Inv-loop μ-loop
 shared-slice-read-out c = search needs
@@ -31,7 +33,7 @@ loop-less : tie.Need-loop-less Inv-loop μ-loop
 loop-less c = search needs
 
 loop-again : tie.Need-loop-again Inv-loop μ-loop
-loop-again c = pasted-next (c .before .before .before .pre) (c .before .before .loop .inv) (search needs)
+loop-again c = copied-next _ _ _ _ (omega arith) (c .before .before .before .pre .place) (c .before .before .loop .inv) (search needs)
 
 add-result : tie.Need-add-result Inv-loop μ-loop
 add-result c = search needs
@@ -40,7 +42,7 @@ same-length : tie.Need-same-length Inv-loop μ-loop
 same-length c = search needs
 
 returns : tie.Need-returns Inv-loop μ-loop
-returns c = pasted-all (c .before .before .pre) (c .before .loop .inv) (search needs)
+returns c = copied-put (c .before .before .pre) (c .before .loop .inv) (search needs)
 
 pub put-bytes-spec : {M : Type 1} → statement M
 put-bytes-spec =

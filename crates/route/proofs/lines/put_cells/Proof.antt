@@ -3,7 +3,8 @@ use borrow.Author.Needs.{needs}
 use Prim.Native.Nat.{_-_}
 use lib.ListN.{length, drop}
 use Rattle.route.specs.Lines.{numbers}
-use Rattle.route.specs.Putting.{Going, going-begun}
+use Rattle.route.specs.Putting.{Going}
+use Rattle.route.specs.PutLaws.{going-begun}
 use Rattle.route.specs.LineLaws.{cell-fits, cells-on, cells-done}
 use Rattle.route.proofs.lines.put_cells.Statement.{statement}
 use Rattle.route.proofs.lines.put_cells.Tie as tie

@@ -2,7 +2,7 @@
 use borrow.Author.Needs.{needs}
 use mathlib.Core.Path.{refl}
 use native.Mathlib.Omega.{arith}
-use Rattle.route.specs.PrintedLaws.{product-fits, cells-fit}
+use native.Mathlib.Nat.{mul-le-mul}
 use Rattle.route.proofs.sheets.cells_in.Statement.{statement}
 use Rattle.route.proofs.sheets.cells_in.Tie as tie
 
@@ -19,7 +19,7 @@ side-requires-2 : tie.Need-side-requires-2
 side-requires-2 c κs = search needs
 
 mul-result : tie.Need-mul-result
-mul-result c = omega (arith, product-fits (c .before .before .side .ensures .1) (c .side2 .ensures .1))
+mul-result c = omega (arith, mul-le-mul (c .before .before .side .ensures .1) (c .side2 .ensures .1))
 
 shared-slice-read-side-3 : tie.Need-shared-slice-read-side-3
 shared-slice-read-side-3 c = search needs
@@ -28,7 +28,7 @@ side-requires-3 : tie.Need-side-requires-3
 side-requires-3 c κs = search needs
 
 mul-result-2 : tie.Need-mul-result-2
-mul-result-2 c = omega (arith, cells-fit (c .before .before .before .before .side .ensures .1) (c .before .before .side2 .ensures .1) (c .side3 .ensures .1))
+mul-result-2 c = omega (arith, mul-le-mul (mul-le-mul (c .before .before .before .before .side .ensures .1) (c .before .before .side2 .ensures .1)) (c .side3 .ensures .1))
 
 returns : tie.Need-returns
 returns c = rw (c .before .before .before .before .side .ensures .0, c .before .before .side2 .ensures .0, c .side3 .ensures .0) refl

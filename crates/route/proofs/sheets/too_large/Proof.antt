@@ -15,10 +15,10 @@ returns : tie.Need-returns
 returns c = size-unread (c .before .before .read-sheet .ensures) (c .before .number .ensures) (c .if1 .taken) refl
 
 cells-in-requires : tie.Need-cells-in-requires
-cells-in-requires c κs = sides-stand (has-meaning (c .before .before .read-sheet .ensures) (c .before .number .ensures) (c .if1 .left) .1) .0
+cells-in-requires c κs = sides-stand (has-meaning (c .before .before .read-sheet .ensures) (c .before .number .ensures) (search needs) .1) .0
 
 returns-2 : tie.Need-returns-2
-returns-2 c = size-judged (has-meaning (c .before .before .before .read-sheet .ensures) (c .before .before .number .ensures) (c .before .if1 .left)) (c .cells-in .ensures)
+returns-2 c = size-judged (has-meaning (c .before .before .before .read-sheet .ensures) (c .before .before .number .ensures) (search needs)) (c .cells-in .ensures)
 
 pub too-large-spec : {M : Type 1} → statement M
 too-large-spec =

@@ -10,14 +10,14 @@ use Rattle.routing.proofs.astar.show_route.Tie as tie
 path-to-requires : tie.Need-path-to-requires
 path-to-requires c κs = (omega arith, (c .before .before .before .before .pre .1 .0, (omega arith, omega arith)))
 
-mul-t10 : tie.Need-mul-t10
-mul-t10 c = search needs
+mul-t9 : tie.Need-mul-t9
+mul-t9 c = search needs
 
-shared-slice-read-t12 : tie.Need-shared-slice-read-t12
-shared-slice-read-t12 c = search needs
+shared-slice-read-t11 : tie.Need-shared-slice-read-t11
+shared-slice-read-t11 c = search needs
 
-sub-t13 : tie.Need-sub-t13
-sub-t13 c = search needs
+sub-t12 : tie.Need-sub-t12
+sub-t12 c = search needs
 
 same-length : tie.Need-same-length
 same-length c = search needs
@@ -30,4 +30,4 @@ returns c =
 
 pub show-route-spec : {M : Type 1} → statement M
 show-route-spec =
-    tie.close (tie.spec path-to-requires mul-t10 shared-slice-read-t12 sub-t13 same-length returns)
+    tie.close (tie.spec path-to-requires mul-t9 shared-slice-read-t11 sub-t12 same-length returns)

@@ -5,17 +5,17 @@ use Rattle.sheet_reader.specs.ReaderLaws.{held-few, held-inside}
 use Rattle.sheet_reader.proofs.steps.sinks.Statement.{statement}
 use Rattle.sheet_reader.proofs.steps.sinks.Tie as tie
 
-sinks-list-requires : tie.Need-sinks-list-requires
-sinks-list-requires c κs = search needs
+sinks-at-requires : tie.Need-sinks-at-requires
+sinks-at-requires c κs = search needs
 
 held-requires : tie.Need-held-requires
-held-requires c κs = rw (c .sinks-list .ensures .is) (omega (arith, c .before .before .pre))
+held-requires c κs = omega (arith, c .sinks-at .ensures .from-is, c .before .before .pre)
 
 sinks-from-requires : tie.Need-sinks-from-requires
 sinks-from-requires c κs = rw (c .held .ensures) (held-few _ _, held-inside _ _)
 
 returns : tie.Need-returns
-returns c = rw (c .sinks-from .ensures, c .before .held .ensures, c .before .before .sinks-list .ensures .is)
+returns c = rw (c .sinks-from .ensures, c .before .held .ensures, c .before .before .sinks-at .ensures .is)
 
 pub sinks-spec : {M : Type 1} → statement M
-sinks-spec = tie.close (tie.spec sinks-list-requires held-requires sinks-from-requires returns)
+sinks-spec = tie.close (tie.spec sinks-at-requires held-requires sinks-from-requires returns)

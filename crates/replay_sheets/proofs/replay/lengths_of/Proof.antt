@@ -1,0 +1,28 @@
+-- `lengths_of` meets its contract: longer buffers, or the comparison's own.
+use borrow.Author.Tests.{eq-eqb, ne-eqb}
+use Rattle.replay_sheets.specs.Runs.{lengthsFor}
+use Rattle.replay_sheets.specs.RunLaws.{lent-by}
+use borrow.Author.Needs.{needs}
+use Rattle.replay_sheets.proofs.replay.lengths_of.Statement.{statement}
+use Rattle.replay_sheets.proofs.replay.lengths_of.Tie as tie
+
+longer-lengths-requires : tie.Need-longer-lengths-requires
+longer-lengths-requires c κs = search needs
+
+returns : tie.Need-returns
+unfolding lengthsFor
+returns c = rw (eq-eqb _ _ (c .before .if1 .taken)) (c .longer-lengths .ensures)
+
+branch-of-requires : tie.Need-branch-of-requires
+branch-of-requires c κs = search needs
+
+twice-requires : tie.Need-twice-requires
+twice-requires c κs = search needs
+
+returns-2 : tie.Need-returns-2
+unfolding lengthsFor
+returns-2 c = rw (ne-eqb _ _ (c .before .before .if1 .left)) (lent-by (c .before .branch-of .ensures) (c .twice .ensures))
+
+pub lengths-of-spec : {M : Type 1} → statement M
+lengths-of-spec =
+    tie.close (tie.spec longer-lengths-requires returns branch-of-requires twice-requires returns-2)
