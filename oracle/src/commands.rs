@@ -7,6 +7,7 @@ use std::path::Path;
 
 use cases::files::{self, Cases};
 use cases::samples::{Sample, samples};
+use cases::smallest::Point;
 use cases::stats::Tally;
 use cases::text::{number, parse_hex, parse_search, search_answer_lines, tree_answer_lines};
 use cases::tree::ROUTE_LIMITS;
@@ -15,6 +16,7 @@ use oracle::{Profile, Rng, Search, Sheet, check_route, check_search, check_sheet
 use crate::Trouble;
 use crate::arguments::Arguments;
 use crate::kinds::Asked;
+use crate::smallest;
 
 const HELP: &str = "\
 oracle search FILE|-                        answers one search, in text or a file of one search
@@ -22,6 +24,7 @@ oracle sheet [--hex] FILE|-                 prints what program `route` prints f
 oracle sheet [--hex] [--queue N] [--branch N] [--lent N] FILE|-
                                             the same as the library's tree, with such buffers
 oracle samples                              runs the samples of document 01
+oracle smallest [POINT]                     the smallest inputs of docs/DIFFERENCES.md, and the walks through smaller ones
 oracle generate KIND --seed N --count N --out FILE [--profile P] [--examples] [--force]
                                             writes random cases, with --examples behind the samples and examples
 oracle answer KIND IN OUT [--force]         answers the cases of a file
@@ -40,6 +43,7 @@ pub fn run(raw: impl Iterator<Item = OsString>) -> Result<(), Trouble> {
     match command.as_str() {
         "help" => with(arguments, |_| Ok(()), |()| print(HELP)),
         "samples" => with(arguments, |_| Ok(()), |()| run_samples()),
+        "smallest" => with(arguments, smallest_request, |points| run_smallest(&points)),
         "search" => with(arguments, |a| a.word("FILE"), |file| search(&file)),
         "sheet" => with(arguments, sheet_request, |request| sheet(&request)),
         "generate" | "answer" | "check" | "compare" | "show" | "stats" => {
@@ -222,6 +226,17 @@ fn run_samples() -> Result<(), Trouble> {
             )));
         }
         print(&format!("sample {name}\n{found}"))?;
+    }
+    Ok(())
+}
+
+fn smallest_request(arguments: &mut Arguments) -> Result<Vec<Point>, String> {
+    smallest::asked(arguments.optional_word())
+}
+
+fn run_smallest(points: &[Point]) -> Result<(), Trouble> {
+    for point in points {
+        print(&format!("{}\n", smallest::shown(point)?))?;
     }
     Ok(())
 }

@@ -3,6 +3,7 @@
 mod arguments;
 mod commands;
 mod kinds;
+mod smallest;
 
 use std::process::ExitCode;
 

@@ -3,15 +3,18 @@
 //! the published Rust: it judges the refusals that the Rust lacks and is a second opinion on all others.
 
 pub mod answers;
+mod blocked;
 pub mod examples;
 pub mod files;
 pub mod generate;
+pub mod reading;
 pub mod repeaters;
 pub mod rng;
 pub mod room;
 pub mod samples;
 pub mod search;
 pub mod sheet;
+pub mod smallest;
 pub mod stats;
 pub mod text;
 pub mod tree;

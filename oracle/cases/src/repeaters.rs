@@ -2,68 +2,130 @@
 
 use std::collections::{BTreeMap, BTreeSet, VecDeque};
 
+use crate::reading::{Other, Reading};
 use crate::room::{Room, port};
 use crate::sheet::Job;
-use crate::tree::Ends;
+use crate::tree::{Ends, source_approach};
 
 /// Steps past the last reset that need no repeater.
 const RUN: usize = 12;
 /// Steps after the last repeater that a Wire sink bears.
 const TAIL: usize = 8;
 
-/// The repeaters of a tree whose branches are in sheet order.
-pub fn place_repeaters(
-    job: &Job,
-    room: &Room,
-    ends: &Ends,
-    branches: &[Vec<usize>],
-) -> BTreeSet<usize> {
-    let tree = Wires::new(room, ends, branches);
-    let mut repeaters = BTreeSet::new();
-    for sink in &ends.sinks {
-        tree.runs(&tree.path_to(sink.terminal), &mut repeaters);
+/// A tree whose branches are laid.
+pub struct Laid<'a> {
+    pub job: &'a Job,
+    pub room: &'a Room,
+    pub ends: &'a Ends,
+    /// In sheet order.
+    pub branches: &'a [Vec<usize>],
+    /// The sinks in the order in which they were searched.
+    pub order: &'a [usize],
+    pub reading: Reading,
+}
+
+impl Laid<'_> {
+    fn reads(&self, other: Other) -> bool {
+        self.reading.is(other)
     }
-    for (sink, port) in ends.sinks.iter().zip(&job.sinks) {
-        if port.kind == port::WIRE {
-            tree.tail(&tree.path_to(sink.terminal), &mut repeaters);
+
+    /// The branches in the order in which they were searched.
+    fn searched(&self) -> impl Iterator<Item = &[usize]> {
+        self.order
+            .iter()
+            .map(|sink| self.branches[*sink].as_slice())
+    }
+
+    /// The sinks in the order in which they are planned: as in the sheet, unless that is read otherwise.
+    fn planned(&self, as_searched: Other) -> Vec<usize> {
+        match self.reads(as_searched) {
+            true => self.order.to_vec(),
+            false => (0..self.branches.len()).collect(),
         }
+    }
+}
+
+/// The repeaters of a tree.
+pub fn place_repeaters(laid: &Laid) -> BTreeSet<usize> {
+    let tree = Wires::new(laid);
+    let mut repeaters = BTreeSet::new();
+    for sink in laid.planned(Other::RunsAsSearched) {
+        tree.runs(&tree.path_to(sink), &mut repeaters);
+        if laid.reads(Other::TailAfterRun) {
+            tree.tail_of(sink, &mut repeaters);
+        }
+    }
+    for sink in laid.planned(Other::TailsAsSearched) {
+        tree.tail_of(sink, &mut repeaters);
     }
     repeaters
 }
 
 /// The tree's cells: their neighbours over all branches, and the way back to the source.
 struct Wires<'a> {
-    room: &'a Room,
+    laid: &'a Laid<'a>,
+    /// Where no repeater may stand: the net's terminals and approaches.
     own: BTreeSet<usize>,
     neighbours: BTreeMap<usize, BTreeSet<usize>>,
     before: BTreeMap<usize, usize>,
 }
 
 impl<'a> Wires<'a> {
-    fn new(room: &'a Room, ends: &Ends, branches: &[Vec<usize>]) -> Self {
-        let mut neighbours: BTreeMap<usize, BTreeSet<usize>> = BTreeMap::new();
-        for pair in branches.iter().flat_map(|branch| branch.windows(2)) {
-            neighbours.entry(pair[0]).or_default().insert(pair[1]);
-            neighbours.entry(pair[1]).or_default().insert(pair[0]);
+    fn new(laid: &'a Laid) -> Self {
+        let neighbours = neighbours(laid.branches.iter().map(Vec::as_slice));
+        let mut own = laid.ends.own();
+        if laid.reads(Other::SourceApproachForbidden) {
+            own.extend(source_approach(laid.job, laid.room));
         }
         Self {
-            room,
-            own: ends.own(),
-            before: breadth_first(ends.source, &neighbours),
+            laid,
+            own,
+            before: breadth_first(laid.ends.source, &neighbours),
             neighbours,
         }
     }
 
-    /// The path from the source to a cell of the tree.
-    fn path_to(&self, cell: usize) -> Vec<usize> {
-        let mut path = vec![cell];
-        let mut at = cell;
-        while let Some(before) = self.before.get(&at) {
-            at = *before;
-            path.push(at);
+    /// The path from the source to a sink's terminal.
+    fn path_to(&self, sink: usize) -> Vec<usize> {
+        if self.laid.reads(Other::PathAlongBranches) {
+            return self.along_branches(sink);
+        }
+        let mut path = vec![self.laid.ends.sinks[sink].terminal];
+        while let Some(before) = self.before.get(&path[path.len() - 1]) {
+            path.push(*before);
         }
         path.reverse();
         path
+    }
+
+    /// The sink's branch, and before it, again and again, the part that leads to its first cell of the branch that
+    /// brought that cell.
+    fn along_branches(&self, sink: usize) -> Vec<usize> {
+        let mut path = self.laid.branches[sink].clone();
+        while path[0] != self.laid.ends.source {
+            let bringing = self.laid.searched().find_map(|branch| {
+                let place = branch.iter().position(|cell| *cell == path[0])?;
+                (place > 0).then(|| branch[..place].to_vec())
+            });
+            path.splice(
+                0..0,
+                bringing.expect("a branch brought each cell of the tree"),
+            );
+        }
+        path
+    }
+
+    /// How many neighbours a cell of the tree has.
+    fn degree(&self, cell: usize) -> usize {
+        let holds = |branch: &&[usize]| branch.contains(&cell);
+        if self.laid.reads(Other::NeighboursOfOneBranch) {
+            return neighbours(self.laid.searched().find(holds).into_iter())[&cell].len();
+        }
+        if self.laid.reads(Other::NeighboursByStep) {
+            let steps = self.laid.searched().flat_map(|branch| branch.windows(2));
+            return steps.filter(|pair| pair.contains(&cell)).count();
+        }
+        self.neighbours[&cell].len()
     }
 
     /// A repeater may stand here: off this net's terminals and approaches, with a cell before and after on the path, two
@@ -72,12 +134,12 @@ impl<'a> Wires<'a> {
         0 < index
             && index + 1 < path.len()
             && !self.own.contains(&path[index])
-            && self.neighbours[&path[index]].len() == 2
+            && self.degree(path[index]) == 2
             && self.straight(path[index - 1], path[index], path[index + 1])
     }
 
     fn straight(&self, before: usize, cell: usize, after: usize) -> bool {
-        let [a, b, c] = [before, cell, after].map(|cell| self.room.place(cell));
+        let [a, b, c] = [before, cell, after].map(|cell| self.laid.room.place(cell));
         a.y == b.y && b.y == c.y && b.x - a.x == c.x - b.x && b.z - a.z == c.z - b.z
     }
 
@@ -106,6 +168,12 @@ impl<'a> Wires<'a> {
         (reset + 1..=index).rev().find(|fit| self.fits(path, *fit))
     }
 
+    fn tail_of(&self, sink: usize, repeaters: &mut BTreeSet<usize>) {
+        if self.laid.job.sinks[sink].kind == port::WIRE {
+            self.tail(&self.path_to(sink), repeaters);
+        }
+    }
+
     /// With over 8 steps after the last repeater: the earliest cell that fits among the last 8 before the end, with no
     /// repeater next to it on the path.
     fn tail(&self, path: &[usize], repeaters: &mut BTreeSet<usize>) {
@@ -120,6 +188,21 @@ impl<'a> Wires<'a> {
         });
         repeaters.extend(fit.map(|index| path[index]));
     }
+}
+
+/// The cell before each cell of a tree but the source, on the path from the source.
+pub fn from_source(source: usize, branches: &[Vec<usize>]) -> BTreeMap<usize, usize> {
+    breadth_first(source, &neighbours(branches.iter().map(Vec::as_slice)))
+}
+
+/// Each cell's neighbours along these branches.
+fn neighbours<'a>(branches: impl Iterator<Item = &'a [usize]>) -> BTreeMap<usize, BTreeSet<usize>> {
+    let mut neighbours: BTreeMap<usize, BTreeSet<usize>> = BTreeMap::new();
+    for pair in branches.flat_map(|branch| branch.windows(2)) {
+        neighbours.entry(pair[0]).or_default().insert(pair[1]);
+        neighbours.entry(pair[1]).or_default().insert(pair[0]);
+    }
+    neighbours
 }
 
 /// The predecessor of each cell but the source, breadth first, neighbours in number order.

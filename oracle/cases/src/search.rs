@@ -90,12 +90,14 @@ pub enum End {
     QueueFull,
 }
 
-/// A search that was run: how it ended, its expanded count, and the most entries that waited at one time.
+/// A search that was run: how it ended, its expanded count, the most entries that waited at one time, and whether a cell
+/// was expanded again.
 #[derive(Clone, Debug, Eq, PartialEq)]
 pub struct Searched {
     pub end: End,
     pub expanded: u32,
     pub most_waiting: usize,
+    pub again: bool,
 }
 
 impl Searched {
@@ -140,6 +142,7 @@ impl Question<'_> {
             end,
             expanded: state.expanded,
             most_waiting: state.most_waiting,
+            again: state.again,
         }
     }
 
@@ -154,7 +157,7 @@ impl Question<'_> {
             if cell == self.goal {
                 return state.route_to(cell);
             }
-            state.expanded += 1;
+            state.expand(cell);
             if state.expanded > self.config.node_limit {
                 return End::LimitPassed;
             }
@@ -185,7 +188,7 @@ impl Question<'_> {
     }
 
     /// The cell that a move enters and the step's price; none if the step is not lawful. The outside is Solid.
-    fn step(&self, cell: usize, offset: Offset) -> Option<(usize, u64)> {
+    pub fn step(&self, cell: usize, offset: Offset) -> Option<(usize, u64)> {
         let next = self.room.next(cell, offset)?;
         if !self.routeable(next) {
             return None;
@@ -210,6 +213,8 @@ struct State {
     serial: u64,
     most_waiting: usize,
     expanded: u32,
+    expanded_before: Vec<bool>,
+    again: bool,
     known: Vec<Option<u64>>,
     before: Vec<Option<usize>>,
 }
@@ -221,6 +226,8 @@ impl State {
             serial: 0,
             most_waiting: 0,
             expanded: 0,
+            expanded_before: vec![false; cells],
+            again: false,
             known: vec![None; cells],
             before: vec![None; cells],
         }
@@ -236,6 +243,11 @@ impl State {
             .push(Reverse((cost + estimate, self.serial, cell)));
         self.serial += 1;
         self.most_waiting = self.most_waiting.max(self.waiting.len());
+    }
+
+    fn expand(&mut self, cell: usize) {
+        self.expanded += 1;
+        self.again |= std::mem::replace(&mut self.expanded_before[cell], true);
     }
 
     fn take(&mut self) -> Option<usize> {

@@ -3,10 +3,12 @@
 use std::collections::BTreeSet;
 
 use crate::Refusal;
-use crate::repeaters::place_repeaters;
-use crate::room::{DOWN, MOST_CELLS, Place, Room, UP, kind, moves, port, sideways};
+use crate::blocked::blocked_at_outset;
+use crate::reading::{Other, Reading};
+use crate::repeaters::{Laid, place_repeaters};
+use crate::room::{DOWN, MOST_CELLS, Place, Room, UP, kind, port, sideways};
 use crate::search::{End, Question, Searched, cells16};
-use crate::sheet::{Block, Job, Port, Sheet, TreeAnswer};
+use crate::sheet::{Job, Port, Sheet, TreeAnswer};
 
 /// Searches that one goal gets at most.
 const ATTEMPTS: usize = 64;
@@ -105,14 +107,28 @@ impl Net {
 
 /// Numbers 7, 8, 9, then 13 or 14 and 15 sink by sink, or the net.
 pub fn route_net_tree(job: &Job, room: &Room, limits: Limits) -> Result<Net, Refusal> {
+    route_as_read(job, room, limits, Reading::PUBLISHED)
+}
+
+/// The same with an open point read otherwise.
+pub fn route_as_read(
+    job: &Job,
+    room: &Room,
+    limits: Limits,
+    reading: Reading,
+) -> Result<Net, Refusal> {
     if let Some(cell) = overlap(job, room) {
         return Err(Refusal::new(7, cell as u32));
     }
     let ends = realize(job, room)?;
-    let mut tree = Tree::new(job, room, &ends, limits);
+    if reading.is(Other::SourceApproachJudged) && source_approach(job, room).is_none() {
+        return Err(Refusal::new(9, 0));
+    }
+    let mut tree = Tree::new(job, room, &ends, limits, reading);
     let mut branches = vec![Vec::new(); ends.sinks.len()];
     let mut used = 0;
-    for index in sink_order(room, &ends) {
+    let order = sink_order(room, &ends);
+    for &index in &order {
         let branch = tree.join(ends.sinks[index])?;
         used += branch.len();
         if used > limits.branch {
@@ -120,7 +136,15 @@ pub fn route_net_tree(job: &Job, room: &Room, limits: Limits) -> Result<Net, Ref
         }
         branches[index] = branch;
     }
-    let repeaters = place_repeaters(job, room, &ends, &branches);
+    let laid = Laid {
+        job,
+        room,
+        ends: &ends,
+        branches: &branches,
+        order: &order,
+        reading,
+    };
+    let repeaters = place_repeaters(&laid);
     Ok(Net {
         branches,
         occupied: tree.occupied,
@@ -211,67 +235,16 @@ fn approach(sink: &Port, terminal: Place) -> Place {
     sideways(sink.facing).map_or(terminal, |offset| terminal.plus(offset))
 }
 
+/// The approach that a source would have if it had one; none outside.
+pub fn source_approach(job: &Job, room: &Room) -> Option<usize> {
+    room.cell(approach(&job.source, terminal(&job.source)?))
+}
+
 /// By distance from the source terminal to the approach, ties in sheet order.
-fn sink_order(room: &Room, ends: &Ends) -> Vec<usize> {
+pub fn sink_order(room: &Room, ends: &Ends) -> Vec<usize> {
     let mut order: Vec<_> = (0..ends.sinks.len()).collect();
     order.sort_by_key(|index| room.distance(ends.source, ends.sinks[*index].approach));
     order
-}
-
-/// The four neighbours of a cell, each also one up and one down. What lies outside has no effect.
-/// These are the cells that the twelve moves lead to.
-fn keepout(room: &Room, cell: usize) -> impl Iterator<Item = usize> {
-    moves().filter_map(move |offset| room.next(cell, offset))
-}
-
-/// The cells whose keepout the blocks ask for: each RedstoneTorch, RedstoneBlock and Lever, and a Repeater's output cell
-/// where that is a Solid block of the same node.
-fn powering(job: &Job, room: &Room) -> Vec<usize> {
-    let solid: BTreeSet<_> = job
-        .blocks
-        .iter()
-        .filter(|block| block.kind == kind::SOLID)
-        .map(|block| (block.node, cell(room, block.at)))
-        .collect();
-    let powering = |block: &Block| {
-        let cell = cell(room, block.at);
-        match block.kind {
-            kind::REDSTONE_TORCH | kind::REDSTONE_BLOCK | kind::LEVER => Some(cell),
-            kind::REPEATER => room
-                .next(cell, sideways(block.facing)?)
-                .filter(|output| solid.contains(&(block.node, *output))),
-            _ => None,
-        }
-    };
-    job.blocks.iter().filter_map(powering).collect()
-}
-
-/// One mark a cell: blocked before the first sink is searched.
-fn blocked_at_outset(job: &Job, room: &Room, ends: &Ends) -> Vec<bool> {
-    let mut blocked = vec![false; room.cells()];
-    for list in [
-        &job.conductors,
-        &job.clearances,
-        &job.terminals,
-        &job.reserved,
-    ] {
-        for at in list {
-            blocked[cell(room, *at)] = true;
-        }
-    }
-    let conductors = job.conductors.iter().map(|at| cell(room, *at));
-    for cell in conductors.chain(powering(job, room)) {
-        for kept in keepout(room, cell) {
-            blocked[kept] = true;
-        }
-    }
-    for own in ends.own() {
-        blocked[own] = false;
-        if let Some(beneath) = room.next(own, DOWN) {
-            blocked[beneath] = false;
-        }
-    }
-    blocked
 }
 
 /// The tree while it grows.
@@ -279,6 +252,9 @@ struct Tree<'a> {
     job: &'a Job,
     room: &'a Room,
     limits: Limits,
+    reading: Reading,
+    /// Cells of this net that an own clearance leaves open.
+    stay_open: BTreeSet<usize>,
     /// The unblocked room.
     kinds: Vec<u8>,
     blocked: Vec<bool>,
@@ -288,13 +264,16 @@ struct Tree<'a> {
 }
 
 impl<'a> Tree<'a> {
-    fn new(job: &'a Job, room: &'a Room, ends: &Ends, limits: Limits) -> Self {
+    fn new(job: &'a Job, room: &'a Room, ends: &Ends, limits: Limits, reading: Reading) -> Self {
+        let stay_open = reading.is(Other::EndsStayOpen).then(|| ends.own());
         Self {
             job,
             room,
             limits,
+            reading,
+            stay_open: stay_open.unwrap_or_default(),
             kinds: kinds(job, room),
-            blocked: blocked_at_outset(job, room, ends),
+            blocked: blocked_at_outset(job, room, ends, reading),
             joinable: BTreeSet::from([ends.source]),
             occupied: BTreeSet::from([ends.source]),
             most_waiting: 0,
@@ -308,10 +287,14 @@ impl<'a> Tree<'a> {
         if sink.terminal != sink.approach {
             branch.push(sink.terminal);
         }
-        self.joinable.extend(&branch[..branch.len() - 1]);
+        let mut laid = branch[..branch.len() - 1].to_vec();
+        if self.reading.is(Other::TerminalNeverJoinable) {
+            laid.retain(|cell| *cell != sink.terminal);
+        }
+        self.joinable.extend(laid);
         self.occupied.extend(&branch);
         for (_, clearance) in stairs(self.room, &branch) {
-            self.blocked[clearance] = true;
+            self.blocked[clearance] = !self.stay_open.contains(&clearance);
         }
         Ok(branch)
     }
@@ -319,8 +302,12 @@ impl<'a> Tree<'a> {
     /// The first strictly cheapest route from the approach to a joinable cell, in number order.
     fn cheapest_route(&mut self, approach: usize) -> Result<Vec<usize>, Refusal> {
         let mut best: Option<(u64, Vec<usize>)> = None;
+        let mut blocked = self.blocked.clone();
         for goal in self.joinable.clone() {
-            let Some((cost, path)) = self.attempts(approach, goal)? else {
+            if !self.reading.is(Other::ConflictStays) {
+                blocked.clone_from(&self.blocked);
+            }
+            let Some((cost, path)) = self.attempts(&mut blocked, approach, goal)? else {
                 continue;
             };
             if best.as_ref().is_none_or(|(least, _)| cost < *least) {
@@ -331,15 +318,15 @@ impl<'a> Tree<'a> {
             .ok_or(Refusal::new(14, approach as u32))
     }
 
-    /// The searches of one goal. A search that gave no route ends the goal; 13 ends the tree.
+    /// The searches of one goal. A search that gave no route ends the goal; 13 ends the tree. Conflicts become blocked.
     fn attempts(
         &mut self,
+        blocked: &mut [bool],
         start: usize,
         goal: usize,
     ) -> Result<Option<(u64, Vec<usize>)>, Refusal> {
-        let mut blocked = self.blocked.clone();
         for _ in 0..ATTEMPTS {
-            let searched = self.search(&blocked, start, goal);
+            let searched = self.search(blocked, start, goal);
             self.most_waiting = self.most_waiting.max(searched.most_waiting);
             let (path, cost) = match searched.end {
                 End::Route { path, cost } => (path, cost),
@@ -358,8 +345,9 @@ impl<'a> Tree<'a> {
     /// One search in which each blocked Air cell other than its start and goal counts as Solid, as a support too.
     fn search(&self, blocked: &[bool], start: usize, goal: usize) -> Searched {
         let mut kinds = self.kinds.clone();
+        let turns = |kind| kind == kind::AIR || self.reading.is(Other::BlockedBears);
         for cell in 0..kinds.len() {
-            if blocked[cell] && cell != start && cell != goal && kinds[cell] == kind::AIR {
+            if blocked[cell] && cell != start && cell != goal && turns(kinds[cell]) {
                 kinds[cell] = kind::SOLID;
             }
         }
@@ -376,13 +364,17 @@ impl<'a> Tree<'a> {
 
     /// The first conflict of a path with the joinable cells, in the unblocked room. The path begins at the approach.
     fn conflict(&self, path: &[usize]) -> Option<usize> {
-        let mut conductors = self.joinable.clone();
+        let mut conductors = match self.reading.is(Other::ConflictWithOccupied) {
+            true => self.occupied.clone(),
+            false => self.joinable.clone(),
+        };
         conductors.extend(path);
         let above = |cell| self.room.next(cell, UP);
         let conducts = |cell: &usize| conductors.contains(cell);
-        let on_another = |cell: &&usize| self.room.next(**cell, DOWN).is_some_and(|c| conducts(&c));
-        if let Some(upper) = conductors.iter().find(on_another) {
-            return Some(*upper);
+        let beneath = |cell: &usize| self.room.next(*cell, DOWN).filter(conducts);
+        if let Some(upper) = conductors.iter().find(|cell| beneath(cell).is_some()) {
+            let lower = beneath(upper).filter(|_| self.reading.is(Other::LowerOfPair));
+            return Some(lower.unwrap_or(*upper));
         }
         for (second, clearance) in stairs(self.room, path) {
             if self.kinds[clearance] != kind::AIR {
