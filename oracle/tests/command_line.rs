@@ -80,6 +80,21 @@ fn samples_run() {
 }
 
 #[test]
+fn smallest_inputs_are_shown() {
+    let opposed = printed(&["smallest", "opposed"], b"");
+    assert!(opposed.starts_with("opposed: "), "{opposed}");
+    assert!(opposed.contains("\ncells 12\n") && opposed.contains("\nrepeaters 4\n"));
+    let above = printed(&["smallest", "one-above-another"], b"");
+    assert!(
+        above.contains("\nwalked 3 cells, 30366 inputs: none\n"),
+        "{above}"
+    );
+    let kept = printed(&["smallest", "keepout-of-lists"], b"");
+    assert!(kept.contains("\notherwise refused 14 2\n"), "{kept}");
+    assert!(refused(&["smallest", "largest"], b"").contains("no such point: largest"));
+}
+
+#[test]
 fn lists_are_made_answered_shown_and_checked() {
     let folder = folder("lists");
     for kind in ["searches", "sheets"] {

@@ -28,6 +28,8 @@ pub enum Other {
     ConflictWithOccupied,
     /// A conflict stays blocked for the sink's later goals.
     ConflictStays,
+    /// A goal's 64th search may not give its route.
+    SixtyThreeSearches,
     /// Runs are planned in the order in which sinks are searched.
     RunsAsSearched,
     /// Tails are planned in the order in which sinks are searched.

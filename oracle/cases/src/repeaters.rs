@@ -55,8 +55,10 @@ pub fn place_repeaters(laid: &Laid) -> BTreeSet<usize> {
             tree.tail_of(sink, &mut repeaters);
         }
     }
-    for sink in laid.planned(Other::TailsAsSearched) {
-        tree.tail_of(sink, &mut repeaters);
+    if !laid.reads(Other::TailAfterRun) {
+        for sink in laid.planned(Other::TailsAsSearched) {
+            tree.tail_of(sink, &mut repeaters);
+        }
     }
     repeaters
 }

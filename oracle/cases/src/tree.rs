@@ -325,7 +325,8 @@ impl<'a> Tree<'a> {
         start: usize,
         goal: usize,
     ) -> Result<Option<(u64, Vec<usize>)>, Refusal> {
-        for _ in 0..ATTEMPTS {
+        let attempts = ATTEMPTS - usize::from(self.reading.is(Other::SixtyThreeSearches));
+        for _ in 0..attempts {
             let searched = self.search(blocked, start, goal);
             self.most_waiting = self.most_waiting.max(searched.most_waiting);
             let (path, cost) = match searched.end {

@@ -1,7 +1,12 @@
 //! The inputs of docs/DIFFERENCES.md that `oracle smallest` prints: each shows what it is there for.
 
+use cases::room::{facing, kind};
+use cases::samples::{block, default_job, wire};
+use cases::sheet::Sheet;
+use cases::smallest::signs::repeater_opposed;
 use cases::smallest::space::rooms;
 use cases::smallest::{Fewer, points};
+use cases::text::tree_answer_lines;
 
 #[test]
 fn each_input_shows_its_point() {
@@ -20,6 +25,26 @@ fn no_job_of_one_or_two_cells_shows_a_point_of_more() {
             assert!(step.seen > 0 && step.shown.is_none(), "{}", point.name);
         }
     }
+}
+
+/// The same finding at the usual costs.
+#[test]
+fn a_repeater_is_opposed_at_the_usual_costs() {
+    let sinks = [
+        wire([0, 0, 1], facing::SOUTH),
+        wire([0, 0, 1], facing::NORTH),
+        wire([3, 0, 2], facing::EAST),
+    ];
+    let mut job = default_job([5, 1, 3], &sinks);
+    job.source = wire([0, 0, 2], facing::NONE);
+    for at in [[0, 0, 1], [1, 0, 1], [3, 0, 1], [3, 0, 2]] {
+        job.blocks.push(block(0, at, kind::SOLID));
+    }
+    assert!(repeater_opposed(&job));
+    assert_eq!(
+        tree_answer_lines(&Sheet::of_route(job.bytes()).plain_answer()),
+        "net 3 13\nbranch 2 1\nbranch 2 5 8 7 6 3 0 1\nbranch 6 9 12 13 14 11\nrepeaters 3\n"
+    );
 }
 
 #[test]

@@ -1,14 +1,15 @@
 //! The findings.
 
 use super::signs::{
-    again, cell_twice, dearer, more_than_cells, one_above_another, repeater_opposed,
+    again, cell_twice, dearer, fills_queue, more_than_cells, one_above_another, overflows_branches,
+    repeater_opposed,
 };
 use super::space::{AIR, Jobs, Searches};
 use super::{Fewer, Input, Point, Sign};
-use crate::room::{Config, facing, kind, port};
-use crate::samples::{default_job, default_search, wire};
+use crate::room::{Config, MOST_NODES, facing, kind, port};
+use crate::samples::{block, default_job, default_search, wire};
 use crate::search::Search;
-use crate::sheet::Job;
+use crate::sheet::{Job, MOST_SINKS};
 
 pub fn points() -> Vec<Point> {
     let mut points = searches();
@@ -128,7 +129,53 @@ fn trees() -> Vec<Point> {
                  over at least 2 cells more",
             ),
         },
+        Point {
+            name: "queue",
+            says: "number 13 in program `route`",
+            input: Input::Job(steep()),
+            sign: Sign::Job(fills_queue),
+            fewer: Fewer::Open(
+                "smaller rooms, with blocks in them, fill it too; how small is open",
+            ),
+        },
+        Point {
+            name: "branch-buffer",
+            says: "number 15 in program `route`",
+            input: Input::Job(serpentine()),
+            sign: Sign::Job(overflows_branches),
+            fewer: Fewer::Open(
+                "16 branches of at most V + 1 cells overflow 16,384 from 1,024 cells on; no walk goes so far",
+            ),
+        },
     ]
+}
+
+/// Flat steps cost much and stairs next to nothing: cells are reached again and again at lower costs.
+fn steep() -> Job {
+    let mut job = default_job([6, 3, 48], &[wire([5, 2, 0], facing::NONE)]);
+    job.source = wire([0, 2, 44], facing::NONE);
+    job.config = Config {
+        node_limit: MOST_NODES,
+        horizontal: 99_999,
+        stair: 7,
+        support: 1,
+    };
+    job
+}
+
+/// A corridor of 1,025 cells to and fro, with the source at its beginning and all sinks at its end. All goals cost nothing,
+/// so each branch is the whole corridor.
+fn serpentine() -> Job {
+    let end = [34, 0, 0];
+    let mut job = default_job([35, 1, 56], &[wire(end, facing::SOUTH); MOST_SINKS]);
+    for x in (1..35).step_by(2) {
+        let open = if x % 4 == 1 { 55 } else { 0 };
+        let walls = (0..56).filter(|z| *z != open);
+        let walls = walls.map(|z| block(0, [x, 0, z], kind::SOLID));
+        job.blocks.extend(walls);
+    }
+    job.config.horizontal = 0;
+    job
 }
 
 /// All goals cost nothing, so each sink is led to the joinable cell of least number.

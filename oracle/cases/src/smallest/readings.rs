@@ -241,7 +241,25 @@ fn joined() -> Vec<Point> {
             ),
             Fewer::Jobs(vec![BLOCK, THREE_SINKS]),
         ),
+        point(
+            "sixty-three-conflicts",
+            "63 conflicts and then a route pass",
+            Other::SixtyThreeSearches,
+            stairs_without_clearance(),
+            Fewer::Open("63 conflicts, start and goal are 65 cells; no walk goes so far"),
+        ),
     ]
+}
+
+/// A corridor, a wall with a corridor on top beside it, and 64 stairs from one to the other, each tried in turn: above the
+/// lower end of all but the last there is a block.
+fn stairs_without_clearance() -> Job {
+    let solid = |x, y, z| block(0, [x, y, z], kind::SOLID);
+    job([2, 2, 64], plain([1, 1, 63]), &[plain([0; 3])], |job| {
+        costs(job, [10, 15, 15]);
+        job.blocks = (0..63).map(|z| solid(0, 1, z)).collect();
+        job.blocks.extend((0..64).map(|z| solid(1, 0, z)));
+    })
 }
 
 /// Where repeaters are planned.
@@ -266,6 +284,15 @@ fn planned() -> Vec<Point> {
             Other::TailAfterRun,
             along(14, &[9, 13]),
             Fewer::Reason("a run's repeater takes a path of 14 cells"),
+        ),
+        point(
+            "runs-in-sheet-order",
+            "runs are planned in sheet order",
+            Other::RunsAsSearched,
+            fork_after_a_loop(),
+            Fewer::Open(
+                "two paths of 14 cells or more that part take 16, and a room of 17 cells is one line; 16 cells are open",
+            ),
         ),
         point(
             "neighbours-different",
@@ -303,6 +330,19 @@ fn planned() -> Vec<Point> {
             }]),
         ),
     ]
+}
+
+/// Two long paths that part late, one with and one without a straight cell behind the fork.
+fn fork_after_a_loop() -> Job {
+    let sinks = [
+        wire([0, 0, 0], facing::EAST),
+        wire([0, 0, 7], facing::SOUTH),
+        wire([0, 0, 3], facing::NORTH),
+    ];
+    job([2, 1, 9], plain([1, 0, 5]), &sinks, |job| {
+        costs(job, [0, 25, 15]);
+        job.blocks.push(block(0, [0, 0, 3], kind::SOLID));
+    })
 }
 
 /// A way round a wall, and an arm at its first cell.

@@ -3,8 +3,10 @@
 use crate::reading::{Other, Reading};
 use crate::room::{DOWN, MOST_CELLS, Room, moves};
 use crate::search::{End, Question, Search, Searched};
-use crate::sheet::{Job, TreeAnswer};
-use crate::tree::{Limits, Net, realize, route_as_read, route_net_tree, sink_order};
+use crate::sheet::{Job, Sheet, TreeAnswer};
+use crate::tree::{
+    Limits, Net, ROUTE_MOST_CELLS, realize, route_as_read, route_net_tree, sink_order,
+};
 
 fn searched(search: &Search) -> Option<Searched> {
     let room = search.judge().ok()?;
@@ -100,6 +102,21 @@ pub fn repeater_opposed(job: &Job) -> bool {
         let (branch, place) = found.expect("a branch brought the repeater's cell");
         branch.get(place + 1) == before.get(repeater)
     })
+}
+
+/// Program `route` gives number 13.
+pub fn fills_queue(job: &Job) -> bool {
+    number_in_route(job) == 13
+}
+
+/// Program `route` gives number 15.
+pub fn overflows_branches(job: &Job) -> bool {
+    number_in_route(job) == 15
+}
+
+fn number_in_route(job: &Job) -> u8 {
+    let sheet = Sheet::of_route(job.bytes());
+    sheet.plain_answer_within(ROUTE_MOST_CELLS).number()
 }
 
 /// The answer with an open point read otherwise; neither queue nor branch buffer has an end.
