@@ -125,17 +125,8 @@ pub fn route_as_read(
         return Err(Refusal::new(9, 0));
     }
     let mut tree = Tree::new(job, room, &ends, limits, reading);
-    let mut branches = vec![Vec::new(); ends.sinks.len()];
-    let mut used = 0;
     let order = sink_order(room, &ends);
-    for &index in &order {
-        let branch = tree.join(ends.sinks[index])?;
-        used += branch.len();
-        if used > limits.branch {
-            return Err(Refusal::new(15, index as u32 + 1));
-        }
-        branches[index] = branch;
-    }
+    let branches = tree.join_all(&ends, &order)?;
     let laid = Laid {
         job,
         room,
@@ -278,6 +269,21 @@ impl<'a> Tree<'a> {
             occupied: BTreeSet::from([ends.source]),
             most_waiting: 0,
         }
+    }
+
+    /// Joins sink after sink in this order, and answers the branches in sheet order.
+    fn join_all(&mut self, ends: &Ends, order: &[usize]) -> Result<Vec<Vec<usize>>, Refusal> {
+        let mut branches = vec![Vec::new(); ends.sinks.len()];
+        let mut used = 0;
+        for &index in order {
+            let branch = self.join(ends.sinks[index])?;
+            used += branch.len();
+            if used > self.limits.branch {
+                return Err(Refusal::new(15, index as u32 + 1));
+            }
+            branches[index] = branch;
+        }
+        Ok(branches)
     }
 
     /// Joins one sink to the tree and answers its branch, from the tree to the terminal.

@@ -14,6 +14,7 @@ use crate::sheet::{Job, MOST_SINKS};
 pub fn points() -> Vec<Point> {
     let mut points = searches();
     points.extend(trees());
+    points.extend(full_buffers());
     points
 }
 
@@ -129,14 +130,18 @@ fn trees() -> Vec<Point> {
                  over at least 2 cells more",
             ),
         },
+    ]
+}
+
+/// Numbers 13 and 15 in program `route`.
+fn full_buffers() -> Vec<Point> {
+    vec![
         Point {
             name: "queue",
             says: "number 13 in program `route`",
             input: Input::Job(steep()),
             sign: Sign::Job(fills_queue),
-            fewer: Fewer::Open(
-                "smaller rooms, with blocks in them, fill it too; how small is open",
-            ),
+            fewer: Fewer::Open("no walk goes so far"),
         },
         Point {
             name: "branch-buffer",
@@ -148,6 +153,22 @@ fn trees() -> Vec<Point> {
             ),
         },
     ]
+}
+
+/// All goals cost nothing, so each sink is led to the joinable cell of least number.
+fn opposed() -> Job {
+    let sinks = [
+        wire([3, 0, 0], facing::SOUTH),
+        wire([1, 0, 2], facing::EAST),
+        wire([0, 0, 0], facing::NONE),
+        wire([1, 0, 2], facing::EAST),
+        wire([0, 0, 1], facing::NORTH),
+        wire([0, 0, 2], facing::NONE),
+    ];
+    let mut job = default_job([4, 1, 3], &sinks);
+    job.source = wire([3, 0, 0], facing::NONE);
+    job.config.horizontal = 0;
+    job
 }
 
 /// Flat steps cost much and stairs next to nothing: cells are reached again and again at lower costs.
@@ -174,22 +195,6 @@ fn serpentine() -> Job {
         let walls = walls.map(|z| block(0, [x, 0, z], kind::SOLID));
         job.blocks.extend(walls);
     }
-    job.config.horizontal = 0;
-    job
-}
-
-/// All goals cost nothing, so each sink is led to the joinable cell of least number.
-fn opposed() -> Job {
-    let sinks = [
-        wire([3, 0, 0], facing::SOUTH),
-        wire([1, 0, 2], facing::EAST),
-        wire([0, 0, 0], facing::NONE),
-        wire([1, 0, 2], facing::EAST),
-        wire([0, 0, 1], facing::NORTH),
-        wire([0, 0, 2], facing::NONE),
-    ];
-    let mut job = default_job([4, 1, 3], &sinks);
-    job.source = wire([3, 0, 0], facing::NONE);
     job.config.horizontal = 0;
     job
 }

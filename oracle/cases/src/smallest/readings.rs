@@ -11,7 +11,9 @@ pub fn points() -> Vec<Point> {
     let mut points = source_approach();
     points.extend(blocked());
     points.extend(joined());
+    points.extend(conflicts());
     points.extend(planned());
+    points.extend(planned_along());
     points
 }
 
@@ -131,11 +133,12 @@ fn source_approach() -> Vec<Point> {
     ]
 }
 
-/// What is blocked at the outset.
+/// What is blocked at the outset, in rooms of three columns with source and sink in the outer ones.
 fn blocked() -> Vec<Point> {
-    let line = |change: fn(&mut Job)| job([3, 1, 1], plain([0; 3]), &[plain([2, 0, 0])], change);
-    let low = |change: fn(&mut Job)| job([3, 2, 1], plain([0; 3]), &[plain([2, 0, 0])], change);
-    let high = |change: fn(&mut Job)| job([3, 2, 1], plain([0, 1, 0]), &[plain([2, 1, 0])], change);
+    let [far, above] = [[2, 0, 0], [2, 1, 0]].map(plain);
+    let line = |change: fn(&mut Job)| job([3, 1, 1], plain([0; 3]), &[far], change);
+    let low = |change: fn(&mut Job)| job([3, 2, 1], plain([0; 3]), &[far], change);
+    let high = |change: fn(&mut Job)| job([3, 2, 1], plain([0, 1, 0]), &[above], change);
     vec![
         point(
             "keepout-of-lists",
@@ -155,90 +158,79 @@ fn blocked() -> Vec<Point> {
             "blocked-kind",
             "a blocked cell that is not Air keeps its kind",
             Other::BlockedBears,
-            high(|job| {
-                job.reserved.push([1, 0, 0]);
-                job.blocks.push(block(0, [1, 0, 0], kind::LEVER));
-            }),
+            high(lever_reserved),
             Fewer::Jobs(vec![LISTS]),
         ),
         point(
             "output-outside",
             "a repeater that faces out of the room has no output block",
             Other::OutsideIsPowered,
-            low(|job| {
-                let mut repeater = block(0, [1, 1, 0], kind::REPEATER);
-                repeater.facing = facing::SOUTH;
-                job.blocks.push(repeater);
-            }),
+            low(repeater_facing_out),
             Fewer::Jobs(vec![REPEATER]),
         ),
     ]
 }
 
-/// How sinks are joined to the tree.
+fn lever_reserved(job: &mut Job) {
+    job.reserved.push([1, 0, 0]);
+    job.blocks.push(block(0, [1, 0, 0], kind::LEVER));
+}
+
+fn repeater_facing_out(job: &mut Job) {
+    let mut repeater = block(0, [1, 1, 0], kind::REPEATER);
+    repeater.facing = facing::SOUTH;
+    job.blocks.push(repeater);
+}
+
+/// What a sink leaves behind for those after it.
 fn joined() -> Vec<Point> {
+    let [twice, beside] = [wire([0, 0, 0], facing::EAST), plain([1, 0, 0])];
+    let [down, back] = [plain([0, 0, 1]), wire([0, 1, 1], facing::SOUTH)];
+    let free = |job: &mut Job| costs(job, [0, 25, 15]);
     vec![
         point(
             "terminal-joinable",
             "a terminal that stands on its branch earlier is joinable",
             Other::TerminalNeverJoinable,
-            job(
-                [2, 1, 2],
-                plain([0, 0, 1]),
-                &[wire([0, 0, 0], facing::EAST), plain([1, 0, 0])],
-                |job| costs(job, [0, 25, 15]),
-            ),
+            job([2, 1, 2], plain([0, 0, 1]), &[twice, beside], free),
             Fewer::Jobs(vec![TWO_SINKS]),
         ),
         point(
             "ends-blocked-again",
             "an own clearance may block an own end again",
             Other::EndsStayOpen,
-            job(
-                [1, 2, 3],
-                plain([0, 1, 0]),
-                &[plain([0, 0, 1]), wire([0, 1, 1], facing::SOUTH)],
-                |job| costs(job, [0, 25, 15]),
-            ),
+            job([1, 2, 3], plain([0, 1, 0]), &[down, back], free),
             Fewer::Jobs(vec![THREE_SINKS]),
         ),
+    ]
+}
+
+/// Which cells are in conflict, and what becomes of them.
+fn conflicts() -> Vec<Point> {
+    let [over, up] = [wire([0, 1, 0], facing::EAST), plain([2, 1, 0])];
+    let terminals = [[1, 0, 0], [1, 1, 0]].map(plain);
+    vec![
         point(
             "pair-upper",
             "a vertical pair's conflict is its upper cell",
             Other::LowerOfPair,
-            job(
-                [3, 2, 1],
-                plain([0; 3]),
-                &[wire([0, 1, 0], facing::EAST), plain([2, 1, 0])],
-                |job| costs(job, [10, 0, 15]),
-            ),
+            job([3, 2, 1], plain([0; 3]), &[over, up], |job| {
+                costs(job, [10, 0, 15]);
+            }),
             Fewer::Jobs(vec![THREE_SINKS]),
         ),
         point(
             "conflict-joinable",
             "conflicts are looked for among the joinable cells, not the occupied ones",
             Other::ConflictWithOccupied,
-            job(
-                [2, 2, 1],
-                plain([0; 3]),
-                &[plain([1, 0, 0]), plain([1, 1, 0])],
-                |_| {},
-            ),
+            job([2, 2, 1], plain([0; 3]), &terminals, |_| {}),
             Fewer::Jobs(vec![THREE_SINKS]),
         ),
         point(
             "conflict-for-goal",
             "a conflict is blocked for that goal only",
             Other::ConflictStays,
-            job(
-                [4, 2, 1],
-                plain([0; 3]),
-                &[plain([3, 1, 0]), wire([1, 1, 0], facing::EAST)],
-                |job| {
-                    costs(job, [0, 0, 1]);
-                    job.blocks.push(block(0, [1, 0, 0], kind::SOLID));
-                },
-            ),
+            over_a_block(),
             Fewer::Jobs(vec![BLOCK, THREE_SINKS]),
         ),
         point(
@@ -249,6 +241,14 @@ fn joined() -> Vec<Point> {
             Fewer::Open("63 conflicts, start and goal are 65 cells; no walk goes so far"),
         ),
     ]
+}
+
+fn over_a_block() -> Job {
+    let sinks = [plain([3, 1, 0]), wire([1, 1, 0], facing::EAST)];
+    job([4, 2, 1], plain([0; 3]), &sinks, |job| {
+        costs(job, [0, 0, 1]);
+        job.blocks.push(block(0, [1, 0, 0], kind::SOLID));
+    })
 }
 
 /// A corridor, a wall with a corridor on top beside it, and 64 stairs from one to the other, each tried in turn: above the
@@ -262,18 +262,20 @@ fn stairs_without_clearance() -> Job {
     })
 }
 
-/// Where repeaters are planned.
+/// A line of cells with the source at its beginning.
+fn line(cells: u8, sinks: &[u8]) -> Job {
+    let sinks: Vec<_> = sinks.iter().map(|x| plain([*x, 0, 0])).collect();
+    default_job([cells, 1, 1], &sinks)
+}
+
+/// In which order repeaters are planned.
 fn planned() -> Vec<Point> {
-    let along = |x, sinks: &[u8]| {
-        let sinks: Vec<_> = sinks.iter().map(|x| plain([*x, 0, 0])).collect();
-        job([x, 1, 1], plain([0; 3]), &sinks, |_| {})
-    };
     vec![
         point(
             "tails-in-sheet-order",
             "tails are planned in sheet order",
             Other::TailsAsSearched,
-            along(11, &[10, 9]),
+            line(11, &[10, 9]),
             Fewer::Reason(
                 "in 10 cells a path of 9 steps takes them all, so only one cell has a tail",
             ),
@@ -282,7 +284,7 @@ fn planned() -> Vec<Point> {
             "tails-after-all-runs",
             "tails come after the runs of all sinks",
             Other::TailAfterRun,
-            along(14, &[9, 13]),
+            line(14, &[9, 13]),
             Fewer::Reason("a run's repeater takes a path of 14 cells"),
         ),
         point(
@@ -291,14 +293,21 @@ fn planned() -> Vec<Point> {
             Other::RunsAsSearched,
             fork_after_a_loop(),
             Fewer::Open(
-                "two paths of 14 cells or more that part take 16, and a room of 17 cells is one line; 16 cells are open",
+                "two paths of 14 cells or more that part, one of them two steps before its end, take 16; \
+                 17 cells are one line; 16 are open",
             ),
         ),
+    ]
+}
+
+/// Between which cells repeaters are planned.
+fn planned_along() -> Vec<Point> {
+    vec![
         point(
             "neighbours-different",
             "tree neighbours are different cells",
             Other::NeighboursByStep,
-            along(10, &[2, 9]),
+            line(10, &[2, 9]),
             Fewer::Reason("a repeater takes a path of 10 cells"),
         ),
         point(
@@ -314,22 +323,22 @@ fn planned() -> Vec<Point> {
             "path-breadth-first",
             "the path from the source is breadth first over all branches",
             Other::PathAlongBranches,
-            job(
-                [7, 1, 1],
-                plain([3, 0, 0]),
-                &[
-                    plain([1, 0, 0]),
-                    wire([1, 0, 0], facing::WEST),
-                    plain([6, 0, 0]),
-                ],
-                |job| costs(job, [0, 25, 15]),
-            ),
+            to_and_fro(),
             Fewer::Jobs(vec![Jobs {
                 costs: &[USUAL, [0, 0, 0]],
                 ..THREE_SINKS
             }]),
         ),
     ]
+}
+
+/// The last branch begins where the others end, and runs back over the source.
+fn to_and_fro() -> Job {
+    let [near, far] = [[1, 0, 0], [6, 0, 0]].map(plain);
+    let sinks = [near, wire([1, 0, 0], facing::WEST), far];
+    job([7, 1, 1], plain([3, 0, 0]), &sinks, |job| {
+        costs(job, [0, 25, 15]);
+    })
 }
 
 /// Two long paths that part late, one with and one without a straight cell behind the fork.
