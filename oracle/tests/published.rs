@@ -2,9 +2,10 @@
 
 use cases::files::write_answered;
 use cases::samples::{HEX_SHEET, HEX_SHEET_LINES, Sample, default_job, samples};
+use cases::smallest::{Input, points};
 use cases::text::{parse_hex, tree_answer_lines};
 use cases::{answers, examples, generate};
-use oracle::{Profile, answer_search, answer_sheet, check_route};
+use oracle::{Profile, answer_search, answer_sheet, check_route, check_search};
 
 #[test]
 fn samples_of_document_01() {
@@ -20,6 +21,18 @@ fn samples_of_document_01() {
 fn the_hex_sheet_is_printed() {
     let answer = check_route(parse_hex(HEX_SHEET).unwrap()).unwrap();
     assert_eq!(tree_answer_lines(&answer), HEX_SHEET_LINES);
+}
+
+/// All but the largest, which takes the published Rust a minute.
+#[test]
+fn the_smallest_inputs_have_one_answer() {
+    for point in points().iter().filter(|point| point.input.cells() < 1_000) {
+        let agreed = match &point.input {
+            Input::Search(search) => check_search(search).is_ok(),
+            Input::Job(job) => check_route(job.bytes()).is_ok(),
+        };
+        assert!(agreed, "{}", point.name);
+    }
 }
 
 #[test]
