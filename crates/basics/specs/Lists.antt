@@ -1,5 +1,6 @@
--- Membership in a list, tests over a list, a rule that one computed test shows of every member, and a list from one of its members on.
-use mathlib.Core.Path.{_≡_, refl, sym, ap}
+-- Membership in a list, tests over a list, a rule that one computed test shows of every member, a list from one of its members on, and a list
+-- written from its front.
+use mathlib.Core.Path.{_≡_, refl, sym, ap, _∙_}
 use mathlib.Core.Logic.{_⊎_, inl, inr}
 use mathlib.Core.Bool.{Bool, true, false, _&&_, _||_, and-assoc}
 use mathlib.Core.List.{List, [], _∷_, _++_, map}
@@ -7,11 +8,9 @@ use Prim.Native.Nat.{ℕ, zero, suc, _+_, _≤_, _<_}
 use native.Mathlib.Numerals.{add-one}
 use native.Mathlib.Nat.{le-of-suc-le-suc, not-suc-le-zero}
 use native.Mathlib.Omega.{arith}
-use lib.Dec.{eqb}
-use lib.ListN.{length, getD, drop, drop-of-length-le}
-use lib.Seq.{drop-cons}
-use borrow.Author.Tests.{eqb-true, eqb-false}
-use Rattle.basics.specs.Tests.{ask, and-left, and-right, and-both}
+use lib.ListN.{length, getD, set, drop, drop-of-length-le}
+use lib.Seq.{drop-cons, getD-set-same, getD-set-other}
+use Rattle.basics.specs.Tests.{askSame, and-left, and-right, and-both}
 
 -- x stands in the list
 abbrev pub In : {X : Type 0} → X → List X → Type 0
@@ -43,8 +42,7 @@ pub below-all : (p : ℕ → Bool) (n : ℕ) → allBelow p n ≡ true → (k : 
 unfolding allBelow
 below-all p zero e k h = absurd (not-suc-le-zero h)
 below-all p (suc n) e k h =
-    ask (eqb k n) (λ t. rw (eqb-true k n t) (and-left (p n) (allBelow p n) e))
-    (λ f. below-all p n (and-right (p n) (allBelow p n) e) k (omega (arith, eqb-false k n f)))
+    askSame k n (λ q. rw q (and-left (p n) (allBelow p n) e)) (λ d. below-all p n (and-right (p n) (allBelow p n) e) k (omega (arith, d)))
 
 pub every-all : {X : Type 0} (p : X → Bool) → ((x : X) → p x ≡ true) → (xs : List X) → every p xs ≡ true
 every-all p f [] = refl
@@ -81,3 +79,8 @@ pub in-at : {X : Type 0} (xs : List X) (k : ℕ) (d : X) → k < length xs → I
 in-at [] k d h = absurd (not-suc-le-zero h)
 in-at (x ∷ xs) zero d h = inl refl
 in-at (x ∷ xs) (suc k) d h = inr (in-at xs k d (le-of-suc-le-suc h))
+
+-- the loop that writes a list of numbers from its front: its first i numbers are those of f, and so is the next one
+module _ (f : ℕ → ℕ) (l : List ℕ) {i x : ℕ} (h : i < length l) (e : x ≡ f i) where
+  pub front-written : ((k : ℕ) → k < i → getD l k 0 ≡ f k) → (k : ℕ) → k < i + 1 → getD (set l i x) k 0 ≡ f k
+  front-written front k m = askSame k i (λ q. rw q (getD-set-same l i x 0 h ∙ e)) (λ d. getD-set-other l i k x 0 d ∙ front k (omega (arith, d)))

@@ -1,9 +1,9 @@
--- A loop over a list: what one member after another makes of a value.
+-- Loops over a list: what one member after another makes of a value, and what its pairs of neighbours come to.
 use mathlib.Core.Path.{_≡_, refl, sym, ap, _∙_}
 use mathlib.Core.List.{List, [], _∷_}
 use Prim.Native.Nat.{ℕ, _+_, _≤_, _<_}
 use native.Mathlib.Omega.{arith}
-use lib.ListN.{length, getD, drop, drop-of-length-le}
+use lib.ListN.{length, getD, drop, length-drop, drop-of-length-le}
 use Rattle.basics.specs.Lists.{drop-next}
 
 unfoldable pub along : {A X : Type 0} → (A → X → X) → List A → X → X
@@ -27,3 +27,22 @@ module _ {A X : Type 0} (step : A → X → X) (list : List A) where
     pub walk-last : length list ≤ i → x ≡ along step list start
     unfolding along
     walk-last h = rw (drop-of-length-le list h) at (walk .left)
+
+-- a function that goes along a list by its pairs of neighbours: what one pair makes of what the pairs behind it come to; fewer than two members have none
+pub record ByPairs {X : Type 0} (f : List ℕ → X) (none : X) (pair : ℕ → ℕ → X → X) : Type 0 where
+  pub at-nothing : f [] ≡ none
+  pub at-one : (a : ℕ) → f (a ∷ []) ≡ none
+  pub at-pair : (a b : ℕ) (rest : List ℕ) → f (a ∷ (b ∷ rest)) ≡ pair a b (f (b ∷ rest))
+
+module _ {X : Type 0} {f : List ℕ → X} {none : X} {pair : ℕ → ℕ → X → X} (F : ByPairs f none pair) (l : List ℕ) (i : ℕ) where
+  -- from the i-th member on
+  pub pairs-next : i + 1 < length l → f (drop i l) ≡ pair (getD l i 0) (getD l (i + 1) 0) (f (drop (i + 1) l))
+  pairs-next h = rw (drop-next l i 0 (omega arith), drop-next l (i + 1) 0 h) (F .at-pair (getD l i 0) (getD l (i + 1) 0) (drop (i + 1 + 1) l))
+
+  pub pairs-end : length l ≤ i + 1 → f (drop i l) ≡ none
+  pairs-end h = few (drop i l) (rw (length-drop i l) (omega arith))
+    where
+      few : (m : List ℕ) → length m ≤ 1 → f m ≡ none
+      few [] k = F .at-nothing
+      few (a ∷ []) k = F .at-one a
+      few (a ∷ (b ∷ rest)) k = absurd (omega arith)

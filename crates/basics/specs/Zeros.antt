@@ -22,6 +22,10 @@ drop-zeros zero m = rw sub-zero
 drop-zeros (suc n) zero = rw zero-sub
 drop-zeros (suc n) (suc m) = rw suc-sub-suc (drop-zeros n m)
 
+-- as many zeros as one of two equal numbers says are as many as the other says
+pub cleared-to : {l : List ℕ} {m n : ℕ} → m ≡ n → l ≡ replicate m 0 → l ≡ replicate n 0
+cleared-to e c = c ∙ ap (λ k. replicate k 0) e
+
 -- so many zeros
 pub zeros-long : {l : List ℕ} {n : ℕ} → l ≡ replicate n 0 → length l ≡ n
 zeros-long {n = n} e = ap length e ∙ length-replicate {A = ℕ} n 0

@@ -8,7 +8,7 @@ use native.Mathlib.Omega.{arith}
 use lib.ListN.{length}
 use lib.Dec.{ltb, eqb}
 use borrow.Author.Tests.{ltb-true, ltb-false, eqb-true, eqb-false, eq-eqb}
-use Rattle.basics.specs.Tests.{and-left, and-right, ask, never}
+use Rattle.basics.specs.Tests.{ask, passed, never}
 use Rattle.basics.specs.Lists.{In}
 use Rattle.basics.specs.Counts.{bit, times}
 use Rattle.best_first.specs.Search.{Entry, least, sooner}
@@ -77,14 +77,12 @@ unfolding least
 length-least e [] = refl
 length-least e (x ∷ xs) = ask (sooner x e) (λ t. rw t (ap suc (length-least x xs))) (λ f. rw f (ap suc (length-least e xs)))
 
-ruleset both = (and-left, and-right, eqb-true)
-
 equal-eq : (a b : Entry) → equal a b ≡ true → a ≡ b
 unfolding equal
 equal-eq a b h =
-    let k : a .key ≡ b .key = search both in
-    let s : a .serial ≡ b .serial = search both in
-    let c : a .cell ≡ b .cell = search both in
+    let k : a .key ≡ b .key = search passed in
+    let s : a .serial ≡ b .serial = search passed in
+    let c : a .cell ≡ b .cell = search passed in
     λ i. record { key = k i; serial = s i; cell = c i }
 
 equal-refl : (a : Entry) → equal a a ≡ true

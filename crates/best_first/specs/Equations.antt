@@ -6,9 +6,8 @@ use mathlib.Core.List.{List, [], _∷_}
 use Prim.Native.Nat.{ℕ, zero, suc, _+_, _≤_, _<_, suc-le-suc}
 use native.Mathlib.Omega.{arith}
 use lib.ListN.{length, getD, set}
-use lib.Dec.{eqb}
-use borrow.Author.Tests.{ltb-true, ltb-false, lt-ltb, le-ltb, eqb-true, eqb-false, eq-eqb, ne-eqb}
-use Rattle.basics.specs.Tests.{ask, never}
+use borrow.Author.Tests.{ltb-true, ltb-false, lt-ltb, le-ltb, eq-eqb, ne-eqb}
+use Rattle.basics.specs.Tests.{askSame, never}
 use Rattle.best_first.specs.Search.{Graph, Move, Entry, State, Taken, full, on, offer, expand, push, cheaper, trace, least, Answer, no-route, limit-passed, queue-full, ends, expands, arrived, counted, turn, run}
 use Rattle.best_first.specs.Statements.{Taking, stored, costOf}
 use Rattle.best_first.specs.Entries.{taking}
@@ -114,8 +113,9 @@ turned G s = go (s .waiting) refl
     go [] q = nothing q (turn-none G s q)
     go (e ∷ es) q =
         let k : Taking (s .waiting) (least e es) = rw q (taking e es) in
-        ask (eqb (least e es .next .cell) (G .goal)) (λ t. goal-taken (least e es) k (eqb-true _ _ t) (turn-goal G s e es q (eqb-true _ _ t)))
-        (λ f. goes-on (least e es) k (eqb-false _ _ f) (turn-on G s e es q (eqb-false _ _ f)))
+        askSame (least e es .next .cell) (G .goal)
+        (λ t. goal-taken (least e es) k t (turn-goal G s e es q t))
+        (λ f. goes-on (least e es) k f (turn-on G s e es q f))
 
 -- ---- a run
 

@@ -4,10 +4,10 @@ use mathlib.Core.Logic.{_≢_}
 use mathlib.Core.List.{List, [], _∷_}
 use Prim.Native.Nat.{ℕ, zero, suc, _≤_, _<_, zero-le, suc-le-suc}
 use native.Mathlib.Omega.{arith}
-use native.Mathlib.Decide.{ℕ-discrete}
 use native.Mathlib.Nat.{not-suc-le-zero, le-of-suc-le-suc}
 use lib.ListN.{length, getD, set, replicate}
 use lib.Seq.{getD-set-same, getD-set-other}
+use Rattle.basics.specs.Tests.{askSame}
 
 pub length-zero : {X : Type 0} (l : List X) → length l ≡ 0 → l ≡ []
 length-zero [] e = refl
@@ -25,11 +25,7 @@ pub data After (l : List ℕ) (i x j : ℕ) : Type 0 where
   miss : j ≢ i → getD (set l i x) j 0 ≡ getD l j 0 → After l i x j
 
 pub after : (l : List ℕ) (i x j : ℕ) → i < length l → After l i x j
-after l i x j h =
-    elim (ℕ-discrete j i) [
-      | yes e ↦ hit e (ap (λ (k : ℕ). getD (set l i x) k 0) e ∙ getD-set-same l i x 0 h)
-      | no n ↦ miss n (getD-set-other l i j x 0 n)
-    ]
+after l i x j h = askSame j i (λ e. hit e (ap (λ (k : ℕ). getD (set l i x) k 0) e ∙ getD-set-same l i x 0 h)) (λ n. miss n (getD-set-other l i j x 0 n))
 
 -- ---- how many elements are not 0
 

@@ -2,12 +2,10 @@
 use mathlib.Core.Path.{_≡_, refl, sym, ap, _∙_}
 use mathlib.Core.Logic.{inl, inr, _≢_}
 use mathlib.Core.List.{List, [], _∷_}
-use Prim.Native.Nat.{ℕ, zero, suc, _+_, _≤_, _<_, pred}
+use Prim.Native.Nat.{ℕ, zero, suc, _+_, _≤_, pred}
 use native.Mathlib.Omega.{arith}
 use lib.ListN.{length, getD}
-use lib.Dec.{ltb, eqb}
-use borrow.Author.Tests.{ltb-true, ltb-false, eqb-true, eqb-false}
-use Rattle.basics.specs.Tests.{ask}
+use Rattle.basics.specs.Tests.{ask, askSame, askLess}
 use Rattle.basics.specs.Lists.{In}
 use Rattle.best_first.specs.Search.{Graph, Move, Entry, State, Pushed, full, on, offer, expand, push, cheaper, least, Answer, no-route, limit-passed, queue-full, ends, expands, arrived, counted, turn, run, outset}
 use Rattle.best_first.specs.Statements.{stored, costOf, outcome}
@@ -94,11 +92,9 @@ Both (on s) (on t) = Apart s × Alike s t
 offer-both : (G : Graph) (u v c : ℕ) (s t : State) → Apart s → Alike s t → Both (offer G u v c s) (offer G u v c t)
 offer-both G u v c s t A L =
     ask (cheaper c (stored s v))
-    (λ y. ask (ltb (length (s .waiting)) (G .places))
-    (λ r. let l : length (s .waiting) < G .places = ltb-true _ _ r in
-    rw (offer-push G u v c s y l, offer-push G u v c t (rw (L .known) at y) (rw (L .waiting .many) at l)) (push-apart G u v c s A, push-alike G u v c s t L))
-    (λ r. let l : G .places ≤ length (s .waiting) = ltb-false _ _ r in
-    rw (offer-full G u v c s y l, offer-full G u v c t (rw (L .known) at y) (rw (L .waiting .many) at l)) tt))
+    (λ y. askLess (length (s .waiting)) (G .places)
+    (λ l. rw (offer-push G u v c s y l, offer-push G u v c t (rw (L .known) at y) (rw (L .waiting .many) at l)) (push-apart G u v c s A, push-alike G u v c s t L))
+    (λ l. rw (offer-full G u v c s y l, offer-full G u v c t (rw (L .known) at y) (rw (L .waiting .many) at l)) tt))
     (λ n. rw (offer-skip G u v c s n, offer-skip G u v c t (rw (L .known) at n)) (A, L))
 
 pub expand-both : (G : Graph) (u d : ℕ) (ms : List Move) (s t : State) → Apart s → Alike s t → Both (expand G u d ms s) (expand G u d ms t)
@@ -162,10 +158,10 @@ turn-both G s t A L = go (t .waiting) refl
     go : (w : List Entry) → t .waiting ≡ w → Turns G s t
     go [] f = both-end _ (turn-none G s (length-zero (s .waiting) (L .waiting .many ∙ ap length f))) (turn-none G t f ∙ ap (λ (x : ℕ). ends (no-route x)) (sym (L .expanded)))
     go (x ∷ xs) f =
-        ask (eqb (least x xs .next .cell) (G .goal))
-        (λ y. both-end _ (turn-popped-goal G s _ _ A P (eqb-true _ _ y)) (turn-goal G t x xs f (eqb-true _ _ y) ∙ ap ends (sym same-answer)))
-        (λ n. let k = turn-popped-on G s _ _ A P (eqb-false _ _ n) in
-        both-go _ _ _ (k .goes) (turn-on G t x xs f (eqb-false _ _ n)) (left-apart k) (counted-alike s t _ _ L (k .same)))
+        askSame (least x xs .next .cell) (G .goal)
+        (λ y. both-end _ (turn-popped-goal G s _ _ A P y) (turn-goal G t x xs f y ∙ ap ends (sym same-answer)))
+        (λ n. let k = turn-popped-on G s _ _ A P n in
+        both-go _ _ _ (k .goes) (turn-on G t x xs f n) (left-apart k) (counted-alike s t _ _ L (k .same)))
       where
         P : Popped (s .waiting) (least x xs .next) (least x xs .left)
         P = least-popped x xs (s .waiting) (rw f at (L .waiting))

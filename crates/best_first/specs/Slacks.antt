@@ -5,12 +5,11 @@ use mathlib.Core.Logic.{_⊎_, inl, inr, _≢_}
 use mathlib.Core.List.{List, [], _∷_}
 use Prim.Native.Nat.{ℕ, suc, _+_, _-_, _*_, _≤_, _<_, zero-le}
 use native.Mathlib.Omega.{arith}
-use native.Mathlib.Decide.{ℕ-discrete}
 use native.Mathlib.Nat.{mul-comm, suc-mul}
 use lib.ListN.{length, getD}
 use lib.Dec.{eqb, ltb}
 use borrow.Author.Tests.{eq-eqb, ne-eqb, ltb-true, lt-ltb, le-ltb}
-use Rattle.basics.specs.Tests.{ask}
+use Rattle.basics.specs.Tests.{ask, askSame}
 use Rattle.basics.specs.Lists.{In}
 use Rattle.basics.specs.Counts.{times, times-most}
 use Rattle.best_first.specs.Search.{Graph, Move, Entry, State, push, counted, bestFirst}
@@ -105,7 +104,7 @@ module _ {G : Graph} {degree dearest : ℕ} (S : Sound G degree dearest) (K : Co
   push-slotted : Slotted G k Z top (m .to ∷ pushed) (push G u (m .to) (d + m .cost) s)
   unfolding push
   push-slotted = record {
-    last = λ v. last v (ℕ-discrete v (m .to)) (A .last v);
+    last = λ v. askSame v (m .to) (λ e. inr (rw e (new (rw e at (A .last v))))) (λ n. last v n (A .last v));
     start-never = away (G .start) (λ e. no-start (sym e)) ∙ A .start-never;
     whole = omega (arith, A .whole, sum-more (G .size) (m .to) 1 _ _ (S .inside u m (due-lawful M)) (λ v _. more v (at-single _ _ v)));
   }
@@ -117,11 +116,10 @@ module _ {G : Graph} {degree dearest : ℕ} (S : Sound G degree dearest) (K : Co
       more v (there e q) = rw (← e) (omega (arith, here, single-most (m .to) 1 (m .to)))
       more v (elsewhere n q) = omega (arith, away v (λ e. n (sym e)))
 
-      last : (v : ℕ) → Dec (v ≡ m .to) → (times (eqb v) pushed ≡ 0) ⊎ Last G k Z top pushed s v
+      last : (v : ℕ) → v ≢ m .to → (times (eqb v) pushed ≡ 0) ⊎ Last G k Z top pushed s v
           → (times (eqb v) (m .to ∷ pushed) ≡ 0) ⊎ Last G k Z top (m .to ∷ pushed) (push G u (m .to) (d + m .cost) s) v
-      last v (yes e) c = inr (rw e (new (rw e at c)))
-      last v (no n) (inl z) = inl (away v n ∙ z)
-      last v (no n) (inr L) =
+      last v n (inl z) = inl (away v n ∙ z)
+      last v n (inr L) =
           let q : getD (offered s d m) v 0 ≡ stored s v = same M S gain v n in
           inr (record {
             by = L .by;

@@ -5,12 +5,11 @@ use mathlib.Core.Logic.{_⊎_, inl, inr, _≢_}
 use mathlib.Core.List.{List, [], _∷_}
 use Prim.Native.Nat.{ℕ, zero, suc, pred, _+_, _*_, _≤_, _<_, zero-le}
 use native.Mathlib.Omega.{arith}
-use native.Mathlib.Decide.{decLe}
 use native.Mathlib.Nat.{suc-mul, mul-le-mul-right}
 use lib.ListN.{getD}
 use lib.Dec.{ltb}
 use borrow.Author.Tests.{ltb-true, lt-ltb, le-ltb}
-use Rattle.basics.specs.Tests.{ask}
+use Rattle.basics.specs.Tests.{ask, askLess}
 use Rattle.basics.specs.Lists.{In}
 use Rattle.basics.specs.Counts.{bit, bit-small}
 use Rattle.best_first.specs.Search.{Graph, Move, trace}
@@ -37,13 +36,12 @@ module _ {G : Graph} {ages known previous : List ℕ} {serial : ℕ} (L : Linked
 
   link-falls : {v : ℕ} (k : Link G ages known previous v) → weight (k .by) < weight v
   unfolding weight
-  link-falls {v} k = go (decLe (suc (getD known (k .by) 0)) (getD known v 0))
-    where
-      go : Dec (suc (getD known (k .by) 0) ≤ getD known v 0) → getD known (k .by) 0 * suc serial + getD ages (k .by) 0 < getD known v 0 * suc serial + getD ages v 0
-      go (yes h) = omega (arith, mul-le-mul-right (suc serial) h, suc-mul (getD known (k .by) 0) (suc serial), L .young (k .by))
-      go (no h) =
-          let e : getD known (k .by) 0 ≡ getD known v 0 = omega (arith, k .adds) in
-          omega (arith, ap (λ (n : ℕ). n * suc serial) e, k .older e)
+  link-falls {v} k =
+      askLess (getD known (k .by) 0) (getD known v 0)
+      (λ h. omega (arith, mul-le-mul-right (suc serial) h, suc-mul (getD known (k .by) 0) (suc serial), L .young (k .by)))
+      (λ h.
+      let e : getD known (k .by) 0 ≡ getD known v 0 = omega (arith, k .adds) in
+      omega (arith, ap (λ (n : ℕ). n * suc serial) e, k .older e))
 
   -- how many cells have a lower weight than n
   below : ℕ → ℕ

@@ -6,10 +6,11 @@ use mathlib.Core.Logic.{_⊎_, inl, inr, _≢_}
 use mathlib.Core.List.{List, [], _∷_}
 use Prim.Native.Nat.{ℕ, suc, _+_, _≤_, _<_, max}
 use native.Mathlib.Omega.{arith}
-use native.Mathlib.Decide.{decLe, ℕ-discrete}
+use native.Mathlib.Decide.{ℕ-discrete}
 use native.Mathlib.Nat.{eq-zero-or-pos}
 use lib.ListN.{length, getD, set}
 use lib.Seq.{getD-set-same, getD-set-other}
+use Rattle.basics.specs.Tests.{askSame, askLess}
 use Rattle.basics.specs.Lists.{In}
 use Rattle.basics.specs.Zeros.{zeros}
 use Rattle.best_first.specs.Search.{Graph, Move, State, Taken, push, outset, trace}
@@ -90,7 +91,7 @@ module _ {G : Graph} {closed ages : List ℕ} {w : ℕ} {s : State} {t : Taken} 
     above-closed = λ v up. above-closed v up (mark-taken B k v);
     nearer = λ a x O P. T .nearer a x (still a O) (still x P);
     inner = λ v x c f O up. inner v x c f (still x O) up (mark-taken B k v);
-    outer = λ v y up O f. outer v y up (still y O) f (ℕ-discrete v (t .next .cell));
+    outer = λ v y up O f. outer v y up (still y O) f;
   }
     where
       above-closed : (v : ℕ) → Up (s .previous) v (t .next .cell) → After closed (t .next .cell) 1 v → 0 < getD (set closed (t .next .cell) 1) v 0
@@ -102,9 +103,11 @@ module _ {G : Graph} {closed ages : List ℕ} {w : ℕ} {s : State} {t : Taken} 
       inner v x c f O up (hit e q) = absurd (f (here (sym e)))
       inner v x c f O up (miss n q) = omega (arith, T .between v x (t .next .cell) (omega arith) O u-open up f, least-key x O)
 
-      outer : (v y : ℕ) → Up (s .previous) v (t .next .cell) → Open closed (s .known) y → (Up (s .previous) v y → ⊥) → Dec (v ≡ t .next .cell) → key G (s .known) v ≤ key G (s .known) y
-      outer v y up O f (yes e) = omega (arith, least-key y O, ap (key G (s .known)) e)
-      outer v y up O f (no n) = omega (arith, T .between v (t .next .cell) y (up-closed v up n) u-open O up f, least-key y O)
+      outer : (v y : ℕ) → Up (s .previous) v (t .next .cell) → Open closed (s .known) y → (Up (s .previous) v y → ⊥) → key G (s .known) v ≤ key G (s .known) y
+      outer v y up O f =
+          askSame v (t .next .cell)
+          (λ e. omega (arith, least-key y O, ap (key G (s .known)) e))
+          (λ n. omega (arith, T .between v (t .next .cell) y (up-closed v up n) u-open O up f, least-key y O))
 
 -- ---- w is hung under u: w is not before u
 
@@ -138,11 +141,7 @@ module _ (previous : List ℕ) (w u : ℕ) (w-in : w < length previous) (free : 
   -- what was before x is still, if it is before u too
   up-still : {a x : ℕ} → Up (set previous w (suc u)) a u → Up previous a x → Up (set previous w (suc u)) a x
   up-still r (here e) = here e
-  up-still {a} r (above {x} {y} e up) = go (ℕ-discrete x w) (up-still r up)
-    where
-      go : Dec (x ≡ w) → Up (set previous w (suc u)) a y → Up (set previous w (suc u)) a x
-      go (yes q) ih = above (new q) r
-      go (no n) ih = above (old x n ∙ e) ih
+  up-still r (above {x} e up) = let ih = up-still r up in askSame x w (λ q. above (new q) r) (λ n. above (old x n ∙ e) ih)
 
   -- what is before w is w or before u
   up-new : {a x : ℕ} → x ≡ w → a ≢ x → Up (set previous w (suc u)) a x → Up (set previous w (suc u)) a u
@@ -211,53 +210,51 @@ module _ {G : Graph} {degree dearest : ℕ} (S : Sound G degree dearest) {closed
   push-tried = record {
     above-closed = above-closed;
     nearer = nearer;
-    inner = λ v x c f O up. inner v x (still-closed M S gain v c) f O up (ℕ-discrete x (m .to));
-    outer = λ v y up O f. outer v y up O f (ℕ-discrete y (m .to));
+    inner = λ v x c f O up. inner v x (still-closed M S gain v c) f O up;
+    outer = outer;
   }
     where
       inner : (v x : ℕ) → (v ≢ m .to) × (0 < getD closed v 0) → (Up (set (s .previous) (m .to) (suc u)) v u → ⊥)
-          → Open (set closed (m .to) 0) (offered s d m) x → Up (set (s .previous) (m .to) (suc u)) v x → Dec (x ≡ m .to)
+          → Open (set closed (m .to) 0) (offered s d m) x → Up (set (s .previous) (m .to) (suc u)) v x
           → key G (offered s d m) v ≤ key G (offered s d m) x
-      inner v x c f O up (yes q) = absurd (f (up-new (s .previous) (m .to) u w-in free q (λ e. c .0 (e ∙ q)) up))
-      inner v x c f O up (no q) = go (up-split (s .previous) (m .to) u w-in free up)
+      inner v x c f O up =
+          askSame x (m .to)
+          (λ q. absurd (f (up-new (s .previous) (m .to) u w-in free q (λ e. c .0 (e ∙ q)) up)))
+          (λ q. go q (up-split (s .previous) (m .to) u w-in free up))
         where
-          go : Up (s .previous) v x ⊎ (Up (s .previous) (m .to) x × Up (set (s .previous) (m .to) (suc u)) v u)
+          go : x ≢ m .to → Up (s .previous) v x ⊎ (Up (s .previous) (m .to) x × Up (set (s .previous) (m .to) (suc u)) v u)
               → key G (offered s d m) v ≤ key G (offered s d m) x
-          go (inl r) = omega (
+          go q (inl r) = omega (
             arith,
             T .inner v x (c .1) (λ p. f (up-stays (s .previous) (m .to) u w-in free p free)) (was-open x q O) r,
             same-key v (c .0),
             same-key x q,
           )
-          go (inr r) = absurd (f (r .1))
+          go q (inr r) = absurd (f (r .1))
 
       outer : (v y : ℕ) → Up (set (s .previous) (m .to) (suc u)) v u → Open (set closed (m .to) 0) (offered s d m) y
-          → (Up (set (s .previous) (m .to) (suc u)) v y → ⊥) → Dec (y ≡ m .to)
-          → key G (offered s d m) v ≤ key G (offered s d m) y
-      outer v y up O f (yes q) = absurd (f (above (new (s .previous) (m .to) u w-in free q) up))
-      outer v y up O f (no q) =
+          → (Up (set (s .previous) (m .to) (suc u)) v y → ⊥) → key G (offered s d m) v ≤ key G (offered s d m) y
+      outer v y up O f =
           let r = up-same (s .previous) (m .to) u w-in free up in
-          omega (
+          askSame y (m .to)
+          (λ q. absurd (f (above (new (s .previous) (m .to) u w-in free q) up)))
+          (λ q. omega (
             arith,
             T .outer v y r (was-open y q O) (λ p. f (up-still (s .previous) (m .to) u w-in free up p)),
             same-key v (still-closed M S gain v (above-closed v up) .0),
             same-key y q,
-          )
+          ))
 
 -- ---- between two takings again
 
 tried-tree : {G : Graph} {u : ℕ} {closed known previous : List ℕ} → Tried G u closed known previous → Tree G closed known previous
 tried-tree {G} {u} {closed} {known} {previous} T = record {
   nearer = T .nearer;
-  between = λ v x y c O P up f. go v x y c O P up f (decLe (key G known v) (max (key G known x) (key G known y)));
+  between = λ v x y c O P up f.
+      askLess (key G known y) (key G known v)
+      (λ h. let off : Up previous v u → ⊥ = λ r. omega (arith, T .outer v y r P f) in omega (arith, T .inner v x c off O up))
+      (λ h. omega arith);
 }
-  where
-    go : (v x y : ℕ) → 0 < getD closed v 0 → Open closed known x → Open closed known y → Up previous v x → (Up previous v y → ⊥)
-        → Dec (key G known v ≤ max (key G known x) (key G known y)) → key G known v ≤ max (key G known x) (key G known y)
-    go v x y c O P up f (yes h) = h
-    go v x y c O P up f (no n) =
-        let off : Up previous v u → ⊥ = λ r. n (omega (arith, T .outer v y r P f)) in
-        omega (arith, T .inner v x c off O up)
 
 tree : {G : Graph} {degree dearest : ℕ} → Sound G degree dearest → Invariant G
 unfolding push outset

@@ -4,13 +4,12 @@ use mathlib.Core.Logic.{_≢_}
 use mathlib.Core.Bool.{or-false, or-self}
 use mathlib.Core.List.{List}
 use Prim.Native.Nat.{ℕ, _<_}
-use native.Mathlib.Decide.{ℕ-discrete}
 use native.Mathlib.Omega.{arith}
 use lib.Dec.{eqb}
 use lib.ListN.{length, getD, length-set}
 use lib.Seq.{getD-set-same, getD-set-other}
 use borrow.Author.Tests.{ne-eqb}
-use Rattle.basics.specs.Tests.{never}
+use Rattle.basics.specs.Tests.{askSame, never}
 use Rattle.room.specs.declared.Room.{Room}
 use Rattle.room.specs.declared.Neighbour.{Neighbour}
 use Rattle.room.specs.declared.Neighbour.the-variants.{Inside, Outside}
@@ -84,11 +83,10 @@ module _ (R : Room) (G : Good R) (cell : ℕ) (kinds blocked : List ℕ) (start 
     first-length = length-set classes cell (classSeen R kinds blocked′ start′ goal′ cell) ∙ says .long
 
     first-each : (v : ℕ) → v < volume R → (beneath R v ≡ Inside cell → ⊥) → getD first v 0 ≡ classSeen R kinds blocked′ start′ goal′ v
-    first-each v h o = go (ℕ-discrete v cell)
-      where
-        go : Dec (v ≡ cell) → getD first v 0 ≡ classSeen R kinds blocked′ start′ goal′ v
-        go (yes q) = rw q (getD-set-same classes cell (classSeen R kinds blocked′ start′ goal′ cell) 0 (omega (arith, says .long)))
-        go (no n) = getD-set-other classes cell v (classSeen R kinds blocked′ start′ goal′ cell) 0 n ∙ says .each v h ∙ class-same v n o h
+    first-each v h o =
+        askSame v cell
+        (λ q. rw q (getD-set-same classes cell (classSeen R kinds blocked′ start′ goal′ cell) 0 (omega (arith, says .long))))
+        (λ n. getD-set-other classes cell v (classSeen R kinds blocked′ start′ goal′ cell) 0 n ∙ says .each v h ∙ class-same v n o h)
 
     pub refreshed-says : Says R kinds blocked′ start′ goal′ (refreshed R kinds blocked′ start′ goal′ cell classes)
     unfolding refreshed
@@ -104,12 +102,11 @@ module _ (R : Room) (G : Good R) (cell : ℕ) (kinds blocked : List ℕ) (start 
             clash v q = never (cc)
         go (Inside u) e = record {
           long = length-set first u (classSeen R kinds blocked′ start′ goal′ u) ∙ first-length;
-          each = λ v h. one v h (ℕ-discrete v u);
+          each = λ v h.
+              askSame v u
+              (λ q. rw q (getD-set-same first u (classSeen R kinds blocked′ start′ goal′ u) 0 (omega (arith, first-length))))
+              (λ n. renewed-right R kinds blocked′ start′ goal′ u first v (omega (arith, first-length)) (first-each v h (other v h n)));
         }
           where
             other : (v : ℕ) → v < volume R → v ≢ u → beneath R v ≡ Inside cell → ⊥
             other v h n b = let q = beneath-above R G v cell h b in let z : u ≡ v = cc in n (sym z)
-
-            one : (v : ℕ) → v < volume R → Dec (v ≡ u) → getD (renewed R kinds blocked′ start′ goal′ u first) v 0 ≡ classSeen R kinds blocked′ start′ goal′ v
-            one v h (yes q) = rw q (getD-set-same first u (classSeen R kinds blocked′ start′ goal′ u) 0 (omega (arith, first-length)))
-            one v h (no n) = renewed-right R kinds blocked′ start′ goal′ u first v (omega (arith, first-length)) (first-each v h (other v h n))

@@ -1,15 +1,16 @@
 -- Laws of what is seen: the kind at a cell and beneath it, the loop that fills in all classes, and the graph that they make.
-use mathlib.Core.Path.{_≡_, sym, ap, _∙_}
+use mathlib.Core.Path.{_≡_, refl, sym, ap, _∙_}
 use mathlib.Core.Logic.{_≢_}
 use mathlib.Core.Bool.{Bool, true, false, and-false}
 use mathlib.Core.List.{List}
 use Prim.Native.Nat.{ℕ, _+_, _≤_, _<_}
-use native.Mathlib.Decide.{ℕ-discrete}
 use native.Mathlib.Omega.{arith}
 use lib.Dec.{eqb}
 use lib.ListN.{length, getD, length-set}
 use lib.Seq.{getD-set-same, getD-set-other, ext-getD}
 use borrow.Author.Tests.{eq-eqb, ne-eqb}
+use Rattle.basics.specs.Tests.{askSame}
+use Rattle.basics.specs.Lists.{front-written}
 use Rattle.room.specs.declared.Room.{Room}
 use Rattle.room.specs.declared.RouterConfig.{RouterConfig}
 use Rattle.room.specs.Room.{volume, beneath}
@@ -57,11 +58,10 @@ module _ (R : Room) (kinds blocked : List ℕ) (start goal : ℕ) where
   -- a class that was right stays right
   pub renewed-right : (u : ℕ) (classes : List ℕ) (v : ℕ) → v < length classes → getD classes v 0 ≡ classSeen R kinds blocked start goal v
       → getD (renewed R kinds blocked start goal u classes) v 0 ≡ classSeen R kinds blocked start goal v
-  renewed-right u classes v h e = go (ℕ-discrete v u)
-    where
-      go : Dec (v ≡ u) → getD (renewed R kinds blocked start goal u classes) v 0 ≡ classSeen R kinds blocked start goal v
-      go (yes q) = rw q (getD-set-same classes u (classSeen R kinds blocked start goal u) 0 (omega arith))
-      go (no n) = getD-set-other classes u v (classSeen R kinds blocked start goal u) 0 n ∙ e
+  renewed-right u classes v h e =
+      askSame v u
+      (λ q. rw q (getD-set-same classes u (classSeen R kinds blocked start goal u) 0 (omega arith)))
+      (λ n. getD-set-other classes u v (classSeen R kinds blocked start goal u) 0 n ∙ e)
 
   -- ---- all of them
 
@@ -77,12 +77,8 @@ module _ (R : Room) (kinds blocked : List ℕ) (start goal : ℕ) where
     pub filled-next : v < volume R → (classes′ : List ℕ) → classes′ ≡ renewed R kinds blocked start goal v classes → Filled (v + 1) classes′
     filled-next h classes′ e = record {
       long = ap length e ∙ length-set classes v (classSeen R kinds blocked start goal v) ∙ I .long;
-      each = λ k l. rw e (go k l (ℕ-discrete k v));
+      each = rw e (front-written (classSeen R kinds blocked start goal) classes (omega (arith, I .long)) refl (I .each));
     }
-      where
-        go : (k : ℕ) → k < v + 1 → Dec (k ≡ v) → getD (renewed R kinds blocked start goal v classes) k 0 ≡ classSeen R kinds blocked start goal k
-        go k l (yes q) = rw q (getD-set-same classes v (classSeen R kinds blocked start goal v) 0 (omega (arith, I .long)))
-        go k l (no n) = renewed-right v classes k (omega (arith, I .long)) (I .each k (omega arith))
 
     pub filled-all : volume R ≤ v → Says R kinds blocked start goal classes
     filled-all h = record { long = I .long; each = λ k l. I .each k (omega arith) }

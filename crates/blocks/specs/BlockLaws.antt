@@ -6,11 +6,11 @@ use mathlib.Core.List.{List, [], _∷_}
 use Prim.Native.Nat.{ℕ, zero, suc, _≤_, _<_}
 use native.Mathlib.Nat.{le-of-suc-le-suc, not-suc-le-zero}
 use native.Mathlib.Omega.{arith}
-use lib.Dec.{eqb, ltb}
+use lib.Dec.{eqb}
 use lib.ListN.{length, getD}
 use lib.Seq.{ext-getD}
-use borrow.Author.Tests.{eqb-true, eqb-false, ltb-true, ltb-false}
-use Rattle.basics.specs.Tests.{ask}
+use borrow.Author.Tests.{eqb-true, eqb-false}
+use Rattle.basics.specs.Tests.{ask, askLess}
 use Rattle.basics.specs.Promises.{Determines}
 use Rattle.room.specs.declared.Room.{Room}
 use Rattle.room.specs.Room.{Within, volume}
@@ -69,26 +69,24 @@ module _ {X : Type 0} (f : Block → X) (none : X) (R : Room) where
 
 -- ---- where nothing repeats
 
+-- at most as much is less, or the same, of which the rest may speak
+pub less-or-same : {X : Type 0} {a b : ℕ} → a ≤ b → X → (a < b) ⊎ ((a ≡ b) × X)
+less-or-same {a = a} {b = b} h x = askLess a b inl (λ k. inr (omega arith, x))
+
 -- of two records of one cell one is a repeat
 module _ (R : Room) (bs : List Block) (n : ℕ) where
   earlier-repeats : (i j : ℕ) → i < j → j < n → recordCell R bs i ≡ recordCell R bs j → ((k : ℕ) → Repeat R bs n k → ⊥) → ⊥
   earlier-repeats i j h k c free =
-      ask (ltb (recordNode bs j) (recordNode bs i))
-      (λ t. free i record { repeat-in = omega arith; holder = j; holder-in = k; same-cell = sym c; held = inl (ltb-true (recordNode bs j) (recordNode bs i) t) })
-      (λ t. free j record { repeat-in = k; holder = i; holder-in = omega arith; same-cell = c; held = not-higher (ltb-false (recordNode bs j) (recordNode bs i) t) })
-    where
-      not-higher : recordNode bs i ≤ recordNode bs j → (recordNode bs i < recordNode bs j) ⊎ ((recordNode bs i ≡ recordNode bs j) × (i < j))
-      not-higher le =
-          ask (ltb (recordNode bs i) (recordNode bs j))
-          (λ t. inl (ltb-true (recordNode bs i) (recordNode bs j) t))
-          (λ t. inr (omega (arith, ltb-false (recordNode bs i) (recordNode bs j) t), h))
+      askLess (recordNode bs j) (recordNode bs i)
+      (λ l. free i record { repeat-in = omega arith; holder = j; holder-in = k; same-cell = sym c; held = inl l })
+      (λ l. free j record { repeat-in = k; holder = i; holder-in = omega arith; same-cell = c; held = less-or-same l h })
 
   module _ (free : (k : ℕ) → Repeat R bs n k → ⊥) where
     cell-once : (i j : ℕ) → i < n → j < n → recordCell R bs i ≡ recordCell R bs j → i ≡ j
     cell-once i j h k c =
-        ask (ltb i j)
-        (λ t. absurd (earlier-repeats i j (ltb-true i j t) k c free))
-        (λ t. ask (ltb j i) (λ u. absurd (earlier-repeats j i (ltb-true j i u) h (sym c) free)) (λ u. omega (arith, ltb-false i j t, ltb-false j i u)))
+        askLess i j
+        (λ l. absurd (earlier-repeats i j l k c free))
+        (λ l. askLess j i (λ m. absurd (earlier-repeats j i m h (sym c) free)) (λ m. omega (arith, l, m)))
 
 module _ {X : Type 0} (f : Block → X) (none : X) (R : Room) (bs : List Block) (free : (k : ℕ) → Repeat R bs (length bs) k → ⊥) where
   pub of-its-cell : (i : ℕ) → i < length bs → ofBlock f none R bs (recordCell R bs i) ≡ f (getD bs i noBlock)

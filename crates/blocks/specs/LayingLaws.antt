@@ -5,11 +5,10 @@ use mathlib.Core.List.{List}
 use Prim.Native.Nat.{ℕ, _+_, _-_, _*_, _%_, _≤_, _<_}
 use native.Mathlib.Omega.{arith}
 use lib.Arith.{digits-mod}
-use lib.Dec.{eqb, ltb}
 use lib.ListN.{length, getD, set, replicate, length-set, length-replicate, getD-replicate}
 use lib.Seq.{getD-set-same, getD-set-other}
-use borrow.Author.Tests.{eqb-true, eqb-false, eq-eqb, ne-eqb, ltb-true, ltb-false, lt-ltb, le-ltb}
-use Rattle.basics.specs.Tests.{ask}
+use borrow.Author.Tests.{eq-eqb, ne-eqb, lt-ltb, le-ltb}
+use Rattle.basics.specs.Tests.{askSame, askLess}
 use Rattle.room.specs.declared.Room.{Room}
 use Rattle.room.specs.Room.{volume}
 use Rattle.room.specs.Units.{air}
@@ -18,7 +17,7 @@ use Rattle.job_sheet.specs.Places.{noBlock}
 use Rattle.blocks.specs.declared.Placement.the-variants.{Placed, RepeatAt}
 use Rattle.blocks.specs.Blocks.{kindOf, nodeOf, kindsOf, nodesOf, recordCell, recordNode, recordKind, Repeat, NotAfter, Placing, placed, repeated, BlocksLaid}
 use Rattle.blocks.specs.Laying.{lesser, numbered, repeatNumber, Added, Noted, no-block, of-block, Found, no-repeat, of-repeat, Kept}
-use Rattle.blocks.specs.BlockLaws.{tabulated-is, OfCell, of-record, of-none, of-cell, of-its-cell}
+use Rattle.blocks.specs.BlockLaws.{less-or-same, tabulated-is, OfCell, of-record, of-none, of-cell, of-its-cell}
 
 -- ---- the lesser of two numbers of which 0 stands for none
 
@@ -55,9 +54,7 @@ is-second h = record { one-of = inr refl; to-first = h; to-second = λ s. (s, om
 
 pub lesser-is : (a b : ℕ) → Lesser a b (lesser a b)
 lesser-is a b =
-    ask (eqb a 0)
-    (λ t. none (eqb-true a 0 t))
-    (λ f. ask (eqb b 0) (λ t. one (eqb-false a 0 f) (eqb-true b 0 t)) (λ g. two (eqb-false a 0 f) (eqb-false b 0 g)))
+    askSame a 0 none (λ some. askSame b 0 (one some) (two some))
   where
     none : a ≡ 0 → Lesser a b (lesser a b)
     none e = rw (lesser-second-only a b e) (is-second (λ s. (omega arith, omega arith)))
@@ -67,9 +64,9 @@ lesser-is a b =
 
     two : (a ≡ 0 → ⊥) → (b ≡ 0 → ⊥) → Lesser a b (lesser a b)
     two some other =
-        ask (ltb b a)
-        (λ t. let l = ltb-true b a t in rw (lesser-second a b some other l) (is-second (λ s. (omega (arith, other), omega arith))))
-        (λ f. let l = ltb-false b a f in rw (lesser-first a b some other l) (is-first (λ s. (omega (arith, some), omega arith))))
+        askLess b a
+        (λ l. rw (lesser-second a b some other l) (is-second (λ s. (omega (arith, other), omega arith))))
+        (λ l. rw (lesser-first a b some other l) (is-first (λ s. (omega (arith, some), omega arith))))
 
 -- ---- the repeat that a block makes
 
@@ -95,21 +92,19 @@ data Made (known node v n : ℕ) : Type 0 where
 
 made : (known node v : ℕ) → Made known node v (repeatNumber known (node + 1) v)
 made known node v =
-    ask (eqb known 0)
-    (λ t. let e = eqb-true known 0 t in none-made e (no-repeat-number known (node + 1) v e))
-    (λ f. some (eqb-false known 0 f))
+    askSame known 0 (λ e. none-made e (no-repeat-number known (node + 1) v e)) some
   where
     some : (known ≡ 0 → ⊥) → Made known node v (repeatNumber known (node + 1) v)
     some is =
-        ask (ltb known (node + 1))
-        (λ t. let h = ltb-true known (node + 1) t in by-new (omega (arith, is)) (omega arith) (omega (arith, new-repeats known (node + 1) v is h)))
-        (λ f. let h = ltb-false known (node + 1) f in old h (old-repeats known (node + 1) v is h))
+        askLess known (node + 1)
+        (λ h. by-new (omega (arith, is)) (omega arith) (omega (arith, new-repeats known (node + 1) v is h)))
+        (λ h. old h (old-repeats known (node + 1) v is h))
       where
         old : node + 1 ≤ known → repeatNumber known (node + 1) v ≡ numbered (known - 1) v → Made known node v (repeatNumber known (node + 1) v)
         old h e =
-            ask (eqb known (node + 1))
-            (λ t. let same = eqb-true known (node + 1) t in by-new (omega (arith, is)) (omega arith) (omega (arith, e)))
-            (λ f. by-old (known - 1) (omega arith) (omega (arith, eqb-false known (node + 1) f)) e)
+            askSame known (node + 1)
+            (λ same. by-new (omega (arith, is)) (omega arith) (omega (arith, e)))
+            (λ d. by-old (known - 1) (omega arith) (omega (arith, d)) e)
 
 -- no more than that of any block of the cell whose node is neither below the new one nor below the least
 made-least : {known node v n : ℕ} → Made known node v n → (x : ℕ) → 1 ≤ known → known ≤ x + 1 → node ≤ x → (1 ≤ n) × (n ≤ numbered x v)
@@ -120,9 +115,7 @@ made-least (by-old least e t z) x h k l = (omega arith, omega arith)
 -- "least node, then least cell" is the least number
 numbered-least : (a b c d : ℕ) → b < 65536 → d < 65536 → numbered a b ≤ numbered c d → (a < c) ⊎ ((a ≡ c) × (b ≤ d))
 numbered-least a b c d hb hd le =
-    ask (ltb a c)
-    (λ t. inl (ltb-true a c t))
-    (λ f. let g = ltb-false a c f in inr (omega arith, omega arith))
+    askLess a c inl (λ g. inr (omega arith, omega arith))
 
 -- ---- nothing is kept of no block
 
@@ -157,7 +150,7 @@ module _ (R : Room) (bs : List Block) (k : ℕ) where
     held-by-new : j < k → recordCell R bs j ≡ recordCell R bs k → recordNode bs k < recordNode bs j → RepeatOfMore j
 
   below-or-new : (j : ℕ) → j < k + 1 → (j < k) ⊎ (j ≡ k)
-  below-or-new j h = ask (ltb j k) (λ t. inl (ltb-true j k t)) (λ f. inr (omega (arith, ltb-false j k f)))
+  below-or-new j h = askLess j k inl (λ f. inr (omega arith))
 
   repeat-of-more : (j : ℕ) → Repeat R bs (k + 1) j → RepeatOfMore j
   repeat-of-more j r = go (below-or-new j (r .repeat-in)) (below-or-new (r .holder) (r .holder-in)) (r .held)
@@ -221,9 +214,7 @@ module _ (R : Room) (bs : List Block) (k : ℕ) where
 
     noted-more : (v : ℕ) → v < volume R → Noted R bs (k + 1) v (getD nodes-now v 0)
     noted-more v h =
-        ask (eqb here v)
-        (λ t. let e = eqb-true here v t in rw (← e, there) noted-here)
-        (λ f. rw (elsewhere v (eqb-false here v f)) (lift (K .noted v h)))
+        askSame here v (λ e. rw (← e, there) noted-here) (λ d. rw (elsewhere v d) (lift (K .noted v h)))
       where
         lift : {n : ℕ} → Noted R bs k v n → Noted R bs (k + 1) v n
         lift (no-block z) = no-block z
@@ -235,9 +226,7 @@ module _ (R : Room) (bs : List Block) (k : ℕ) where
         go : (j < k) ⊎ (j ≡ k) → (1 ≤ getD nodes-now (recordCell R bs j) 0) × (getD nodes-now (recordCell R bs j) 0 ≤ recordNode bs j + 1)
         go (inr e) = rw (e, there) (least .to-second (omega arith))
         go (inl l) =
-            ask (eqb here (recordCell R bs j))
-            (λ t. same (eqb-true here (recordCell R bs j) t))
-            (λ f. rw (elsewhere (recordCell R bs j) (eqb-false here (recordCell R bs j) f)) (K .least-node j l))
+            askSame here (recordCell R bs j) same (λ d. rw (elsewhere (recordCell R bs j) d) (K .least-node j l))
           where
             same : here ≡ recordCell R bs j → (1 ≤ getD nodes-now (recordCell R bs j) 0) × (getD nodes-now (recordCell R bs j) 0 ≤ recordNode bs j + 1)
             same e =
@@ -247,9 +236,9 @@ module _ (R : Room) (bs : List Block) (k : ℕ) where
 
     bare-more : (v : ℕ) → v < volume R → getD nodes-now v 0 ≡ 0 → getD kinds-now v 0 ≡ air
     bare-more v h z =
-        ask (eqb here v)
-        (λ t. absurd (omega (arith, z, ap (λ n. getD nodes-now n 0) (eqb-true here v t), there, least .to-second (omega arith) .0)))
-        (λ f. let o = eqb-false here v f in kind-elsewhere v o ∙ K .bare v h (sym (elsewhere v o) ∙ z))
+        askSame here v
+        (λ e. absurd (omega (arith, z, ap (λ n. getD nodes-now n 0) e, there, least .to-second (omega arith) .0)))
+        (λ d. kind-elsewhere v d ∙ K .bare v h (sym (elsewhere v d) ∙ z))
 
     -- while nothing repeats, no block so far takes the new block's cell
     not-known : found-now ≡ 0 → (found ≡ 0) × (known ≡ 0)
@@ -259,7 +248,7 @@ module _ (R : Room) (bs : List Block) (k : ℕ) where
         go l (none-made e n) = (none (l .to-first), e)
           where
             none : (1 ≤ found → (1 ≤ found-now) × (found-now ≤ found)) → found ≡ 0
-            none t = ask (eqb found 0) (λ t. eqb-true found 0 t) (λ f. absurd (omega (arith, z, t (omega (arith, eqb-false found 0 f)) .0)))
+            none t = askSame found 0 (λ q. q) (λ d. absurd (omega (arith, z, t (omega (arith, d)) .0)))
         go l (by-new a b n) = absurd (omega (arith, z, l .to-second (omega arith) .0))
         go l (by-old m a b n) = absurd (omega (arith, z, l .to-second (omega arith) .0))
 
@@ -277,10 +266,7 @@ module _ (R : Room) (bs : List Block) (k : ℕ) where
         fresh e (none-made z n) t = no-repeat (e ∙ n)
         fresh e (by-new a b n) (no-block z) = absurd (omega arith)
         fresh e (by-new a b n) (of-block h l c m) =
-            of-repeat k record { repeat-in = omega arith; holder = h; holder-in = omega arith; same-cell = c; held = lower } (e ∙ n)
-          where
-            lower : (recordNode bs h < recordNode bs k) ⊎ ((recordNode bs h ≡ recordNode bs k) × (h < k))
-            lower = ask (ltb (recordNode bs h) (recordNode bs k)) (λ t. inl (ltb-true _ _ t)) (λ f. inr (omega (arith, ltb-false (recordNode bs h) (recordNode bs k) f), l))
+            of-repeat k record { repeat-in = omega arith; holder = h; holder-in = omega arith; same-cell = c; held = less-or-same (omega arith) l } (e ∙ n)
         fresh e (by-old x a b n) (no-block z) = absurd (omega arith)
         fresh e (by-old x a b n) (of-block h l c m) =
             of-repeat h record { repeat-in = omega arith; holder = k; holder-in = omega arith; same-cell = sym c; held = inl (omega arith) } (omega (arith, e, n, c))

@@ -4,11 +4,10 @@ use mathlib.Core.Logic.{inl, inr}
 use mathlib.Core.List.{List, [], _∷_, _++_, map, reverse, append-assoc, append-nil, reverse-cons}
 use Prim.Native.Nat.{ℕ, zero, suc, _+_, _-_, _≤_, _<_}
 use native.Mathlib.Omega.{arith}
-use lib.Dec.{eqb, ltb}
+use lib.Dec.{eqb}
 use lib.ListN.{length, getD, take, drop, set, length-append, length-drop, length-set, replicate, length-replicate, getD-replicate, take-append-drop, List·getD-append}
 use lib.Seq.{take-append-seam, take-append-le, split-at, set-split, take-suc, take-at, drop-at, take-length, length-take-le, getD-append-add, getD-set-same, getD-set-other}
-use borrow.Author.Tests.{ltb-true, ltb-false, eqb-true, eqb-false}
-use Rattle.basics.specs.Tests.{ask}
+use Rattle.basics.specs.Tests.{ask, askSame, askLess}
 use Rattle.basics.specs.Lists.{In}
 use Rattle.job_sheet.specs.Sheet.{joined}
 use Rattle.ends.specs.declared.Tap.{Tap}
@@ -22,7 +21,7 @@ use Rattle.routing_resources.specs.Marks.{CellsBelow}
 
 module _ {n : ℕ} where
   pub below-append : {xs ys : List ℕ} → CellsBelow n xs → CellsBelow n ys → CellsBelow n (xs ++ ys)
-  below-append {xs = xs} {ys = ys} p q = record { below = λ i h. ask (ltb i (length xs)) (λ t. first i (ltb-true i (length xs) t)) (λ f. later i h (ltb-false i (length xs) f)) }
+  below-append {xs = xs} {ys = ys} p q = record { below = λ i h. askLess i (length xs) (first i) (later i h) }
     where
       first : (i : ℕ) → i < length xs → getD (xs ++ ys) i 0 < n
       first i h = rw (List·getD-append xs ys 0 i h) (p .below i h)
@@ -188,11 +187,9 @@ lengths-set {bs = bs} {each = each} L k h b = record {
   where
     at : (i : ℕ) → i < length bs → getD (set each k (length b)) i 0 ≡ length (getD (set bs k b) i [])
     at i g =
-        ask (eqb i k)
-        (λ t. let e : i ≡ k = eqb-true i k t in
-        rw e (getD-set-same each k (length b) 0 (omega (arith, L .all)) ∙ ap length (sym (getD-set-same bs k b [] h))))
-        (λ f. let d : i ≡ k → ⊥ = eqb-false i k f in
-        getD-set-other each k i (length b) 0 d ∙ L .each-is i g ∙ ap length (sym (getD-set-other bs k i b [] d)))
+        askSame i k
+        (λ e. rw e (getD-set-same each k (length b) 0 (omega (arith, L .all)) ∙ ap length (sym (getD-set-same bs k b [] h))))
+        (λ d. getD-set-other each k i (length b) 0 d ∙ L .each-is i g ∙ ap length (sym (getD-set-other bs k i b [] d)))
 
 -- branches one after another, cut by their lengths
 pub cut-joined : (bs : List (List ℕ)) (rest : List ℕ) → cutInto (map length bs) (joined bs ++ rest) ≡ bs

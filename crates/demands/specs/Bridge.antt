@@ -1,27 +1,26 @@
 -- A move of a room's graph is a lawful step at its cost, and a lawful step is such a move; so a way through the graph is a lawful way.
-use mathlib.Core.Path.{_≡_, refl, sym, ap, _∙_}
+use mathlib.Core.Path.{_≡_, refl, sym, _∙_}
 use mathlib.Core.Logic.{inl, inr}
 use mathlib.Core.Bool.{true}
 use mathlib.Core.List.{List, [], _∷_, _++_}
-use Prim.Native.Nat.{ℕ, _+_, _-_, _≤_}
+use Prim.Native.Nat.{ℕ, _+_, _≤_}
 use native.Mathlib.Omega.{arith}
 use lib.Dec.{eqb}
-use borrow.Author.Tests.{eqb-true, eqb-false, eq-eqb, ne-eqb}
-use Rattle.basics.specs.Tests.{ask}
+use borrow.Author.Tests.{eq-eqb, ne-eqb}
+use Rattle.basics.specs.Tests.{ask, askSame}
 use Rattle.basics.specs.Lists.{In}
 use Rattle.room.specs.declared.Room.{Room}
 use Rattle.room.specs.declared.Move.{Move}
 use Rattle.room.specs.declared.RouterConfig.{RouterConfig}
 use Rattle.room.specs.declared.Neighbour.{Neighbour}
 use Rattle.room.specs.declared.Neighbour.the-variants.{Inside, Outside}
-use Rattle.room.specs.Room.{Good, posOf, by, moves, neighbour, apart}
+use Rattle.room.specs.Room.{Good, posOf, moves, neighbour, apart}
 use Rattle.room.specs.Units.{air, solid, transparent, redstoneBlock}
-use Rattle.room.specs.RoomLaws.{cell-pos, pos-in}
-use Rattle.room.specs.MoveLaws.{Moved, Small, small, listed, leads, leads-to}
+use Rattle.room.specs.MoveLaws.{Moved, small, leads, leads-cell, moveBetween, apart-by, between-moved, between-listed}
 use Rattle.best_first.specs.Search
 use Rattle.best_first.specs.Ways.{Step, Way}
 use Rattle.room_search.specs.Routing.{Task, routeable, bearing, classFor, entering, total, priceOf, moveInto, movesBy, graphOf, graph}
-use Rattle.room_search.specs.GraphLaws.{made}
+use Rattle.room_search.specs.GraphLaws.{step-by}
 use Rattle.room_search.specs.Lawful.{supportOf, LawfulStep, stepCost, Leads, costFrom}
 
 -- ---- what a cell's class says
@@ -61,26 +60,12 @@ module _ (R : Room) (C : RouterConfig) (class : ℕ → ℕ) (u : ℕ) (m : Move
 -- ---- a move by positions
 
 -- in one direction, from a to t by o
-module _ (a o t : ℕ) (e : t + 1 ≡ a + o) where
-  apart-by : apart a t ≡ apart o 1
-  apart-by = omega arith
-
-  unmoved-exactly : eqb o 1 ≡ eqb a t
-  unmoved-exactly =
-      ask (eqb o 1) (λ y. let k : a ≡ t = omega (arith, eqb-true o 1 y) in y ∙ sym (eq-eqb a t k))
-      (λ n. let k : a ≡ t → ⊥ = λ z. eqb-false o 1 n (omega arith) in n ∙ sym (ne-eqb a t k))
-
-reaches : (a t : ℕ) → apart a t ≤ 1 → t + 1 ≡ a + (t + 1 - a)
-reaches a t h = omega arith
-
-reaches-small : (a t : ℕ) → apart a t ≤ 1 → t + 1 - a ≤ 2
-reaches-small a t h = omega arith
+unmoved-exactly : (a o t : ℕ) → t + 1 ≡ a + o → eqb o 1 ≡ eqb a t
+unmoved-exactly a o t e =
+    askSame o 1 (λ q. eq-eqb o 1 q ∙ sym (eq-eqb a t (omega arith))) (λ d. ne-eqb o 1 d ∙ sym (ne-eqb a t (λ z. d (omega arith))))
 
 at-most-one : (o : ℕ) → o ≤ 2 → apart o 1 ≤ 1
 at-most-one o h = omega arith
-
-both-low : (a b : ℕ) → a + b ≡ 1 → (a ≤ 1) × (b ≤ 1)
-both-low a b e = (omega arith, omega arith)
 
 -- ---- steps and ways
 
@@ -108,12 +93,7 @@ module _ (T : Task) where
       )
 
   pub step-lawful : (u v c : ℕ) → Step (graph T) u v c → LawfulStep T u v × (c ≡ stepCost T u v)
-  unfolding Step graphOf
-  step-lawful u v c s =
-      let a = made (T .room) (T .config) (entering T) u moves (s .0) (s .1) in
-      let to : a .into ≡ v = ap (λ (g : Search.Move). g .to) (sym (a .is)) ∙ s .2 in
-      let cost : total (priceOf (T .config) (a .by) (entering T (a .into))) ≡ c = ap (λ (g : Search.Move). g .cost) (sym (a .is)) ∙ s .3 in
-      rw (← to, ← cost) (move-lawful u (a .by) (a .into) (a .listed) (a .leads-in) (a .entered))
+  step-lawful u v c s = let a = step-by T u v c s in rw (← a .cost-is) (move-lawful u (a .by) v (a .listed) (a .leads-in) (a .entered))
 
   pub way-lawful : (l : List ℕ) (u t d : ℕ) → Way (graph T) u l t d → Leads T u l t × (d ≡ costFrom T u l)
   way-lawful [] u t d w = w
@@ -128,19 +108,12 @@ module _ (T : Task) where
     lawful-step u v L =
         let p = posOf (T .room) u in
         let q = posOf (T .room) v in
-        let m = by (q .x + 1 - p .x) (q .y + 1 - p .y) (q .z + 1 - p .z) in
-        let low = both-low (apart (p .x) (q .x)) (apart (p .z) (q .z)) (L .aside) in
-        let moved : Moved p m q = record { x-by = reaches (p .x) (q .x) (low .0); y-by = reaches (p .y) (q .y) (L .rise); z-by = reaches (p .z) (q .z) (low .1) } in
-        let s : Small m = record {
-          x-small = reaches-small (p .x) (q .x) (low .0);
-          y-small = reaches-small (p .y) (q .y) (L .rise);
-          z-small = reaches-small (p .z) (q .z) (low .1);
-          aside = rw (← apart-by _ _ _ (moved .x-by), ← apart-by _ _ _ (moved .z-by)) (L .aside);
-        } in
-        let e : neighbour (T .room) u m ≡ Inside v = leads-to (T .room) u m q moved (pos-in (T .room) good v (L .to-in)) ∙ ap Inside (cell-pos (T .room) v) in
+        let m = moveBetween p q in
+        let moved = between-moved p q (L .aside) (L .rise) in
+        let e = leads-cell (T .room) good u m v (L .to-in) moved in
         let can-enter : entering T v ≡ 0 → ⊥ = λ z. omega (arith, L .stands, sym (class-is T v (L .enters)) ∙ z) in (
           record { to = v; cost = total (priceOf (T .config) m (entering T v)) },
-          makes (T .room) (T .config) (entering T) u m v e can-enter moves (listed m s),
+          makes (T .room) (T .config) (entering T) u m v e can-enter moves (between-listed p q (L .aside) (L .rise)),
           refl,
           price-exactly u v m moved (L .enters),
         )

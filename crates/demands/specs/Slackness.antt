@@ -4,11 +4,10 @@ use mathlib.Core.Path.{_≡_}
 use mathlib.Core.Logic.{inl, inr}
 use mathlib.Core.List.{List, [], _∷_}
 use Prim.Native.Nat.{ℕ, _+_, _-_, _*_, _≤_}
-use native.Mathlib.Decide.{decLe}
 use native.Mathlib.Omega.{arith}
 use lib.Dec.{eqb}
 use borrow.Author.Tests.{eqb-true, eqb-false}
-use Rattle.basics.specs.Tests.{either, ask}
+use Rattle.basics.specs.Tests.{either, ask, askLess}
 use Rattle.basics.specs.Lists.{In}
 use Rattle.room.specs.declared.Room.{Room}
 use Rattle.room.specs.declared.Pos.{Pos}
@@ -34,21 +33,21 @@ as-far e (less h) = less (omega arith)
 
 -- in one direction
 beside : (a o g t : ℕ) → t + 1 ≡ a + o → apart o 1 ≡ 1 → Beside (apart a g) (apart t g)
-beside a o g t e h = elim (decLe (apart a g + 1) (apart t g)) [ yes k ↦ more (omega arith) | no k ↦ less (omega arith) ]
+beside a o g t e h = askLess (apart a g) (apart t g) (λ k. more (omega arith)) (λ k. less (omega arith))
 
 unmoved : (a o g t : ℕ) → t + 1 ≡ a + o → apart o 1 ≡ 0 → apart t g ≡ apart a g
 unmoved a o g t e h = let k : t ≡ a = omega arith in rw k
 
 module _ (p : Pos) (m : Move) (q g : Pos) (s : Small m) (v : Moved p m q) where
   sideways : Beside (apart (p .x) (g .x) + apart (p .z) (g .z)) (apart (q .x) (g .x) + apart (q .z) (g .z))
-  sideways = elim (decLe 1 (apart (m .x) 1)) [
-    | yes h ↦
-        let same = unmoved (p .z) (m .z) (g .z) (q .z) (v .z-by) (omega (arith, s .aside)) in
-        as-far (omega (arith, same)) (beside (p .x) (m .x) (g .x) (q .x) (v .x-by) (omega (arith, s .aside)))
-    | no h ↦
-        let same = unmoved (p .x) (m .x) (g .x) (q .x) (v .x-by) (omega (arith, s .aside)) in
-        as-far (omega (arith, same)) (beside (p .z) (m .z) (g .z) (q .z) (v .z-by) (omega (arith, s .aside)))
-  ]
+  sideways =
+      askLess 0 (apart (m .x) 1)
+      (λ h.
+      let same = unmoved (p .z) (m .z) (g .z) (q .z) (v .z-by) (omega (arith, s .aside)) in
+      as-far (omega (arith, same)) (beside (p .x) (m .x) (g .x) (q .x) (v .x-by) (omega (arith, s .aside))))
+      (λ h.
+      let same = unmoved (p .x) (m .x) (g .x) (q .x) (v .x-by) (omega (arith, s .aside)) in
+      as-far (omega (arith, same)) (beside (p .z) (m .z) (g .z) (q .z) (v .z-by) (omega (arith, s .aside))))
 
   up-or-down : (m .y ≡ 1 → ⊥) → Beside (apart (p .y) (g .y)) (apart (q .y) (g .y))
   up-or-down n = beside (p .y) (m .y) (g .y) (q .y) (v .y-by) (omega (arith, s .y-small))

@@ -5,10 +5,8 @@ use mathlib.Core.Bool.{Bool, true, false, _&&_, _||_}
 use mathlib.Core.List.{List}
 use Prim.Native.Nat.{ℕ, _<_}
 use native.Mathlib.Omega.{arith}
-use lib.Dec.{leb}
 use lib.ListN.{length, List·getD-eq-default}
-use borrow.Author.Tests.{leb-true, leb-false}
-use Rattle.basics.specs.Tests.{ask, and-left, and-right, never, or-left}
+use Rattle.basics.specs.Tests.{ask, askLess, and-left, and-right, or-left, never}
 use Rattle.room.specs.declared.Room.{Room}
 use Rattle.room.specs.declared.Neighbour.{Neighbour}
 use Rattle.room.specs.declared.Neighbour.the-variants.{Inside, Outside}
@@ -78,6 +76,6 @@ module _ (R : Room) (kinds joinable path : List ℕ) (free : conflictOf R kinds 
 
       was : (v : ℕ) → isMarked (markedBy test joinable) v ≡ true → isMarked joinable v || standsIn path v ≡ true
       was v e =
-          ask (leb (length joinable) v)
-          (λ t. never (cc (rw (List·getD-eq-default (markedBy test joinable) 0 {n = v} (rw (with-length 1 test joinable) (leb-true _ _ t))) at e)))
-          (λ f. marked v (rw (marked-after test joinable v (leb-false _ _ f)) at e))
+          askLess v (length joinable)
+          (λ h. marked v (rw (marked-after test joinable v h) at e))
+          (λ h. never (cc (rw (List·getD-eq-default (markedBy test joinable) 0 {n = v} (rw (with-length 1 test joinable) h)) at e)))

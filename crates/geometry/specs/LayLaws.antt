@@ -5,11 +5,11 @@ use mathlib.Core.Bool.{Bool, true, false, not, _&&_, _||_, and-false, or-true}
 use mathlib.Core.List.{List, [], _∷_}
 use Prim.Native.Nat.{ℕ, zero, suc, _≤_, _<_}
 use native.Mathlib.Omega.{arith}
-use lib.Dec.{eqb, leb}
+use lib.Dec.{eqb}
 use lib.ListN.{length, getD, set, drop, length-set, List·getD-eq-default}
 use lib.Seq.{getD-set-same, getD-set-other, ext-getD}
-use borrow.Author.Tests.{eqb-true, eqb-false, eq-eqb, ne-eqb, leb-true, leb-false}
-use Rattle.basics.specs.Tests.{either, ask, never, either-same, or-left}
+use borrow.Author.Tests.{eqb-true, eqb-false, eq-eqb, ne-eqb}
+use Rattle.basics.specs.Tests.{either, either-same, ask, askLess, or-left, never}
 use Rattle.basics.specs.Lists.{In}
 use Rattle.room.specs.declared.Room.{Room}
 use Rattle.room.specs.declared.Neighbour.the-variants.{Inside}
@@ -124,7 +124,7 @@ module _ (joinable path : List ℕ) (marks : Marks joinable) where
   -- the bytes with the path laid say which cells are conductors
   laid-conductors : (R : Room) → length joinable ≡ volume R → AllCells R path → laid (replaced 0 2 path joinable) ≡ conductor joinable path
   unfolding conductor
-  laid-conductors R long all = fun-ext (λ v. ask (leb (length joinable) v) (λ t. beyond v (leb-true _ _ t)) (λ f. within v (leb-false _ _ f)))
+  laid-conductors R long all = fun-ext (λ v. askLess v (length joinable) (within v) (beyond v))
     where
       within : (v : ℕ) → v < length joinable → laid (replaced 0 2 path joinable) v ≡ isMarked joinable v || standsIn path v
       within v h = rw (replaced-at 0 2 path joinable v h) (laid-byte (standsIn path v) (getD joinable v 0) (marks .small v h))

@@ -8,7 +8,7 @@ use native.Mathlib.Nat.{le-of-lt}
 use native.Mathlib.Omega.{arith}
 use lib.Dec.{ltb}
 use borrow.Author.Tests.{ltb-true, ltb-false, lt-ltb, le-ltb}
-use Rattle.basics.specs.Tests.{ask, and-left, and-right, and-both, never}
+use Rattle.basics.specs.Tests.{ask, askLess, and-left, and-right, and-both, never}
 use Rattle.basics.specs.Lists.{In}
 use Rattle.room.specs.declared.Room.{Room}
 use Rattle.room.specs.declared.Neighbour.{Neighbour}
@@ -114,9 +114,9 @@ module _ (R : Room) (G : Good R) (conducts : ℕ → Bool) where
 
       two : n < start → upperOfPair R conducts n ≡ true
       two h =
-          ask (ltb n next) (λ t. rest .upper (ltb-true n next t))
+          askLess n next (rest .upper)
           (λ f.
-          let s : n ≡ next = omega (arith, rest .most, ltb-false n next f) in
+          let s : n ≡ next = omega (arith, rest .most, f) in
           rw s (lesser-upper (pairWith R conducts x) start (pair-upper x x-in c) (omega arith)))
 
   least-along : (path : List ℕ) (start : ℕ) → ((v : ℕ) → In v path → v < volume R) → ((v : ℕ) → In v path → conducts v ≡ true) → Least path start (leastUpper R conducts path start)

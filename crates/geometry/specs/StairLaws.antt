@@ -1,21 +1,19 @@
 -- Laws of stairs: how a loop goes along them, and that no path cell stands at a clearance where no two conductors make a pair.
-use mathlib.Core.Path.{_≡_, refl}
+use mathlib.Core.Path.{_≡_, refl, sym}
 use mathlib.Core.Bool.{Bool, true, false, _&&_}
-use mathlib.Core.List.{List, [], _∷_}
+use mathlib.Core.List.{List}
 use Prim.Native.Nat.{ℕ, _+_, _≤_, _<_}
-use native.Mathlib.Nat.{le-of-suc-le-suc, not-suc-le-zero}
 use native.Mathlib.Omega.{arith}
-use lib.Dec.{eqb, ltb}
-use lib.ListN.{length, getD, drop, length-drop}
-use lib.Seq.{drop-cons}
+use lib.ListN.{length, getD, drop}
+use Rattle.basics.specs.Walks.{ByPairs, pairs-next, pairs-end}
 use Rattle.basics.specs.Tests.{ask, never}
-use Rattle.basics.specs.Lists.{in-at, drop-next}
+use Rattle.basics.specs.Lists.{in-at}
 use Rattle.room.specs.declared.Room.{Room}
 use Rattle.room.specs.declared.Neighbour.{Neighbour}
 use Rattle.room.specs.declared.Neighbour.the-variants.{Inside, Outside}
-use Rattle.room.specs.Room.{Good, volume, holdsAt, orElse, above, beneath}
-use Rattle.routing_resources.specs.Resources.{level, lower, clearanceOf}
-use Rattle.routing_resources.specs.ResourceLaws.{lower-in, clearance-in}
+use Rattle.room.specs.Room.{Good, volume, holdsAt, orElse, beneath}
+use Rattle.routing_resources.specs.Resources.{lower, clearanceOf}
+use Rattle.routing_resources.specs.ResourceLaws.{lower-holds, clearance-above, lower-in, clearance-in}
 use Rattle.geometry.specs.Geometry.{standsIn, upperOfPair, NoPair, atClearance, stairConflict}
 use Rattle.geometry.specs.Along.{OnPath, nowhere}
 use Rattle.room.specs.AboveLaws.{above-beneath}
@@ -33,43 +31,30 @@ module _ (R : Room) (kinds : List ℕ) (onPath conducts : ℕ → Bool) where
   abbrev pub stairAt : List ℕ → ℕ → Neighbour
   stairAt path i = atClearance R kinds onPath conducts (getD path (i + 1) 0) (clearanceOf R (getD path i 0) (getD path (i + 1) 0))
 
-  stairs-from : (path : List ℕ) (i : ℕ) → i + 1 < length path → stairsFrom path i ≡ orElse (stairAt path i) (stairsFrom path (i + 1))
+  stairs-by-pairs : ByPairs (stairConflict R kinds onPath conducts) Outside (λ a b. orElse (atClearance R kinds onPath conducts b (clearanceOf R a b)))
   unfolding stairConflict
-  stairs-from path i h =
-      let rest = drop-cons path (i + 1) 0 h in
-      rw (drop-next path i 0 (omega arith), rest)
+  stairs-by-pairs = record { at-nothing = refl; at-one = λ a. refl; at-pair = λ a b rest. refl }
 
   pub stairs-next : (path : List ℕ) (i : ℕ) → i + 1 < length path → stairAt path i ≡ Outside → stairsFrom path (i + 1) ≡ stairsFrom path i
-  stairs-next path i h e = rw (stairs-from path i h, e)
+  stairs-next path i h e = rw (pairs-next stairs-by-pairs path i h, e)
 
   pub stairs-found : (path : List ℕ) (i : ℕ) → i + 1 < length path → (v : ℕ) → stairAt path i ≡ Inside v → stairAt path i ≡ stairsFrom path i
-  stairs-found path i h v e = rw (stairs-from path i h, e)
-
-  one-cell : (path : List ℕ) → length path ≤ 1 → Outside ≡ stairConflict R kinds onPath conducts path
-  unfolding stairConflict
-  one-cell [] h = refl
-  one-cell (a ∷ []) h = refl
-  one-cell (a ∷ (b ∷ rest)) h = absurd (not-suc-le-zero (le-of-suc-le-suc h))
+  stairs-found path i h v e = rw (pairs-next stairs-by-pairs path i h, e)
 
   pub stairs-end : (path : List ℕ) (i : ℕ) → length path ≤ i + 1 → Outside ≡ stairsFrom path i
-  stairs-end path i h = one-cell (drop i path) (rw (length-drop i path) (omega arith))
+  stairs-end path i h = sym (pairs-end stairs-by-pairs path i h)
 
 -- ---- the cell at a clearance
 
 -- the lower end is a conductor, so that a conductor at the clearance would make a pair with it
 pub clear-of-conductors : (R : Room) → Good R → (conducts : ℕ → Bool) → NoPair R conducts → (a b : ℕ) → a < volume R → b < volume R → conducts a ≡ true → conducts b ≡ true
     → (v : ℕ) → clearanceOf R a b ≡ Inside v → conducts v ≡ false
-unfolding clearanceOf upperOfPair
-clear-of-conductors R G conducts alone a b a-in b-in ca cb v e = ask (eqb (level R a) (level R b)) (λ t. never (cc (rw t at e))) (λ f. over (rw f at e))
-  where
-    low : conducts (lower R a b) ≡ true
-    low = ask (ltb (level R a) (level R b)) (λ t. rw t ca) (λ f. rw f cb)
-
-    over : above R (lower R a b) ≡ Inside v → conducts v ≡ false
-    over q =
-        let n : conducts v && holdsAt conducts (beneath R v) ≡ false = alone .none v (clearance-in R G a b a-in b-in v e) in
-        let m : conducts v && true ≡ false = rw (above-beneath R G (lower R a b) v (lower-in R G a b a-in b-in) q, low) at n in
-        ask (conducts v) (λ t. never (cc (rw t at m))) (λ f. f)
+unfolding upperOfPair
+clear-of-conductors R G conducts alone a b a-in b-in ca cb v e =
+    let low : conducts (lower R a b) ≡ true = lower-holds R a b (λ u. conducts u ≡ true) ca cb in
+    let n : conducts v && holdsAt conducts (beneath R v) ≡ false = alone .none v (clearance-in R G a b a-in b-in v e) in
+    let m : conducts v && true ≡ false = rw (above-beneath R G (lower R a b) v (lower-in R G a b a-in b-in) (clearance-above R a b v e), low) at n in
+    ask (conducts v) (λ t. never (cc (rw t at m))) (λ f. f)
 
 same-at-clearance : (R : Room) (kinds : List ℕ) (onPath conducts : ℕ → Bool) (second : ℕ) (place : Neighbour) → ((v : ℕ) → place ≡ Inside v → onPath v ≡ false)
     → atClearance R kinds nowhere conducts second place ≡ atClearance R kinds onPath conducts second place

@@ -4,13 +4,12 @@ use mathlib.Core.Logic.{_≢_}
 use mathlib.Core.Bool.{true, false}
 use mathlib.Core.List.{List, [], _++_}
 use Prim.Native.Nat.{ℕ, zero, suc, _+_, _≤_, _<_}
-use native.Mathlib.Decide.{ℕ-discrete}
 use native.Mathlib.Numerals.{add-one}
 use native.Mathlib.Omega.{arith}
 use lib.ListN.{length, getD, take, drop, length-append}
 use lib.Seq.{take-at, length-take-le}
 use borrow.Author.Tests.{eq-eqb, ne-eqb}
-use Rattle.basics.specs.Tests.{never}
+use Rattle.basics.specs.Tests.{askSame, never}
 use Rattle.room.specs.declared.Room.{Room}
 use Rattle.room.specs.declared.RouterConfig.{RouterConfig}
 use Rattle.room.specs.declared.Cost.{Cost}
@@ -110,11 +109,7 @@ module _ (S : Site) (start goal : ℕ) (blocked : List ℕ) {best : List ℕ} {k
 full-stays : (S : Site) (start : ℕ) (blocked : List ℕ) (x n m : ℕ) → n ≤ m → full x ≡ bestBelow n S start blocked → full x ≡ bestBelow m S start blocked
 unfolding bestBelow cheaperRoute
 full-stays S start blocked x n zero h e = let z : n ≡ 0 = omega arith in rw z at e
-full-stays S start blocked x n (suc m) h e = go (ℕ-discrete n (suc m)) (λ d. full-stays S start blocked x n m (omega arith) e)
-  where
-    go : Dec (n ≡ suc m) → (n ≢ suc m → full x ≡ bestBelow m S start blocked) → full x ≡ cheaperRoute (bestBelow m S start blocked) (triedGoal S start blocked m)
-    go (yes q) k = rw q at e
-    go (no d) k = rw (← k d)
+full-stays S start blocked x n (suc m) h e = askSame n (suc m) (λ q. rw q at e) (λ d. rw (← full-stays S start blocked x n m (omega (arith, d)) e))
 
 module _ (S : Site) (start n : ℕ) (blocked : List ℕ) {best : List ℕ} where
   pub tree-full : {x : _} → Tells (bestBelow n S start blocked) (Full x) best → n ≤ volume (S .room) → Tells (routeToTree S start blocked) (Full x) best

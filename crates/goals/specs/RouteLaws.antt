@@ -7,18 +7,17 @@ use native.Mathlib.Numerals.{add-one}
 use native.Mathlib.Omega.{arith}
 use lib.Dec.{eqb, ltb}
 use lib.ListN.{length, getD}
-use borrow.Author.Tests.{eqb-true, eqb-false, ltb-true, ltb-false}
-use Rattle.basics.specs.Tests.{ask, never}
+use borrow.Author.Tests.{ltb-true, ltb-false}
+use Rattle.basics.specs.Tests.{ask, askSame, never}
 use Rattle.room.specs.declared.Neighbour.{Neighbour}
 use Rattle.room.specs.declared.Neighbour.the-variants.{Inside, Outside}
-use Rattle.room.specs.Room.{volume, moves, Step}
-use Rattle.best_first.specs.Search
+use Rattle.room.specs.Room.{volume, Step}
 use Rattle.best_first.specs.Search.{Graph}
 use Rattle.best_first.specs.Ways as Ways
 use Rattle.best_first.specs.Ways.{Way}
 use Rattle.best_first.specs.Statements.{Lawful}
-use Rattle.room_search.specs.Routing.{Task, entering, graphOf, graph}
-use Rattle.room_search.specs.GraphLaws.{made}
+use Rattle.room_search.specs.Routing.{Task, graphOf, graph}
+use Rattle.room_search.specs.GraphLaws.{step-by}
 use Rattle.routing_resources.specs.Marks.{isMarked, markedBy, AllCells}
 use Rattle.geometry.specs.Geometry.{conflictOf}
 use Rattle.goals.specs.Goals.{Site, Trial, found, failed, full, searchedFor, atConflict, afterSearch, maxAttempts, attempts, cheaperRoute, triedGoal, bestBelow, routeToTree, taskSeen, endsGoal}
@@ -88,9 +87,7 @@ module _ (S : Site) (start : ℕ) (blocked : List ℕ) where
   below-failed zero e goal h = absurd (omega arith)
   below-failed (suc n) e goal h =
       let both = both-failed (bestBelow n S start blocked) (triedGoal S start blocked n) e in
-      ask (eqb goal n)
-      (λ t. rw (eqb-true goal n t) (both .1))
-      (λ f. below-failed n (both .0) goal (omega (arith, h, eqb-false goal n f)))
+      askSame goal n (λ q. rw q (both .1)) (λ d. below-failed n (both .0) goal (omega (arith, h, d)))
 
   -- of the goals below n, this one's route is kept
   record Kept (n : ℕ) (path : List ℕ) (cost : ℕ) : Type 0 where
@@ -108,9 +105,9 @@ module _ (S : Site) (start : ℕ) (blocked : List ℕ) where
       where
         least : (other : ℕ) → other < suc n → (path′ : List ℕ) (cost′ : ℕ) → triedGoal S start blocked other ≡ found path′ cost′ → cost ≤ cost′
         least other h path′ cost′ r =
-            ask (eqb other n)
-            (λ q. omega (arith, same-path path path′ cost cost′ (sym t ∙ rw (eqb-true other n q) at r) .1))
-            (λ f. omega (arith, above other (omega (arith, h, eqb-false other n f)) path′ cost′ r))
+            askSame other n
+            (λ q. omega (arith, same-path path path′ cost cost′ (sym t ∙ rw q at r) .1))
+            (λ d. omega (arith, above other (omega (arith, h, d)) path′ cost′ r))
 
     -- the route kept before, where the last goal has none that is cheaper
     still-kept : {path : List ℕ} {cost : ℕ} → Kept n path cost
@@ -119,9 +116,7 @@ module _ (S : Site) (start : ℕ) (blocked : List ℕ) where
       where
         least : (other : ℕ) → other < suc n → (path′ : List ℕ) (cost′ : ℕ) → triedGoal S start blocked other ≡ found path′ cost′ → cost ≤ cost′
         least other h path′ cost′ r =
-            ask (eqb other n)
-            (λ q. none path′ cost′ (rw (eqb-true other n q) at r))
-            (λ f. K .least other (omega (arith, h, eqb-false other n f)) path′ cost′ r)
+            askSame other n (λ q. none path′ cost′ (rw q at r)) (λ d. K .least other (omega (arith, h, d)) path′ cost′ r)
 
   below-kept : (n : ℕ) (path : List ℕ) (cost : ℕ) → bestBelow n S start blocked ≡ found path cost → Kept n path cost
   unfolding bestBelow cheaperRoute
@@ -184,13 +179,8 @@ way-step G [] u t d w i h = absurd (omega arith)
 way-step G (v ∷ l) u t d w zero h = (w .0, w .2)
 way-step G (v ∷ l) u t d w (suc i) h = way-step G l v t (w .1) (w .3) i (omega arith)
 
-module _ (T : Task) where
-  step-made : (u v c : ℕ) → u < volume (T .room) → Ways.Step (graph T) u v c → Step (T .room) u v
-  unfolding Ways.Step graphOf
-  step-made u v c h s =
-      let m = made (T .room) (T .config) (entering T) u moves (s .0) (s .1) in
-      let to : m .into ≡ v = ap (λ (g : Search.Move). g .to) (sym (m .is)) ∙ s .2 in
-      rw (← to) (record { from-in = h; move = m .by; listed = m .listed; leads = m .leads-in })
+step-made : (T : Task) (u v c : ℕ) → u < volume (T .room) → Ways.Step (graph T) u v c → Step (T .room) u v
+step-made T u v c h s = let m = step-by T u v c s in record { from-in = h; move = m .by; listed = m .listed; leads = m .leads-in }
 
 module _ {S : Site} {blocked : List ℕ} {start : ℕ} {path : List ℕ} {cost : ℕ} (start-in : start < volume (S .room)) (J : Joins S blocked start path cost) where
   abbrev rest : List ℕ

@@ -25,7 +25,7 @@ use Rattle.blocked_world.specs.SeenLaws.{seen-at, says-graph}
 use Rattle.goals.specs.declared.Tried.{Tried}
 use Rattle.goals.specs.declared.Tried.the-variants.{Found, Failed, Full}
 use Rattle.goals.specs.Goals.{found, failed, trialOf, searchedFor}
-use Rattle.goals.specs.Trials.{told, Tells, bothRouteable, TriedOf, SearchTold}
+use Rattle.goals.specs.Trials.{Tells, bothRouteable, TriedOf, SearchTold}
 
 -- ---- the answer
 

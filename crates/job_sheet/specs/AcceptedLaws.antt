@@ -4,7 +4,7 @@ use mathlib.Core.Bool.{Bool, true, false}
 use mathlib.Core.List.{List, [], _∷_, map}
 use Prim.Native.Nat.{ℕ, _-_, _≤_, _<_}
 use lib.ListN.{length, getD, replicate, List·getD-append}
-use Rattle.basics.specs.Tests.{ask, either, and-left, and-right, never}
+use Rattle.basics.specs.Tests.{ask, either, passed, never}
 use Rattle.basics.specs.Lists.{every, every-in, every-map, in-at}
 use Rattle.room.specs.declared.Room.{Room}
 use Rattle.room.specs.declared.Pos.{Pos}
@@ -23,8 +23,6 @@ use Rattle.job_sheet.specs.Places.{noBlock, noPosition, positionsIn}
 use Rattle.job_sheet.specs.LayoutLaws.{PartsIn, blocks-back, conductors-back, clearances-back, terminals-back, reserved-back}
 use Rattle.job_sheet.specs.FaultLaws.{every-joined, good-is, fault-first, good-first}
 
-ruleset parts = (and-left, and-right)
-
 -- ---- no fault at all
 
 first-good : (l : List Verdict) → firstFault l ≡ Good → every isGood l ≡ true
@@ -33,21 +31,21 @@ first-good (v ∷ l) e =
     ask (isGood v) (λ g. rw g (first-good l (sym (good-first v l g) ∙ e))) (λ f. let z : v ≡ Good = sym (fault-first v l f) ∙ e in never (cc (ap isGood z)))
 
 -- a test whose failure is a fault was passed
-passed : (t : Bool) (v : Verdict) → isGood v ≡ false → isGood (either t Good v) ≡ true → t ≡ true
-passed true v f e = refl
-passed false v f e = sym f ∙ e
+faultless : (t : Bool) (v : Verdict) → isGood v ≡ false → isGood (either t Good v) ≡ true → t ≡ true
+faultless true v f e = refl
+faultless false v f e = sym f ∙ e
 
 module _ (R : Room) where
   position-within : (p : Pos) → isGood (positionFault R p) ≡ true → Within R p
-  position-within p g = within-is R p (passed (within R p) Position refl g)
+  position-within p g = within-is R p (faultless (within R p) Position refl g)
 
   block-within : (b : Block) → isGood (blockFault R b) ≡ true → Within R (b .at)
   unfolding blockFault
-  block-within b g = let all = first-good _ (good-is _ g) in position-within (b .at) (search parts)
+  block-within b g = let all = first-good _ (good-is _ g) in position-within (b .at) (search passed)
 
   endpoint-within : (e : Endpoint) → isGood (endpointFault R e) ≡ true → Within R (e .at)
   unfolding endpointFault
-  endpoint-within e g = let all = first-good _ (good-is _ g) in position-within (e .at) (search parts)
+  endpoint-within e g = let all = first-good _ (good-is _ g) in position-within (e .at) (search passed)
 
 -- ---- of a job without fault, each part is good
 
@@ -66,18 +64,18 @@ pub no-fault : (J : Contents) → judged J ≡ Good → NoFault J
 unfolding judged
 no-fault J e =
     let all = rw every-joined at (first-good _ e) in
-    let x : isGood (sidesFault (J .room)) ≡ true = search parts in
-    let c : isGood (configFault (J .config)) ≡ true = search parts in
+    let x : isGood (sidesFault (J .room)) ≡ true = search passed in
+    let c : isGood (configFault (J .config)) ≡ true = search passed in
     record {
-      sides = passed (sidesGood (J .room)) Sides refl x;
-      config = passed (configGood (J .config)) Config refl c;
-      blocks = search parts depth 12;
-      conductors = search parts depth 12;
-      clearances = search parts depth 12;
-      terminals = search parts depth 12;
-      reserved = search parts depth 12;
-      source = search parts depth 12;
-      sinks = search parts depth 12;
+      sides = faultless (sidesGood (J .room)) Sides refl x;
+      config = faultless (configGood (J .config)) Config refl c;
+      blocks = search passed depth 12;
+      conductors = search passed depth 12;
+      clearances = search passed depth 12;
+      terminals = search passed depth 12;
+      reserved = search passed depth 12;
+      source = search passed depth 12;
+      sinks = search passed depth 12;
     }
 
 -- ---- the lists of a sheet of J's bytes

@@ -3,9 +3,9 @@ use mathlib.Core.Path.{_≡_, sym, ap, _∙_}
 use mathlib.Core.Bool.{true, false}
 use mathlib.Core.List.{List}
 use Prim.Native.Nat.{ℕ}
-use borrow.Author.Tests.{leb-true, eqb-true, le-leb, eq-eqb}
+use borrow.Author.Tests.{le-leb, eq-eqb}
 use lib.ListN.{drop}
-use Rattle.basics.specs.Tests.{and-left, and-right, and-both, never}
+use Rattle.basics.specs.Tests.{and-both, passed, never}
 use Rattle.room.specs.declared.Room.{Room}
 use Rattle.room.specs.declared.RouterConfig.{RouterConfig}
 use Rattle.job_sheet.specs.declared.Endpoint.{Endpoint}
@@ -20,8 +20,6 @@ use Rattle.job_sheet.specs.Places.{roomIn, configIn, endpointIn, endpoin
 use Rattle.job_sheet.specs.RecordLaws.{Bytes, many-long}
 use Rattle.job_sheet.specs.LayoutLaws.{layout-back, shaped-back, bytes-forth}
 use Rattle.job_sheet.specs.FaultLaws.{good-is}
-
-ruleset passed = (and-left, and-right, leb-true, eqb-true)
 
 pub shaped-is : (s : List ℕ) → shaped s ≡ true → Shaped s
 unfolding shaped shapeHolds

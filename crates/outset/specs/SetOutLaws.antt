@@ -3,7 +3,7 @@ use mathlib.Core.Path.{_≡_, refl, sym, ap, _∙_}
 use mathlib.Core.Bool.{true, false}
 use mathlib.Core.List.{List}
 use Prim.Native.Nat.{ℕ}
-use lib.ListN.{length, replicate, length-replicate}
+use lib.ListN.{length, length-replicate}
 use lib.Seq.{take-append-seam}
 use Rattle.basics.specs.Tests.{never}
 use Rattle.basics.specs.Promises.{Determines}
@@ -44,10 +44,6 @@ pub same-ends : {R R′ : Room} {e e′ : Endpoint} {es es′ : List Endpoint} �
 same-ends p q r = λ i. endsOf (p i) (q i) (r i)
 
 -- ---- what may be handed on
-
--- a buffer of this length, cleared
-pub cleared-to : {l n : ℕ} (s : List ℕ) → l ≡ n → s ≡ replicate l 0 → s ≡ replicate n 0
-cleared-to s e c = c ∙ ap (λ k. replicate k 0) e
 
 module _ {sheet : List ℕ} {job : Job} (A : Accepted sheet job) where
   abbrev told : Contents

@@ -10,7 +10,7 @@ use lib.Dec.{eqb, ltb, eqb·suc-suc, eqb·zero-suc, eqb·suc-zero}
 use lib.ListN.{getD, set, replicate, length-set, length-replicate, getD-replicate}
 use lib.Seq.{getD-set-same, getD-set-other}
 use borrow.Author.Tests.{eq-eqb, ne-eqb, eqb-true, eqb-false, ltb-true}
-use Rattle.basics.specs.Tests.{ask, never}
+use Rattle.basics.specs.Tests.{ask, askSame, never}
 use Rattle.basics.specs.Lists.{In, every-in, in-at, allBelow, below-all}
 use Rattle.basics.specs.Counts.{bit, bit-small}
 use Rattle.room.specs.declared.Room.{Room}
@@ -19,10 +19,10 @@ use Rattle.room.specs.declared.Move.{Move}
 use Rattle.room.specs.declared.Neighbour.{Neighbour}
 use Rattle.room.specs.Room.{Good, volume, posOf, by, moves, moveAt, holdsAt, neighbour, Step}
 use Rattle.room.specs.RoomLaws.{small-pos}
-use Rattle.room.specs.MoveLaws.{Moved, leads, small, symmetric, opposite, opposite-in, sameMove, same-move}
+use Rattle.room.specs.MoveLaws.{Moved, leads, small, symmetric, opposite, opposite-in, sameMove, same-move, moveBetween, between-is}
 use Rattle.repeaters.specs.Repeaters.{isStep}
 use Rattle.repeaters.specs.Links.{numberOrder, orderedMoves, orderedMove}
-use Rattle.repeaters.specs.Joins.{maskOf, isLink, Masks, Masked, withLink, Joined, moveIndex, moveBetween, stepIndex}
+use Rattle.repeaters.specs.Joins.{maskOf, isLink, Masks, Masked, withLink, Joined, moveIndex, stepIndex}
 
 -- ---- bits
 
@@ -95,13 +95,6 @@ ordered-index m i = same-move _ m (every-in (λ k. sameMove (orderedMove (moveIn
 index-ordered : (k : ℕ) → k < 12 → moveIndex (orderedMove k) ≡ k
 unfolding allBelow orderedMoves moveIndex moves
 index-ordered k h = eqb-true _ k (below-all (λ j. eqb (moveIndex (orderedMove j)) j) 12 refl k h)
-
-between-is : (p q : Pos) (m : Move) → Moved p m q → moveBetween p q ≡ m
-between-is p q m v =
-    let a : q .x + 1 - p .x ≡ m .x = omega (arith, v .x-by) in
-    let b : q .y + 1 - p .y ≡ m .y = omega (arith, v .y-by) in
-    let c : q .z + 1 - p .z ≡ m .z = omega (arith, v .z-by) in
-    λ i. record { x = a i; y = b i; z = c i }
 
 pub record StepParts (p q : Pos) : Type 0 where
   pub x-back : p .x ≤ q .x + 1
@@ -245,10 +238,10 @@ module _ {R : Room} {a b : ℕ} (s : Step R a b) (p : ℕ → ℕ → Bool) wher
       link-added = record {
         long = length-set links a (getD links a 0 + 2 ^ index) ∙ M .long;
         bits = λ u h.
-            ask (eqb a u)
-            (λ t. let e : a ≡ u = eqb-true a u t in rw (← e) (getD-set-same links a (getD links a 0 + 2 ^ index) 0 (rw (M .long) (s .from-in)) ∙ new-mask))
-            (λ g. getD-set-other links a u (getD links a 0 + 2 ^ index) 0 (λ q. eqb-false a u g (sym q))
-            ∙ M .bits u h ∙ mask-same 12 (isLink R p u) (isLink R (withLink a b p) u) (λ k l. same-bits u k (eqb-false a u g)));
+            askSame a u
+            (λ e. rw (← e) (getD-set-same links a (getD links a 0 + 2 ^ index) 0 (rw (M .long) (s .from-in)) ∙ new-mask))
+            (λ d. getD-set-other links a u (getD links a 0 + 2 ^ index) 0 (λ q. d (sym q))
+            ∙ M .bits u h ∙ mask-same 12 (isLink R p u) (isLink R (withLink a b p) u) (λ k l. same-bits u k d));
       }
 
 -- ---- cells are joined one after the other

@@ -2,15 +2,15 @@
 use mathlib.Core.Path.{_≡_}
 use mathlib.Core.Bool.{Bool, _&&_, _||_}
 use mathlib.Core.List.{List, [], _∷_}
-use Prim.Native.Nat.{ℕ, zero, suc, _+_, _-_, _*_, _/_, _≤_, _<_}
+use Prim.Native.Nat.{ℕ, zero, suc, _+_, _*_, _/_, _<_}
 use lib.Dec.{eqb}
 use lib.ListN.{length, getD}
 use Rattle.basics.specs.Tests.{either}
 use Rattle.basics.specs.Counts.{bit}
 use Rattle.room.specs.declared.Room.{Room}
-use Rattle.room.specs.declared.Pos.{Pos}
 use Rattle.room.specs.declared.Move.{Move}
-use Rattle.room.specs.Room.{volume, posOf, by, holdsAt, neighbour, Step}
+use Rattle.room.specs.Room.{volume, posOf, holdsAt, neighbour, Step}
+use Rattle.room.specs.MoveLaws.{moveBetween}
 use Rattle.branches.specs.declared.BranchLengths.{BranchLengths}
 use Rattle.branches.specs.Branches.{branchesOf, Branched}
 use Rattle.repeaters.specs.Links.{orderedMove}
@@ -64,10 +64,6 @@ pub record Joined (R : Room) (more : ℕ → ℕ → Bool) (links links′ : Lis
 
 unfoldable pub moveIndex : Move → ℕ
 moveIndex m = either (eqb (m .x) 0) (m .y) (either (eqb (m .x) 1) (3 + m .y * 2 + m .z / 2) (9 + m .y))
-
--- the move between two positions
-abbrev pub moveBetween : Pos → Pos → Move
-moveBetween p q = by (q .x + 1 - p .x) (q .y + 1 - p .y) (q .z + 1 - p .z)
 
 abbrev pub stepIndex : Room → ℕ → ℕ → ℕ
 stepIndex R a b = moveIndex (moveBetween (posOf R a) (posOf R b))

@@ -1,5 +1,5 @@
 -- The cells that the masks of a tree lead to are its tree neighbours, in number order.
-use mathlib.Core.Path.{_≡_, refl, sym, ap, _∙_}
+use mathlib.Core.Path.{_≡_, refl, sym, ap, _∙_, fun-ext}
 use mathlib.Core.Logic.{_⊎_, inl, inr, ⊎-elim}
 use mathlib.Core.Bool.{Bool, true, false, _&&_, _||_, or-false}
 use mathlib.Core.List.{List, [], _∷_}
@@ -8,8 +8,8 @@ use native.Mathlib.Nat.{le-of-suc-le-suc, not-suc-le-zero}
 use native.Mathlib.Omega.{arith}
 use lib.Dec.{eqb, ltb}
 use lib.ListN.{length, getD, replicate, List·getD-eq-default}
-use borrow.Author.Tests.{eqb-true, eqb-false, ltb-true, ltb-false}
-use Rattle.basics.specs.Tests.{either, ask, and-left, and-right, never}
+use borrow.Author.Tests.{eqb-true, ltb-true}
+use Rattle.basics.specs.Tests.{either, ask, askSame, askLess, and-left, and-right, never, passed}
 use Rattle.basics.specs.Lists.{In, every, every-in, in-at}
 use Rattle.basics.specs.Counts.{bit}
 use Rattle.room.specs.declared.Room.{Room}
@@ -67,11 +67,9 @@ module _ (p : ℕ → Bool) where
   unfolding cellsFrom
   cells-all zero v w h k e = absurd (omega arith)
   cells-all (suc n) v w h k e =
-      ask (eqb w v)
-      (λ q. let s : w ≡ v = eqb-true w v q in let t : p v ≡ true = rw (← s) e in rw t (inl s))
-      (λ q.
-      let rest = cells-all n (suc v) w (omega (arith, eqb-false w v q)) (omega arith) e in
-      ask (p v) (λ t. rw t (inr rest)) (λ f. rw f rest))
+      askSame w v
+      (λ q. let t : p v ≡ true = rw (← q) e in rw t (inl q))
+      (λ d. let rest = cells-all n (suc v) w (omega (arith, d)) (omega arith) e in ask (p v) (λ t. rw t (inr rest)) (λ f. rw f rest))
 
   cells-ascend : (n v : ℕ) → Ascending (cellsFrom p n v)
   unfolding cellsFrom
@@ -192,7 +190,7 @@ module _ (R : Room) (u : ℕ) where
 -- ---- tree neighbours are one step apart
 
 both-eq : (a b u v : ℕ) → (eqb a u && eqb b v) ≡ true → (a ≡ u) × (b ≡ v)
-both-eq a b u v e = (eqb-true a u (and-left _ _ e), eqb-true b v (and-right (eqb a u) _ e))
+both-eq a b u v e = (search passed, search passed)
 
 module _ {R : Room} (G : Good R) where
   step-either : (a b u v : ℕ) → Step R a b → isStep a b u v ≡ true → Step R u v
@@ -259,10 +257,7 @@ module _ {R : Room} (G : Good R) where
         (λ w i. absurd (omega (arith, neighbour-step branches S u w (cells-in (neighbouring branches u) (volume R) 0 w i .2) .from-in))))
 
     linked-neighbours : linkedCells R links ≡ treeNeighbours branches (volume R)
-    linked-neighbours = λ i u. all u i
-      where
-        all : (u : ℕ) → linkedCells R links u ≡ treeNeighbours branches (volume R) u
-        all u = ask (ltb u (volume R)) (λ t. near u (ltb-true u (volume R) t)) (λ f. far u (ltb-false u (volume R) f))
+    linked-neighbours = fun-ext (λ u. askLess u (volume R) (near u) (far u))
 
 -- cells joined from none on are those of the branches
 pub tree-joined : {R : Room} → Good R → (branches : List (List ℕ)) → AllSteps R branches → {start links : List ℕ} → start ≡ replicate (volume R) 0

@@ -6,11 +6,10 @@ use Prim.Native.Nat.{ℕ, zero, suc, _+_, _-_, _/_, _≤_, _<_}
 use native.Mathlib.Nat.{le-of-suc-le-suc, not-suc-le-zero, sub-zero}
 use native.Mathlib.Numerals.{add-one}
 use native.Mathlib.Omega.{arith}
-use lib.Dec.{eqb}
 use lib.ListN.{length, getD, take, drop, set, replicate, length-set, length-replicate, getD-replicate}
 use lib.Seq.{slice, slice-cons, slice-empty, take-suc-set, drop-append-le, getD-set-same, getD-set-other, length-take-le, take-at}
-use borrow.Author.Tests.{eq-eqb, ne-eqb, eqb-true, eqb-false}
-use Rattle.basics.specs.Tests.{ask}
+use borrow.Author.Tests.{eq-eqb, ne-eqb}
+use Rattle.basics.specs.Tests.{askSame}
 use Rattle.basics.specs.Walks.{along}
 use Rattle.basics.specs.Zeros.{zeros}
 use Rattle.room.specs.declared.Room.{Room}
@@ -86,15 +85,15 @@ module _ {parents line : List ℕ} {tail : ℕ} (H : Held parents line tail) whe
       where
         in-line : (i : ℕ) → i < tail + 1 → getD (set line tail v) i 0 < length parents
         in-line i h =
-            ask (eqb i tail)
-            (λ t. rw (eqb-true i tail t, getD-set-same line tail v 0 line-room) v-in)
-            (λ f. rw (getD-set-other line tail i v 0 (eqb-false i tail f)) (H .cells i (omega (arith, eqb-false i tail f))))
+            askSame i tail
+            (λ q. rw (q, getD-set-same line tail v 0 line-room) v-in)
+            (λ d. rw (getD-set-other line tail i v 0 d) (H .cells i (omega (arith, d))))
 
         parent : (w : ℕ) → getD (set parents v (from + 1)) w 0 ≤ length parents
         parent w =
-            ask (eqb w v)
-            (λ t. rw (eqb-true w v t, getD-set-same parents v (from + 1) 0 v-in) (omega arith))
-            (λ f. rw (getD-set-other parents v w (from + 1) 0 (eqb-false w v f)) (H .linked w))
+            askSame w v
+            (λ q. rw (q, getD-set-same parents v (from + 1) 0 v-in) (omega arith))
+            (λ d. rw (getD-set-other parents v w (from + 1) 0 d) (H .linked w))
 
   pub met-none : (from : ℕ) → Met from [] parents line tail parents line tail
   unfolding along
@@ -182,9 +181,9 @@ module _ {R : Room} {source : ℕ} {links : List ℕ} where
 
       parent : (v : ℕ) → getD (firstParents (volume R) source) v 0 ≤ volume R
       parent v =
-          ask (eqb v source)
-          (λ t. rw (eqb-true v source t, getD-set-same (replicate (volume R) 0) source (source + 1) 0 (rw (length-replicate {A = ℕ} (volume R) 0) h)) (omega arith))
-          (λ f. rw (getD-set-other (replicate (volume R) 0) source v (source + 1) 0 (eqb-false v source f), zeros (volume R) v) (omega arith))
+          askSame v source
+          (λ q. rw (q, getD-set-same (replicate (volume R) 0) source (source + 1) 0 (rw (length-replicate {A = ℕ} (volume R) 0) h)) (omega arith))
+          (λ d. rw (getD-set-other (replicate (volume R) 0) source v (source + 1) 0 d, zeros (volume R) v) (omega arith))
 
       one : (l : List ℕ) → length l ≡ volume R → slice 0 1 (set l 0 source) ≡ source ∷ []
       one [] q = absurd (omega arith)
@@ -235,9 +234,9 @@ module _ {R : Room} {source : ℕ} {links : List ℕ} where
 
         parent : (v : ℕ) → getD (set parents source 0) v 0 ≤ length parents
         parent v =
-            ask (eqb v source)
-            (λ t. rw (eqb-true v source t) (at-source parents source))
-            (λ f. rw (getD-set-other parents source v 0 0 (eqb-false v source f)) (I .held .linked v))
+            askSame v source
+            (λ q. rw q (at-source parents source))
+            (λ d. rw (getD-set-other parents source v 0 0 d) (I .held .linked v))
           where
             at-source : (ps : List ℕ) (s : ℕ) → getD (set ps s 0) s 0 ≤ length ps
             at-source [] s = omega arith

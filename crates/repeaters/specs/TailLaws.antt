@@ -5,10 +5,10 @@ use mathlib.Core.Bool.{Bool, true, false}
 use mathlib.Core.List.{List}
 use Prim.Native.Nat.{ℕ, zero, suc, _+_, _-_, _≤_, _<_}
 use native.Mathlib.Omega.{arith}
-use lib.Dec.{ltb, eqb}
+use lib.Dec.{eqb}
 use lib.ListN.{length, getD, set}
-use borrow.Author.Tests.{lt-ltb, le-ltb, ltb-true, eq-eqb, ne-eqb}
-use Rattle.basics.specs.Tests.{either, ask, and-left, and-right}
+use borrow.Author.Tests.{lt-ltb, le-ltb, eq-eqb, ne-eqb}
+use Rattle.basics.specs.Tests.{either, ask, passed}
 use Rattle.room.specs.declared.Room.{Room}
 use Rattle.repeaters.specs.Repeaters.{cellAt, fits, latest, earliest, repeaterAt, withRepeater, end, lastReset, tailFit, tailPlace, reinforced}
 use Rattle.repeaters.specs.RunLaws.{latest-is, latest-next}
@@ -17,11 +17,11 @@ use Rattle.repeaters.specs.RunLaws.{latest-is, latest-next}
 module _ (R : Room) (next : ℕ → List ℕ) (forbidden path : List ℕ) (i : ℕ) (e : fits R next forbidden path i ≡ true) where
   pub fit-later : 0 < i
   unfolding fits
-  fit-later = ltb-true 0 i (and-left _ _ e)
+  fit-later = search passed
 
   pub fit-more : i + 1 < length path
   unfolding fits
-  fit-more = ltb-true (i + 1) (length path) (and-left _ _ (and-right (ltb 0 i) _ e))
+  fit-more = search passed
 
 -- ---- the loops
 

@@ -3,12 +3,12 @@ use mathlib.Core.Path.{_≡_, refl}
 use mathlib.Core.Bool.{Bool, false, _||_}
 use mathlib.Core.List.{List, [], _∷_}
 use Prim.Native.Nat.{ℕ, zero, suc, _+_, _-_, _≤_, _<_}
-use native.Mathlib.Nat.{le-of-suc-le-suc, not-suc-le-zero, suc-add}
+use native.Mathlib.Nat.{suc-add}
 use native.Mathlib.Numerals.{add-one}
 use native.Mathlib.Omega.{arith}
-use lib.ListN.{length, getD, take, drop, length-drop}
-use lib.Seq.{drop-cons, drop-drop, slice-cons, slice-empty}
-use Rattle.basics.specs.Lists.{drop-next}
+use lib.ListN.{length, getD, take, drop}
+use lib.Seq.{drop-drop, slice-cons, slice-empty}
+use Rattle.basics.specs.Walks.{ByPairs, pairs-next, pairs-end}
 use Rattle.room.specs.declared.Room.{Room}
 use Rattle.room.specs.Room.{Step}
 use Rattle.branches.specs.declared.BranchLengths.{BranchLengths}
@@ -22,21 +22,16 @@ use Rattle.repeaters.specs.JoinLaws.{Adding, adding-none, adding-next, a
 abbrev pub stepsFrom : List ℕ → ℕ → ℕ → ℕ → Bool
 stepsFrom branch i = besideOn (drop i branch)
 
+steps-by-pairs : (u v : ℕ) → ByPairs (λ branch. besideOn branch u v) false (λ a b rest. isStep a b u v || rest)
+unfolding besideOn
+steps-by-pairs u v = record { at-nothing = refl; at-one = λ a. refl; at-pair = λ a b rest. refl }
+
 pub one-step : (branch : List ℕ) (i : ℕ) → i + 1 < length branch → (a b : ℕ) → a ≡ getD branch i 0 → b ≡ getD branch (i + 1) 0
     → (u v : ℕ) → stepsFrom branch i u v ≡ isStep a b u v || stepsFrom branch (i + 1) u v
-unfolding besideOn
-one-step branch i h a b e f u v =
-    let rest = drop-cons branch (i + 1) 0 h in
-    rw (drop-next branch i 0 (omega arith), rest, e, f)
-
-one-cell : (branch : List ℕ) → length branch ≤ 1 → (u v : ℕ) → besideOn branch u v ≡ false
-unfolding besideOn
-one-cell [] h u v = refl
-one-cell (a ∷ []) h u v = refl
-one-cell (a ∷ (b ∷ rest)) h u v = absurd (not-suc-le-zero (le-of-suc-le-suc h))
+one-step branch i h a b e f u v = rw (e, f) (pairs-next (steps-by-pairs u v) branch i h)
 
 pub no-steps : (branch : List ℕ) (i : ℕ) → length branch ≤ i + 1 → (u v : ℕ) → stepsFrom branch i u v ≡ false
-no-steps branch i h u v = one-cell (drop i branch) (rw (length-drop i branch) (omega arith)) u v
+no-steps branch i h u v = pairs-end (steps-by-pairs u v) branch i h
 
 pub step-at : (R : Room) (branch : List ℕ) → Steps R branch → (i : ℕ) → i + 1 < length branch → Step R (getD branch i 0) (getD branch (i + 1) 0)
 step-at R [] s i h = absurd (omega arith)

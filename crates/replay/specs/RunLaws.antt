@@ -6,22 +6,18 @@ use Prim.Native.Nat.{ℕ, suc, _+_, _*_, _-_, _≤_, _<_}
 use native.Mathlib.Omega.{arith}
 use Rattle.replay.specs.declared.searches.Stored.{Stored}
 use borrow.Author.Tests.{not-true, not-false}
-use Rattle.stored.specs.TestLaws.{test-fails, test-passes}
+use Rattle.basics.specs.Tests.{test-fails, test-passes}
 use Rattle.stored.specs.Runs.{isSame, longerBy, cellsMore, queueMore, sumOf, Narrowed}
 use Rattle.replay.specs.declared.compare.LentLengths.{LentLengths}
 use Rattle.stored.specs.declared.runs.Verdict.{Verdict}
 use Rattle.stored.specs.declared.runs.Gap.{Gap}
 use Rattle.replay.specs.Searches.{storedAt}
 use Rattle.replay.specs.Verdicts.{RanIn}
-use Rattle.replay.specs.Runs.{lentLengths, storedLengths, longerLengths, SameTwice, RanWith, isNarrowed}
-use Rattle.replay.specs.Runs.{tally, ReplayedOne, differs, twice-alone, narrowed, oneMore, numberedFrom}
-
-pub lent-by : {cells cells′ queue queue′ : ℕ} → cells ≡ cells′ → queue ≡ queue′ → lentLengths cells queue ≡ lentLengths cells′ queue′
-lent-by p q = λ i. lentLengths (p i) (q i)
+use Rattle.replay.specs.Runs.{lentLengths, storedLengths, longerLengths, SameTwice, RanWith, isNarrowed, tally, ReplayedOne, differs, twice-alone, narrowed, oneMore, numberedFrom}
 
 pub longer-lent : (S : Stored) {cells places more queue : ℕ} → cells ≡ cellsMore (S .lent) (S .told .number) → places ≡ S .places * 2
     → more ≡ queueMore (S .told .number) → queue ≡ longerBy places more → lentLengths cells queue ≡ longerLengths S
-longer-lent S p q r s = lent-by p (s ∙ rw (q, r))
+longer-lent S p q r s = rw (p, s, q, r)
 
 -- ---- a stored search
 

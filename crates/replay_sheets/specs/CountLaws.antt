@@ -2,19 +2,20 @@
 use mathlib.Core.Path.{_≡_, ap}
 use mathlib.Core.Bool.{Bool, true, false}
 use mathlib.Core.List.{List}
-use Prim.Native.Nat.{ℕ, _<_}
+use Prim.Native.Nat.{ℕ, _≤_, _<_}
 use lib.ListN.{getD, set}
-use borrow.Author.Tests.{lt-ltb}
+use borrow.Author.Tests.{lt-ltb, le-ltb}
 use Rattle.replay_sheets.specs.declared.counts.Tally.{Tally}
-use Rattle.replay_sheets.specs.Counts.{oneMore, oneMoreAt, firstOf, firstAt, met, compared}
+use Rattle.replay_sheets.specs.Counts.{oneMore, changedAt, oneMoreAt, firstAt, met, compared}
 
-pub one-more-in : (counts : List ℕ) (place : ℕ) {n x : ℕ} → place < n → x ≡ oneMore (getD counts place 0) → set counts place x ≡ oneMoreAt n counts place
-unfolding oneMoreAt
-one-more-in counts place {n} h e = rw (lt-ltb place n h) (ap (set counts place) e)
+module _ (change : ℕ → ℕ) (l : List ℕ) (place : ℕ) {n : ℕ} where
+  pub changed-in : {x : ℕ} → place < n → x ≡ change (getD l place 0) → set l place x ≡ changedAt change n l place
+  unfolding changedAt
+  changed-in h e = rw (lt-ltb place n h) (ap (set l place) e)
 
-pub first-in : (kinds : List ℕ) (comparison sheet : ℕ) {x : ℕ} → comparison < 5 → x ≡ firstOf (getD kinds comparison 0) sheet → set kinds comparison x ≡ firstAt kinds comparison sheet
-unfolding firstAt
-first-in kinds comparison sheet h e = rw (lt-ltb comparison 5 h) (ap (set kinds comparison) e)
+  pub changed-beyond : n ≤ place → l ≡ changedAt change n l place
+  unfolding changedAt
+  changed-beyond h = rw (le-ltb place n h)
 
 module _ (t : Tally) where
   pub met-by : (number : ℕ) {sheets : ℕ} {counts : List ℕ} → sheets ≡ oneMore (t .sheets) → counts ≡ oneMoreAt 16 (t .met) number

@@ -10,16 +10,19 @@ use Rattle.replay_sheets.specs.declared.counts.Tally.{Tally}
 unfoldable pub oneMore : ℕ → ℕ
 oneMore count = either (ltb count 4000000000) (count + 1) count
 
--- one more at a place, where there is one among n
-unfoldable pub oneMoreAt : ℕ → List ℕ → ℕ → List ℕ
-oneMoreAt n counts place = either (ltb place n) (set counts place (oneMore (getD counts place 0))) counts
+-- the number at a place changed, where there is one among n
+unfoldable pub changedAt : (ℕ → ℕ) → ℕ → List ℕ → ℕ → List ℕ
+changedAt change n l place = either (ltb place n) (set l place (change (getD l place 0))) l
+
+abbrev pub oneMoreAt : ℕ → List ℕ → ℕ → List ℕ
+oneMoreAt n counts place = changedAt oneMore n counts place
 
 -- the first sheet that differs, 0 being none
 unfoldable pub firstOf : ℕ → ℕ → ℕ
 firstOf first sheet = either (eqb first 0) sheet first
 
-unfoldable pub firstAt : List ℕ → ℕ → ℕ → List ℕ
-firstAt kinds comparison sheet = either (ltb comparison 5) (set kinds comparison (firstOf (getD kinds comparison 0) sheet)) kinds
+abbrev pub firstAt : List ℕ → ℕ → ℕ → List ℕ
+firstAt kinds comparison sheet = changedAt (λ first. firstOf first sheet) 5 kinds comparison
 
 abbrev pub nothingYet : Tally
 nothingYet = record { sheets = 0; met = replicate 16 0; compared = replicate 5 0; differ = replicate 5 0; first = replicate 5 0 }

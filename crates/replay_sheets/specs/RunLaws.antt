@@ -10,6 +10,3 @@ pub longer-by : (A : Asked) (number : ℕ) {cells branch places more queue : ℕ
     → queue ≡ longerBy places more → lentLengths cells branch queue ≡ longerLengths A number
 unfolding longerLengths
 longer-by A number p q r s t = rw (p, q, t, r, s)
-
-pub lent-by : {cells branch branch′ queue queue′ : ℕ} → branch ≡ branch′ → queue ≡ queue′ → lentLengths cells branch queue ≡ lentLengths cells branch′ queue′
-lent-by {cells = cells} p q = λ i. lentLengths cells (p i) (q i)

@@ -1,15 +1,15 @@
 -- Laws of the verdict on an answer and lent memory.
 use mathlib.Core.Path.{_≡_, refl, _∙_}
-use mathlib.Core.Bool.{true, false, _&&_, and-false}
+use mathlib.Core.Bool.{true, false, and-false}
 use mathlib.Core.List.{List, _++_}
 use Prim.Native.Nat.{ℕ, zero, suc, _+_, _≤_, _<_}
 use native.Mathlib.Numerals.{add-one}
 use native.Mathlib.Omega.{arith}
-use lib.Dec.{eqb, leb}
+use lib.Dec.{eqb}
 use lib.ListN.{length, getD, take, drop, length-take}
 use lib.Seq.{length-take-le, getD-take, take-at}
-use borrow.Author.Tests.{eqb-true, eqb-false, leb-true, eq-eqb, ne-eqb}
-use Rattle.basics.specs.Tests.{ask, and-left, and-right, and-both}
+use borrow.Author.Tests.{eq-eqb, ne-eqb}
+use Rattle.basics.specs.Tests.{askSame, and-both, passed}
 use Rattle.basics.specs.Lists.{allBelow}
 use Rattle.net_tree.specs.declared.Lengths.{Lengths}
 use Rattle.net_tree.specs.Answers.{Lent, lent, lengthsOf}
@@ -34,7 +34,7 @@ module _ (a b : List ℕ) where
   pub same-never : (n k : ℕ) → k < n → (getD a k 0 ≡ getD b k 0 → ⊥) → sameBelow n a b ≡ false
   unfolding sameBelow allBelow
   same-never zero k h d = absurd (omega arith)
-  same-never (suc n) k h d = ask (eqb k n) (λ t. here (eqb-true k n t)) (λ f. later (same-never n k (omega (arith, eqb-false k n f)) d))
+  same-never (suc n) k h d = askSame k n here (λ other. later (same-never n k (omega (arith, other)) d))
     where
       here : k ≡ n → sameBelow (suc n) a b ≡ false
       here e = let f = ne-eqb (getD a k 0) (getD b k 0) d in rw (← e, f)
@@ -45,19 +45,17 @@ module _ (a b : List ℕ) where
 -- ---- the fronts that are lent have the lengths asked for
 
 module _ (N : LentLengths) (queue : ℕ) (e : fits N queue ≡ true) where
-  fits-both : leb (N .branch) ownLength && leb (N .cells) ownLength ≡ true
-  unfolding fits
-  fits-both = and-left (leb (N .branch) ownLength && leb (N .cells) ownLength) (leb (N .queue) queue) e
-
   pub fits-branch : N .branch ≤ ownLength
-  fits-branch = leb-true (N .branch) ownLength (and-left (leb (N .branch) ownLength) (leb (N .cells) ownLength) fits-both)
+  unfolding fits
+  fits-branch = search passed
 
   pub fits-cells : N .cells ≤ ownLength
-  fits-cells = leb-true (N .cells) ownLength (and-right (leb (N .branch) ownLength) (leb (N .cells) ownLength) fits-both)
+  unfolding fits
+  fits-cells = search passed
 
   pub fits-queue : N .queue ≤ queue
   unfolding fits
-  fits-queue = leb-true (N .queue) queue (and-right (leb (N .branch) ownLength && leb (N .cells) ownLength) (leb (N .queue) queue) e)
+  fits-queue = search passed
 
 pub fits-again : (N : LentLengths) (queue queue′ : List ℕ) → fits N (length queue) ≡ true → length queue′ ≡ length queue → N .queue ≤ length queue′
 fits-again N queue queue′ e k = rw k (fits-queue N (length queue) e)

@@ -1,5 +1,5 @@
--- Laws of the moves: a neighbour is inside exactly when its position is, moves are symmetric, a facing's flat move is one of them, and a flat step
--- lowers a distance by at most 1, a stair by at most 2.
+-- Laws of the moves: a neighbour is inside exactly when its position is, moves are symmetric, one move leads between two positions that are a step
+-- apart, a facing's flat move is one of them, and a flat step lowers a distance by at most 1, a stair by at most 2.
 use mathlib.Core.Path.{_≡_, refl, sym, ap, _∙_}
 use mathlib.Core.Logic.{inl, inr}
 use mathlib.Core.Bool.{Bool, true, false, _&&_}
@@ -9,7 +9,7 @@ use native.Mathlib.Nat.{sub-add-cancel}
 use native.Mathlib.Omega.{arith}
 use lib.Dec.{leb, eqb}
 use borrow.Author.Tests.{eqb-true, le-leb, eq-eqb}
-use Rattle.basics.specs.Tests.{either, ask, and-left, and-right, and-both, never}
+use Rattle.basics.specs.Tests.{either, ask, and-both, passed, never}
 use Rattle.basics.specs.Lists.{In, every, any, every-in, in-at}
 use Rattle.room.specs.declared.Room.{Room}
 use Rattle.room.specs.declared.Pos.{Pos}
@@ -17,7 +17,7 @@ use Rattle.room.specs.declared.Move.{Move}
 use Rattle.room.specs.declared.Neighbour.the-variants.{Inside, Outside}
 use Rattle.room.specs.Room.{Good, Within, by, volume, cellOf, posOf, moves, moveAt, flat, between, stays, shifted, neighbourAt, neighbour, apart, distanceAt, distance}
 use Rattle.room.specs.Units.{north, east, south, facingHorizontal, facingMove, ahead}
-use Rattle.room.specs.RoomLaws.{passed, cell-in, cell-pos, pos-cell, pos-in}
+use Rattle.room.specs.RoomLaws.{cell-in, cell-pos, pos-cell, pos-in}
 
 -- ---- a neighbour is inside exactly when its position is
 
@@ -85,6 +85,10 @@ leads-to R n m q v w =
     let e = moved-one (posOf R n) m _ q (reached R (posOf R n) m t .0) v in
     rw (t, e)
 
+-- the move leads to a cell of the room where it does so by positions
+pub leads-cell : (R : Room) → Good R → (n : ℕ) (m : Move) (v : ℕ) → v < volume R → Moved (posOf R n) m (posOf R v) → neighbour R n m ≡ Inside v
+leads-cell R G n m v h moved = leads-to R n m (posOf R v) moved (pos-in R G v h) ∙ ap Inside (cell-pos R v)
+
 pub not-stays : (R : Room) (n : ℕ) (m : Move) → stays R (posOf R n) m ≡ false → neighbour R n m ≡ Outside
 unfolding neighbour
 not-stays R n m e = rw e
@@ -129,9 +133,9 @@ among m ks = any (sameMove m) ks
 
 pub same-move : (a b : Move) → sameMove a b ≡ true → a ≡ b
 same-move a b e =
-    let p : a .x ≡ b .x = eqb-true _ _ (and-left _ _ e) in
-    let q : a .y ≡ b .y = eqb-true _ _ (and-left _ _ (and-right (eqb (a .x) (b .x)) _ e)) in
-    let r : a .z ≡ b .z = eqb-true _ _ (and-right (eqb (a .y) (b .y)) _ (and-right (eqb (a .x) (b .x)) _ e)) in
+    let p : a .x ≡ b .x = search passed in
+    let q : a .y ≡ b .y = search passed in
+    let r : a .z ≡ b .z = search passed in
     λ i. record { x = p i; y = q i; z = r i }
 
 among-is : (m : Move) (ks : List Move) → among m ks ≡ true → In m ks
@@ -179,7 +183,7 @@ part (suc (suc (suc a))) h = absurd (omega arith)
 abbrev listedIf : ℕ → ℕ → ℕ → Bool
 listedIf dx dy dz = either (oneAside (by dx dy dz)) (among (by dx dy dz) moves) true
 
-pub listed : (m : Move) → Small m → In m moves
+listed : (m : Move) → Small m → In m moves
 unfolding moves
 listed m s =
     let x = every-in (λ dx. every (λ dy. every (listedIf dx dy) parts) parts) parts refl (m .x) (part (m .x) (s .x-small)) in
@@ -199,9 +203,40 @@ moved-back p m q s v = record {
 }
 
 pub symmetric : (R : Room) → Good R → (n : ℕ) (m : Move) (v : ℕ) → n < volume R → In m moves → neighbour R n m ≡ Inside v → neighbour R v (opposite m) ≡ Inside n
-symmetric R G n m v h i e =
-    leads-to R v (opposite m) (posOf R n) (moved-back (posOf R n) m (posOf R v) (small m i) (leads R n m v e .moved)) (pos-in R G n h)
-    ∙ ap Inside (cell-pos R n)
+symmetric R G n m v h i e = leads-cell R G v (opposite m) n h (moved-back (posOf R n) m (posOf R v) (small m i) (leads R n m v e .moved))
+
+-- ---- the move between two positions
+
+abbrev pub moveBetween : Pos → Pos → Move
+moveBetween p q = by (q .x + 1 - p .x) (q .y + 1 - p .y) (q .z + 1 - p .z)
+
+-- no other move leads from one to the other
+pub between-is : (p q : Pos) (m : Move) → Moved p m q → moveBetween p q ≡ m
+between-is p q m v =
+    let a : q .x + 1 - p .x ≡ m .x = omega (arith, v .x-by) in
+    let b : q .y + 1 - p .y ≡ m .y = omega (arith, v .y-by) in
+    let c : q .z + 1 - p .z ≡ m .z = omega (arith, v .z-by) in
+    λ i. record { x = a i; y = b i; z = c i }
+
+-- how far a move leads in one direction, from a to t by o
+pub apart-by : (a o t : ℕ) → t + 1 ≡ a + o → apart a t ≡ apart o 1
+apart-by a o t e = omega arith
+
+-- where they are a step apart, it leads there, and is one of the twelve
+module _ (p q : Pos) (aside : apart (p .x) (q .x) + apart (p .z) (q .z) ≡ 1) (rise : apart (p .y) (q .y) ≤ 1) where
+  pub between-moved : Moved p (moveBetween p q) q
+  between-moved = record { x-by = omega (arith, aside); y-by = omega (arith, rise); z-by = omega (arith, aside) }
+
+  between-small : Small (moveBetween p q)
+  between-small = record {
+    x-small = omega (arith, aside);
+    y-small = omega (arith, rise);
+    z-small = omega (arith, aside);
+    aside = rw (← apart-by _ _ _ (between-moved .x-by), ← apart-by _ _ _ (between-moved .z-by)) aside;
+  }
+
+  pub between-listed : In (moveBetween p q) moves
+  between-listed = listed (moveBetween p q) between-small
 
 -- ---- the flat move of a facing
 

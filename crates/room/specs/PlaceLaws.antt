@@ -1,11 +1,9 @@
 -- Laws of places: of two, and of the first number that passes a test.
 use mathlib.Core.Path.{_≡_, refl, _∙_}
-use mathlib.Core.Logic.{_≢_}
 use mathlib.Core.Bool.{Bool, true, false}
 use Prim.Native.Nat.{ℕ, zero, suc, _<_}
-use native.Mathlib.Decide.{ℕ-discrete}
 use native.Mathlib.Omega.{arith}
-use Rattle.basics.specs.Tests.{never}
+use Rattle.basics.specs.Tests.{askSame, never}
 use Rattle.room.specs.declared.Neighbour.{Neighbour}
 use Rattle.room.specs.declared.Neighbour.the-variants.{Inside, Outside}
 use Rattle.room.specs.Room.{inOrOut, orElse, firstBelow}
@@ -28,11 +26,10 @@ module _ (test : ℕ → Bool) where
   pub first-is : (n w : ℕ) → w < n → test w ≡ true → ((v : ℕ) → v < w → test v ≡ false) → firstBelow n test ≡ Inside w
   unfolding firstBelow
   first-is zero w h t f = absurd (omega arith)
-  first-is (suc n) w h t f = go (ℕ-discrete w n) (λ d. first-is n w (omega arith) t f)
-    where
-      go : Dec (w ≡ n) → (w ≢ n → firstBelow n test ≡ Inside w) → orElse (firstBelow n test) (inOrOut (test n) n) ≡ Inside w
-      go (yes e) k = let t′ : test n ≡ true = rw e at t in rw (first-none n (λ v l. f v (omega arith)), t′, e)
-      go (no d) k = rw (k d)
+  first-is (suc n) w h t f =
+      askSame w n
+      (λ e. let t′ : test n ≡ true = rw e at t in rw (first-none n (λ v l. f v (omega arith)), t′, e))
+      (λ d. rw (first-is n w (omega (arith, d)) t f))
 
   -- it passes, and it is below the bound
   pub first-passed : (n v : ℕ) → firstBelow n test ≡ Inside v → (v < n) × (test v ≡ true)
@@ -49,8 +46,6 @@ module _ (test : ℕ → Bool) where
   pub none-first : (n : ℕ) → firstBelow n test ≡ Outside → (v : ℕ) → v < n → test v ≡ false
   unfolding firstBelow
   none-first zero e v h = absurd (omega arith)
-  none-first (suc n) e v h = let both = or-none (firstBelow n test) (inOrOut (test n) n) e in go (ℕ-discrete v n) (both .1) (λ d. none-first n (both .0) v (omega arith))
-    where
-      go : Dec (v ≡ n) → inOrOut (test n) n ≡ Outside → (v ≢ n → test v ≡ false) → test v ≡ false
-      go (yes q) o k = rw q (out-failed (test n) n o)
-      go (no d) o k = k d
+  none-first (suc n) e v h =
+      let both = or-none (firstBelow n test) (inOrOut (test n) n) e in
+      askSame v n (λ q. rw q (out-failed (test n) n (both .1))) (λ d. none-first n (both .0) v (omega (arith, d)))

@@ -2,21 +2,18 @@
 -- (x, y, z), and that the cells right above and beneath a cell are in the room.
 use mathlib.Core.Path.{_≡_, refl, ap}
 use mathlib.Core.Logic.{_⊎_, inl, inr}
-use mathlib.Core.Bool.{Bool, true, false}
+use mathlib.Core.Bool.{Bool, true, false, and-false}
 use Prim.Native.Nat.{ℕ, _+_, _-_, _*_, _/_, _≤_, _<_}
 use native.Mathlib.Nat.{add-assoc, add-mul, div-add-mod', mul-le-mul-left, mul-le-mul-right, mod-lt, mod-le, div-lt-iff-lt-mul, div-mul-le-self}
 use native.Mathlib.Omega.{arith}
 use lib.Dec.{leb, ltb}
 use lib.Arith.{digits-lt, digits-div, digits-mod}
-use borrow.Author.Tests.{leb-true, ltb-true}
-use Rattle.basics.specs.Tests.{and-left, and-right, never}
+use borrow.Author.Tests.{ltb-true, lt-leb}
+use Rattle.basics.specs.Tests.{passed, never}
 use Rattle.room.specs.declared.Room.{Room}
 use Rattle.room.specs.declared.Pos.{Pos}
 use Rattle.room.specs.declared.Neighbour.the-variants.{Inside}
 use Rattle.room.specs.Room.{Good, Within, SmallPos, maxVolume, volume, between, sidesGood, at, cellOf, posOf, within, inOrOut, beneath, above}
-
--- what a conjunction of tests says of numbers
-pub ruleset passed = (and-left, and-right, leb-true, ltb-true)
 
 -- a room that passes the test of number 2 is good
 pub good : (R : Room) → sidesGood R ≡ true → Good R
@@ -122,6 +119,14 @@ unfolding beneath
 beneath-in R n b h e = omega (arith, inside-passed (leb 1 (posOf R n .y)) (n - R .deep) b e .0)
 
 -- ---- what the code computes on the way is small
+
+pub between-below : (low a high : ℕ) → a < low → between low a high ≡ false
+unfolding between
+between-below low a high h = rw (lt-leb low a h)
+
+pub between-above : (low a high : ℕ) → high < a → between low a high ≡ false
+unfolding between
+between-above low a high h = rw (lt-leb a high h, and-false (leb low a))
 
 pub between-low : (low a high : ℕ) → between low a high ≡ true → low ≤ a
 unfolding between

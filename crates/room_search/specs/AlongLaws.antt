@@ -1,13 +1,11 @@
 -- Moves tried one after another: the invariant of the loops over a column's moves and over the columns.
 use mathlib.Core.Path.{_≡_, refl, sym, ap, _∙_}
-use mathlib.Core.Bool.{false}
+use mathlib.Core.Bool.{false, and-false}
 use mathlib.Core.List.{List, [], _∷_, _++_}
 use Prim.Native.Nat.{ℕ, zero, suc, _+_, _-_, _*_, _≤_, _<_}
 use native.Mathlib.Nat.{sub-add-cancel}
 use native.Mathlib.Omega.{arith}
-use lib.Dec.{leb}
-use lib.ListN.{length, take, drop}
-use borrow.Author.Tests.{lt-leb}
+use lib.ListN.{length, take, drop, length-take, take-append-drop}
 use Rattle.room.specs.declared.Room.{Room}
 use Rattle.room.specs.declared.Move.{Move}
 use Rattle.room.specs.declared.RouterConfig.{RouterConfig}
@@ -19,7 +17,7 @@ use Rattle.room_search.specs.declared.Line.{Line}
 use Rattle.room_search.specs.declared.Spot.{Spot}
 use Rattle.room_search.specs.declared.Step.the-variants.{On, Full}
 use Rattle.room_search.specs.Steps.{Ready, Placed, Able, Aside, Tried, setting, column}
-use Rattle.room_search.specs.TryLaws.{and-failed, tried-out, tried-none, tried-then, tried-full}
+use Rattle.room_search.specs.TryLaws.{tried-out, tried-none, tried-then, tried-full}
 
 module _ (R : Room) (C : RouterConfig) (classes : List ℕ) (goal from : Spot) (cost : ℕ) (known₀ previous₀ queue₀ : List ℕ) (line₀ : Line) where
   -- the moves `done` are tried, and the search goes on
@@ -76,16 +74,10 @@ column-next m (suc (suc zero)) h = refl
 column-next m (suc (suc (suc y))) h = absurd (omega arith)
 
 pub column-split : (m : Move) (y : ℕ) → y < 3 → (take y (column m) ++ (by (m .x) y (m .z) ∷ [])) ++ drop (y + 1) (column m) ≡ column m
-column-split m zero h = refl
-column-split m (suc zero) h = refl
-column-split m (suc (suc zero)) h = refl
-column-split m (suc (suc (suc y))) h = absurd (omega arith)
+column-split m y h = rw (column-next m y h) (take-append-drop (y + 1) (column m))
 
 pub column-few : (m : Move) (y : ℕ) → y < 3 → length (take y (column m)) + 1 ≤ 3
-column-few m zero h = omega arith
-column-few m (suc zero) h = omega arith
-column-few m (suc (suc zero)) h = omega arith
-column-few m (suc (suc (suc y))) h = absurd (omega arith)
+column-few m y h = omega (arith, length-take y (column m))
 
 pub column-all : (m : Move) (y : ℕ) → y ≡ 3 → take y (column m) ≡ column m
 column-all m y e = rw e
@@ -102,32 +94,16 @@ module _ (R : Room) (C : RouterConfig) (classes : List ℕ) (goal from : Spot) (
       one y = tried-out R C classes goal from cost known previous queue line ready (by (m .x) y (m .z)) (out y)
 
   module _ (P : Placed R from) where
-    column-out-x : between 1 (from .at .x + m .x) (R .wide) ≡ false
+    pub column-out-x : between 1 (from .at .x + m .x) (R .wide) ≡ false
         → Tried (setting R C classes goal queue from cost) (column m) known previous queue line (On line) known previous queue
     unfolding stays
     column-out-x e = all-out (λ y. not-stays R (from .cell) (by (m .x) y (m .z)) (rw (← P .is, e)))
 
-    column-out-z : between 1 (from .at .z + m .z) (R .deep) ≡ false
+    pub column-out-z : between 1 (from .at .z + m .z) (R .deep) ≡ false
         → Tried (setting R C classes goal queue from cost) (column m) known previous queue line (On line) known previous queue
     unfolding stays
-    column-out-z e = all-out (λ y. not-stays R (from .cell) (by (m .x) y (m .z)) (rw (← P .is)
-        (and-failed (between 1 (from .at .x + m .x) (R .wide)) _ (and-failed (between 1 (from .at .y + y) (R .high)) _ e))))
-
-    pub column-west : from .at .x + m .x < 1 → Tried (setting R C classes goal queue from cost) (column m) known previous queue line (On line) known previous queue
-    unfolding between
-    column-west h = column-out-x (rw (lt-leb 1 (from .at .x + m .x) h))
-
-    pub column-east : R .wide < from .at .x + m .x → Tried (setting R C classes goal queue from cost) (column m) known previous queue line (On line) known previous queue
-    unfolding between
-    column-east h = column-out-x (and-failed (leb 1 (from .at .x + m .x)) _ (lt-leb (from .at .x + m .x) (R .wide) h))
-
-    pub column-north : from .at .z + m .z < 1 → Tried (setting R C classes goal queue from cost) (column m) known previous queue line (On line) known previous queue
-    unfolding between
-    column-north h = column-out-z (rw (lt-leb 1 (from .at .z + m .z) h))
-
-    pub column-south : R .deep < from .at .z + m .z → Tried (setting R C classes goal queue from cost) (column m) known previous queue line (On line) known previous queue
-    unfolding between
-    column-south h = column-out-z (and-failed (leb 1 (from .at .z + m .z)) _ (lt-leb (from .at .z + m .z) (R .deep) h))
+    column-out-z e = all-out (λ y. not-stays R (from .cell) (by (m .x) y (m .z)) (rw (← P .is, e, and-false (between 1 (from .at .y + y) (R .high)))
+        (and-false (between 1 (from .at .x + m .x) (R .wide)))))
 
 -- the level cell of a column that is in the room
 module _ (R : Room) (G : Good R) (from : Spot) (P : Placed R from) (m : Move) (x-low : 1 ≤ from .at .x + m .x) (x-high : from .at .x + m .x ≤ R .wide)
@@ -157,20 +133,10 @@ columns-next (suc (suc (suc zero))) h = refl
 columns-next (suc (suc (suc (suc k)))) h = absurd (omega arith)
 
 pub columns-split : (k : ℕ) → k < 4 → (take (k * 3) moves ++ column (moveAt (k * 3))) ++ drop ((k + 1) * 3) moves ≡ moves
-unfolding moves
-columns-split zero h = refl
-columns-split (suc zero) h = refl
-columns-split (suc (suc zero)) h = refl
-columns-split (suc (suc (suc zero))) h = refl
-columns-split (suc (suc (suc (suc k)))) h = absurd (omega arith)
+columns-split k h = rw (columns-next k h) (take-append-drop ((k + 1) * 3) moves)
 
 pub columns-few : (k : ℕ) → k < 4 → length (take (k * 3) moves) + 3 ≤ 12
-unfolding moves
-columns-few zero h = omega arith
-columns-few (suc zero) h = omega arith
-columns-few (suc (suc zero)) h = omega arith
-columns-few (suc (suc (suc zero))) h = omega arith
-columns-few (suc (suc (suc (suc k)))) h = absurd (omega arith)
+columns-few k h = omega (arith, length-take (k * 3) moves)
 
 pub columns-small : (k : ℕ) → k < 4 → (moveAt (k * 3) .x ≤ 2) × (moveAt (k * 3) .z ≤ 2)
 unfolding moves

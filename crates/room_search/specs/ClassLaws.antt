@@ -4,15 +4,14 @@ use mathlib.Core.Logic.{_⊎_, inl, inr, _≢_}
 use mathlib.Core.Bool.{false}
 use mathlib.Core.List.{List}
 use Prim.Native.Nat.{ℕ, suc, _+_, _-_, _*_, _/_, _%_, _≤_, _<_}
-use native.Mathlib.Decide.{ℕ-discrete}
 use native.Mathlib.Nat.{div-add-mod', mod-lt, suc-mul, zero-mul, mul-le-mul-right, mod-le, zero-mod, mul-le-mul}
 use native.Mathlib.Omega.{arith}
 use lib.Arith.{digits-mod, mod-mul}
 use lib.Dec.{ltb}
 use lib.ListN.{length, getD, set, length-set}
-use lib.Seq.{getD-set-same, getD-set-other}
 use borrow.Author.Tests.{lt-ltb, le-ltb, le-leb, lt-leb}
-use Rattle.basics.specs.Tests.{either}
+use Rattle.basics.specs.Tests.{either, askLess}
+use Rattle.basics.specs.Lists.{front-written}
 use Rattle.room.specs.declared.Room.{Room}
 use Rattle.room.specs.Room.{Good, volume, posOf, beneath}
 use Rattle.room.specs.Units.{solid}
@@ -38,16 +37,15 @@ module _ (R : Room) (G : Good R) (v : ℕ) where
   -- the kind beneath, as it is counted out
   below-is : (kinds : List ℕ) → either (ltb (v % (R .high * R .deep)) (R .deep)) solid (getD kinds (v - R .deep) 0) ≡ kindAt kinds (beneath R v)
   unfolding beneath
-  below-is kinds = go (ℕ-discrete (posOf R v .y) 0)
-    where
-      go : Dec (posOf R v .y ≡ 0) → either (ltb (v % (R .high * R .deep)) (R .deep)) solid (getD kinds (v - R .deep) 0) ≡ kindAt kinds (beneath R v)
-      go (yes e) =
-          let k : v % (R .high * R .deep) < R .deep = rw (floor-in, e, zero-mul) (omega (arith, mod-lt v (G .z-some))) in
-          rw (lt-ltb _ _ k, lt-leb 1 (posOf R v .y) (omega arith))
-      go (no n) =
-          let y : 1 ≤ posOf R v .y = omega arith in
-          let k : R .deep ≤ v % (R .high * R .deep) = omega (arith, floor-in, mul-le-mul-right (R .deep) y) in
-          rw (le-ltb _ _ k, le-leb 1 (posOf R v .y) y)
+  below-is kinds =
+      askLess 0 (posOf R v .y)
+      (λ y.
+      let k : R .deep ≤ v % (R .high * R .deep) = omega (arith, floor-in, mul-le-mul-right (R .deep) y) in
+      rw (le-ltb _ _ k, le-leb 1 (posOf R v .y) y))
+      (λ z.
+      let e : posOf R v .y ≡ 0 = omega arith in
+      let k : v % (R .high * R .deep) < R .deep = rw (floor-in, e, zero-mul) (omega (arith, mod-lt v (G .z-some))) in
+      rw (lt-ltb _ _ k, lt-leb 1 (posOf R v .y) (omega arith)))
 
 area-some : (R : Room) → Good R → 0 < R .high * R .deep
 area-some R G = mul-le-mul (G .y-some) (G .z-some)
@@ -70,13 +68,6 @@ module _ {R : Room} {kinds : List ℕ} where
     layer-lt : layer < R .high * R .deep
     layer-lt = omega (arith, I .counted, mod-lt v (area-some R G))
 
-    filled : (class : ℕ) → class ≡ classAt false R kinds v → (k : ℕ) → k < v + 1 → getD (set classes v class) k 0 ≡ classAt false R kinds k
-    filled class e k l = go (ℕ-discrete k v)
-      where
-        go : Dec (k ≡ v) → getD (set classes v class) k 0 ≡ classAt false R kinds k
-        go (yes q) = rw q (getD-set-same classes v class 0 (omega (arith, I .long)) ∙ e)
-        go (no n) = getD-set-other classes v k class 0 n ∙ I .each k (omega arith)
-
     pub filling-next : (class : ℕ) → class ≡ classFor false (getD kinds v 0) (either (ltb layer (R .deep)) solid (getD kinds (v - R .deep) 0))
         → (next : ℕ) → (((layer + 1 ≡ R .high * R .deep) × (next ≡ 0)) ⊎ ((layer + 1 ≢ R .high * R .deep) × (next ≡ layer + 1)))
         → Filling R kinds (v + 1) next (set classes v class)
@@ -84,7 +75,9 @@ module _ {R : Room} {kinds : List ℕ} where
       within = omega arith;
       long = length-set classes v class ∙ I .long;
       counted = go w;
-      each = filled class (e ∙ ap (classFor false (getD kinds v 0)) (ap (λ (n : ℕ). either (ltb n (R .deep)) solid (getD kinds (v - R .deep) 0)) (I .counted) ∙ below-is R G v kinds));
+      each = front-written (classAt false R kinds) classes (omega (arith, I .long))
+          (e ∙ ap (classFor false (getD kinds v 0)) (ap (λ (n : ℕ). either (ltb n (R .deep)) solid (getD kinds (v - R .deep) 0)) (I .counted) ∙ below-is R G v kinds))
+          (I .each);
     }
       where
         go : ((layer + 1 ≡ R .high * R .deep) × (next ≡ 0)) ⊎ ((layer + 1 ≢ R .high * R .deep) × (next ≡ layer + 1)) → next ≡ (v + 1) % (R .high * R .deep)

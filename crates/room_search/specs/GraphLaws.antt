@@ -1,6 +1,6 @@
 -- The graph of a room is fit for the search: its moves stay inside and are at most twelve and not dearer than the dearest step with a new
 -- support; and no move lowers the estimate by more than its cost where a flat step costs at least 10 and a stair at least 20.
-use mathlib.Core.Path.{_≡_, refl}
+use mathlib.Core.Path.{_≡_, refl, sym, ap, _∙_}
 use mathlib.Core.Logic.{inl, inr}
 use mathlib.Core.List.{List, [], _∷_, _++_}
 use Prim.Native.Nat.{ℕ, suc, _+_, _≤_, _<_, max, zero-le}
@@ -18,8 +18,8 @@ use Rattle.room.specs.declared.Neighbour.the-variants.{Inside, Outside}
 use Rattle.room.specs.Room.{volume, moves, neighbour, distance, flat}
 use Rattle.room.specs.MoveLaws.{most, leads, nearer}
 use Rattle.best_first.specs.Search
-use Rattle.best_first.specs.Ways.{Sound, Consistent}
-use Rattle.room_search.specs.Routing.{total, priceOf, moveInto, movesBy, estimateOf, graphOf}
+use Rattle.best_first.specs.Ways.{Step, Sound, Consistent}
+use Rattle.room_search.specs.Routing.{Task, entering, total, priceOf, moveInto, movesBy, estimateOf, graphOf, graph}
 use Rattle.room.specs.Units.{GoodConfig}
 
 -- a move of the graph is one of the room's moves, which leads to a cell that can be entered
@@ -60,6 +60,22 @@ module _ (R : Room) (C : RouterConfig) (class : ℕ → ℕ) (u : ℕ) where
       go : (w : Neighbour) → length (movesBy R C class u ms) ≤ length ms → length (moveInto C class m w ++ movesBy R C class u ms) ≤ suc (length ms)
       go Outside h = omega arith
       go (Inside v) h = ask (eqb (class v) 0) (λ t. rw t (omega arith)) (λ f. rw f (omega arith))
+
+-- a step of the search's graph goes by one of the room's moves, into a cell that can be entered, and costs what that takes
+pub record StepBy (T : Task) (u v c : ℕ) : Type 0 where
+  pub by : Move
+  pub listed : In by moves
+  pub leads-in : neighbour (T .room) u by ≡ Inside v
+  pub entered : entering T v ≡ 0 → ⊥
+  pub cost-is : total (priceOf (T .config) by (entering T v)) ≡ c
+
+pub step-by : (T : Task) (u v c : ℕ) → Step (graph T) u v c → StepBy T u v c
+unfolding Step graphOf
+step-by T u v c s =
+    let a = made (T .room) (T .config) (entering T) u moves (s .0) (s .1) in
+    let to : a .into ≡ v = ap (λ (g : Search.Move). g .to) (sym (a .is)) ∙ s .2 in
+    let cost : total (priceOf (T .config) (a .by) (entering T (a .into))) ≡ c = ap (λ (g : Search.Move). g .cost) (sym (a .is)) ∙ s .3 in
+    rw (← to, ← cost) (record { by = a .by; listed = a .listed; leads-in = a .leads-in; entered = a .entered; cost-is = refl })
 
 -- the dearest step, with a new support
 unfoldable pub dearest : RouterConfig → ℕ

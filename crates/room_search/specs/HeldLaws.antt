@@ -1,15 +1,16 @@
 -- What a push and a taking of the heap are to the waiting entries.
 use mathlib.Core.Path.{_≡_, _∙_}
-use mathlib.Core.Logic.{_⊎_, inl, inr}
+use mathlib.Core.Logic.{inl, inr}
 use mathlib.Core.List.{List, [], _∷_, map}
 use Prim.Native.Nat.{ℕ, zero, suc, _-_, _/_, _%_, _^_, _≤_, _<_}
 use native.Mathlib.Omega.{arith}
 use lib.ListN.{length, getD, length-map}
+use Rattle.basics.specs.Tests.{askLess}
 use Rattle.basics.specs.Lists.{In}
 use Rattle.best_first.specs.Search.{Entry}
 use Rattle.best_first.specs.Entries.{Late, by-key, by-serial, Same, same-refl, same-trans, same-cons, same-swap, Popped}
 use Rattle.queue.specs.Queue.{asOne, insert, bag, entry, Pushed, Taken}
-use Rattle.queue.specs.BagLaws.{le-or-lt, insert-nil, insert-le, insert-gt, bag-zero, bag-suc, length-bag}
+use Rattle.queue.specs.BagLaws.{insert-nil, insert-le, insert-gt, bag-zero, bag-suc, length-bag}
 use Rattle.room_search.specs.Held.{packed, unpacked, entriesIn}
 
 -- ---- packing
@@ -30,21 +31,16 @@ module _ (key serial cell : ℕ) (s : serial < 2 ^ 32) (c : cell < 2 ^ 64) where
 
 late-unpacked : (a b : ℕ) → a ≤ b → Late (unpacked b) (unpacked a)
 unfolding unpacked
-late-unpacked a b h = go (le-or-lt (b / 2 ^ 96) (a / 2 ^ 96))
-  where
-    go : (b / 2 ^ 96 ≤ a / 2 ^ 96) ⊎ (a / 2 ^ 96 < b / 2 ^ 96) → Late (unpacked b) (unpacked a)
-    go (inl k) = by-serial (omega arith) (omega arith)
-    go (inr k) = by-key k
+late-unpacked a b h = askLess (a / 2 ^ 96) (b / 2 ^ 96) by-key (λ k. by-serial (omega arith) (omega arith))
 
 -- ---- a push
 
 same-insert : (e : ℕ) (w : List ℕ) → Same (unpacked e ∷ map unpacked w) (map unpacked (insert e w))
 same-insert e [] = rw insert-nil (same-refl _)
-same-insert e (x ∷ w) = go (same-insert e w) (le-or-lt e x)
-  where
-    go : Same (unpacked e ∷ map unpacked w) (map unpacked (insert e w)) → (e ≤ x) ⊎ (x < e) → Same (unpacked e ∷ map unpacked (x ∷ w)) (map unpacked (insert e (x ∷ w)))
-    go ih (inl h) = rw (insert-le e x w h) (same-refl _)
-    go ih (inr h) = rw (insert-gt e x w h) (same-trans (same-swap (unpacked e) (unpacked x) (map unpacked w)) (same-cons (unpacked x) ih))
+same-insert e (x ∷ w) =
+    askLess x e
+    (λ h. rw (insert-gt e x w h) (same-trans (same-swap (unpacked e) (unpacked x) (map unpacked w)) (same-cons (unpacked x) (same-insert e w))))
+    (λ h. rw (insert-le e x w h) (same-refl _))
 
 pub pushed-entries : (h : List ℕ) (n key serial cell : ℕ) (h′ : List ℕ) → serial < 2 ^ 32 → cell < 2 ^ 64 → Pushed h n (packed key serial cell) h′
     → Same (record { key = key; serial = serial; cell = cell } ∷ entriesIn h n) (entriesIn h′ (suc n))
@@ -66,11 +62,8 @@ Ascending (x ∷ w) = AtLeast x w × Ascending w
 at-least-insert : (a e : ℕ) (w : List ℕ) → a ≤ e → AtLeast a w → AtLeast a (insert e w)
 unfolding AtLeast
 at-least-insert a e [] h k = rw insert-nil (h, tt)
-at-least-insert a e (x ∷ w) h k = go (at-least-insert a e w h (k .1)) (le-or-lt e x)
-  where
-    go : AtLeast a (insert e w) → (e ≤ x) ⊎ (x < e) → AtLeast a (insert e (x ∷ w))
-    go ih (inl l) = rw (insert-le e x w l) (h, k)
-    go ih (inr l) = rw (insert-gt e x w l) (k .0, ih)
+at-least-insert a e (x ∷ w) h k =
+    askLess x e (λ l. rw (insert-gt e x w l) (k .0, at-least-insert a e w h (k .1))) (λ l. rw (insert-le e x w l) (h, k))
 
 at-least-trans : (a b : ℕ) (w : List ℕ) → a ≤ b → AtLeast b w → AtLeast a w
 unfolding AtLeast
@@ -80,11 +73,10 @@ at-least-trans a b (x ∷ w) h k = (omega (arith, k .0), at-least-trans a b w h 
 ascending-insert : (e : ℕ) (w : List ℕ) → Ascending w → Ascending (insert e w)
 unfolding AtLeast Ascending
 ascending-insert e [] k = rw insert-nil (tt, tt)
-ascending-insert e (x ∷ w) k = go (ascending-insert e w (k .1)) (le-or-lt e x)
-  where
-    go : Ascending (insert e w) → (e ≤ x) ⊎ (x < e) → Ascending (insert e (x ∷ w))
-    go ih (inl l) = rw (insert-le e x w l) ((l, at-least-trans e x w l (k .0)), k)
-    go ih (inr l) = rw (insert-gt e x w l) (at-least-insert x e w (omega arith) (k .0), ih)
+ascending-insert e (x ∷ w) k =
+    askLess x e
+    (λ l. rw (insert-gt e x w l) (at-least-insert x e w (omega arith) (k .0), ascending-insert e w (k .1)))
+    (λ l. rw (insert-le e x w l) ((l, at-least-trans e x w l (k .0)), k))
 
 ascending-bag : (f : ℕ → ℕ) (n : ℕ) → Ascending (bag f n)
 unfolding Ascending

@@ -5,6 +5,7 @@ use Prim.Native.Nat.{ℕ, _+_, _-_, _*_, _/_, _≤_, _<_, _^_}
 use native.Mathlib.Nat.{mul-le-mul}
 use native.Mathlib.Omega.{arith}
 use lib.ListN.{length, getD, set, replicate}
+use Rattle.basics.specs.Zeros.{cleared-to}
 use Rattle.room.specs.declared.Room.{Room}
 use Rattle.room.specs.declared.RouterConfig.{RouterConfig}
 use Rattle.room.specs.Room.{Good, volume, distanceAt, distance, posOf}
@@ -140,8 +141,8 @@ searchable-fresh S known previous from to k p f t = record {
   good = S .good;
   fair = S .fair;
   classes-length = S .classes-long;
-  known-zero = k ∙ ap (λ (n : ℕ). replicate n 0) (S .known-long);
-  previous-zero = p ∙ ap (λ (n : ℕ). replicate n 0) (S .previous-long);
+  known-zero = cleared-to (S .known-long) k;
+  previous-zero = cleared-to (S .previous-long) p;
   start-placed = record { inside = S .start-in; is = f };
   goal-placed = record { inside = S .goal-in; is = t };
   places-some = S .places-some;

@@ -1,14 +1,13 @@
 -- Class bytes that say what it takes to enter each cell make the task's own graph.
 use mathlib.Core.Path.{_≡_, refl, _∙_, fun-ext}
-use mathlib.Core.Logic.{_≢_}
 use mathlib.Core.Bool.{true}
 use mathlib.Core.List.{List, [], _∷_, _++_}
 use Prim.Native.Nat.{ℕ, _<_}
-use native.Mathlib.Decide.{ℕ-discrete}
 use native.Mathlib.Omega.{arith}
 use lib.ListN.{length, getD, length-set}
 use lib.Seq.{getD-set-same, getD-set-other}
 use borrow.Author.Tests.{ne-eqb}
+use Rattle.basics.specs.Tests.{askSame}
 use Rattle.room.specs.declared.Room.{Room}
 use Rattle.room.specs.declared.Move.{Move}
 use Rattle.room.specs.declared.RouterConfig.{RouterConfig}
@@ -45,22 +44,15 @@ module _ (T : Task) (classes : List ℕ) (P : Plain (T .room) (T .kinds) classes
   pub made-length : length made ≡ volume (T .room)
   made-length = simp length-set (P .long)
 
-  other : (v : ℕ) → v < volume (T .room) → v ≢ T .goal → Dec (v ≡ T .start) → getD made v 0 ≡ entering T v
-  other v h n (yes e) =
-      getD-set-other (withEnd (T .room) (T .kinds) (T .start) classes) (T .goal) v _ 0 n
-      ∙ rw e (getD-set-same classes (T .start) (classAt true (T .room) (T .kinds) (T .start)) 0 (omega (arith, P .long)) ∙ rw (start-is-end (T .start) (T .goal)))
-  other v h n (no k) =
-      getD-set-other (withEnd (T .room) (T .kinds) (T .start) classes) (T .goal) v _ 0 n
-      ∙ getD-set-other classes (T .start) v _ 0 k ∙ P .each v h ∙ rw (ne-eqb v (T .start) k, ne-eqb v (T .goal) n)
-
   made-entering : (v : ℕ) → v < volume (T .room) → getD made v 0 ≡ entering T v
-  made-entering v h = go (ℕ-discrete v (T .goal)) (ℕ-discrete v (T .start))
-    where
-      go : Dec (v ≡ T .goal) → Dec (v ≡ T .start) → getD made v 0 ≡ entering T v
-      go (yes e) d =
-          rw e (getD-set-same (withEnd (T .room) (T .kinds) (T .start) classes) (T .goal) (classAt true (T .room) (T .kinds) (T .goal)) 0 (rw length-set (omega (arith, P .long)))
-          ∙ rw (goal-is-end (T .start) (T .goal)))
-      go (no n) d = other v h n d
+  made-entering v h =
+      askSame v (T .goal)
+      (λ e. rw e (getD-set-same (withEnd (T .room) (T .kinds) (T .start) classes) (T .goal) (classAt true (T .room) (T .kinds) (T .goal)) 0 (rw length-set (omega (arith, P .long)))
+      ∙ rw (goal-is-end (T .start) (T .goal))))
+      (λ n. getD-set-other (withEnd (T .room) (T .kinds) (T .start) classes) (T .goal) v _ 0 n
+      ∙ askSame v (T .start)
+      (λ e. rw e (getD-set-same classes (T .start) (classAt true (T .room) (T .kinds) (T .start)) 0 (omega (arith, P .long)) ∙ rw (start-is-end (T .start) (T .goal))))
+      (λ k. getD-set-other classes (T .start) v _ 0 k ∙ P .each v h ∙ rw (ne-eqb v (T .start) k, ne-eqb v (T .goal) n)))
 
   pub made-graph : graphOf (T .room) (T .config) (λ v. getD made v 0) (T .start) (T .goal) (T .places) ≡ graph T
   made-graph = same-graph (T .room) (T .config) (λ v. getD made v 0) (entering T) made-entering (T .start) (T .goal) (T .places)

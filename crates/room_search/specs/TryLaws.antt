@@ -1,14 +1,13 @@
 -- One move tried, as the code meets it: out of the room, into a cell that can't be entered, or offered; and moves tried one after another.
 use mathlib.Core.Path.{_≡_, refl, sym, ap, _∙_}
 use mathlib.Core.Logic.{_≢_}
-use mathlib.Core.Bool.{Bool, false, _&&_, and-false}
+use mathlib.Core.Bool.{false, and-false}
 use mathlib.Core.List.{List, [], _∷_, _++_, append-assoc}
 use Prim.Native.Nat.{ℕ, suc, _+_, _-_, _*_, _≤_, _<_}
 use native.Mathlib.Nat.{mul-le-mul, add-mul, suc-mul, add-zero, lt-of-lt-of-le}
 use native.Mathlib.Omega.{arith}
-use lib.Dec.{leb}
 use lib.ListN.{getD, length-append}
-use borrow.Author.Tests.{eq-eqb, ne-eqb, lt-leb}
+use borrow.Author.Tests.{eq-eqb, ne-eqb}
 use Rattle.room.specs.declared.Room.{Room}
 use Rattle.room.specs.declared.Pos.{Pos}
 use Rattle.room.specs.declared.Move.{Move}
@@ -43,24 +42,12 @@ module _ (R : Room) (C : RouterConfig) (class : ℕ → ℕ) (u : ℕ) (m : Move
 
 -- ---- where the move leads
 
-pub and-failed : (a b : Bool) → b ≡ false → a && b ≡ false
-and-failed a b e = rw e (and-false a)
-
 module _ (R : Room) (G : Good R) (from beside : Spot) (m : Move) (P : Placed R from) (B : Aside R from beside m) where
-  out-high : between 1 (beside .at .y + m .y) (R .high) ≡ false → neighbour R (from .cell) m ≡ Outside
+  pub out-level : between 1 (beside .at .y + m .y) (R .high) ≡ false → neighbour R (from .cell) m ≡ Outside
   unfolding stays
-  out-high e =
+  out-level e =
       let y : between 1 (posOf R (from .cell) .y + m .y) (R .high) ≡ false = rw (← P .is, ← B .level) e in
-      let p = posOf R (from .cell) in
-      not-stays R (from .cell) m (and-failed (between 1 (p .x + m .x) (R .wide)) (between 1 (p .y + m .y) (R .high) && between 1 (p .z + m .z) (R .deep)) (rw y))
-
-  pub out-below : beside .at .y + m .y < 1 → neighbour R (from .cell) m ≡ Outside
-  unfolding between
-  out-below h = out-high (rw (lt-leb 1 (beside .at .y + m .y) h))
-
-  pub out-above : R .high < beside .at .y + m .y → neighbour R (from .cell) m ≡ Outside
-  unfolding between
-  out-above h = out-high (and-failed (leb 1 (beside .at .y + m .y)) _ (lt-leb (beside .at .y + m .y) (R .high) h))
+      not-stays R (from .cell) m (rw y (and-false (between 1 (posOf R (from .cell) .x + m .x) (R .wide))))
 
   module _ (low : 1 ≤ beside .at .y + m .y) (high : beside .at .y + m .y ≤ R .high) where
     landing : Pos

@@ -5,11 +5,10 @@ use Prim.Native.Nat.{ℕ, zero, suc, _+_, _-_, _/_, _%_, _^_, _≤_, _<_}
 use native.Mathlib.Nat.{mod-eq-of-lt, mod-lt, pow-suc, one-le-pow, pow-le-pow-right, div-lt-iff-lt-mul, le-div-iff-mul-le}
 use native.Mathlib.Numerals.{add-one, sub-one}
 use native.Mathlib.Omega.{arith}
-use lib.Dec.{leb}
 use lib.ListN.{length, take, drop, getD, drop-of-length-le}
 use lib.Seq.{drop-cons}
-use borrow.Author.Tests.{leb-true, leb-false, lt-ltb, le-ltb, eq-eqb, ne-eqb}
-use Rattle.basics.specs.Tests.{ask, never}
+use borrow.Author.Tests.{lt-ltb, le-ltb, eq-eqb, ne-eqb}
+use Rattle.basics.specs.Tests.{askLess, never}
 use Rattle.basics.specs.Lists.{drop-next}
 use Rattle.io.specs.Digits.{digits, glyph, Fewest}
 use Rattle.route.specs.Lines.{decimalWithin, decimal, number, numbers, line}
@@ -44,7 +43,7 @@ fewest-decimal (suc most) (suc (suc k)) n h f =
 
 -- a number of 64 bits has at most 20 digits
 few-digits : (k n : ℕ) → n < 2 ^ 64 → Fewest 10 1 n k → k ≤ 20
-few-digits k n h f = ask (leb k 20) (leb-true k 20) (λ no. too-many (leb-false k 20 no))
+few-digits k n h f = askLess 20 k too-many (λ few. few)
   where
     too-many : 20 < k → k ≤ 20
     too-many many =

@@ -5,17 +5,17 @@ use Prim.Native.Nat.{ℕ, _-_, _≤_, pred}
 use native.Mathlib.Nat.{sub-zero}
 use lib.ListN.{length, getD, take, drop, replicate}
 use lib.Seq.{take-at, length-take-le, length-front}
-use Rattle.basics.specs.Zeros.{drop-zeros}
+use Rattle.basics.specs.Zeros.{drop-zeros, cleared-to}
 use Rattle.lent.specs.Lent.{Emptied, filled}
 use Rattle.room.specs.declared.Room.{Room}
 use Rattle.room.specs.declared.RouterConfig.{RouterConfig}
 use Rattle.room.specs.Room.{volume}
-use Rattle.best_first.specs.Search.{trace, route}
+use Rattle.best_first.specs.Search.{Answer, trace, route}
 use Rattle.room.specs.declared.Nodes.{Nodes}
 use Rattle.routing.specs.declared.Route.{Route}
-use Rattle.routing.specs.declared.Answer.the-variants.{Routed, NoRoute as NoRoute′, LimitPassed as LimitPassed′, QueueFull as QueueFull′}
+use Rattle.routing.specs.declared.Answer.the-variants.{Routed}
 use Rattle.room_search.specs.declared.Outcome.{Outcome}
-use Rattle.room_search.specs.declared.Outcome.the-variants.{Arrived, NoRoute, LimitPassed, QueueFull}
+use Rattle.room_search.specs.declared.Outcome.the-variants.{Arrived}
 use Rattle.room_search.specs.Routing.{Task, graphOf, searched}
 use Rattle.room_search.specs.Classes.{Plain, withEnd}
 use Rattle.room_search.specs.SameGraphLaws.{made-length, made-graph}
@@ -48,10 +48,6 @@ module _ {R : Room} {C : RouterConfig} {kinds : List ℕ} {start goal : ℕ} {kn
 
 -- ---- the answer
 
--- there is no route: the buffer stays cleared
-bare : (path : List ℕ) → path ≡ replicate (length path) 0 → path ≡ filled [] path
-bare path z = rw sub-zero z
-
 module _ {goal : ℕ} {known previous path : List ℕ} where
   module _ {T : Task} (v : volume (T .room) ≡ length previous) (g : T .goal ≡ goal) where
     pub shown-route : {x : Nodes} {r : Route} {path′ : List ℕ} → path ≡ replicate (length path) 0 → Found T (Arrived x) known previous
@@ -66,15 +62,10 @@ module _ {goal : ℕ} {known previous path : List ℕ} where
         λ i. Routed (record { length = W .length-is i; cost = record { 0 = W .cost-is i }; expanded = W .expanded-is i }) in
         (rw e s, rw e (W .path-is ∙ ap (λ (l : List ℕ). trace (length previous) previous goal [] ++ l) d))
 
-    module _ (z : path ≡ replicate (length path) 0) (x : Nodes) where
-      pub shown-none : Found T (NoRoute x) known previous → (NoRoute′ x ≡ answered (searched T)) × (path ≡ filled (cellsOf (searched T)) path)
-      shown-none F = rw (F .told) (refl, bare path z)
-
-      pub shown-limit : Found T (LimitPassed x) known previous → (LimitPassed′ x ≡ answered (searched T)) × (path ≡ filled (cellsOf (searched T)) path)
-      shown-limit F = rw (F .told) (refl, bare path z)
-
-      pub shown-full : Found T (QueueFull x) known previous → (QueueFull′ x ≡ answered (searched T)) × (path ≡ filled (cellsOf (searched T)) path)
-      shown-full F = rw (F .told) (refl, bare path z)
+-- an answer that shows no cells: the buffer stays cleared
+pub shown-bare : (T : Task) {path : List ℕ} {a : Answer} → path ≡ replicate (length path) 0 → searched T ≡ a → cellsOf a ≡ []
+    → (answered a ≡ answered (searched T)) × (path ≡ filled (cellsOf (searched T)) path)
+shown-bare T z e none = rw (e, none) (refl, rw sub-zero z)
 
 -- ---- work memory of which the first V numbers are lent on
 
@@ -87,7 +78,7 @@ module _ (front whole : List ℕ) (v : ℕ) (kept : length front ≡ length (tak
   again-length h = sym (ap length (again h) ∙ kept ∙ length-take-le v whole h)
 
   pub emptied-whole : (after : List ℕ) → after ≡ replicate (length (front ++ drop v whole)) 0 → Emptied whole after
-  emptied-whole after e = e ∙ ap (λ (n : ℕ). replicate n 0) (length-front whole front v kept)
+  emptied-whole after e = cleared-to (length-front whole front v kept) e
 
 pub searchable : {R : Room} {C : RouterConfig} {kinds : List ℕ} {start goal : ℕ} (path known previous classes queue : List ℕ) {v : ℕ}
     → Roomy R C kinds start goal (lengthsOf path known previous classes queue) → v ≡ volume R

@@ -6,8 +6,7 @@ use Prim.Native.Nat.{ℕ, _/_}
 use native.Mathlib.Nat.{sub-zero}
 use lib.Dec.{leb, ltb, eqb}
 use lib.ListN.{length, getD}
-use borrow.Author.Tests.{leb-true, ltb-true, eqb-true}
-use Rattle.basics.specs.Tests.{ask, and-left, and-right, never}
+use Rattle.basics.specs.Tests.{ask, passed, never}
 use Rattle.basics.specs.Lists.{every}
 use Rattle.basics.specs.Promises.{Determines}
 use Rattle.lent.specs.Lent.{touches, Emptied}
@@ -43,9 +42,9 @@ record Passed (R : Room) (C : RouterConfig) (kinds : List ℕ) (start goal : ℕ
   ends : endsInside R start goal ≡ true
 
 module _ {R : Room} {C : RouterConfig} {kinds : List ℕ} {start goal : ℕ} {L : Lengths} where
-  passed : judged (input R C kinds start goal L) ≡ Fit → Passed R C kinds start goal L
+  fit-passed : judged (input R C kinds start goal L) ≡ Fit → Passed R C kinds start goal L
   unfolding judged
-  passed e =
+  fit-passed e =
       ask (sidesGood R)
       (λ a. ask (configGood C)
       (λ b. ask (buffersGood R kinds L)
@@ -58,26 +57,24 @@ module _ {R : Room} {C : RouterConfig} {kinds : List ℕ} {start goal : ℕ} {L 
       (λ n. differ Config (rw (a, n) at e)))
       (λ n. differ Sides (rw n at e))
 
-  ruleset tests = (and-left, and-right, leb-true, ltb-true, eqb-true)
-
   pub roomy : judged (input R C kinds start goal L) ≡ Fit → Roomy R C kinds start goal L
   unfolding buffersGood endsInside
   roomy e =
-      let p = passed e in
+      let p = fit-passed e in
       let b : (eqb (length kinds) (volume R)
       && (leb (volume R) (L .path) && (leb (volume R) (L .known) && (leb (volume R) (L .previous) && (leb (volume R) (L .classes) && leb 1 (L .queue / 2)))))) ≡ true = p .buffers in
       let i : (ltb start (volume R) && ltb goal (volume R)) ≡ true = p .ends in
       record {
         good = good R (p .sides);
         fair = good-config C (p .config);
-        kinds-length = search tests;
-        start-in = search tests;
-        goal-in = search tests;
-        path-room = search tests;
-        known-room = search tests;
-        previous-room = search tests;
-        classes-room = search tests;
-        places-some = search tests;
+        kinds-length = search passed;
+        start-in = search passed;
+        goal-in = search passed;
+        path-room = search passed;
+        known-room = search passed;
+        previous-room = search passed;
+        classes-room = search passed;
+        places-some = search passed;
       }
 
 -- ---- the cases

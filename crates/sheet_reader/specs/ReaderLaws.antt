@@ -5,11 +5,11 @@ use mathlib.Core.List.{List}
 use Prim.Native.Nat.{ℕ, _+_, _*_, _≤_, _<_}
 use native.Mathlib.Nat.{le-of-lt}
 use native.Mathlib.Omega.{arith}
-use borrow.Author.Tests.{leb-true, leb-false, eqb-true, le-leb, lt-leb, eq-eqb, ne-eqb}
-use lib.Dec.{leb, eqb}
+use borrow.Author.Tests.{eqb-true, le-leb, lt-leb, eq-eqb, ne-eqb}
+use lib.Dec.{eqb}
 use lib.ListN.{length, getD, drop, drop-of-length-le}
 use lib.Seq.{getD-drop}
-use Rattle.basics.specs.Tests.{ask}
+use Rattle.basics.specs.Tests.{askLess}
 use Rattle.room.specs.declared.Pos.{Pos}
 use Rattle.job_sheet.specs.declared.Endpoint.{Endpoint}
 use Rattle.job_sheet.specs.declared.Part.{Part}
@@ -35,10 +35,7 @@ module _ (s : List ℕ) (place n : ℕ) where
 
   pub onward-stands : Stands s (onward s place n)
   onward-stands =
-      ask (leb (place + n) (length s)) (λ t. on (leb-true _ _ t)) (λ f. rw (onward-off (leb-false _ _ f)) (omega arith))
-    where
-      on : place + n ≤ length s → Stands s (onward s place n)
-      on h = rw (onward-on h) (omega (arith, h))
+      askLess (length s) (place + n) (λ h. rw (onward-off h) (omega arith)) (λ h. rw (onward-on h) (omega (arith, h)))
 
 -- ---- the sinks that can be read
 
@@ -57,7 +54,9 @@ module _ (s : List ℕ) (p : Part) where
 
   holds : (q : Part) → q ≡ held s p → (q .count ≤ maxSinks) × (behind endpointSize q ≤ length s)
   holds q e =
-      ask (leb (p .count) maxSinks) (λ t. ask (leb (behind endpointSize p) (length s)) (λ u. whole (leb-true _ _ t) (leb-true _ _ u)) (λ f. none (held-short (leb-true _ _ t) (leb-false _ _ f)))) (λ f. none (held-over (leb-false _ _ f)))
+      askLess maxSinks (p .count)
+      (λ many. none (held-over many))
+      (λ few. askLess (length s) (behind endpointSize p) (λ short. none (held-short few short)) (λ inside. whole few inside))
     where
       whole : p .count ≤ maxSinks → behind endpointSize p ≤ length s → (q .count ≤ maxSinks) × (behind endpointSize q ≤ length s)
       whole few inside = rw (e, held-some few inside) (few, inside)
@@ -89,10 +88,7 @@ module _ (s : List ℕ) where
 
   along-from : (p n : ℕ) → Along s (onward s p n) (p + n)
   along-from p n =
-      ask (leb (p + n) (length s)) (λ t. same (onward-on s p n (leb-true _ _ t)) (leb-true _ _ t)) (λ f. out (leb-false _ _ f))
-    where
-      out : length s < p + n → Along s (onward s p n) (p + n)
-      out h = off (rw (onward-off s p n h) (omega arith)) h
+      askLess (length s) (p + n) (λ h. off (rw (onward-off s p n h) (omega arith)) h) (λ h. same (onward-on s p n h) h)
 
   -- k bytes on, then n more
   along-on : (k n : ℕ) (a p : ℕ) → Along s a p → Along s (onward s (a + k) n) (p + k + n)

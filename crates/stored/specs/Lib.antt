@@ -1,4 +1,3 @@
-pub mod TestLaws
 pub mod Places
 pub mod PlaceLaws
 pub mod Memory

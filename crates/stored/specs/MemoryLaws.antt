@@ -8,9 +8,9 @@ use native.Mathlib.Numerals.{add-one}
 use native.Mathlib.Omega.{arith}
 use lib.Dec.{eqb}
 use lib.ListN.{length, getD, set, drop, drop-of-length-le, length-set}
-use lib.Seq.{ext-getD, drop-cons, getD-set-same, getD-set-other}
-use borrow.Author.Tests.{eqb-true, eqb-false, eq-eqb, ne-eqb}
-use Rattle.basics.specs.Tests.{ask}
+use lib.Seq.{ext-getD, drop-cons}
+use borrow.Author.Tests.{eq-eqb, ne-eqb}
+use Rattle.basics.specs.Lists.{front-written}
 use Rattle.stored.specs.Memory.{rubbish, Rubbish, allFrom}
 
 -- ---- filling with rubbish: the first i numbers are rubbish
@@ -27,9 +27,7 @@ module _ {s₀ : List ℕ} where
     pub spoiled-next : {x : ℕ} → i < length s → x ≡ rubbish i → Spoiled s₀ (i + 1) (set s i x)
     spoiled-next {x} h e = record {
       kept = length-set s i x ∙ S .kept;
-      front = λ j l. ask (eqb j i)
-          (λ t. let q = eqb-true j i t in rw q (getD-set-same s i x 0 h ∙ e))
-          (λ f. let n = eqb-false j i f in getD-set-other s i j x 0 n ∙ S .front j (omega (arith, n)));
+      front = front-written rubbish s h e (S .front);
     }
 
     pub spoiled-all : length s ≤ i → Rubbish s

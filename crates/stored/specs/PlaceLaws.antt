@@ -4,10 +4,8 @@ use mathlib.Core.List.{List}
 use Prim.Native.Nat.{ℕ, zero, suc, _+_, _*_, _≤_, _<_}
 use native.Mathlib.Nat.{le-of-suc-le-suc, not-suc-le-zero, min-eq-left, min-eq-right, min-le-right}
 use native.Mathlib.Omega.{arith}
-use lib.Dec.{leb}
 use lib.ListN.{length, getD, List·getD-eq-default}
-use borrow.Author.Tests.{leb-true, leb-false}
-use Rattle.basics.specs.Tests.{ask}
+use Rattle.basics.specs.Tests.{askLess}
 use Rattle.stored.specs.Places.{past, byteAt, cellAt, cellsFrom}
 
 module _ (file : List ℕ) where
@@ -34,20 +32,18 @@ module _ (file : List ℕ) where
   none-behind at h = let l : length file ≤ length file = omega arith in rw (past-out at 1 (omega arith), List·getD-eq-default {A = ℕ} file 0 h, List·getD-eq-default {A = ℕ} file 0 l)
 
   cell-here : (at : ℕ) → cellAt file (past file at 0) ≡ cellAt file at
-  cell-here at = ask (leb at (length file))
-      (λ t. ap (cellAt file) (past-in at 0 (omega (arith, leb-true at (length file) t)) ∙ omega arith))
-      (λ f. let l : length file ≤ at = omega (arith, leb-false at (length file) f) in
-      ap (cellAt file) (past-out at 0 (omega arith)) ∙ (none-behind (length file) (omega arith) ∙ sym (none-behind at l)))
+  cell-here at = askLess at (length file)
+      (λ h. ap (cellAt file) (past-in at 0 (omega (arith, h)) ∙ omega arith))
+      (λ h. ap (cellAt file) (past-out at 0 (omega (arith, h))) ∙ (none-behind (length file) (omega arith) ∙ sym (none-behind at h)))
 
   regrouped : (at a b : ℕ) → past file (at + a) b ≡ past file at (a + b)
   unfolding past
   regrouped at a b = let e : at + a + b ≡ at + (a + b) = omega arith in rw e
 
   past-on : (at a b : ℕ) → past file (past file at a) b ≡ past file at (a + b)
-  past-on at a b = ask (leb (at + a) (length file))
-      (λ t. ap (λ x. past file x b) (past-in at a (leb-true (at + a) (length file) t)) ∙ regrouped at a b)
-      (λ f. let h : length file ≤ at + a = omega (arith, leb-false (at + a) (length file) f) in
-      ap (λ x. past file x b) (past-out at a h) ∙ (past-out (length file) b (omega arith) ∙ sym (past-out at (a + b) (omega arith))))
+  past-on at a b = askLess (at + a) (length file)
+      (λ h. ap (λ x. past file x b) (past-in at a (omega (arith, h))) ∙ regrouped at a b)
+      (λ h. ap (λ x. past file x b) (past-out at a h) ∙ (past-out (length file) b (omega arith) ∙ sym (past-out at (a + b) (omega (arith, h)))))
 
   pub cells-at : (at n k : ℕ) → k < n → getD (cellsFrom file at n) k 0 ≡ cellAt file (past file at (k * 2))
   unfolding cellsFrom

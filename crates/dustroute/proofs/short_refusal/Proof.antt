@@ -1,6 +1,5 @@
 -- `short_refusal` meets its contract: 2 and 3 are judged before 6.
-use borrow.Author.Tests.{not-true, not-false}
-use mathlib.Core.Path.{sym, _∙_}
+use Rattle.basics.specs.Tests.{test-fails, test-passes}
 use borrow.Author.Needs.{needs}
 use Rattle.dustroute.proofs.short_refusal.Statement.{statement}
 use Rattle.dustroute.proofs.short_refusal.Tie as tie
@@ -9,16 +8,16 @@ good-requires : tie.Need-good-requires
 good-requires c κs = search needs
 
 returns : tie.Need-returns
-returns c = rw (sym (c .before .good2 .ensures) ∙ not-true _ (c .if1 .taken))
+returns c = rw (test-fails (c .before .good2 .ensures) (c .if1 .taken))
 
 good-requires-2 : tie.Need-good-requires-2
 good-requires-2 c κs = search needs
 
 returns-2 : tie.Need-returns-2
-returns-2 c = rw (sym (c .before .before .before .good2 .ensures) ∙ not-false _ (c .before .before .if1 .left), sym (c .before .good3 .ensures) ∙ not-true _ (c .if2 .taken))
+returns-2 c = rw (test-passes (c .before .before .before .good2 .ensures) (c .before .before .if1 .left), test-fails (c .before .good3 .ensures) (c .if2 .taken))
 
 returns-3 : tie.Need-returns-3
-returns-3 c = rw (sym (c .before .before .before .good2 .ensures) ∙ not-false _ (c .before .before .if1 .left), sym (c .before .good3 .ensures) ∙ not-false _ (c .if2 .left))
+returns-3 c = rw (test-passes (c .before .before .before .good2 .ensures) (c .before .before .if1 .left), test-passes (c .before .good3 .ensures) (c .if2 .left))
 
 pub short-refusal-spec : {M : Type 1} → statement M
 short-refusal-spec = tie.close (tie.spec good-requires returns good-requires-2 returns-2 returns-3)

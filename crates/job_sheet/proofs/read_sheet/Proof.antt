@@ -1,6 +1,5 @@
 -- `read_sheet` meets its contract: a sheet that is not shaped means nothing; any other means what its places hold.
-use mathlib.Core.Path.{sym, _∙_}
-use borrow.Author.Tests.{not-true, not-false}
+use Rattle.basics.specs.Tests.{test-fails, test-passes}
 use native.Mathlib.Omega.{arith}
 use Rattle.job_sheet.specs.ReadLaws.{shaped-is, read-nothing, read-refused, read-accepted}
 use borrow.Author.Needs.{needs}
@@ -17,10 +16,10 @@ refusal-requires : tie.Need-refusal-requires
 refusal-requires c κs = search needs
 
 returns : tie.Need-returns
-returns c = read-nothing _ (sym (c .before .before .shaped .ensures) ∙ not-true _ (c .before .if1 .taken)) _ (c .refusal .ensures)
+returns c = read-nothing _ (test-fails (c .before .before .shaped .ensures) (c .before .if1 .taken)) _ (c .refusal .ensures)
 
 judge-requires : tie.Need-judge-requires
-judge-requires c κs = (c .before .before .layout-from .ensures .is, shaped-is _ (sym (c .before .shaped .ensures) ∙ not-false _ (c .if1 .left)))
+judge-requires c κs = (c .before .before .layout-from .ensures .is, shaped-is _ (test-passes (c .before .shaped .ensures) (c .if1 .left)))
 
 is-good-requires : tie.Need-is-good-requires
 is-good-requires c κs = search needs
@@ -29,13 +28,13 @@ refusal-requires-2 : tie.Need-refusal-requires-2
 refusal-requires-2 c κs = search needs
 
 returns-2 : tie.Need-returns-2
-returns-2 c = read-refused _ (λ i. omega (arith, c .before .before .before .before .before .before .before .shared-slice-known .given i)) (shaped-is _ (sym (c .before .before .before .before .before .shaped .ensures) ∙ not-false _ (c .before .before .before .before .if1 .left))) _ (c .before .before .before .judge .ensures) (sym (c .before .before .is-good .ensures) ∙ not-true _ (c .before .if2 .taken)) _ (c .refusal2 .ensures)
+returns-2 c = read-refused _ (λ i. omega (arith, c .before .before .before .before .before .before .before .shared-slice-known .given i)) (shaped-is _ (test-passes (c .before .before .before .before .before .shaped .ensures) (c .before .before .before .before .if1 .left))) _ (c .before .before .before .judge .ensures) (test-fails (c .before .before .is-good .ensures) (c .before .if2 .taken)) _ (c .refusal2 .ensures)
 
 job-from-requires : tie.Need-job-from-requires
-job-from-requires c κs = (c .before .before .before .before .before .layout-from .ensures .is, shaped-is _ (sym (c .before .before .before .before .shaped .ensures) ∙ not-false _ (c .before .before .before .if1 .left)))
+job-from-requires c κs = (c .before .before .before .before .before .layout-from .ensures .is, shaped-is _ (test-passes (c .before .before .before .before .shaped .ensures) (c .before .before .before .if1 .left)))
 
 returns-3 : tie.Need-returns-3
-returns-3 c = read-accepted _ (λ i. omega (arith, c .before .before .before .before .before .before .before .shared-slice-known .given i)) (shaped-is _ (sym (c .before .before .before .before .before .shaped .ensures) ∙ not-false _ (c .before .before .before .before .if1 .left))) _ (c .before .before .before .judge .ensures) (sym (c .before .before .is-good .ensures) ∙ not-false _ (c .before .if2 .left)) _ (c .job-from .ensures)
+returns-3 c = read-accepted _ (λ i. omega (arith, c .before .before .before .before .before .before .before .shared-slice-known .given i)) (shaped-is _ (test-passes (c .before .before .before .before .before .shaped .ensures) (c .before .before .before .before .if1 .left))) _ (c .before .before .before .judge .ensures) (test-passes (c .before .before .is-good .ensures) (c .before .if2 .left)) _ (c .job-from .ensures)
 
 pub read-sheet-spec : {M : Type 1} → statement M
 read-sheet-spec =

@@ -1,6 +1,5 @@
 -- `with_approach` meets its contract: its test is that of the definition.
-use mathlib.Core.Path.{sym, _∙_}
-use borrow.Author.Tests.{not-true, not-false}
+use Rattle.basics.specs.Tests.{test-fails, test-passes}
 use Rattle.port_realization.specs.Ports.{approachOf}
 use borrow.Author.Needs.{needs}
 use Rattle.port_realization.proofs.with_approach.Statement.{statement}
@@ -11,7 +10,7 @@ facing-horizontal-requires c κs = search needs
 
 returns : tie.Need-returns
 unfolding approachOf
-returns c = rw (sym (c .before .facing-horizontal .ensures) ∙ not-true _ (c .if1 .taken))
+returns c = rw (test-fails (c .before .facing-horizontal .ensures) (c .if1 .taken))
 
 ahead-requires : tie.Need-ahead-requires
 ahead-requires c κs = search needs
@@ -24,11 +23,11 @@ enum-told c = search needs
 
 returns-2 : tie.Need-returns-2
 unfolding approachOf
-returns-2 c = rw (sym (c .before .before .before .before .facing-horizontal .ensures) ∙ not-false _ (c .before .before .before .if1 .left), ← (c .before .before .ahead .ensures), c .enum-told .given .1)
+returns-2 c = rw (test-passes (c .before .before .before .before .facing-horizontal .ensures) (c .before .before .before .if1 .left), ← (c .before .before .ahead .ensures), c .enum-told .given .1)
 
 returns-3 : tie.Need-returns-3
 unfolding approachOf
-returns-3 c = rw (sym (c .before .before .before .before .before .facing-horizontal .ensures) ∙ not-false _ (c .before .before .before .before .if1 .left), ← (c .before .before .before .ahead .ensures), c .before .approach .given .1)
+returns-3 c = rw (test-passes (c .before .before .before .before .before .facing-horizontal .ensures) (c .before .before .before .before .if1 .left), ← (c .before .before .before .ahead .ensures), c .before .approach .given .1)
 
 pub with-approach-spec : {M : Type 1} → statement M
 with-approach-spec =

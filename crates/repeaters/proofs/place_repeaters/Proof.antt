@@ -1,10 +1,11 @@
 -- `place_repeaters` meets its contract: the masks are those of the tree, and so are the parents; the runs come first, and then the tails.
 use mathlib.Core.Path.{_∙_, ap}
 use Prim.Native.Nat.{ℕ}
-use lib.ListN.{length, replicate, length-replicate}
+use lib.ListN.{length, length-replicate}
 use Rattle.room.specs.Room.{volume}
 use Rattle.repeaters.specs.SinkLaws.{placed}
 use borrow.Author.Needs.{needs}
+use Rattle.basics.specs.Zeros.{cleared-to}
 use Rattle.repeaters.proofs.place_repeaters.Statement.{statement}
 use Rattle.repeaters.proofs.place_repeaters.Tie as tie
 
@@ -12,13 +13,13 @@ clear-words-requires : tie.Need-clear-words-requires
 clear-words-requires c κs = search needs
 
 tree-adjacency-requires : tie.Need-tree-adjacency-requires
-tree-adjacency-requires c κs = (c .before .before .before .before .before .before .before .before .before .before .before .pre .good, (c .before .before .before .before .before .before .before .before .before .before .before .pre .laid, c .before .before .before .clear-words .ensures ∙ ap (λ (n : ℕ). replicate n 0) (c .before .before .before .before .before .before .before .before .before .before .before .pre .links-long)))
+tree-adjacency-requires c κs = (c .before .before .before .before .before .before .before .before .before .before .before .pre .good, (c .before .before .before .before .before .before .before .before .before .before .before .pre .laid, cleared-to (c .before .before .before .before .before .before .before .before .before .before .before .pre .links-long) (c .before .before .before .clear-words .ensures)))
 
 clear-words-requires-2 : tie.Need-clear-words-requires-2
 clear-words-requires-2 c κs = search needs
 
 rooted-parent-requires : tie.Need-rooted-parent-requires
-rooted-parent-requires c κs = (c .before .before .before .before .before .before .before .before .before .before .before .before .before .before .before .before .before .before .before .before .before .pre .good, (c .before .before .before .before .before .before .before .before .before .before .before .before .before .before .before .before .before .before .before .before .before .pre .source-in, ((c .before .before .before .before .before .before .before .before .before .tree-adjacency .kept .1 .1 .1 .0 ∙ c .before .before .before .before .before .before .before .before .before .before .before .before .before .clear-words .kept .0 ∙ c .before .before .before .before .before .before .before .before .before .before .before .before .before .before .before .before .before .before .before .before .before .pre .links-long), (c .before .before .before .before .before .clear-words2 .ensures ∙ ap (λ (n : ℕ). replicate n 0) (c .before .before .before .before .before .before .before .before .before .before .before .before .before .before .before .before .before .before .before .before .before .pre .parents-long), c .before .before .before .before .before .before .before .before .before .before .before .before .before .before .before .before .before .before .before .before .before .pre .line-long))))
+rooted-parent-requires c κs = (c .before .before .before .before .before .before .before .before .before .before .before .before .before .before .before .before .before .before .before .before .before .pre .good, (c .before .before .before .before .before .before .before .before .before .before .before .before .before .before .before .before .before .before .before .before .before .pre .source-in, ((c .before .before .before .before .before .before .before .before .before .tree-adjacency .kept .1 .1 .1 .0 ∙ c .before .before .before .before .before .before .before .before .before .before .before .before .before .clear-words .kept .0 ∙ c .before .before .before .before .before .before .before .before .before .before .before .before .before .before .before .before .before .before .before .before .before .pre .links-long), (cleared-to (c .before .before .before .before .before .before .before .before .before .before .before .before .before .before .before .before .before .before .before .before .before .pre .parents-long) (c .before .before .before .before .before .clear-words2 .ensures), c .before .before .before .before .before .before .before .before .before .before .before .before .before .before .before .before .before .before .before .before .before .pre .line-long))))
 
 plan-repeaters-requires : tie.Need-plan-repeaters-requires
 plan-repeaters-requires c κs = (record { good = c .before .before .before .before .before .before .before .before .before .before .before .before .before .before .before .before .before .before .before .before .before .before .before .before .before .before .before .before .before .before .pre .good; links-long = (c .before .before .before .before .before .before .before .before .before .before .before .before .before .before .before .before .before .before .tree-adjacency .kept .1 .1 .1 .0 ∙ c .before .before .before .before .before .before .before .before .before .before .before .before .before .before .before .before .before .before .before .before .before .before .clear-words .kept .0 ∙ c .before .before .before .before .before .before .before .before .before .before .before .before .before .before .before .before .before .before .before .before .before .before .before .before .before .before .before .before .before .before .pre .links-long); parents-long = c .before .before .before .before .before .before .before .before .rooted-parent .ensures .long; linked = c .before .before .before .before .before .before .before .before .rooted-parent .ensures .linked; forbidden-long = c .before .before .before .before .before .before .before .before .before .before .before .before .before .before .before .before .before .before .before .before .before .before .before .before .before .before .before .before .before .before .pre .forbidden-long }, (c .before .before .before .before .before .before .before .before .before .before .before .before .before .before .before .before .before .before .before .before .before .before .before .before .before .before .before .before .before .before .pre .taps-in, (ap length (c .before .before .before .before .before .before .before .before .before .before .before .before .before .before .before .before .before .before .before .before .before .before .before .before .before .before .before .before .before .before .pre .unmarked) ∙ length-replicate {A = ℕ} (volume (c .before .before .before .before .before .before .before .before .before .before .before .before .before .before .before .before .before .before .before .before .before .before .before .before .before .before .before .before .before .before .args .room)) 0, c .before .before .before .before .before .before .before .before .rooted-parent .kept .1 .1 .1 .1 .0 ∙ c .before .before .before .before .before .before .before .before .before .before .before .before .before .before .before .before .before .before .before .before .before .before .before .before .before .before .before .before .before .before .pre .line-long)))

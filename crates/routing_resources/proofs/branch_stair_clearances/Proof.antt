@@ -1,14 +1,12 @@
 -- `branch_stair_clearances` meets its contract: each turn marks the clearance of one pair of the branch.
 use mathlib.Core.Path.{_≡_, refl}
 use mathlib.Core.Bool.{Bool, false, _||_}
-use mathlib.Core.List.{List, [], _∷_}
+use mathlib.Core.List.{List}
 use Prim.Native.Nat.{ℕ, _+_, _-_, _≤_, _<_}
-use native.Mathlib.Nat.{le-of-suc-le-suc, not-suc-le-zero}
 use native.Mathlib.Omega.{arith}
-use lib.ListN.{length, getD, drop, length-drop}
-use lib.Seq.{drop-cons}
+use lib.ListN.{length, getD, drop}
 use borrow.Author.Needs.{needs}
-use Rattle.basics.specs.Lists.{drop-next}
+use Rattle.basics.specs.Walks.{ByPairs, pairs-next, pairs-end}
 use Rattle.room.specs.declared.Room.{Room}
 use Rattle.room.specs.Room.{volume}
 use Rattle.routing_resources.specs.Marks.{isCell, AllCells}
@@ -22,20 +20,16 @@ use Rattle.routing_resources.proofs.branch_stair_clearances.Tie as tie
 abbrev clears : Room → List ℕ → ℕ → ℕ → Bool
 clears R branch i = isClearance R (drop i branch)
 
+by-pairs : (R : Room) (v : ℕ) → ByPairs (λ branch. isClearance R branch v) false (λ a b rest. isCell (clearanceOf R a b) v || rest)
+unfolding isClearance
+by-pairs R v = record { at-nothing = refl; at-one = λ a. refl; at-pair = λ a b rest. refl }
+
 one-more : (R : Room) (branch : List ℕ) (i : ℕ) → i + 1 < length branch → (v : ℕ)
     → clears R branch i v ≡ isCell (clearanceOf R (getD branch i 0) (getD branch (i + 1) 0)) v || clears R branch (i + 1) v
-unfolding isClearance
-one-more R branch i h v =
-    rw (drop-next branch i 0 (omega arith), drop-cons branch (i + 1) 0 h)
-
-one-cell : (R : Room) (branch : List ℕ) → length branch ≤ 1 → (v : ℕ) → isClearance R branch v ≡ false
-unfolding isClearance
-one-cell R [] h v = refl
-one-cell R (a ∷ []) h v = refl
-one-cell R (a ∷ (b ∷ rest)) h v = absurd (not-suc-le-zero (le-of-suc-le-suc h))
+one-more R branch i h v = pairs-next (by-pairs R v) branch i h
 
 all-cleared : (R : Room) (branch : List ℕ) (i : ℕ) → length branch ≤ i + 1 → (v : ℕ) → clears R branch i v ≡ false
-all-cleared R branch i h v = one-cell R (drop i branch) (rw (length-drop i branch) (omega arith)) v
+all-cleared R branch i h v = pairs-end (by-pairs R v) branch i h
 
 ends-in : (R : Room) (branch : List ℕ) → AllCells R branch → (i : ℕ) → i + 1 < length branch → (a b : ℕ) → a ≡ getD branch i 0 → b ≡ getD branch (i + 1) 0
     → (a < volume R) × (b < volume R)

@@ -1,6 +1,6 @@
 -- `read_sheet` meets its contract: a sheet that is not shaped means nothing; of any other the reader found what its places hold.
-use mathlib.Core.Path.{sym, _∙_}
-use borrow.Author.Tests.{not-true, not-false}
+use mathlib.Core.Path.{_∙_}
+use Rattle.basics.specs.Tests.{test-fails, test-passes}
 use native.Mathlib.Omega.{arith}
 use denote.Ref.{now}
 use Rattle.job_sheet.specs.RecordLaws.{Bytes}
@@ -23,11 +23,11 @@ refusal-requires : tie.Need-refusal-requires
 refusal-requires c κs = search needs
 
 returns : tie.Need-returns
-returns c = read-nothing _ (sym (c .before .before .shaped .ensures) ∙ not-true _ (c .before .if1 .taken)) _ (c .refusal .ensures)
+returns c = read-nothing _ (test-fails (c .before .before .shaped .ensures) (c .before .if1 .taken)) _ (c .refusal .ensures)
 
 judge-requires : tie.Need-judge-requires
 judge-requires c κs =
-    let S = shaped-is _ (sym (c .before .shaped .ensures) ∙ not-false _ (c .if1 .left)) in
+    let S = shaped-is _ (test-passes (c .before .shaped .ensures) (c .if1 .left)) in
     (found-layout _ _ (c .before .before .read-body .ensures) S, S)
 
 is-good-requires : tie.Need-is-good-requires
@@ -38,17 +38,17 @@ refusal-requires-2 c κs = search needs
 
 returns-2 : tie.Need-returns-2
 returns-2 c =
-    let S = shaped-is _ (sym (c .before .before .before .before .before .shaped .ensures) ∙ not-false _ (c .before .before .before .before .if1 .left)) in
-    read-refused _ (λ i. omega (arith, c .before .before .before .before .before .before .before .before .shared-slice-known .given i)) S _ (c .before .before .before .judge .ensures) (sym (c .before .before .is-good .ensures) ∙ not-true _ (c .before .if2 .taken)) _ (c .refusal2 .ensures)
+    let S = shaped-is _ (test-passes (c .before .before .before .before .before .shaped .ensures) (c .before .before .before .before .if1 .left)) in
+    read-refused _ (λ i. omega (arith, c .before .before .before .before .before .before .before .before .shared-slice-known .given i)) S _ (c .before .before .before .judge .ensures) (test-fails (c .before .before .is-good .ensures) (c .before .if2 .taken)) _ (c .refusal2 .ensures)
 
 job-of-requires : tie.Need-job-of-requires
 job-of-requires c κs = search needs
 
 returns-3 : tie.Need-returns-3
 returns-3 c =
-    let S = shaped-is _ (sym (c .before .before .before .before .before .shaped .ensures) ∙ not-false _ (c .before .before .before .before .if1 .left)) in
+    let S = shaped-is _ (test-passes (c .before .before .before .before .before .shaped .ensures) (c .before .before .before .before .if1 .left)) in
     let bytes : Bytes (now (c .before .before .before .before .before .before .before .before .before .args .sheet)) = λ i. omega (arith, c .before .before .before .before .before .before .before .before .shared-slice-known .given i) in
-    read-accepted _ bytes S _ (c .before .before .before .judge .ensures) (sym (c .before .before .is-good .ensures) ∙ not-false _ (c .before .if2 .left)) _
+    read-accepted _ bytes S _ (c .before .before .before .judge .ensures) (test-passes (c .before .before .is-good .ensures) (c .before .if2 .left)) _
     (c .job-of .ensures ∙ found-job _ _ (c .before .before .before .before .before .before .read-body .ensures) S bytes _ (c .before .before .before .before .before .before .before .read-head .ensures))
 
 pub read-sheet-spec : {M : Type 1} → statement M

@@ -1,6 +1,5 @@
 -- `keep_cheaper` meets its contract, by cases of what the later goal came to.
-use mathlib.Core.Path.{sym, _∙_}
-use borrow.Author.Tests.{not-true, not-false}
+use Rattle.basics.specs.Tests.{test-fails, test-passes}
 use Rattle.goals.specs.GoalLaws.{keeps-kept, keeps-full, keeps-old, keeps-new}
 use borrow.Author.Needs.{needs}
 use Rattle.goals.proofs.cheapest.keep_cheaper.Statement.{statement}
@@ -16,7 +15,7 @@ returns : tie.Need-returns
 returns c =
     let args = c .before .before .before .before .before .before .before .args in
     let pre = c .before .before .before .before .before .before .before .pre in
-    rw (c .before .before .before .tried .given .1) (keeps-old _ _ (args .kept) (pre .0) (sym (c .before .beats .ensures) ∙ not-true _ (c .if1 .taken)))
+    rw (c .before .before .before .tried .given .1) (keeps-old _ _ (args .kept) (pre .0) (test-fails (c .before .beats .ensures) (c .if1 .taken)))
 
 copy-cells-requires : tie.Need-copy-cells-requires
 copy-cells-requires c κs =
@@ -38,7 +37,7 @@ returns-2 c =
     let pre = c .before .before .before .before .before .before .before .before .before .before .before .pre in
     let args = c .before .before .before .before .before .before .before .before .before .before .before .args in
     let fits = rw (tried .given .1) at (pre .1 .1) in
-    rw (tried .given .1) (keeps-new _ _ (args .kept) (pre .0) (sym (c .before .before .before .before .before .beats .ensures) ∙ not-false _ (c .before .before .before .before .if1 .left)) fits (c .before .before .copy-cells .ensures))
+    rw (tried .given .1) (keeps-new _ _ (args .kept) (pre .0) (test-passes (c .before .before .before .before .before .beats .ensures) (c .before .before .before .before .if1 .left)) fits (c .before .before .copy-cells .ensures))
 
 returns-3 : tie.Need-returns-3
 returns-3 c = rw (c .enum-told .given .1) (keeps-kept (c .before .before .before .before .args .kept) (c .before .before .before .before .pre .0))

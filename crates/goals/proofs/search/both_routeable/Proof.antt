@@ -1,6 +1,5 @@
 -- `both_routeable` meets its contract: the start is asked first.
-use borrow.Author.Tests.{not-true, not-false}
-use mathlib.Core.Path.{sym, _∙_}
+use Rattle.basics.specs.Tests.{test-fails, test-passes}
 use borrow.Author.Needs.{needs}
 use Rattle.goals.proofs.search.both_routeable.Statement.{statement}
 use Rattle.goals.proofs.search.both_routeable.Tie as tie
@@ -12,7 +11,7 @@ routeable-kind-requires : tie.Need-routeable-kind-requires
 routeable-kind-requires c κs = search needs
 
 returns : tie.Need-returns
-returns c = rw (sym (c .before .routeable-kind .ensures) ∙ not-true _ (c .if1 .taken))
+returns c = rw (test-fails (c .before .routeable-kind .ensures) (c .if1 .taken))
 
 shared-slice-read-routeable-kind-2 : tie.Need-shared-slice-read-routeable-kind-2
 shared-slice-read-routeable-kind-2 c = search needs
@@ -21,7 +20,7 @@ routeable-kind-requires-2 : tie.Need-routeable-kind-requires-2
 routeable-kind-requires-2 c κs = search needs
 
 returns-2 : tie.Need-returns-2
-returns-2 c = rw (sym (c .before .before .before .routeable-kind .ensures) ∙ not-false _ (c .before .before .if1 .left)) (c .routeable-kind2 .ensures)
+returns-2 c = rw (test-passes (c .before .before .before .routeable-kind .ensures) (c .before .before .if1 .left)) (c .routeable-kind2 .ensures)
 
 pub both-routeable-spec : {M : Type 1} → statement M
 both-routeable-spec =

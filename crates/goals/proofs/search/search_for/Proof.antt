@@ -1,6 +1,6 @@
 -- `search_for` meets its contract: an end that may not hold wire ends the goal, else the search is that of the class bytes.
 use mathlib.Core.Path.{sym, _∙_}
-use borrow.Author.Tests.{not-true, not-false}
+use Rattle.basics.specs.Tests.{test-fails, test-passes}
 use Rattle.goals.specs.SearchLaws.{told-failed, told-searched}
 use borrow.Author.Needs.{needs}
 use Rattle.goals.proofs.search.search_for.Statement.{statement}
@@ -16,7 +16,7 @@ both-routeable-requires c κs = search needs
 returns : tie.Need-returns
 returns c =
     let pre = c .before .before .before .before .before .before .before .before .pre in
-    told-failed _ (pre .1 .0) (pre .0 .start-in) (pre .0 .goal-in) (sym (c .before .both-routeable .ensures) ∙ not-true _ (c .if1 .taken)) _
+    told-failed _ (pre .1 .0) (pre .0 .start-in) (pre .0 .goal-in) (test-fails (c .before .both-routeable .ensures) (c .if1 .taken)) _
 
 search-classes-requires : tie.Need-search-classes-requires
 search-classes-requires c κs = search needs
@@ -50,7 +50,7 @@ returns-2 c =
     let both-routeable = c .before .before .before .before .before .before .before .before .before .before .before .before .before .before .before .before .before .both-routeable in
     let if1 = c .before .before .before .before .before .before .before .before .before .before .before .before .before .before .before .before .if1 in
     let search-classes = c .before .before .before .before .before .before .before .before .before .before .before .before .search-classes in
-    told-searched _ (pre .1 .0) (pre .0 .start-in) (pre .0 .goal-in) (sym (both-routeable .ensures) ∙ not-false _ (if1 .left)) (search-classes .ensures) (search-classes .kept .1 .1 .1 .1 .0 ∙ pre .0 .previous-long) (c .before .before .tried-of .ensures)
+    told-searched _ (pre .1 .0) (pre .0 .start-in) (pre .0 .goal-in) (test-passes (both-routeable .ensures) (if1 .left)) (search-classes .ensures) (search-classes .kept .1 .1 .1 .1 .0 ∙ pre .0 .previous-long) (c .before .before .tried-of .ensures)
 
 pub search-for-spec : {M : Type 1} → statement M
 search-for-spec =

@@ -1,6 +1,6 @@
 -- `first_fault` meets its contract: the fault so far and the records that are left come to what is asked for.
-use mathlib.Core.Path.{refl, sym, _∙_}
-use borrow.Author.Tests.{not-true, not-false}
+use mathlib.Core.Path.{refl}
+use Rattle.basics.specs.Tests.{test-fails, test-passes}
 use native.Mathlib.Omega.{arith}
 use borrow.Author.Needs.{needs}
 use Rattle.job_sheet.specs.ScanLaws.{Scanned, size-few, scan-stop, scan-done, scan-on}
@@ -20,7 +20,7 @@ is-good-requires : tie.Need-is-good-requires Inv-loop μ-loop
 is-good-requires c κs = search needs
 
 returns : tie.Need-returns Inv-loop μ-loop
-returns c = scan-stop (c .before .before .before .loop .inv) (sym (c .before .is-good .ensures) ∙ not-true _ (c .if1 .taken))
+returns c = scan-stop (c .before .before .before .loop .inv) (test-fails (c .before .is-good .ensures) (c .if1 .taken))
 
 record-fault-requires : tie.Need-record-fault-requires Inv-loop μ-loop
 record-fault-requires c κs = omega (arith, c .before .before .before .loop .inv .inside, c .before .before .before .before .before .good)
@@ -38,7 +38,7 @@ loop-less : tie.Need-loop-less Inv-loop μ-loop
 loop-less c = omega arith
 
 loop-again : tie.Need-loop-again Inv-loop μ-loop
-loop-again c = scan-on (c .before .before .before .before .before .loop .inv) (sym (c .before .before .before .is-good .ensures) ∙ not-false _ (c .before .before .if1 .left)) (c .before .before .before .before .loop-test .taken) _ (c .before .record-fault .ensures) _ (c .size .ensures)
+loop-again c = scan-on (c .before .before .before .before .before .loop .inv) (test-passes (c .before .before .before .is-good .ensures) (c .before .before .if1 .left)) (c .before .before .before .before .loop-test .taken) _ (c .before .record-fault .ensures) _ (c .size .ensures)
 
 returns-2 : tie.Need-returns-2 Inv-loop μ-loop
 returns-2 c = scan-done (c .before .loop .inv) (c .loop-test .left)

@@ -2,7 +2,7 @@
 use mathlib.Core.Path.{sym, _∙_}
 use Rattle.stored.specs.Places.{cellsFrom}
 use Rattle.replay.specs.Verdicts.{verdictOf}
-use Rattle.stored.specs.TestLaws.{test-fails, test-passes}
+use Rattle.basics.specs.Tests.{test-fails, test-passes}
 use borrow.Author.Needs.{needs}
 use Rattle.replay.proofs.compare.judge.Statement.{statement}
 use Rattle.replay.proofs.compare.judge.Tie as tie

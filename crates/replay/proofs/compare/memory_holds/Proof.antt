@@ -1,6 +1,6 @@
 -- `memory_holds` meets its contract: the path, then work memory.
 use Rattle.replay.specs.Verdicts.{memoryHolds}
-use Rattle.stored.specs.TestLaws.{test-fails, test-passes}
+use Rattle.basics.specs.Tests.{test-fails, test-passes}
 use borrow.Author.Needs.{needs}
 use Rattle.replay.proofs.compare.memory_holds.Statement.{statement}
 use Rattle.replay.proofs.compare.memory_holds.Tie as tie

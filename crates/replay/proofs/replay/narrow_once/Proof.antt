@@ -1,7 +1,7 @@
 -- `narrow_once` meets its contract: the gap stays, or a run half way narrows it.
 use mathlib.Core.Path.{refl}
 use Rattle.stored.specs.Runs.{stays, halves}
-use Rattle.stored.specs.TestLaws.{test-fails, test-passes}
+use Rattle.basics.specs.Tests.{test-fails, test-passes}
 use borrow.Author.Needs.{needs}
 use Rattle.replay.proofs.replay.narrow_once.Statement.{statement}
 use Rattle.replay.proofs.replay.narrow_once.Tie as tie

@@ -1,6 +1,4 @@
 -- `stored_lengths` meets its contract.
-use mathlib.Core.Path.{refl}
-use Rattle.replay.specs.RunLaws.{lent-by}
 use borrow.Author.Needs.{needs}
 use Rattle.replay.proofs.replay.stored_lengths.Statement.{statement}
 use Rattle.replay.proofs.replay.stored_lengths.Tie as tie
@@ -9,7 +7,7 @@ twice-requires : tie.Need-twice-requires
 twice-requires c κs = search needs
 
 returns : tie.Need-returns
-returns c = lent-by refl (c .twice .ensures)
+returns c = rw (c .twice .ensures)
 
 pub stored-lengths-spec : {M : Type 1} → statement M
 stored-lengths-spec = tie.close (tie.spec twice-requires returns)

@@ -2,7 +2,7 @@
 use mathlib.Core.Path.{refl, sym, _∙_}
 use lib.Seq.{length-take-le, length-front}
 use Rattle.replay_sheets.specs.Verdicts.{too-long}
-use Rattle.stored.specs.TestLaws.{test-fails, test-passes}
+use Rattle.basics.specs.Tests.{test-fails, test-passes}
 use Rattle.replay_sheets.specs.VerdictLaws.{fits-branch, fits-cells, fits-queue, fits-again, front-fits, front-long, fronts-rubbish, fronts-by, ran-at}
 use borrow.Author.Needs.{needs}
 use Rattle.replay_sheets.proofs.attempt.run.Statement.{statement}

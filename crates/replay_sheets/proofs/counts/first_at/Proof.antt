@@ -1,7 +1,6 @@
 -- `first_at` meets its contract: the one comparison, where there is a place for it.
-use borrow.Author.Tests.{le-ltb}
-use Rattle.replay_sheets.specs.Counts.{firstAt}
-use Rattle.replay_sheets.specs.CountLaws.{first-in}
+use Rattle.replay_sheets.specs.Counts.{firstOf}
+use Rattle.replay_sheets.specs.CountLaws.{changed-in, changed-beyond}
 use borrow.Author.Needs.{needs}
 use Rattle.replay_sheets.proofs.counts.first_at.Statement.{statement}
 use Rattle.replay_sheets.proofs.counts.first_at.Tie as tie
@@ -22,11 +21,10 @@ array-write-first : tie.Need-array-write-first
 array-write-first c = search needs
 
 returns : tie.Need-returns
-returns c = first-in _ _ (c .before .before .args .sheet) (c .before .if1 .taken) (c .first-of .ensures)
+returns c = changed-in (λ first. firstOf first (c .before .before .args .sheet)) _ _ (c .before .if1 .taken) (c .first-of .ensures)
 
 returns-2 : tie.Need-returns-2
-unfolding firstAt
-returns-2 c = rw (le-ltb _ _ (c .if1 .left))
+returns-2 c = changed-beyond (λ first. firstOf first (c .before .args .sheet)) _ _ (c .if1 .left)
 
 pub first-at-spec : {M : Type 1} → statement M
 first-at-spec =

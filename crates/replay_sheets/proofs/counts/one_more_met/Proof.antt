@@ -1,7 +1,5 @@
 -- `one_more_met` meets its contract: the one count, where there is a place for it.
-use borrow.Author.Tests.{le-ltb}
-use Rattle.replay_sheets.specs.Counts.{oneMoreAt}
-use Rattle.replay_sheets.specs.CountLaws.{one-more-in}
+use Rattle.replay_sheets.specs.CountLaws.{changed-in, changed-beyond}
 use borrow.Author.Needs.{needs}
 use Rattle.replay_sheets.proofs.counts.one_more_met.Statement.{statement}
 use Rattle.replay_sheets.proofs.counts.one_more_met.Tie as tie
@@ -22,11 +20,10 @@ array-write-counts : tie.Need-array-write-counts
 array-write-counts c = search needs
 
 returns : tie.Need-returns
-returns c = one-more-in _ _ (c .before .if1 .taken) (c .one-more .ensures)
+returns c = changed-in _ _ _ (c .before .if1 .taken) (c .one-more .ensures)
 
 returns-2 : tie.Need-returns-2
-unfolding oneMoreAt
-returns-2 c = rw (le-ltb _ _ (c .if1 .left))
+returns-2 c = changed-beyond _ _ _ (c .if1 .left)
 
 pub one-more-met-spec : {M : Type 1} → statement M
 one-more-met-spec =

@@ -1,7 +1,7 @@
 -- `judge` meets its contract: as stored, or a buffer too short, or neither.
 use mathlib.Core.Path.{sym, _∙_}
 use Rattle.replay_sheets.specs.Verdicts.{verdictOf}
-use Rattle.stored.specs.TestLaws.{test-fails, test-passes}
+use Rattle.basics.specs.Tests.{test-fails, test-passes}
 use borrow.Author.Needs.{needs}
 use Rattle.replay_sheets.proofs.judging.judge.Statement.{statement}
 use Rattle.replay_sheets.proofs.judging.judge.Tie as tie

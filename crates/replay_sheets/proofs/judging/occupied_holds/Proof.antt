@@ -1,6 +1,6 @@
 -- `occupied_holds` meets its contract: nothing touched, or the marks, then their count.
 use Rattle.replay_sheets.specs.Verdicts.{occupiedHolds}
-use Rattle.stored.specs.TestLaws.{test-fails, test-passes}
+use Rattle.basics.specs.Tests.{test-fails, test-passes}
 use borrow.Author.Needs.{needs}
 use Rattle.replay_sheets.proofs.judging.occupied_holds.Statement.{statement}
 use Rattle.replay_sheets.proofs.judging.occupied_holds.Tie as tie

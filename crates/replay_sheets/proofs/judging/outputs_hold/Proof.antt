@@ -1,6 +1,6 @@
 -- `outputs_hold` meets its contract, output by output.
 use Rattle.replay_sheets.specs.Verdicts.{outputsHold}
-use Rattle.stored.specs.TestLaws.{test-fails, test-passes}
+use Rattle.basics.specs.Tests.{test-fails, test-passes}
 use borrow.Author.Needs.{needs}
 use Rattle.replay_sheets.proofs.judging.outputs_hold.Statement.{statement}
 use Rattle.replay_sheets.proofs.judging.outputs_hold.Tie as tie

@@ -1,6 +1,6 @@
 -- `same_answer` meets its contract: how it ended, then the lengths.
 use Rattle.replay_sheets.specs.Verdicts.{sameAnswer}
-use Rattle.stored.specs.TestLaws.{test-fails, test-passes}
+use Rattle.basics.specs.Tests.{test-fails, test-passes}
 use borrow.Author.Needs.{needs}
 use Rattle.replay_sheets.proofs.judging.same_answer.Statement.{statement}
 use Rattle.replay_sheets.proofs.judging.same_answer.Tie as tie

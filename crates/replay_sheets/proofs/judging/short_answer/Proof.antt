@@ -1,7 +1,7 @@
 -- `short_answer` meets its contract: how it ended, then that there are no lengths.
 use mathlib.Core.Path.{ap, _∙_}
 use Rattle.replay_sheets.specs.Verdicts.{sameLengths, shortAnswer}
-use Rattle.stored.specs.TestLaws.{test-fails, test-passes}
+use Rattle.basics.specs.Tests.{test-fails, test-passes}
 use borrow.Author.Needs.{needs}
 use Rattle.replay_sheets.proofs.judging.short_answer.Statement.{statement}
 use Rattle.replay_sheets.proofs.judging.short_answer.Tie as tie

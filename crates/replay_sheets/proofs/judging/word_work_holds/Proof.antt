@@ -1,6 +1,6 @@
 -- `word_work_holds` meets its contract, buffer by buffer.
 use Rattle.stored.specs.Memory.{fourHold}
-use Rattle.stored.specs.TestLaws.{test-fails, test-passes}
+use Rattle.basics.specs.Tests.{test-fails, test-passes}
 use borrow.Author.Needs.{needs}
 use Rattle.replay_sheets.proofs.judging.word_work_holds.Statement.{statement}
 use Rattle.replay_sheets.proofs.judging.word_work_holds.Tie as tie

@@ -1,6 +1,6 @@
 -- `work_holds` meets its contract: bytes, words, and the queue.
 use Rattle.replay_sheets.specs.Verdicts.{workHolds}
-use Rattle.stored.specs.TestLaws.{test-fails, test-passes}
+use Rattle.basics.specs.Tests.{test-fails, test-passes}
 use borrow.Author.Needs.{needs}
 use Rattle.replay_sheets.proofs.judging.work_holds.Statement.{statement}
 use Rattle.replay_sheets.proofs.judging.work_holds.Tie as tie

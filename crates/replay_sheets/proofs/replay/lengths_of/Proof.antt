@@ -1,7 +1,6 @@
 -- `lengths_of` meets its contract: longer buffers, or the comparison's own.
 use borrow.Author.Tests.{eq-eqb, ne-eqb}
 use Rattle.replay_sheets.specs.Runs.{lengthsFor}
-use Rattle.replay_sheets.specs.RunLaws.{lent-by}
 use borrow.Author.Needs.{needs}
 use Rattle.replay_sheets.proofs.replay.lengths_of.Statement.{statement}
 use Rattle.replay_sheets.proofs.replay.lengths_of.Tie as tie
@@ -21,7 +20,7 @@ twice-requires c κs = search needs
 
 returns-2 : tie.Need-returns-2
 unfolding lengthsFor
-returns-2 c = rw (ne-eqb _ _ (c .before .before .if1 .left)) (lent-by (c .before .branch-of .ensures) (c .twice .ensures))
+returns-2 c = rw (ne-eqb _ _ (c .before .before .if1 .left), c .before .branch-of .ensures, c .twice .ensures)
 
 pub lengths-of-spec : {M : Type 1} → statement M
 lengths-of-spec =

@@ -1,6 +1,6 @@
 -- `narrow_once` meets its contract: the gap stays, or a run half way narrows it.
-use mathlib.Core.Path.{refl, sym, _∙_}
-use borrow.Author.Tests.{not-true, not-false}
+use mathlib.Core.Path.{refl}
+use Rattle.basics.specs.Tests.{test-fails, test-passes}
 use Rattle.stored.specs.Runs.{stays, halves}
 use borrow.Author.Needs.{needs}
 use Rattle.replay_sheets.proofs.replay.narrow_once.Statement.{statement}
@@ -10,7 +10,7 @@ is-open-requires : tie.Need-is-open-requires
 is-open-requires c κs = search needs
 
 returns : tie.Need-returns
-returns c = stays (sym (c .before .is-open .ensures) ∙ not-true _ (c .if1 .taken)) refl
+returns c = stays (test-fails (c .before .is-open .ensures) (c .if1 .taken)) refl
 
 middle-requires : tie.Need-middle-requires
 middle-requires c κs = search needs
@@ -28,7 +28,7 @@ same-length : tie.Need-same-length
 same-length c = search needs
 
 returns-2 : tie.Need-returns-2
-returns-2 c = halves (sym (c .before .before .before .before .before .before .before .before .is-open .ensures) ∙ not-false _ (c .before .before .before .before .before .before .before .if1 .left)) _ (c .before .before .before .before .before .before .middle .ensures) _ (c .before .before .before .before .before .twice .ensures) _ (c .before .before .before .run .ensures) (c .narrowed .ensures)
+returns-2 c = halves (test-passes (c .before .before .before .before .before .before .before .before .is-open .ensures) (c .before .before .before .before .before .before .before .if1 .left)) _ (c .before .before .before .before .before .before .middle .ensures) _ (c .before .before .before .before .before .twice .ensures) _ (c .before .before .before .run .ensures) (c .narrowed .ensures)
 
 pub narrow-once-spec : {M : Type 1} → statement M
 narrow-once-spec =

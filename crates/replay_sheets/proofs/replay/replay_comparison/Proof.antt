@@ -1,6 +1,6 @@
 -- `replay_comparison` meets its contract: a comparison that is not due, or one that is.
 use mathlib.Core.Path.{refl}
-use Rattle.stored.specs.TestLaws.{test-fails, test-passes}
+use Rattle.basics.specs.Tests.{test-fails, test-passes}
 use Rattle.replay_sheets.specs.Replays.{not-due, is-due}
 use borrow.Author.Needs.{needs}
 use Rattle.replay_sheets.proofs.replay.replay_comparison.Statement.{statement}

@@ -1,6 +1,5 @@
 -- `Room::ahead` meets its contract: a facing's flat move is one of the moves.
-use mathlib.Core.Path.{sym, _∙_}
-use borrow.Author.Tests.{not-true, not-false}
+use Rattle.basics.specs.Tests.{test-fails, test-passes}
 use Rattle.room.specs.Units.{ahead}
 use Rattle.room.specs.MoveLaws.{small, facing-in}
 use borrow.Author.Needs.{needs}
@@ -12,7 +11,7 @@ facing-horizontal-requires c κs = search needs
 
 returns : tie.Need-returns
 unfolding ahead
-returns c = rw (sym (c .before .facing-horizontal .ensures) ∙ not-true _ (c .if1 .taken))
+returns c = rw (test-fails (c .before .facing-horizontal .ensures) (c .if1 .taken))
 
 facing-move-requires : tie.Need-facing-move-requires
 facing-move-requires c κs = search needs
@@ -22,7 +21,7 @@ neighbour-requires c κs = let s = small _ (facing-in (c .before .before .before
 
 returns-2 : tie.Need-returns-2
 unfolding ahead
-returns-2 c = rw (sym (c .before .before .before .facing-horizontal .ensures) ∙ not-false _ (c .before .before .if1 .left), c .neighbour .ensures, c .before .facing-move .ensures)
+returns-2 c = rw (test-passes (c .before .before .before .facing-horizontal .ensures) (c .before .before .if1 .left), c .neighbour .ensures, c .before .facing-move .ensures)
 
 pub ahead-spec : {M : Type 1} → statement M
 ahead-spec =

@@ -3,8 +3,9 @@ use native.Mathlib.Omega.{arith}
 use mathlib.Core.Path.{sym, _∙_}
 use Prim.Native.Nat.{_+_, _-_, _*_}
 use lib.ListN.{getD}
-use Rattle.room_search.specs.TryLaws.{out-below, out-above, landed, placed-small, rise-few, tried-out, tried-shut, tried-offered}
+use Rattle.room_search.specs.TryLaws.{out-level, landed, placed-small, rise-few, tried-out, tried-shut, tried-offered}
 use borrow.Author.Needs.{needs}
+use Rattle.room.specs.RoomLaws.{between-below, between-above}
 use Rattle.room_search.proofs.expand.try_move.Statement.{statement}
 use Rattle.room_search.specs.GraphLaws.{price-low, dearest-most}
 use Rattle.room_search.proofs.expand.try_move.Tie as tie
@@ -13,10 +14,10 @@ add-y : tie.Need-add-y
 add-y c = let s = c .before .before .before .before .before .before in let a = s .args in let p = s .pre .0 in let q = s .pre .1 .0 in let w = placed-small (a .room) (p .good) (a .beside) (q .there) in record { fits = omega (arith, w .y-small, s .pre .1 .1) }
 
 returns : tie.Need-returns
-returns c = let s = c .before .before .before .before .before .before .before in let a = s .args in let p = s .pre .0 in let q = s .pre .1 .0 in tried-out (a .room) (a .config) (a .classes .now) (a .goal) (a .from) (a .cost) (a .known .now) (a .previous .now) (a .queue .now) (a .line) (p .ready) (a .m) (out-below (a .room) (p .good) (a .from) (a .beside) (a .m) (p .from-placed) q (c .if1 .taken))
+returns c = let s = c .before .before .before .before .before .before .before in let a = s .args in let p = s .pre .0 in let q = s .pre .1 .0 in tried-out (a .room) (a .config) (a .classes .now) (a .goal) (a .from) (a .cost) (a .known .now) (a .previous .now) (a .queue .now) (a .line) (p .ready) (a .m) (out-level (a .room) (p .good) (a .from) (a .beside) (a .m) (p .from-placed) q (between-below _ _ _ (c .if1 .taken)))
 
 returns-2 : tie.Need-returns-2
-returns-2 c = let s = c .before .before .before .before .before .before .before .before .before in let a = s .args in let p = s .pre .0 in let q = s .pre .1 .0 in tried-out (a .room) (a .config) (a .classes .now) (a .goal) (a .from) (a .cost) (a .known .now) (a .previous .now) (a .queue .now) (a .line) (p .ready) (a .m) (out-above (a .room) (p .good) (a .from) (a .beside) (a .m) (p .from-placed) q (c .if2 .taken))
+returns-2 c = let s = c .before .before .before .before .before .before .before .before .before in let a = s .args in let p = s .pre .0 in let q = s .pre .1 .0 in tried-out (a .room) (a .config) (a .classes .now) (a .goal) (a .from) (a .cost) (a .known .now) (a .previous .now) (a .queue .now) (a .line) (p .ready) (a .m) (out-level (a .room) (p .good) (a .from) (a .beside) (a .m) (p .from-placed) q (between-above 1 _ _ (c .if2 .taken)))
 
 mul-cell : tie.Need-mul-cell
 mul-cell c = let s = c .before .before .before .before .before .before .before .before .before .before .before in let a = s .args in let p = s .pre .0 in let q = s .pre .1 .0 in record { fits = omega (arith, rise-few (a .room) (p .good) (a .m .y) (s .pre .1 .1)) }

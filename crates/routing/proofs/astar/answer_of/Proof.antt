@@ -1,5 +1,6 @@
 -- `answer_of` meets its contract: each outcome is the definition's answer.
-use Rattle.routing.specs.EntryLaws.{shown-route, shown-none, shown-limit, shown-full}
+use mathlib.Core.Path.{refl}
+use Rattle.routing.specs.EntryLaws.{shown-route, shown-bare}
 use borrow.Author.Needs.{needs}
 use Rattle.routing.proofs.astar.answer_of.Statement.{statement}
 use Rattle.routing.proofs.astar.answer_of.Tie as tie
@@ -26,13 +27,13 @@ returns : tie.Need-returns
 returns c = let s = c .before .before .before .before .before .before .before .before .before .before in let p = s .pre in record { shows = λ T v g F. shown-route v g (p .1 .0) (rw (c .before .before .before .before .before .outcome .given .1) at F) (c .before .before .show-route .ensures) }
 
 returns-2 : tie.Need-returns-2
-returns-2 c = let s = c .before .before .before .before .before .before in let p = s .pre in record { shows = λ T v g F. shown-none v g (p .1 .0) _ (rw (c .before .outcome2 .given .1) at F) }
+returns-2 c = let s = c .before .before .before .before .before .before in let p = s .pre in record { shows = λ T v g F. shown-bare T (p .1 .0) ((rw (c .before .outcome2 .given .1) at F) .told) refl }
 
 returns-3 : tie.Need-returns-3
-returns-3 c = let s = c .before .before .before .before .before .before in let p = s .pre in record { shows = λ T v g F. shown-limit v g (p .1 .0) _ (rw (c .before .outcome3 .given .1) at F) }
+returns-3 c = let s = c .before .before .before .before .before .before in let p = s .pre in record { shows = λ T v g F. shown-bare T (p .1 .0) ((rw (c .before .outcome3 .given .1) at F) .told) refl }
 
 returns-4 : tie.Need-returns-4
-returns-4 c = let s = c .before .before .before .before .before .before in let p = s .pre in record { shows = λ T v g F. shown-full v g (p .1 .0) _ (rw (c .before .outcome4 .given .1) at F) }
+returns-4 c = let s = c .before .before .before .before .before .before in let p = s .pre in record { shows = λ T v g F. shown-bare T (p .1 .0) ((rw (c .before .outcome4 .given .1) at F) .told) refl }
 
 pub answer-of-spec : {M : Type 1} → statement M
 answer-of-spec =

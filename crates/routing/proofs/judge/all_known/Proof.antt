@@ -1,7 +1,7 @@
 -- `all_known` meets its contract. The loop's invariant: whether all are known is whether those from i on are.
 use borrow.Author.Needs.{needs}
-use borrow.Author.Tests.{not-true, not-false}
-use mathlib.Core.Path.{_≡_, refl, sym, _∙_}
+use Rattle.basics.specs.Tests.{test-fails, test-passes}
+use mathlib.Core.Path.{_≡_, refl, _∙_}
 use Prim.Native.Nat.{_-_}
 use lib.ListN.{drop}
 use Rattle.basics.specs.Lists.{every, every-passed, every-failed, every-end}
@@ -25,7 +25,7 @@ kind-known-requires : tie.Need-kind-known-requires Inv-loop μ-loop
 kind-known-requires c κs = search needs
 
 returns : tie.Need-returns Inv-loop μ-loop
-returns c = every-failed kindKnown (c .before .before .before .before .before .before .args .kinds .now) (c .before .before .before .before .loop .i) (c .before .before .before .loop-test .taken) (sym (c .before .kind-known .ensures) ∙ not-true _ (c .if1 .taken)) ∙ c .before .before .before .before .loop .inv
+returns c = every-failed kindKnown (c .before .before .before .before .before .before .args .kinds .now) (c .before .before .before .before .loop .i) (c .before .before .before .loop-test .taken) (test-fails (c .before .kind-known .ensures) (c .if1 .taken)) ∙ c .before .before .before .before .loop .inv
 
 add-i : tie.Need-add-i Inv-loop μ-loop
 add-i c = search needs
@@ -34,7 +34,7 @@ loop-less : tie.Need-loop-less Inv-loop μ-loop
 loop-less c = search needs
 
 loop-again : tie.Need-loop-again Inv-loop μ-loop
-loop-again c = every-passed kindKnown (c .before .before .before .before .before .before .args .kinds .now) (c .before .before .before .before .loop .i) (c .before .before .before .loop-test .taken) (sym (c .before .kind-known .ensures) ∙ not-false _ (c .if1 .left)) ∙ c .before .before .before .before .loop .inv
+loop-again c = every-passed kindKnown (c .before .before .before .before .before .before .args .kinds .now) (c .before .before .before .before .loop .i) (c .before .before .before .loop-test .taken) (test-passes (c .before .kind-known .ensures) (c .if1 .left)) ∙ c .before .before .before .before .loop .inv
 
 returns-2 : tie.Need-returns-2 Inv-loop μ-loop
 returns-2 c = every-end kindKnown (c .before .before .before .args .kinds .now) (c .before .loop .i) (c .loop-test .left) ∙ c .before .loop .inv

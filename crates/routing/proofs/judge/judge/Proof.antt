@@ -1,6 +1,5 @@
 -- `judge` meets its contract: its tests are the definition's, in its order.
-use borrow.Author.Tests.{not-true, not-false}
-use mathlib.Core.Path.{sym, _∙_}
+use Rattle.basics.specs.Tests.{test-fails, test-passes}
 use Rattle.room.specs.RoomLaws.{good}
 use Rattle.routing.specs.Answers.{judged}
 use borrow.Author.Needs.{needs}
@@ -12,39 +11,39 @@ good-requires c κs = search needs
 
 returns : tie.Need-returns
 unfolding judged
-returns c = rw (sym (c .before .good2 .ensures) ∙ not-true _ (c .if1 .taken))
+returns c = rw (test-fails (c .before .good2 .ensures) (c .if1 .taken))
 
 good-requires-2 : tie.Need-good-requires-2
 good-requires-2 c κs = search needs
 
 returns-2 : tie.Need-returns-2
 unfolding judged
-returns-2 c = rw (sym (c .before .before .before .good2 .ensures) ∙ not-false _ (c .before .before .if1 .left), sym (c .before .good3 .ensures) ∙ not-true _ (c .if2 .taken))
+returns-2 c = rw (test-passes (c .before .before .before .good2 .ensures) (c .before .before .if1 .left), test-fails (c .before .good3 .ensures) (c .if2 .taken))
 
 buffers-good-requires : tie.Need-buffers-good-requires
-buffers-good-requires c κs = good (c .before .before .before .before .before .args .room) (sym (c .before .before .before .good2 .ensures) ∙ not-false _ (c .before .before .if1 .left))
+buffers-good-requires c κs = good (c .before .before .before .before .before .args .room) (test-passes (c .before .before .before .good2 .ensures) (c .before .before .if1 .left))
 
 returns-3 : tie.Need-returns-3
 unfolding judged
-returns-3 c = rw (sym (c .before .before .before .before .before .good2 .ensures) ∙ not-false _ (c .before .before .before .before .if1 .left), sym (c .before .before .before .good3 .ensures) ∙ not-false _ (c .before .before .if2 .left), sym (c .before .buffers-good .ensures) ∙ not-true _ (c .if3 .taken))
+returns-3 c = rw (test-passes (c .before .before .before .before .before .good2 .ensures) (c .before .before .before .before .if1 .left), test-passes (c .before .before .before .good3 .ensures) (c .before .before .if2 .left), test-fails (c .before .buffers-good .ensures) (c .if3 .taken))
 
 all-known-requires : tie.Need-all-known-requires
 all-known-requires c κs = search needs
 
 returns-4 : tie.Need-returns-4
 unfolding judged
-returns-4 c = rw (sym (c .before .before .before .before .before .before .before .good2 .ensures) ∙ not-false _ (c .before .before .before .before .before .before .if1 .left), sym (c .before .before .before .before .before .good3 .ensures) ∙ not-false _ (c .before .before .before .before .if2 .left), sym (c .before .before .before .buffers-good .ensures) ∙ not-false _ (c .before .before .if3 .left), sym (c .before .all-known .ensures) ∙ not-true _ (c .if4 .taken))
+returns-4 c = rw (test-passes (c .before .before .before .before .before .before .before .good2 .ensures) (c .before .before .before .before .before .before .if1 .left), test-passes (c .before .before .before .before .before .good3 .ensures) (c .before .before .before .before .if2 .left), test-passes (c .before .before .before .buffers-good .ensures) (c .before .before .if3 .left), test-fails (c .before .all-known .ensures) (c .if4 .taken))
 
 ends-inside-requires : tie.Need-ends-inside-requires
-ends-inside-requires c κs = good (c .before .before .before .before .before .before .before .before .before .args .room) (sym (c .before .before .before .before .before .before .before .good2 .ensures) ∙ not-false _ (c .before .before .before .before .before .before .if1 .left))
+ends-inside-requires c κs = good (c .before .before .before .before .before .before .before .before .before .args .room) (test-passes (c .before .before .before .before .before .before .before .good2 .ensures) (c .before .before .before .before .before .before .if1 .left))
 
 returns-5 : tie.Need-returns-5
 unfolding judged
-returns-5 c = rw (sym (c .before .before .before .before .before .before .before .before .before .good2 .ensures) ∙ not-false _ (c .before .before .before .before .before .before .before .before .if1 .left), sym (c .before .before .before .before .before .before .before .good3 .ensures) ∙ not-false _ (c .before .before .before .before .before .before .if2 .left), sym (c .before .before .before .before .before .buffers-good .ensures) ∙ not-false _ (c .before .before .before .before .if3 .left), sym (c .before .before .before .all-known .ensures) ∙ not-false _ (c .before .before .if4 .left), sym (c .before .ends-inside .ensures) ∙ not-true _ (c .if5 .taken))
+returns-5 c = rw (test-passes (c .before .before .before .before .before .before .before .before .before .good2 .ensures) (c .before .before .before .before .before .before .before .before .if1 .left), test-passes (c .before .before .before .before .before .before .before .good3 .ensures) (c .before .before .before .before .before .before .if2 .left), test-passes (c .before .before .before .before .before .buffers-good .ensures) (c .before .before .before .before .if3 .left), test-passes (c .before .before .before .all-known .ensures) (c .before .before .if4 .left), test-fails (c .before .ends-inside .ensures) (c .if5 .taken))
 
 returns-6 : tie.Need-returns-6
 unfolding judged
-returns-6 c = rw (sym (c .before .before .before .before .before .before .before .before .before .good2 .ensures) ∙ not-false _ (c .before .before .before .before .before .before .before .before .if1 .left), sym (c .before .before .before .before .before .before .before .good3 .ensures) ∙ not-false _ (c .before .before .before .before .before .before .if2 .left), sym (c .before .before .before .before .before .buffers-good .ensures) ∙ not-false _ (c .before .before .before .before .if3 .left), sym (c .before .before .before .all-known .ensures) ∙ not-false _ (c .before .before .if4 .left), sym (c .before .ends-inside .ensures) ∙ not-false _ (c .if5 .left))
+returns-6 c = rw (test-passes (c .before .before .before .before .before .before .before .before .before .good2 .ensures) (c .before .before .before .before .before .before .before .before .if1 .left), test-passes (c .before .before .before .before .before .before .before .good3 .ensures) (c .before .before .before .before .before .before .if2 .left), test-passes (c .before .before .before .before .before .buffers-good .ensures) (c .before .before .before .before .if3 .left), test-passes (c .before .before .before .all-known .ensures) (c .before .before .if4 .left), test-passes (c .before .ends-inside .ensures) (c .if5 .left))
 
 pub judge-spec : {M : Type 1} → statement M
 judge-spec =

@@ -1,8 +1,7 @@
 -- `covers` meets its contract: the law of the testing loop.
-use mathlib.Core.Path.{sym, _∙_}
 use Prim.Native.Nat.{_-_}
 use lib.ListN.{length}
-use borrow.Author.Tests.{not-true, not-false}
+use Rattle.basics.specs.Tests.{test-fails, test-passes}
 use Rattle.stored.specs.Memory.{coversAt, covers}
 use Rattle.stored.specs.MemoryLaws.{Passed, passed-none, passed-next, passed-failed, passed-all}
 use borrow.Author.Needs.{needs}
@@ -26,7 +25,7 @@ covers-at-requires c κs = search needs
 
 returns : tie.Need-returns Inv-loop μ-loop
 unfolding covers
-returns c = passed-failed (c .before .before .before .before .loop .inv) (c .before .before .before .loop-test .taken) (sym (c .before .covers-at .ensures) ∙ not-true _ (c .if1 .taken))
+returns c = passed-failed (c .before .before .before .before .loop .inv) (c .before .before .before .loop-test .taken) (test-fails (c .before .covers-at .ensures) (c .if1 .taken))
 
 add-i : tie.Need-add-i Inv-loop μ-loop
 add-i c = search needs
@@ -35,7 +34,7 @@ loop-less : tie.Need-loop-less Inv-loop μ-loop
 loop-less c = search needs
 
 loop-again : tie.Need-loop-again Inv-loop μ-loop
-loop-again c = passed-next (c .before .before .before .before .loop .inv) (c .before .before .before .loop-test .taken) (sym (c .before .covers-at .ensures) ∙ not-false _ (c .if1 .left))
+loop-again c = passed-next (c .before .before .before .before .loop .inv) (c .before .before .before .loop-test .taken) (test-passes (c .before .covers-at .ensures) (c .if1 .left))
 
 returns-2 : tie.Need-returns-2 Inv-loop μ-loop
 unfolding covers
