@@ -69,7 +69,7 @@ module _ {X : Type 0} (f : Block → X) (none : X) (R : Room) where
 
 -- ---- where nothing repeats
 
--- at most as much is less, or the same, of which the rest may speak
+-- a number that is not more than another is less, or it is the same and what decides between equals is told
 pub less-or-same : {X : Type 0} {a b : ℕ} → a ≤ b → X → (a < b) ⊎ ((a ≡ b) × X)
 less-or-same {a = a} {b = b} h x = askLess a b inl (λ k. inr (omega arith, x))
 
