@@ -59,6 +59,10 @@ longestBranch = maxVolume + 1
 abbrev pub branchLengths : List (List ℕ) → BranchLengths
 branchLengths bs = record { count = length bs; each = map length bs ++ replicate (maxSinks - length bs) 0 }
 
+-- so many sinks, none of which has a branch
+abbrev pub noLengths : ℕ → BranchLengths
+noLengths count = record { count = count; each = replicate maxSinks 0 }
+
 -- the lengths of the branches, as many as there are
 abbrev pub lengthsIn : BranchLengths → List ℕ
 lengthsIn L = take (L .count) (L .each)

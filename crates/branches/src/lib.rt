@@ -8,12 +8,22 @@ ghost use lib.ListN.{length, take, drop};
 ghost use Rattle.job_sheet.specs.Sheet.{maxSinks};
 ghost use Rattle.routing_resources.specs.Marks.{markedBy, CellsBelow};
 ghost use Rattle.geometry.specs.Geometry.{standsIn};
-ghost use Rattle.branches.specs.Branches.{branchOf, branchLength, inserted, markedCount, sum, Short};
+ghost use Rattle.branches.specs.Branches.{branchOf, branchLength, noLengths, inserted, markedCount, sum, Short};
 
 // How long each sink's branch is, in sheet order, 0 for a sink that has none yet; as one value with the sinks' count.
 pub struct BranchLengths {
     pub count: usize,
     pub each: [usize; 16],
+}
+
+// So many sinks, none of which has a branch.
+pub fn no_lengths(count: usize) -> BranchLengths
+    ensures { λ r. ⌜ r ≡ noLengths count ⌝ }
+{
+    BranchLengths {
+        count,
+        each: [0; 16],
+    }
 }
 
 // How long a branch is whose path has so many cells: the terminal is one more if it differs from the approach.

@@ -21,7 +21,7 @@ use Rattle.best_first.specs.Search
 use Rattle.best_first.specs.Ways.{Step, Way}
 use Rattle.room_search.specs.Routing.{Task, routeable, bearing, classFor, entering, total, priceOf, moveInto, movesBy, graphOf, graph}
 use Rattle.room_search.specs.GraphLaws.{step-by}
-use Rattle.room_search.specs.Lawful.{supportOf, LawfulStep, stepCost, Leads, costFrom}
+use Rattle.demands.specs.Lawful.{supportOf, LawfulStep, stepCost, Leads, costFrom}
 
 -- ---- what a cell's class says
 

@@ -1,3 +1,4 @@
+pub mod Lawful
 pub mod Statements
 pub mod Theorems
 pub mod Samples

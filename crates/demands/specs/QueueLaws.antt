@@ -90,31 +90,26 @@ module _ (S : Site) (G : Good (S .room)) (start : ℕ) (start-in : start < volum
 -- ---- the tree
 
 module _ (P : Plot) (G : Good (P .room)) (N : NetIn (P .room) (P .source) (P .taps)) (D : Priced (P .config)) (wide : 5 * (volume (P .room) - 1) ≤ P .places) where
-  turn-not-full : (turn : ℕ) (T : Tree) (x : ℕ) → growSink P (sinkNow P turn) T ≢ stopped 13 x
+  sink-not-full : (k : ℕ) → k < P .taps .count → (T : Tree) (x : ℕ) → growSink P k T ≢ stopped 13 x
   unfolding growSink afterSink
-  turn-not-full turn T x e = go (sinkNow P turn) refl e
+  sink-not-full k h T x e = go _ refl e
     where
-      routed : (j : ℕ) → j < P .taps .count → (trial : Trial) → routeToTree (siteAt P (T .joinable)) (tapAt P j .approach) (T .blocked) ≡ trial
-          → afterSink P j T trial ≡ stopped 13 x → ⊥
-      routed j h (found path cost) w q = ask (fitsIn P T (branchOf (tapAt P j) path)) (λ t. never (cc (rw t at q))) (λ f. never (cc (rw f at q)))
-      routed j h failed w q = never (cc)
-      routed j h (full y) w q = route-not-full (siteAt P (T .joinable)) G (tapAt P j .approach) (N .taps-in .approach-in j h) D wide (T .blocked) y w
+      go : (trial : Trial) → routeToTree (siteAt P (T .joinable)) (tapAt P k .approach) (T .blocked) ≡ trial → afterSink P k T trial ≡ stopped 13 x → ⊥
+      go (found path cost) w q = ask (fitsIn P T (branchOf (tapAt P k) path)) (λ t. never (cc (rw t at q))) (λ f. never (cc (rw f at q)))
+      go failed w q = never (cc)
+      go (full y) w q = route-not-full (siteAt P (T .joinable)) G (tapAt P k .approach) (N .taps-in .approach-in k h) D wide (T .blocked) y w
 
-      go : (s : Neighbour) → sinkNow P turn ≡ s → growSink P s T ≡ stopped 13 x → ⊥
-      go (Inside j) w q = routed j (sink-now P turn j w .0) _ refl q
-      go Outside w q = never (cc)
-
-  turns-not-full : (n turn : ℕ) (T : Tree) (x : ℕ) → growFrom n P turn T ≢ stopped 13 x
+  turns-not-full : (n turn : ℕ) → turn + n ≤ P .taps .count → (T : Tree) (x : ℕ) → growFrom n P turn T ≢ stopped 13 x
   unfolding growFrom
-  turns-not-full zero turn T x e = never (cc)
-  turns-not-full (suc n) turn T x e = go (growSink P (sinkNow P turn) T) refl e (turns-not-full n (turn + 1))
+  turns-not-full zero turn h T x e = never (cc)
+  turns-not-full (suc n) turn h T x e = go (growSink P (sinkNow P turn) T) refl e (turns-not-full n (turn + 1) (omega arith))
     where
       go : (g : Growth) → growSink P (sinkNow P turn) T ≡ g → growOn (growFrom n P (turn + 1)) g ≡ stopped 13 x
           → ((T′ : Tree) (y : ℕ) → growFrom n P (turn + 1) T′ ≢ stopped 13 y) → ⊥
       go (grown T′) w q later = later T′ x q
-      go (stopped number detail) w q later = turn-not-full turn T x (rw w q)
+      go (stopped number detail) w q later = sink-not-full (sinkNow P turn) (sink-now P turn _ refl (omega arith) .0) T x (rw w q)
 
   -- number 13 never comes of such a tree
   pub tree-not-full : (blocked : List ℕ) (x : ℕ) → growthOf P blocked ≢ stopped 13 x
   unfolding growthOf
-  tree-not-full blocked x e = turns-not-full (P .taps .count) 0 _ x e
+  tree-not-full blocked x e = turns-not-full (P .taps .count) 0 (omega arith) _ x e

@@ -8,7 +8,7 @@ use Prim.Native.Nat.{ℕ, _*_, _≤_, _<_}
 use Rattle.room.specs.declared.RouterConfig.{RouterConfig}
 use Rattle.room.specs.Room.{Good, volume}
 use Rattle.room_search.specs.Routing.{Task, routeable}
-use Rattle.room_search.specs.Lawful.{LawfulWay, wayCost}
+use Rattle.demands.specs.Lawful.{LawfulWay, wayCost}
 use Rattle.routing.specs.declared.Answer.{Answer}
 use Rattle.routing.specs.declared.Answer.the-variants.{Routed, Refused, NotRouteable, NoRoute, LimitPassed, QueueFull}
 use Rattle.routing.specs.Answers.{Input, taskOf, answerOf, numberOf, routeCost, cellsFor}

@@ -16,7 +16,7 @@ use Rattle.best_first.specs.Theorems as any-graph
 use Rattle.routing.specs.declared.Judgement.the-variants.{Fit}
 use Rattle.room_search.specs.Routing.{Task, routeable, entering, graphOf, graph, searched}
 use Rattle.room_search.specs.GraphLaws.{dearest, sound, consistent}
-use Rattle.room_search.specs.Lawful.{LawfulStep, stepCost, LawfulWay, wayCost}
+use Rattle.demands.specs.Lawful.{LawfulStep, stepCost, LawfulWay, wayCost}
 use Rattle.routing.specs.Answers.{Input, taskOf, judged, answered, fitAnswer, answerOf, routeCost, cellsFor}
 use Rattle.routing.specs.PromiseLaws.{roomy}
 use Rattle.demands.specs.Statements.{Ready, Priced, Ample, Lawful, Cheapest, NoLawfulWay, Meaning}

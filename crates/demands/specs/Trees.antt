@@ -10,8 +10,7 @@ use native.Mathlib.Omega.{arith}
 use lib.Dec.{eqb}
 use lib.ListN.{length}
 use lib.Seq.{getD-set-same, getD-set-other}
-use borrow.Author.Tests.{eqb-true, eqb-false}
-use Rattle.basics.specs.Tests.{ask, never}
+use Rattle.basics.specs.Tests.{ask, askSame, never}
 use Rattle.room.specs.declared.Neighbour.{Neighbour}
 use Rattle.room.specs.declared.Neighbour.the-variants.{Inside, Outside}
 use Rattle.room.specs.Room.{Good, volume}
@@ -31,7 +30,7 @@ use Rattle.branches.specs.Branches.{branchOf}
 use Rattle.multinet.specs.Tree.{Plot, Tree, Growth, grown, stopped, tapAt, siteAt, sinkNow, planted, withBranch, fitsIn, afterSink, growSink, growOn, growFrom, growthOf}
 use Rattle.multinet.specs.Growing.{SoundPlot, turnIn, branchIn}
 use Rattle.multinet.specs.GrowthLaws.{same-tree, turn-more, turns-count, growth-count}
-use Rattle.multinet.specs.GrowingLaws.{sink-now, other-turn, no-turn}
+use Rattle.multinet.specs.GrowingLaws.{sink-now, other-turn}
 use Rattle.net_tree.specs.declared.Lengths.{Lengths}
 use Rattle.net_tree.specs.declared.Answer as trees
 use Rattle.net_tree.specs.declared.Ended.the-variants.{Routed, Refused}
@@ -158,63 +157,60 @@ module _ (P : Plot) (S : SoundPlot P) (blocked : List ℕ) where
     so-far : growFrom turn P 0 (planted P blocked) ≡ grown T
     each : (k : ℕ) → k < P .taps .count → turnIn P k < turn → BranchMeans P blocked k (branchIn T k)
 
-  module _ {turn : ℕ} {T T′ : Tree} (M : Meant turn T) (e : growSink P (sinkNow P turn) T ≡ grown T′) where
+  module _ {turn : ℕ} (b : turn < P .taps .count) {T T′ : Tree} (M : Meant turn T) (e : growSink P (sinkNow P turn) T ≡ grown T′) where
+    abbrev sink : ℕ
+    sink = sinkNow P turn
+
+    now : (sink < P .taps .count) × (turnIn P sink ≡ turn)
+    now = sink-now P turn sink refl b
+
     next-so-far : growFrom (turn + 1) P 0 (planted P blocked) ≡ grown T′
     next-so-far = let z : 0 + turn ≡ turn = omega arith in rw add-one (turn-more P turn 0 (planted P blocked) T (M .so-far) ∙ rw z e)
 
-    with-meant : (j : ℕ) → sinkNow P turn ≡ Inside j → (branch : List ℕ) → BranchMeans P blocked j branch → T′ ≡ withBranch (P .room) j branch T → Meant (turn + 1) T′
+    with-meant : (branch : List ℕ) → BranchMeans P blocked sink branch → T′ ≡ withBranch (P .room) sink branch T → Meant (turn + 1) T′
     unfolding withBranch
-    with-meant j s branch B w = record {
+    with-meant branch B w = record {
       so-far = next-so-far;
-      each = λ k h g. rw w (ask (eqb k j)
-          (λ t. rw (eqb-true k j t, getD-set-same (T .branches) j branch [] (omega (arith, sink-now P turn j s .0, turns-count P turn blocked T (M .so-far)))) B)
-          (λ f. rw (getD-set-other (T .branches) j k branch [] (eqb-false k j f)) (M .each k h (earlier k h g f))));
+      each = λ k h g. rw w (askSame k sink
+          (λ q. rw (q, getD-set-same (T .branches) sink branch [] (omega (arith, now .0, turns-count P turn blocked T (M .so-far)))) B)
+          (λ d. rw (getD-set-other (T .branches) sink k branch [] d) (M .each k h (earlier k h g d))));
     }
       where
-        earlier : (k : ℕ) → k < P .taps .count → turnIn P k < turn + 1 → eqb k j ≡ false → turnIn P k < turn
-        earlier k h g f = let d = other-turn P turn j k s h (eqb-false k j f) in omega (arith, g, d)
+        earlier : (k : ℕ) → k < P .taps .count → turnIn P k < turn + 1 → k ≢ sink → turnIn P k < turn
+        earlier k h g d = let o = other-turn P turn sink refl k h d in omega (arith, g, o)
 
-    routed-meant : (j : ℕ) → sinkNow P turn ≡ Inside j → (trial : Trial) → routeToTree (siteAt P (T .joinable)) (tapAt P j .approach) (T .blocked) ≡ trial
-        → afterSink P j T trial ≡ grown T′ → Meant (turn + 1) T′
+    routed-meant : (trial : Trial) → routeToTree (siteAt P (T .joinable)) (tapAt P sink .approach) (T .blocked) ≡ trial
+        → afterSink P sink T trial ≡ grown T′ → Meant (turn + 1) T′
     unfolding afterSink
-    routed-meant j s (found path cost) w q =
-        ask (fitsIn P T (branchOf (tapAt P j) path))
-        (λ t. with-meant j s (branchOf (tapAt P j) path) meant (sym (same-tree (rw t at q))))
+    routed-meant (found path cost) w q =
+        ask (fitsIn P T (branchOf (tapAt P sink) path))
+        (λ t. with-meant (branchOf (tapAt P sink) path) meant (sym (same-tree (rw t at q))))
         (λ f. never (cc (rw f at q)))
       where
-        meant : BranchMeans P blocked j (branchOf (tapAt P j) path)
-        meant =
-            let now = sink-now P turn j s in
-            record {
-              before = T;
-              at-turn = rw (now .1) (M .so-far);
-              path = path;
-              cost = cost;
-              branch-is = refl;
-              means = route-means (siteAt P (T .joinable)) (S .good) (tapAt P j .approach) (S .net .taps-in .approach-in j (now .0)) (T .blocked) path cost w;
-            }
-    routed-meant j s failed w q = never (cc)
-    routed-meant j s (full x) w q = never (cc)
+        meant : BranchMeans P blocked sink (branchOf (tapAt P sink) path)
+        meant = record {
+          before = T;
+          at-turn = rw (now .1) (M .so-far);
+          path = path;
+          cost = cost;
+          branch-is = refl;
+          means = route-means (siteAt P (T .joinable)) (S .good) (tapAt P sink .approach) (S .net .taps-in .approach-in sink (now .0)) (T .blocked) path cost w;
+        }
+    routed-meant failed w q = never (cc)
+    routed-meant (full x) w q = never (cc)
 
     turn-meant : Meant (turn + 1) T′
     unfolding growSink
-    turn-meant = go (sinkNow P turn) refl e
-      where
-        go : (s : Neighbour) → sinkNow P turn ≡ s → growSink P s T ≡ grown T′ → Meant (turn + 1) T′
-        go (Inside j) s z = routed-meant j s (routeToTree (siteAt P (T .joinable)) (tapAt P j .approach) (T .blocked)) refl z
-        go Outside s z = record { so-far = next-so-far; each = λ k h g. rw (← same-tree z) (M .each k h (earlier k h g)) }
-          where
-            earlier : (k : ℕ) → k < P .taps .count → turnIn P k < turn + 1 → turnIn P k < turn
-            earlier k h g = let d = no-turn P turn k s h in omega (arith, g, d)
+    turn-meant = routed-meant (routeToTree (siteAt P (T .joinable)) (tapAt P sink .approach) (T .blocked)) refl e
 
-  all-meant : (n turn : ℕ) (T T′ : Tree) → Meant turn T → growFrom n P turn T ≡ grown T′ → Meant (turn + n) T′
+  all-meant : (n turn : ℕ) → turn + n ≤ P .taps .count → (T T′ : Tree) → Meant turn T → growFrom n P turn T ≡ grown T′ → Meant (turn + n) T′
   unfolding growFrom
-  all-meant zero turn T T′ M q = let z : turn + 0 ≡ turn = omega arith in rw (z, ← same-tree q) M
-  all-meant (suc n) turn T T′ M q = go (growSink P (sinkNow P turn) T) refl q (all-meant n (turn + 1))
+  all-meant zero turn h T T′ M q = let z : turn + 0 ≡ turn = omega arith in rw (z, ← same-tree q) M
+  all-meant (suc n) turn h T T′ M q = go (growSink P (sinkNow P turn) T) refl q (all-meant n (turn + 1) (omega arith))
     where
       go : (g : Growth) → growSink P (sinkNow P turn) T ≡ g → growOn (growFrom n P (turn + 1)) g ≡ grown T′
           → ((T₁ T₂ : Tree) → Meant (turn + 1) T₁ → growFrom n P (turn + 1) T₁ ≡ grown T₂ → Meant (turn + 1 + n) T₂) → Meant (turn + suc n) T′
-      go (grown T₁) e z later = let s : turn + suc n ≡ turn + 1 + n = omega arith in rw s (later T₁ T′ (turn-meant M e) z)
+      go (grown T₁) e z later = let s : turn + suc n ≡ turn + 1 + n = omega arith in rw s (later T₁ T′ (turn-meant (omega arith) M e) z)
       go (stopped number detail) e z later = never (cc)
 
   at-outset : Meant 0 (planted P blocked)
@@ -225,7 +221,7 @@ module _ (P : Plot) (S : SoundPlot P) (blocked : List ℕ) where
   pub tree-means : (T : Tree) → growthOf P blocked ≡ grown T → (k : ℕ) → k < P .taps .count → BranchMeans P blocked k (branchIn T k)
   unfolding growthOf
   tree-means T e k h =
-      all-meant (P .taps .count) 0 (planted P blocked) T at-outset e .each k h (omega (arith, turn-in (far (P .room) (P .source) (P .taps .taps)) (P .taps .count) k h))
+      all-meant (P .taps .count) 0 (omega arith) (planted P blocked) T at-outset e .each k h (omega (arith, turn-in (far (P .room) (P .source) (P .taps .taps)) (P .taps .count) k h))
 
 -- ---- the public tree
 

@@ -14,7 +14,8 @@ use Rattle.branches.specs.declared.BranchLengths.{BranchLengths}
 use Rattle.branches.specs.Branches.{branchOf, allButLast, inserted}
 use Rattle.branches.specs.BranchLaws.{branch-some, branch-below, but-last-below, branch-at, but-last-at}
 use Rattle.multinet.specs.Adding.{Addable, BranchAdded, beforeSink, usedBy, BranchPlaceable, BranchPlaced, no-room, placed}
-use Rattle.multinet.specs.declared.Turned.the-variants.{Grown, NoRoom}
+use Rattle.multinet.specs.declared.Turned.the-variants.{Grown, Stopped}
+use Rattle.multinet.specs.declared.Stop.the-variants.{NoRoom}
 
 module _ {R : Room} {at used len : ℕ} {tap : Tap} {path branches joinable blocked : List ℕ} (A : Addable R at used len tap path branches joinable blocked) where
   abbrev branch : List ℕ
@@ -54,7 +55,7 @@ module _ {R : Room} {at used len : ℕ} {tap : Tap} {path branches joinable bloc
 
 pub no-room-left : {R : Room} {k : ℕ} {L : BranchLengths} {tap : Tap} {path branches joinable blocked branches′ joinable′ blocked′ : List ℕ}
     {used len : ℕ} → used ≡ usedBy L → len ≡ length (branchOf tap path) → length branches < used + len
-    → BranchPlaced R k L tap path branches joinable blocked (NoRoom (k + 1)) branches′ joinable′ blocked′
+    → BranchPlaced R k L tap path branches joinable blocked (Stopped (NoRoom (k + 1))) branches′ joinable′ blocked′
 no-room-left u l n = no-room (rw (u, l) at n) refl
 
 module _ {R : Room} {k : ℕ} {L : BranchLengths} {tap : Tap} {path branches joinable blocked : List ℕ} (A : BranchPlaceable R k L tap path joinable blocked)

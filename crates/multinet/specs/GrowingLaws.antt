@@ -4,15 +4,13 @@ use mathlib.Core.Logic.{_⊎_, inl, inr, _≢_}
 use mathlib.Core.Bool.{true, _||_, or-comm, or-assoc}
 use mathlib.Core.List.{List, [], _∷_, _++_, reverse, reverse-cons, append-nil}
 use Prim.Native.Nat.{ℕ, suc, _+_, _-_, _≤_, _<_}
-use native.Mathlib.Decide.{ℕ-discrete}
 use native.Mathlib.Omega.{arith}
 use lib.Dec.{eqb}
 use lib.ListN.{length, getD, take, drop, set, length-set, length-append}
 use lib.Seq.{getD-set-same, getD-set-other, drop-drop}
-use borrow.Author.Tests.{le-leb, lt-leb, eqb-true}
-use Rattle.basics.specs.Tests.{ask, never}
+use borrow.Author.Tests.{le-leb, lt-leb}
+use Rattle.basics.specs.Tests.{ask, askSame}
 use Rattle.basics.specs.Lists.{In}
-use Rattle.room.specs.declared.Neighbour.the-variants.{Inside, Outside}
 use Rattle.routing_resources.specs.Marks.{markedBy, isMarked, AllCells}
 use Rattle.routing_resources.specs.MarkLaws.{with-length, with-or, with-same, marks-with}
 use Rattle.routing_resources.specs.Resources.{isClearance}
@@ -21,8 +19,8 @@ use Rattle.geometry.specs.Geometry.{standsIn, NoPair}
 use Rattle.geometry.specs.LayLaws.{stands-in, in-stands}
 use Rattle.geometry.specs.GeometryLaws.{no-pair-after}
 use Rattle.ends.specs.declared.Tap.{Tap}
-use Rattle.turns.specs.Turns.{far, sinkAt}
-use Rattle.turns.specs.TurnLaws.{its-turn}
+use Rattle.turns.specs.Turns.{far}
+use Rattle.turns.specs.TurnLaws.{its-turn, turn-had}
 use Rattle.goals.specs.Goals.{Site, Trial, found, failed, full, routeToTree}
 use Rattle.branches.specs.Branches.{branchOf, allButLast, inserted, longestBranch}
 use Rattle.branches.specs.BranchLaws.{branch-short, branch-below, but-last-in, joined-none, joined-set, order-kept, behind-kept, inserted-long, lengths-set}
@@ -30,25 +28,16 @@ use Rattle.repeaters.specs.Joins.{Steps}
 use Rattle.multinet.specs.Tree.{Plot, Tree, grown, stopped, tapAt, siteAt, sinkNow, withBranch, afterSink, growSink, growOn, growFrom, growthOf}
 use Rattle.multinet.specs.StepLaws.{branch-steps}
 use Rattle.multinet.specs.Growing.{SoundPlot, RouteKnown, turnIn, branchIn, Sprouted, Growing}
-use Rattle.room.specs.PlaceLaws.{first-passed}
-use Rattle.room.specs.RoomLaws.{same-cell}
 
 -- ---- the sink whose turn it is
 
-module _ (P : Plot) (turn : ℕ) where
-  pub sink-now : (k : ℕ) → sinkNow P turn ≡ Inside k → (k < P .taps .count) × (turnIn P k ≡ turn)
-  unfolding sinkAt
-  sink-now k e = let f = first-passed (λ v. eqb (turnIn P v) turn) (P .taps .count) k e in (f .0, eqb-true _ _ (f .1))
-
-  now-is : (j : ℕ) → j < P .taps .count → turnIn P j ≡ turn → Inside j ≡ sinkNow P turn
-  now-is j h s = sym (its-turn (far (P .room) (P .source) (P .taps .taps)) (P .taps .count) j h) ∙ ap (sinkAt (far (P .room) (P .source) (P .taps .taps)) (P .taps .count)) s
+module _ (P : Plot) (turn k : ℕ) (e : k ≡ sinkNow P turn) where
+  pub sink-now : turn < P .taps .count → (k < P .taps .count) × (turnIn P k ≡ turn)
+  sink-now h = rw e (turn-had (far (P .room) (P .source) (P .taps .taps)) (P .taps .count) turn h)
 
   -- a sink whose turn it is not has its turn before or after
-  pub other-turn : (k j : ℕ) → sinkNow P turn ≡ Inside k → j < P .taps .count → j ≢ k → turnIn P j ≢ turn
-  other-turn k j e h d s = d (same-cell j k (now-is j h s ∙ e))
-
-  pub no-turn : (j : ℕ) → sinkNow P turn ≡ Outside → j < P .taps .count → turnIn P j ≢ turn
-  no-turn j e h s = never (cc (now-is j h s ∙ e))
+  pub other-turn : (j : ℕ) → j < P .taps .count → j ≢ k → turnIn P j ≢ turn
+  other-turn j h d s = d (sym (its-turn (far (P .room) (P .source) (P .taps .taps)) (P .taps .count) j h) ∙ ap (sinkNow P) s ∙ sym e)
 
 -- ---- one turn of the definition
 
@@ -113,35 +102,20 @@ joined-to-path tap path v e =
 
 module _ {P : Plot} {turn : ℕ} {T : Tree} (S : Sprouted P turn T) where
   -- the sink whose turn it is has a place among the branches, and none yet
-  module _ (k : ℕ) (e : sinkNow P turn ≡ Inside k) where
+  module _ (k : ℕ) (e : k ≡ sinkNow P turn) (t : turn < P .taps .count) where
     pub sink-in-tree : k < length (T .branches)
-    sink-in-tree = omega (arith, sink-now P turn k e .0, S .count-is)
+    sink-in-tree = omega (arith, sink-now P turn k e t .0, S .count-is)
 
     pub sink-empty : branchIn T k ≡ []
-    sink-empty = S .none-yet k (sink-now P turn k e .0) (omega (arith, sink-now P turn k e .1))
+    sink-empty = S .none-yet k (sink-now P turn k e t .0) (omega (arith, sink-now P turn k e t .1))
 
-  -- no sink has this turn: nothing changes
-  pub sprouted-on : sinkNow P turn ≡ Outside → Sprouted P (turn + 1) T
-  sprouted-on e = record {
-    occupied-is = S .occupied-is;
-    joinable-long = S .joinable-long;
-    joinable-marks = S .joinable-marks;
-    alone = S .alone;
-    blocked-long = S .blocked-long;
-    blocked-marks = S .blocked-marks;
-    count-is = S .count-is;
-    none-yet = λ k h g. S .none-yet k h (omega arith);
-    cells-in = S .cells-in;
-    steps = S .steps;
-  }
-
-  module _ (k : ℕ) (e : sinkNow P turn ≡ Inside k) (branch : List ℕ) where
+  module _ (k : ℕ) (e : k ≡ sinkNow P turn) (t : turn < P .taps .count) (branch : List ℕ) where
     abbrev next : Tree
     next = withBranch (P .room) k branch T
 
     set-here : branchIn next k ≡ branch
     unfolding withBranch
-    set-here = getD-set-same (T .branches) k branch [] (sink-in-tree k e)
+    set-here = getD-set-same (T .branches) k branch [] (sink-in-tree k e t)
 
     set-there : (j : ℕ) → j ≢ k → branchIn next j ≡ branchIn T j
     unfolding withBranch
@@ -149,18 +123,14 @@ module _ {P : Plot} {turn : ℕ} {T : Tree} (S : Sprouted P turn T) where
 
     -- what holds of this branch and of the others holds of each
     each-one : (Q : ℕ → List ℕ → Type 0) → Q k branch → ((j : ℕ) → j ≢ k → Q j (branchIn T j)) → (j : ℕ) → Q j (branchIn next j)
-    each-one Q this others j = go (ℕ-discrete j k)
-      where
-        go : Dec (j ≡ k) → Q j (branchIn next j)
-        go (yes q) = rw (q, set-here) this
-        go (no d) = rw (set-there j d) (others j d)
+    each-one Q this others j = askSame j k (λ q. rw (q, set-here) this) (λ d. rw (set-there j d) (others j d))
 
     module _ (inside : AllCells (P .room) branch) (goes : Steps (P .room) branch)
         (alone′ : NoPair (P .room) (isMarked (markedBy (standsIn (allButLast branch)) (T .joinable)))) where
       pub sprouted-next : Sprouted P (turn + 1) next
       unfolding withBranch
       sprouted-next = record {
-        occupied-is = ap (markedBy (standsIn branch)) (S .occupied-is) ∙ with-or 1 _ _ _ ∙ with-same 1 _ _ _ (λ v h. sym (stands-joined (T .branches) k branch (sink-in-tree k e) (sink-empty k e) v));
+        occupied-is = ap (markedBy (standsIn branch)) (S .occupied-is) ∙ with-or 1 _ _ _ ∙ with-same 1 _ _ _ (λ v h. sym (stands-joined (T .branches) k branch (sink-in-tree k e t) (sink-empty k e t) v));
         joinable-long = with-length 1 _ (T .joinable) ∙ S .joinable-long;
         joinable-marks = marks-with 1 (omega arith) _ (T .joinable) (S .joinable-marks);
         alone = alone′;
@@ -168,7 +138,7 @@ module _ {P : Plot} {turn : ℕ} {T : Tree} (S : Sprouted P turn T) where
         blocked-marks = marks-with 1 (omega arith) _ (T .blocked) (S .blocked-marks);
         count-is = length-set (T .branches) k branch ∙ S .count-is;
         none-yet = each-one (λ j b. j < P .taps .count → turn + 1 ≤ turnIn P j → b ≡ [])
-            (λ h g. let s = sink-now P turn k e in absurd (omega (arith, s .1)))
+            (λ h g. let s = sink-now P turn k e t in absurd (omega (arith, s .1)))
             (λ j d h g. S .none-yet j h (omega arith));
         cells-in = each-one (λ j b. j < P .taps .count → AllCells (P .room) b) (λ h. inside) (λ j d h. S .cells-in j h);
         steps = each-one (λ j b. j < P .taps .count → Steps (P .room) b) (λ h. goes) (λ j d h. S .steps j h);
@@ -184,28 +154,10 @@ module _ {P : Plot} {outset start-buffer : List ℕ} {turn : ℕ} {joinable bloc
   abbrev now-tree : Tree
   now-tree = G .tree
 
-  -- no sink has this turn
-  pub no-sink : sinkNow P turn ≡ Outside → Growing P outset start-buffer (turn + 1) joinable blocked buffer each
-  unfolding growSink
-  no-sink e = record {
-    tree = now-tree;
-    joinable-is = G .joinable-is;
-    blocked-is = G .blocked-is;
-    same = turn-grows P outset h now-tree (G .same) now-tree (rw e);
-    sprouted = sprouted-on (G .sprouted) e;
-    in-order = G .in-order;
-    behind = G .behind;
-    buffer-long = G .buffer-long;
-    lengths-are = G .lengths-are;
-    each-long = G .each-long;
-    each-short = G .each-short;
-    each-none = G .each-none;
-  }
-
-  module _ (k : ℕ) (e : sinkNow P turn ≡ Inside k) {trial : Trial} (t : trial ≡ routeToTree (siteAt P (now-tree .joinable)) (tapAt P k .approach) (now-tree .blocked)) where
+  module _ (k : ℕ) (e : k ≡ sinkNow P turn) {trial : Trial} (t : trial ≡ routeToTree (siteAt P (now-tree .joinable)) (tapAt P k .approach) (now-tree .blocked)) where
     comes : growSink P (sinkNow P turn) now-tree ≡ afterSink P k now-tree trial
     unfolding growSink
-    comes = rw (e, t)
+    comes = rw (← e, t)
 
     pub sink-fails : trial ≡ failed → growthOf P outset ≡ stopped 14 (tapAt P k .approach)
     unfolding afterSink
@@ -225,10 +177,10 @@ module _ {P : Plot} {outset start-buffer : List ℕ} {turn : ℕ} {joinable bloc
 
       module _ (w : RouteKnown (siteAt P (now-tree .joinable)) (tapAt P k .approach) path) (fits : length (joined (now-tree .branches)) + length branch ≤ P .buffer) where
         in-tree : k < length (now-tree .branches)
-        in-tree = sink-in-tree (G .sprouted) k e
+        in-tree = sink-in-tree (G .sprouted) k e h
 
         empty : branchIn now-tree k ≡ []
-        empty = sink-empty (G .sprouted) k e
+        empty = sink-empty (G .sprouted) k e h
 
         abbrev place : ℕ
         place = length (joined (take k (now-tree .branches)))
@@ -246,7 +198,7 @@ module _ {P : Plot} {outset start-buffer : List ℕ} {turn : ℕ} {joinable bloc
             → Growing P outset start-buffer (turn + 1) joinable′ blocked′ buffer′ each′
         unfolding afterSink withBranch
         sink-grows {buffer′ = buffer′} {each′ = each′} j b u l =
-            let s = sink-now P turn k e in
+            let s = sink-now P turn k e h in
             let goes : Steps (P .room) branch = rw (w .begins) (branch-steps (S .good) (tapAt P k) (w .rest) (S .near k (s .0)) (rw (w .begins) at (w .steps))) in
             let short = branch-short (tapAt P k) path in
             let room-left : length (joined (now-tree .branches)) + length branch ≤ length buffer = omega (arith, fits, G .buffer-long) in
@@ -255,7 +207,7 @@ module _ {P : Plot} {outset start-buffer : List ℕ} {turn : ℕ} {joinable bloc
               joinable-is = j ∙ ap (markedBy (standsIn (allButLast branch))) (G .joinable-is);
               blocked-is = b ∙ ap (markedBy (isClearance (P .room) branch)) (G .blocked-is);
               same = turn-grows P outset h now-tree (G .same) (withBranch (P .room) k branch now-tree) (comes ∙ rw (f, le-leb _ _ fits));
-              sprouted = sprouted-next (G .sprouted) k e branch (branch-below (tapAt P k) path (w .cells-in) (S .net .taps-in .terminal-in k (s .0))) goes
+              sprouted = sprouted-next (G .sprouted) k e h branch (branch-below (tapAt P k) path (w .cells-in) (S .net .taps-in .terminal-in k (s .0))) goes
                   (no-pair-after (P .room) (P .kinds) (now-tree .joinable) path (w .free) (standsIn (allButLast branch)) (joined-to-path (tapAt P k) path));
               in-order = rw (u, ← joined-more) (order-kept (now-tree .branches) k in-tree empty (G .in-order) branch room-left);
               behind = rw (u, ← joined-more) (behind-kept (now-tree .branches) k in-tree empty (G .in-order) branch room-left ∙ later (G .behind));
@@ -277,8 +229,6 @@ module _ {P : Plot} {outset start-buffer : List ℕ} {turn : ℕ} {joinable bloc
             never-both q g b = omega (arith, q, g, b)
 
             short-still : (i : ℕ) → i < maxSinks → length branch ≤ longestBranch → getD (set each k (length branch)) i 0 ≤ longestBranch
-            short-still i g m = go (ℕ-discrete i k)
-              where
-                go : Dec (i ≡ k) → getD (set each k (length branch)) i 0 ≤ longestBranch
-                go (yes q) = rw (q, getD-set-same each k (length branch) 0 (omega (arith, G .each-long, q))) m
-                go (no d) = rw (getD-set-other each k i (length branch) 0 d) (G .each-short i g)
+            short-still i g m =
+                askSame i k (λ q. rw (q, getD-set-same each k (length branch) 0 (omega (arith, G .each-long, q))) m)
+                (λ d. rw (getD-set-other each k i (length branch) 0 d) (G .each-short i g))

@@ -5,8 +5,6 @@ use Prim.Native.Nat.{ℕ, zero, suc, _+_}
 use native.Mathlib.Omega.{arith}
 use lib.ListN.{length, length-set, length-replicate}
 use Rattle.basics.specs.Tests.{ask, never}
-use Rattle.room.specs.declared.Neighbour.{Neighbour}
-use Rattle.room.specs.declared.Neighbour.the-variants.{Inside, Outside}
 use Rattle.goals.specs.Goals.{Trial, found, failed, full}
 use Rattle.branches.specs.Branches.{branchOf}
 use Rattle.multinet.specs.Tree.{Plot, Tree, Growth, grown, stopped, planted, withBranch, tapAt, fitsIn, afterSink, growSink, growOn, growFrom, growthOf, sinkNow}
@@ -44,10 +42,9 @@ after-count P k T U (found path cost) e =
 after-count P k T U failed e = never (cc)
 after-count P k T U (full x) e = never (cc)
 
-sink-count : (P : Plot) (s : Neighbour) (T U : Tree) → growSink P s T ≡ grown U → length (U .branches) ≡ length (T .branches)
+sink-count : (P : Plot) (k : ℕ) (T U : Tree) → growSink P k T ≡ grown U → length (U .branches) ≡ length (T .branches)
 unfolding growSink
-sink-count P (Inside k) T U e = after-count P k T U _ e
-sink-count P Outside T U e = same-count e
+sink-count P k T U e = after-count P k T U _ e
 
 grow-count : (n : ℕ) (P : Plot) (turn : ℕ) (T U : Tree) → growFrom n P turn T ≡ grown U → length (U .branches) ≡ length (T .branches)
 unfolding growFrom

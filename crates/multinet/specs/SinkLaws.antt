@@ -4,7 +4,6 @@ use mathlib.Core.List.{List}
 use Prim.Native.Nat.{ℕ, _*_, _≤_, _<_}
 use native.Mathlib.Omega.{arith}
 use lib.ListN.{length, take}
-use Rattle.room.specs.declared.Neighbour.the-variants.{Inside, Outside}
 use Rattle.room_search.specs.Routing.{graphOf}
 use Rattle.job_sheet.specs.Sheet.{joined, maxSinks}
 use Rattle.goals.specs.declared.Tried.{Tried}
@@ -18,19 +17,20 @@ use Rattle.branches.specs.Branches.{Short, longestBranch}
 use Rattle.branches.specs.BranchLaws.{joined-place, place-within, lengths-sum}
 use Rattle.branches.specs.LoopLaws.{sum-most}
 use Rattle.multinet.specs.declared.Turned.{Turned}
-use Rattle.multinet.specs.declared.Turned.the-variants.{Skipped, QueueFull, NoGoal}
+use Rattle.multinet.specs.declared.Turned.the-variants.{Stopped}
+use Rattle.multinet.specs.declared.Stop.the-variants.{QueueFull, NoGoal}
 use Rattle.multinet.specs.Adding.{beforeSink, usedBy, BranchPlaceable, BranchPlaced, no-room, placed}
 use Rattle.multinet.specs.Tree.{Plot, tapAt, siteAt, sinkNow}
 use Rattle.multinet.specs.StepLaws.{steps-by-place}
 use Rattle.multinet.specs.Growing.{SoundPlot, RouteKnown, Growing}
-use Rattle.multinet.specs.GrowingLaws.{way-some, sink-now, sink-in-tree, sink-empty, no-sink, sink-fails, sink-full, sink-no-room, sink-grows}
+use Rattle.multinet.specs.GrowingLaws.{way-some, sink-now, sink-in-tree, sink-empty, sink-fails, sink-full, sink-no-room, sink-grows}
 use Rattle.multinet.specs.Sinks.{Findable, Turnable, TurnCame}
 
 -- a tree held in slices, at the turn of sink k
 module _ {P : Plot} {turn : ℕ} {L : BranchLengths} {outset start-buffer joinable blocked branches : List ℕ} (S : SoundPlot P)
-    (G : Growing P outset start-buffer turn joinable blocked branches (L .each)) (count : L .count ≡ P .taps .count) (k : ℕ) (e : sinkNow P turn ≡ Inside k) where
+    (G : Growing P outset start-buffer turn joinable blocked branches (L .each)) (count : L .count ≡ P .taps .count) (k : ℕ) (e : k ≡ sinkNow P turn) (h : turn < P .taps .count) where
   pub sink-in : k < P .taps .count
-  sink-in = sink-now P turn k e .0
+  sink-in = sink-now P turn k e h .0
 
   -- what a route's search asks of the marks
   grounds : Grounds (siteAt P joinable) blocked (tapAt P k .approach)
@@ -55,10 +55,10 @@ module _ {P : Plot} {turn : ℕ} {L : BranchLengths} {outset start-buffer joinab
   before-is = joined-place (G .tree .branches) (L .each) (G .lengths-are) k (omega (arith, sink-in, G .sprouted .count-is))
 
   at-within : beforeSink L k ≤ usedBy L
-  at-within = rw (before-is, used-is) (place-within (G .tree .branches) k (sink-in-tree (G .sprouted) k e) (sink-empty (G .sprouted) k e) (G .in-order))
+  at-within = rw (before-is, used-is) (place-within (G .tree .branches) k (sink-in-tree (G .sprouted) k e h) (sink-empty (G .sprouted) k e h) (G .in-order))
 
   used-short : usedBy L ≤ maxSinks * longestBranch
-  used-short = let t = sum-most longestBranch (L .each) (L .count) (λ i h. G .each-short i (omega (arith, count, S .net .taps-in .few))) in omega (arith, t, count, S .net .taps-in .few)
+  used-short = let t = sum-most longestBranch (L .each) (L .count) (λ i g. G .each-short i (omega (arith, count, S .net .taps-in .few))) in omega (arith, t, count, S .net .taps-in .few)
 
   lengths-short : Short L
   lengths-short = record { whole = G .each-long; short = G .each-short }
@@ -91,18 +91,18 @@ found-fits T n cost q = rw q at (T .fits)
 -- ---- what the turn comes to
 
 module _ {P : Plot} {turn : ℕ} {L : BranchLengths} {joinable blocked classes known previous path best branches : List ℕ}
-    (A : Turnable P turn L joinable blocked classes known previous path best branches) (k : ℕ) (e : sinkNow P turn ≡ Inside k) where
+    (A : Turnable P turn L joinable blocked classes known previous path best branches) (k : ℕ) (e : k ≡ sinkNow P turn) where
   pub findable : Findable (siteAt P joinable) blocked classes known previous path best (tapAt P k .approach)
-  findable = record { grounds = grounds (A .sound) (A .growing) (A .count-is) k e; memory = A .memory; classes-long = A .classes-long; best-long = A .best-long }
+  findable = record { grounds = grounds (A .sound) (A .growing) (A .count-is) k e (A .turn-in); memory = A .memory; classes-long = A .classes-long; best-long = A .best-long }
 
   module _ {r : Tried} {best′ : List ℕ}
       (T : Tells (routeToTree (siteAt P joinable) (tapAt P k .approach) blocked) r best′)
     where
-      pub came-full : {joinable′ blocked′ branches′ : List ℕ} (x : _) → r ≡ Full x → TurnCame P turn L joinable blocked branches (QueueFull x) joinable′ blocked′ branches′
-      came-full x q = record { came = λ o s G. sink-full (A .sound) G (A .turn-in) k e (trial (A .sound) G (A .count-is) k e T) (x .0) (rw q) }
+      pub came-full : {joinable′ blocked′ branches′ : List ℕ} (x : _) → r ≡ Full x → TurnCame P turn L joinable blocked branches (Stopped (QueueFull x)) joinable′ blocked′ branches′
+      came-full x q = record { came = λ o s G. sink-full (A .sound) G (A .turn-in) k e (trial (A .sound) G (A .count-is) k e (A .turn-in) T) (x .0) (rw q) }
 
-      pub came-failed : {joinable′ blocked′ branches′ : List ℕ} → r ≡ Failed → TurnCame P turn L joinable blocked branches (NoGoal (tapAt P k .approach)) joinable′ blocked′ branches′
-      came-failed q = record { came = λ o s G. sink-fails (A .sound) G (A .turn-in) k e (trial (A .sound) G (A .count-is) k e T) (rw q) }
+      pub came-failed : {joinable′ blocked′ branches′ : List ℕ} → r ≡ Failed → TurnCame P turn L joinable blocked branches (Stopped (NoGoal (tapAt P k .approach))) joinable′ blocked′ branches′
+      came-failed q = record { came = λ o s G. sink-fails (A .sound) G (A .turn-in) k e (trial (A .sound) G (A .count-is) k e (A .turn-in) T) (rw q) }
 
       module _ (n : ℕ) (cost : _) (q : r ≡ Found n cost) where
         is-found : told r best′ ≡ found (take n best′) (cost .0)
@@ -112,18 +112,18 @@ module _ {P : Plot} {turn : ℕ} {L : BranchLengths} {joinable blocked classes k
             → BranchPlaceable (P .room) k L (tapAt P k) (take n best′) joinable″ blocked″
         placeable j b =
             let G = A .growing in
-            let w = way-found (A .sound) G (A .count-is) k e T (take n best′) (cost .0) is-found in
+            let w = way-found (A .sound) G (A .count-is) k e (A .turn-in) T (take n best′) (cost .0) is-found in
             record {
               good = A .sound .good;
               few = omega (arith, A .count-is, A .sound .net .taps-in .few);
-              sink-in = omega (arith, sink-in (A .sound) G (A .count-is) k e, A .count-is);
-              lengths-short = lengths-short (A .sound) G (A .count-is) k e;
-              at-within = at-within (A .sound) G (A .count-is) k e;
-              used-short = used-short (A .sound) G (A .count-is) k e;
+              sink-in = omega (arith, sink-in (A .sound) G (A .count-is) k e (A .turn-in), A .count-is);
+              lengths-short = lengths-short (A .sound) G (A .count-is) k e (A .turn-in);
+              at-within = at-within (A .sound) G (A .count-is) k e (A .turn-in);
+              used-short = used-short (A .sound) G (A .count-is) k e (A .turn-in);
               some = way-some w;
               short = omega (arith, w .short, A .sound .good .few);
               path-in = w .cells-in;
-              terminal-in = A .sound .net .taps-in .terminal-in k (sink-in (A .sound) G (A .count-is) k e);
+              terminal-in = A .sound .net .taps-in .terminal-in k (sink-in (A .sound) G (A .count-is) k e (A .turn-in));
               joinable-long = rw (j, G .joinable-is) (G .sprouted .joinable-long);
               blocked-long = rw (b, G .blocked-is) (G .sprouted .blocked-long);
             }
@@ -132,22 +132,16 @@ module _ {P : Plot} {turn : ℕ} {L : BranchLengths} {joinable blocked classes k
             → BranchPlaced (P .room) k L (tapAt P k) (take n best′) branches joinable″ blocked″ t branches′ joinable′ blocked′
             → TurnCame P turn L joinable blocked branches t joinable′ blocked′ branches′
         came-placed m j b (no-room over is) = record {
-          came = λ o s G. rw is (sink-no-room (A .sound) G (A .turn-in) k e (trial (A .sound) G (A .count-is) k e T) (take n best′) (cost .0) is-found
-              (omega (arith, m, over, used-is (A .sound) G (A .count-is) k e)));
+          came = λ o s G. rw is (sink-no-room (A .sound) G (A .turn-in) k e (trial (A .sound) G (A .count-is) k e (A .turn-in) T) (take n best′) (cost .0) is-found
+              (omega (arith, m, over, used-is (A .sound) G (A .count-is) k e (A .turn-in))));
         }
         came-placed m j b (placed fits is D) = record {
           came = λ o s G.
-              let w = way-found (A .sound) G (A .count-is) k e T (take n best′) (cost .0) is-found in
-              let u = used-is (A .sound) G (A .count-is) k e in
+              let w = way-found (A .sound) G (A .count-is) k e (A .turn-in) T (take n best′) (cost .0) is-found in
+              let u = used-is (A .sound) G (A .count-is) k e (A .turn-in) in
               rw is (
-                omega (arith, sink-in (A .sound) G (A .count-is) k e, A .sound .net .taps-in .few),
-                sink-grows (A .sound) G (A .turn-in) k e (trial (A .sound) G (A .count-is) k e T) (take n best′) (cost .0) is-found w (omega (arith, m, fits, u))
-                    (rw j at (D .joinable-are)) (rw b at (D .blocked-are)) (rw (before-is (A .sound) G (A .count-is) k e, u) at (D .branches-are)) refl,
+                omega (arith, sink-in (A .sound) G (A .count-is) k e (A .turn-in), A .sound .net .taps-in .few),
+                sink-grows (A .sound) G (A .turn-in) k e (trial (A .sound) G (A .count-is) k e (A .turn-in) T) (take n best′) (cost .0) is-found w (omega (arith, m, fits, u))
+                    (rw j at (D .joinable-are)) (rw b at (D .blocked-are)) (rw (before-is (A .sound) G (A .count-is) k e (A .turn-in), u) at (D .branches-are)) refl,
               );
         }
-
--- no sink has this turn
-pub came-skipped : {P : Plot} {turn : ℕ} {L : BranchLengths} {joinable blocked classes known previous path best branches : List ℕ}
-    → Turnable P turn L joinable blocked classes known previous path best branches → sinkNow P turn ≡ Outside
-    → TurnCame P turn L joinable blocked branches Skipped joinable blocked branches
-came-skipped A e = record { came = λ o s G. no-sink (A .sound) G (A .turn-in) e }

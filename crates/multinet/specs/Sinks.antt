@@ -1,7 +1,6 @@
 -- What the contracts of the growing functions cite, and what their loop keeps.
 use mathlib.Core.Path.{_≡_}
 use mathlib.Core.List.{List}
-use mathlib.Core.Bool.{Bool, true, false}
 use Prim.Native.Nat.{ℕ, _+_, _≤_, _<_}
 use lib.ListN.{length, set}
 use Rattle.room.specs.declared.Room.{Room}
@@ -14,10 +13,14 @@ use Rattle.goals.specs.Goals.{Site}
 use Rattle.goals.specs.Trials.{Grounds, Memory}
 use Rattle.branches.specs.declared.BranchLengths.{BranchLengths}
 use Rattle.multinet.specs.declared.Turned.{Turned}
-use Rattle.multinet.specs.declared.Turned.the-variants.{Grown, Skipped, QueueFull, NoGoal, NoRoom}
-use Rattle.multinet.specs.declared.Growth.{Growth}
+use Rattle.multinet.specs.declared.Turned.the-variants.{Grown, Stopped}
+use Rattle.multinet.specs.declared.Stop.{Stop}
+use Rattle.multinet.specs.declared.Stop.the-variants.{QueueFull, NoGoal, NoRoom}
+use Rattle.multinet.specs.declared.GrowthEnd.{GrowthEnd}
+use Rattle.multinet.specs.declared.GrowthEnd.the-variants.{Whole, Early}
+use Rattle.multinet.specs.declared.GrownBranches.{GrownBranches}
 use Rattle.routing_resources.specs.Marks.{Marks}
-use Rattle.multinet.specs.Tree.{Plot, stopped, growthOf, sourceMarks}
+use Rattle.multinet.specs.Tree.{Plot, Growth, stopped, growthOf, sourceMarks}
 use Rattle.multinet.specs.Growing.{SoundPlot, Growing}
 
 -- marks that joinable and blocked cells may have, and work memory of exactly V cells, whatever it holds
@@ -51,62 +54,33 @@ pub record Turnable (P : Plot) (turn : ℕ) (L : BranchLengths) (joinable blocke
   pub classes-long : length classes ≡ volume (P .room)
   pub best-long : length best ≡ volume (P .room)
 
--- the number that a turn ends the growth with, and its detail
-abbrev pub stopNumber : Turned → ℕ
-stopNumber (Grown k n) = 0
-stopNumber Skipped = 0
+-- the number that is due, with its detail
+abbrev pub stopNumber : Stop → ℕ
 stopNumber (QueueFull x) = 13
 stopNumber (NoGoal cell) = 14
 stopNumber (NoRoom place) = 15
 
-abbrev pub stopDetail : Turned → ℕ
-stopDetail (Grown k n) = 0
-stopDetail Skipped = 0
+abbrev pub stopDetail : Stop → ℕ
 stopDetail (QueueFull x) = x .0
 stopDetail (NoGoal cell) = cell
 stopDetail (NoRoom place) = place
 
-abbrev pub StoppedBy : Plot → List ℕ → Turned → Type 0
-StoppedBy P outset turned = growthOf P outset ≡ stopped (stopNumber turned) (stopDetail turned)
+abbrev pub stoppedBy : Stop → Growth
+stoppedBy stop = stopped (stopNumber stop) (stopDetail stop)
 
 -- the next turn's tree, or the number that is due for the whole
 abbrev pub Came : Plot → List ℕ → List ℕ → ℕ → List ℕ → List ℕ → List ℕ → List ℕ → Turned → Type 0
 Came P outset start-buffer turn each joinable blocked branches (Grown k n) =
     (k < maxSinks) × Growing P outset start-buffer (turn + 1) joinable blocked branches (set each k n)
-Came P outset start-buffer turn each joinable blocked branches Skipped = Growing P outset start-buffer (turn + 1) joinable blocked branches each
-Came P outset start-buffer turn each joinable blocked branches (QueueFull x) = StoppedBy P outset (QueueFull x)
-Came P outset start-buffer turn each joinable blocked branches (NoGoal cell) = StoppedBy P outset (NoGoal cell)
-Came P outset start-buffer turn each joinable blocked branches (NoRoom place) = StoppedBy P outset (NoRoom place)
+Came P outset start-buffer turn each joinable blocked branches (Stopped stop) = growthOf P outset ≡ stoppedBy stop
 
 pub record TurnCame (P : Plot) (turn : ℕ) (L : BranchLengths) (joinable blocked branches : List ℕ) (r : Turned) (joinable′ blocked′ branches′ : List ℕ) : Type 0 where
   pub came : (outset start-buffer : List ℕ) → Growing P outset start-buffer turn joinable blocked branches (L .each)
       → Came P outset start-buffer turn (L .each) joinable′ blocked′ branches′ r
 
--- a number is due
-abbrev pub stopsBy : Turned → Bool
-stopsBy (Grown k n) = false
-stopsBy Skipped = false
-stopsBy (QueueFull x) = true
-stopsBy (NoGoal cell) = true
-stopsBy (NoRoom place) = true
-
--- a sink that has its branch is one of sixteen
-abbrev pub Recordable : Turned → Type 0
-Recordable (Grown k n) = k < maxSinks
-Recordable Skipped = Unit {0}
-Recordable (QueueFull x) = Unit {0}
-Recordable (NoGoal cell) = Unit {0}
-Recordable (NoRoom place) = Unit {0}
-
-abbrev pub eachBy : List ℕ → Turned → List ℕ
-eachBy each (Grown k n) = set each k n
-eachBy each Skipped = each
-eachBy each (QueueFull x) = each
-eachBy each (NoGoal cell) = each
-eachBy each (NoRoom place) = each
-
-abbrev pub recordedBy : BranchLengths → Turned → BranchLengths
-recordedBy L turned = record { count = L .count; each = eachBy (L .each) turned }
+-- the branches' lengths with that of one sink more
+abbrev pub withLength : BranchLengths → ℕ → ℕ → BranchLengths
+withLength L k n = record { count = L .count; each = set (L .each) k n }
 
 -- the source terminal is joinable, these cells are blocked, and work memory has exactly V cells
 pub record Plantable (P : Plot) (joinable blocked classes known previous path best : List ℕ) : Type 0 where
@@ -137,13 +111,10 @@ pub record Turning (P : Plot) (outset start-buffer : List ℕ) (turn : ℕ) (L :
   pub so-far : turn ≤ P .taps .count
 
 -- the whole growth, as its answer tells it
-abbrev pub Ended : Plot → List ℕ → List ℕ → BranchLengths → List ℕ → List ℕ → List ℕ → Turned → Type 0
-Ended P outset start-buffer L joinable blocked branches (Grown k n) = ⊥
-Ended P outset start-buffer L joinable blocked branches Skipped =
+abbrev pub EndTold : Plot → List ℕ → List ℕ → BranchLengths → List ℕ → List ℕ → List ℕ → GrowthEnd → Type 0
+EndTold P outset start-buffer L joinable blocked branches Whole =
     (L .count ≡ P .taps .count) × Growing P outset start-buffer (P .taps .count) joinable blocked branches (L .each)
-Ended P outset start-buffer L joinable blocked branches (QueueFull x) = StoppedBy P outset (QueueFull x)
-Ended P outset start-buffer L joinable blocked branches (NoGoal cell) = StoppedBy P outset (NoGoal cell)
-Ended P outset start-buffer L joinable blocked branches (NoRoom place) = StoppedBy P outset (NoRoom place)
+EndTold P outset start-buffer L joinable blocked branches (Early stop) = growthOf P outset ≡ stoppedBy stop
 
-pub record GrowthTold (P : Plot) (outset start-buffer : List ℕ) (r : Growth) (joinable blocked branches : List ℕ) : Type 0 where
-  pub told : Ended P outset start-buffer (r .lengths) joinable blocked branches (r .ended)
+pub record GrowthTold (P : Plot) (outset start-buffer : List ℕ) (r : GrownBranches) (joinable blocked branches : List ℕ) : Type 0 where
+  pub told : EndTold P outset start-buffer (r .lengths) joinable blocked branches (r .end)

@@ -9,8 +9,6 @@ use Rattle.basics.specs.Tests.{either}
 use Rattle.basics.specs.Lists.{any}
 use Rattle.room.specs.declared.Room.{Room}
 use Rattle.room.specs.declared.RouterConfig.{RouterConfig}
-use Rattle.room.specs.declared.Neighbour.{Neighbour}
-use Rattle.room.specs.declared.Neighbour.the-variants.{Inside, Outside}
 use Rattle.room.specs.Room.{volume}
 use Rattle.routing_resources.specs.Marks.{markedBy, noMarks}
 use Rattle.routing_resources.specs.Resources.{isClearance}
@@ -87,9 +85,8 @@ afterSink P k T failed = stopped 14 (tapAt P k .approach)
 afterSink P k T (full x) = stopped 13 x
 
 -- one sink's turn
-unfoldable pub growSink : Plot → Neighbour → Tree → Growth
-growSink P (Inside k) T = afterSink P k T (routeToTree (siteAt P (T .joinable)) (tapAt P k .approach) (T .blocked))
-growSink P Outside T = grown T
+unfoldable pub growSink : Plot → ℕ → Tree → Growth
+growSink P k T = afterSink P k T (routeToTree (siteAt P (T .joinable)) (tapAt P k .approach) (T .blocked))
 
 -- the sinks that are left have their turns only if none was refused so far
 abbrev pub growOn : (Tree → Growth) → Growth → Growth
@@ -97,7 +94,7 @@ growOn rest (grown T) = rest T
 growOn rest (stopped number detail) = stopped number detail
 
 -- the sink whose turn it is
-abbrev pub sinkNow : Plot → ℕ → Neighbour
+abbrev pub sinkNow : Plot → ℕ → ℕ
 sinkNow P turn = sinkAt (far (P .room) (P .source) (P .taps .taps)) (P .taps .count) turn
 
 -- so many turns, from this one on

@@ -4,10 +4,10 @@ use mathlib.Core.Bool.{true, false}
 use mathlib.Core.List.{List, []}
 use Prim.Native.Nat.{ℕ, _+_, _-_, _≤_, _<_}
 use native.Mathlib.Omega.{arith}
-use lib.Dec.{eqb, ltb}
+use lib.Dec.{eqb}
 use lib.ListN.{length, replicate, length-replicate, getD-replicate, List·getD-eq-default}
-use borrow.Author.Tests.{eqb-true, ltb-true, ltb-false}
-use Rattle.basics.specs.Tests.{ask, never}
+use borrow.Author.Tests.{eqb-true}
+use Rattle.basics.specs.Tests.{ask, askLess, never}
 use Rattle.basics.specs.Zeros.{zeros}
 use Rattle.room.specs.Room.{volume}
 use Rattle.routing_resources.specs.Marks.{noMarks, isMarked, Marks}
@@ -17,12 +17,15 @@ use Rattle.geometry.specs.Geometry.{standsIn}
 use Rattle.geometry.specs.GeometryLaws.{no-pair-one}
 use Rattle.goals.specs.Trials.{Memory}
 use Rattle.branches.specs.declared.BranchLengths.{BranchLengths}
+use Rattle.branches.specs.Branches.{noLengths}
 use Rattle.branches.specs.BranchLaws.{order-first, lengths-first, joined-nothing}
 use Rattle.multinet.specs.declared.Turned.{Turned}
-use Rattle.multinet.specs.declared.Turned.the-variants.{Grown, Skipped, QueueFull, NoGoal, NoRoom}
+use Rattle.multinet.specs.declared.Turned.the-variants.{Grown, Stopped}
+use Rattle.multinet.specs.declared.Stop.{Stop}
+use Rattle.multinet.specs.declared.GrowthEnd.the-variants.{Whole, Early}
 use Rattle.multinet.specs.Tree.{Plot, planted, growFrom, growthOf, sourceMarks}
 use Rattle.multinet.specs.Growing.{SoundPlot, Sprouted, Growing}
-use Rattle.multinet.specs.Sinks.{Turnable, Came, TurnCame, stopsBy, Recordable, eachBy, recordedBy, Plantable, Turning, Ended, GrowthTold}
+use Rattle.multinet.specs.Sinks.{Turnable, Came, TurnCame, withLength, Plantable, Turning, GrowthTold}
 
 -- ---- the outset
 
@@ -37,10 +40,10 @@ module _ {P : Plot} (S : SoundPlot P) (blocked : List ℕ) where
       (λ f. let m : isMarked (sourceMarks (P .room) (P .source)) v ≡ false = not-marked v f in never (cc (sym m ∙ e)))
     where
       not-marked : (u : ℕ) → eqb (P .source) u ≡ false → isMarked (sourceMarks (P .room) (P .source)) u ≡ false
-      not-marked u f = ask (ltb u (volume (P .room)))
-          (λ t. let h : u < length (noMarks (volume (P .room))) = rw (length-replicate {A = ℕ} (volume (P .room)) 0) (ltb-true _ _ t) in
-          marked-after (eqb (P .source)) (noMarks (volume (P .room))) u h ∙ rw (f, getD-replicate {A = ℕ} (volume (P .room)) u 0 0 (ltb-true _ _ t)))
-          (λ g. let h : length (sourceMarks (P .room) (P .source)) ≤ u = rw (with-length 1 (eqb (P .source)) (noMarks (volume (P .room))), length-replicate {A = ℕ} (volume (P .room)) 0) (ltb-false _ _ g) in
+      not-marked u f = askLess u (volume (P .room))
+          (λ l. let h : u < length (noMarks (volume (P .room))) = rw (length-replicate {A = ℕ} (volume (P .room)) 0) l in
+          marked-after (eqb (P .source)) (noMarks (volume (P .room))) u h ∙ rw (f, getD-replicate {A = ℕ} (volume (P .room)) u 0 0 l))
+          (λ m. let h : length (sourceMarks (P .room) (P .source)) ≤ u = rw (with-length 1 (eqb (P .source)) (noMarks (volume (P .room))), length-replicate {A = ℕ} (volume (P .room)) 0) m in
           rw (List·getD-eq-default (sourceMarks (P .room) (P .source)) 0 {n = u} h))
 
   planted-sprouts : length blocked ≡ volume (P .room) → Marks blocked → Sprouted P 0 (planted P blocked)
@@ -78,7 +81,7 @@ module _ {P : Plot} {joinable blocked classes known previous path best : List �
         each-none = λ i h. zeros maxSinks i;
       }
 
-  pub first-turn : (branches : List ℕ) → P .buffer ≡ length branches → Turning P blocked branches 0 (record { count = P .taps .count; each = replicate maxSinks 0 }) joinable blocked branches
+  pub first-turn : (branches : List ℕ) → P .buffer ≡ length branches → Turning P blocked branches 0 (noLengths (P .taps .count)) joinable blocked branches
   first-turn branches b = record { growing = first-growing branches b; count-is = refl; so-far = omega arith }
 
 -- ---- turn by turn
@@ -103,37 +106,15 @@ module _ {P : Plot} {outset start-buffer : List ℕ} {turn : ℕ} {L : BranchLen
     came-now : Came P outset start-buffer turn (L .each) joinable′ blocked′ branches′ turned
     came-now = C .came outset start-buffer (T .growing)
 
-    pub turn-recordable : Recordable turned
-    turn-recordable = go turned came-now
-      where
-        go : (t : Turned) → Came P outset start-buffer turn (L .each) joinable′ blocked′ branches′ t → Recordable t
-        go (Grown k n) w = w .0
-        go Skipped w = tt {0}
-        go (QueueFull x) w = tt {0}
-        go (NoGoal cell) w = tt {0}
-        go (NoRoom place) w = tt {0}
+    pub turn-recordable : {k n : ℕ} → turned ≡ Grown k n → k < maxSinks
+    turn-recordable e = (rw e at came-now) .0
 
-    pub turn-ends : stopsBy turned ≡ true → GrowthTold P outset start-buffer (record { ended = turned; lengths = L }) joinable′ blocked′ branches′
-    turn-ends e = record { told = go turned came-now e }
-      where
-        go : (t : Turned) → Came P outset start-buffer turn (L .each) joinable′ blocked′ branches′ t → stopsBy t ≡ true → Ended P outset start-buffer L joinable′ blocked′ branches′ t
-        go (Grown k n) w q = never (cc)
-        go Skipped w q = never (cc)
-        go (QueueFull x) w q = w
-        go (NoGoal cell) w q = w
-        go (NoRoom place) w q = w
+    pub turn-ends : {stop : Stop} → turned ≡ Stopped stop → GrowthTold P outset start-buffer (record { end = Early stop; lengths = L }) joinable′ blocked′ branches′
+    turn-ends e = record { told = rw e at came-now }
 
-    pub turn-on : turn < P .taps .count → stopsBy turned ≡ false → {L′ : BranchLengths} → L′ ≡ recordedBy L turned
+    pub turn-on : turn < P .taps .count → {k n : ℕ} → turned ≡ Grown k n → {L′ : BranchLengths} → L′ ≡ withLength L k n
         → Turning P outset start-buffer (turn + 1) L′ joinable′ blocked′ branches′
-    turn-on h e {L′ = L′} r = rw r (record { growing = go turned came-now e; count-is = T .count-is; so-far = omega arith })
-      where
-        go : (t : Turned) → Came P outset start-buffer turn (L .each) joinable′ blocked′ branches′ t → stopsBy t ≡ false
-            → Growing P outset start-buffer (turn + 1) joinable′ blocked′ branches′ (eachBy (L .each) t)
-        go (Grown k n) w q = w .1
-        go Skipped w q = w
-        go (QueueFull x) w q = never (cc)
-        go (NoGoal cell) w q = never (cc)
-        go (NoRoom place) w q = never (cc)
+    turn-on h e r = rw r (record { growing = (rw e at came-now) .1; count-is = T .count-is; so-far = omega arith })
 
-  pub all-grown : P .taps .count ≤ turn → GrowthTold P outset start-buffer (record { ended = Skipped; lengths = L }) joinable blocked branches
+  pub all-grown : P .taps .count ≤ turn → GrowthTold P outset start-buffer (record { end = Whole; lengths = L }) joinable blocked branches
   all-grown h = let e : turn ≡ P .taps .count = omega (arith, T .so-far) in record { told = (T .count-is, rw e at (T .growing)) }

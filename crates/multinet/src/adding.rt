@@ -1,4 +1,5 @@
 // A sink's route becomes a branch of the tree.
+use crate::Stop;
 use crate::Turned;
 use branches::BranchLengths;
 use ends::Tap;
@@ -44,7 +45,7 @@ pub fn place_branch(
     let used = branches::joined_length(lengths, lengths.count);
     let len = branches::branch_length(path.len(), tap);
     if branches.len() < used + len {
-        return Turned::NoRoom(sink + 1);
+        return Turned::Stopped(Stop::NoRoom(sink + 1));
     }
     let at = branches::joined_length(lengths, sink);
     add_branch(room, at, used, len, tap, path, branches, joinable, blocked);

@@ -1,22 +1,20 @@
 // The tree grows: one sink's turn after another.
-use crate::Growth;
+use crate::GrownBranches;
+use crate::GrowthEnd;
+use crate::Stop;
 use crate::Turned;
 use crate::adding::place_branch;
 use branches::BranchLengths;
 use ends::Taps;
 use goals::Tried;
-use room::Neighbour;
 use room::Room;
 use room::RouterConfig;
 ghost use mathlib.Core.Path.{_≡_};
 ghost use Prim.Native.Nat.{_<_};
 ghost use Rattle.job_sheet.specs.Sheet.{maxSinks};
-ghost use Rattle.multinet.specs.declared.Turned.{Turned};
 ghost use Rattle.goals.specs.Goals.{routeToTree};
 ghost use Rattle.goals.specs.Trials.{Tells, siteOf};
-ghost use Rattle.room.specs.declared.Neighbour.{Neighbour};
-ghost use Rattle.multinet.specs.Sinks.{Findable, plotOf, Turnable, TurnCame, stopsBy, Recordable, recordedBy, Plantable, GrowthTold};
-ghost use Rattle.multinet.specs.Tree.{sinkNow};
+ghost use Rattle.multinet.specs.Sinks.{Findable, plotOf, Turnable, TurnCame, withLength, Plantable, GrowthTold};
 
 // The cheapest route from a sink's approach to the tree, if there is one. Its path goes to the front of `best`.
 fn find_route(
@@ -54,7 +52,7 @@ fn find_route(
     )
 }
 
-// One sink: its route is found and becomes a branch, or number 13, 14 or 15 is due.
+// One turn: the route of the sink that has it is found and becomes a branch, or number 13, 14 or 15 is due.
 fn grow_sink(
     room: Room,
     config: RouterConfig,
@@ -62,7 +60,6 @@ fn grow_sink(
     taps: Taps,
     lengths: BranchLengths,
     turn: usize,
-    sink: usize,
     kinds: &[u8],
     joinable: &mut [u8],
     blocked: &mut [u8],
@@ -75,9 +72,9 @@ fn grow_sink(
     branches: &mut [u32],
 ) -> Turned
     requires { ⌜ Turnable (plotOf room config (now kinds) (now queue) (now branches) source taps) turn lengths (now joinable) (now blocked) (now classes) (now known) (now previous) (now path) (now best) (now branches) ⌝ }
-    requires { ⌜ sinkNow (plotOf room config (now kinds) (now queue) (now branches) source taps) turn ≡ Neighbour.Inside sink ⌝ }
     ensures { λ r. ⌜ TurnCame (plotOf room config (now (kinds .entry)) (now (queue .entry)) (now (branches .entry)) source taps) turn lengths (now (joinable .entry)) (now (blocked .entry)) (now (branches .entry)) r (now (joinable .exit)) (now (blocked .exit)) (now (branches .exit)) ⌝ }
 {
+    let sink = turns::sink_at(room, source, taps, turn);
     let tap = taps.taps[sink];
     let tried = find_route(
         room,
@@ -94,8 +91,8 @@ fn grow_sink(
         tap.approach,
     );
     match tried {
-        Tried::Full(expanded) => Turned::QueueFull(expanded),
-        Tried::Failed => Turned::NoGoal(tap.approach),
+        Tried::Full(expanded) => Turned::Stopped(Stop::QueueFull(expanded)),
+        Tried::Failed => Turned::Stopped(Stop::NoGoal(tap.approach)),
         Tried::Found { length, cost: _ } => place_branch(
             room,
             sink,
@@ -109,88 +106,15 @@ fn grow_sink(
     }
 }
 
-// One turn: the sink that has it, if there is one.
-fn grow_turn(
-    room: Room,
-    config: RouterConfig,
-    source: usize,
-    taps: Taps,
-    lengths: BranchLengths,
-    turn: usize,
-    kinds: &[u8],
-    joinable: &mut [u8],
-    blocked: &mut [u8],
-    classes: &mut [u8],
-    known: &mut [u32],
-    previous: &mut [u32],
-    path: &mut [u32],
-    best: &mut [u32],
-    queue: &mut [u64],
-    branches: &mut [u32],
-) -> Turned
-    requires { ⌜ Turnable (plotOf room config (now kinds) (now queue) (now branches) source taps) turn lengths (now joinable) (now blocked) (now classes) (now known) (now previous) (now path) (now best) (now branches) ⌝ }
-    ensures { λ r. ⌜ TurnCame (plotOf room config (now (kinds .entry)) (now (queue .entry)) (now (branches .entry)) source taps) turn lengths (now (joinable .entry)) (now (blocked .entry)) (now (branches .entry)) r (now (joinable .exit)) (now (blocked .exit)) (now (branches .exit)) ⌝ }
-{
-    let Neighbour::Inside(sink) = turns::sink_at(room, source, taps, turn) else {
-        return Turned::Skipped;
-    };
-    grow_sink(
-        room,
-        config,
-        source,
-        taps,
-        lengths,
-        turn,
-        sink,
-        kinds,
-        joinable,
-        blocked,
-        classes,
-        known,
-        previous,
-        path,
-        best,
-        queue,
-        branches,
-    )
-}
-
-// Whether a number is due, so that no further sink has a turn.
-fn stops(turned: Turned) -> bool
-    ensures { λ r. ⌜ r ≡ stopsBy turned ⌝ }
-{
-    match turned {
-        Turned::Grown { sink: _, length: _ } => false,
-        Turned::Skipped => false,
-        Turned::QueueFull(_) => true,
-        Turned::NoGoal(_) => true,
-        Turned::NoRoom(_) => true,
-    }
-}
-
 // The branches' lengths with one more.
 fn with_length(lengths: BranchLengths, sink: usize, length: usize) -> BranchLengths
     requires { ⌜ sink < maxSinks ⌝ }
-    ensures { λ r. ⌜ r ≡ recordedBy lengths (Turned.Grown sink length) ⌝ }
+    ensures { λ r. ⌜ r ≡ withLength lengths sink length ⌝ }
 {
     let count = lengths.count;
     let mut each = lengths.each;
     each[sink] = length;
     BranchLengths { count, each }
-}
-
-// The branches' lengths after a turn.
-fn recorded(lengths: BranchLengths, turned: Turned) -> BranchLengths
-    requires { ⌜ Recordable turned ⌝ }
-    ensures { λ r. ⌜ r ≡ recordedBy lengths turned ⌝ }
-{
-    match turned {
-        Turned::Grown { sink, length } => with_length(lengths, sink, length),
-        Turned::Skipped => lengths,
-        Turned::QueueFull(_) => lengths,
-        Turned::NoGoal(_) => lengths,
-        Turned::NoRoom(_) => lengths,
-    }
 }
 
 // The tree from its outset: every sink has its turn, until a number is due.
@@ -209,18 +133,15 @@ pub fn grow_tree(
     best: &mut [u32],
     queue: &mut [u64],
     branches: &mut [u32],
-) -> Growth
+) -> GrownBranches
     requires { ⌜ Plantable (plotOf room config (now kinds) (now queue) (now branches) source taps) (now joinable) (now blocked) (now classes) (now known) (now previous) (now path) (now best) ⌝ }
     ensures { λ r. ⌜ GrowthTold (plotOf room config (now (kinds .entry)) (now (queue .entry)) (now (branches .entry)) source taps) (now (blocked .entry)) (now (branches .entry)) r (now (joinable .exit)) (now (blocked .exit)) (now (branches .exit)) ⌝ }
 {
     let count = taps.count;
-    let mut lengths = BranchLengths {
-        count: count,
-        each: [0; 16],
-    };
+    let mut lengths = branches::no_lengths(count);
     let mut turn: usize = 0;
     while turn < count {
-        let turned = grow_turn(
+        let turned = grow_sink(
             room,
             config,
             source,
@@ -238,17 +159,21 @@ pub fn grow_tree(
             queue,
             branches,
         );
-        if stops(turned) {
-            return Growth {
-                ended: turned,
-                lengths: lengths,
-            };
+        match turned {
+            Turned::Grown { sink, length } => {
+                lengths = with_length(lengths, sink, length);
+            }
+            Turned::Stopped(stop) => {
+                return GrownBranches {
+                    end: GrowthEnd::Early(stop),
+                    lengths: lengths,
+                };
+            }
         }
-        lengths = recorded(lengths, turned);
         turn += 1;
     }
-    Growth {
-        ended: Turned::Skipped,
+    GrownBranches {
+        end: GrowthEnd::Whole,
         lengths: lengths,
     }
 }

@@ -6,18 +6,28 @@ mod growing; // growing.rt: one sink after another
 pub use finishing::finish_tree;
 pub use growing::grow_tree;
 
-// What a sink's turn comes to: it has a branch of so many cells; no sink has this turn; or number 13, 14 or 15 is due.
-pub enum Turned {
-    Grown { sink: usize, length: usize },
-    Skipped,
+// A number that is due for a sink: 13 with the cells that its search had expanded, 14 with its approach, 15 with its place in
+// the sheet, from 1.
+pub enum Stop {
     QueueFull(room::Nodes),
     NoGoal(usize),
     NoRoom(usize),
 }
 
-// What growing comes to: the number that is due for a sink, or `Skipped` where every sink has its branch; and the branches'
-// lengths.
-pub struct Growth {
-    pub ended: Turned,
+// What a sink's turn comes to: it has a branch of so many cells, or a number is due.
+pub enum Turned {
+    Grown { sink: usize, length: usize },
+    Stopped(Stop),
+}
+
+// How growing ends: every sink has its branch, or a number was due for one.
+pub enum GrowthEnd {
+    Whole,
+    Early(Stop),
+}
+
+// What growing comes to: how it ended, and the branches' lengths.
+pub struct GrownBranches {
+    pub end: GrowthEnd,
     pub lengths: branches::BranchLengths,
 }

@@ -3,11 +3,11 @@ use mathlib.Core.Path.{_≡_}
 use mathlib.Core.List.{List, _++_}
 use Prim.Native.Nat.{ℕ, _<_}
 use lib.ListN.{length, drop, replicate}
-use mathlib.Core.Bool.{Bool, true, false}
+use mathlib.Core.Bool.{true}
 use Rattle.lent.specs.Lent.{filled}
-use Rattle.multinet.specs.declared.Growth.{Growth}
-use Rattle.multinet.specs.declared.Turned.the-variants.{Grown, Skipped, QueueFull, NoGoal, NoRoom}
-use Rattle.multinet.specs.declared.Turned.{Turned}
+use Rattle.multinet.specs.declared.Stop.{Stop}
+use Rattle.multinet.specs.declared.GrowthEnd.the-variants.{Whole, Early}
+use Rattle.multinet.specs.declared.GrownBranches.{GrownBranches}
 use Rattle.room.specs.declared.Room.{Room}
 use Rattle.room.specs.Room.{volume}
 use Rattle.room_search.specs.Steps.{placesOf}
@@ -46,26 +46,18 @@ pub record Harvested (R : Room) (source : ℕ) (taps : Taps) (L : BranchLengths)
   pub answer : r ≡ record { ended = Routed (markedCount occupied) (markedCount repeaters); lengths = L }
   pub finished : Finished R source taps L branches occupied repeaters
 
--- every sink has its branch
-abbrev pub isWhole : Turned → Bool
-isWhole (Grown k n) = false
-isWhole Skipped = true
-isWhole (QueueFull x) = false
-isWhole (NoGoal cell) = false
-isWhole (NoRoom place) = false
-
 -- the number that ended the growth
-abbrev pub refusedBy : Turned → Outcome
-refusedBy turned = refused (stopNumber turned) (stopDetail turned)
+abbrev pub refusedBy : Stop → Outcome
+refusedBy stop = refused (stopNumber stop) (stopDetail stop)
 
 -- a growth that can be harvested if it is whole
-pub record Gatherable (R : Room) (source : ℕ) (taps : Taps) (g : Growth) (branches occupied repeaters classes known previous path : List ℕ) : Type 0 where
-  pub harvestable : isWhole (g .ended) ≡ true → Harvestable R source taps (g .lengths) branches occupied repeaters classes known previous path
+pub record Gatherable (R : Room) (source : ℕ) (taps : Taps) (g : GrownBranches) (branches occupied repeaters classes known previous path : List ℕ) : Type 0 where
+  pub harvestable : g .end ≡ Whole → Harvestable R source taps (g .lengths) branches occupied repeaters classes known previous path
 
 -- the harvest of a whole tree, or a refusal
-pub data Gathered (R : Room) (source : ℕ) (taps : Taps) (g : Growth) (branches : List ℕ) (r : Answer) (occupied repeaters : List ℕ) : Type 0 where
-  ended-early : isWhole (g .ended) ≡ false → r ≡ answerOf (refusedBy (g .ended)) → Gathered R source taps g branches r occupied repeaters
-  in-whole : isWhole (g .ended) ≡ true → Harvested R source taps (g .lengths) branches r occupied repeaters → Gathered R source taps g branches r occupied repeaters
+pub data Gathered (R : Room) (source : ℕ) (taps : Taps) (g : GrownBranches) (branches : List ℕ) (r : Answer) (occupied repeaters : List ℕ) : Type 0 where
+  ended-early : (stop : Stop) → g .end ≡ Early stop → r ≡ answerOf (refusedBy stop) → Gathered R source taps g branches r occupied repeaters
+  in-whole : g .end ≡ Whole → Harvested R source taps (g .lengths) branches r occupied repeaters → Gathered R source taps g branches r occupied repeaters
 
 -- a plot that no number refuses, these cells blocked, cleared outputs, and work memory of exactly V cells
 pub record Growable (P : Plot) (B : Lent) : Type 0 where

@@ -3,14 +3,12 @@ use mathlib.Core.Path.{_≡_, refl, sym, ap, _∙_}
 use mathlib.Core.List.{List, [], _∷_, _++_, map}
 use Prim.Native.Nat.{ℕ, zero, suc, _-_, _≤_, _<_}
 use native.Mathlib.Omega.{arith}
-use lib.Dec.{eqb, ltb}
+use lib.Dec.{eqb}
 use lib.ListN.{length, getD, drop, replicate, length-map, take-append-drop, List·getD-append, List·getD-map}
 use lib.Seq.{ext-getD}
-use borrow.Author.Tests.{ltb-true, ltb-false}
-use Rattle.basics.specs.Tests.{ask, never}
+use Rattle.basics.specs.Tests.{askLess}
 use Rattle.basics.specs.Zeros.{drop-zeros, zeros}
 use Rattle.basics.specs.Padding.{padded-long}
-use mathlib.Core.Bool.{true, false}
 use Rattle.lent.specs.Lent.{filled}
 use Rattle.room.specs.declared.Room.{Room}
 use Rattle.routing_resources.specs.Marks.{markedBy, noMarks}
@@ -18,17 +16,19 @@ use Rattle.job_sheet.specs.Sheet.{joined, maxSinks}
 use Rattle.ends.specs.declared.Taps.{Taps}
 use Rattle.branches.specs.declared.BranchLengths.{BranchLengths}
 use Rattle.branches.specs.Branches.{branchLengths, markedCount}
-use Rattle.multinet.specs.declared.Turned.{Turned}
-use Rattle.multinet.specs.declared.Turned.the-variants.{Grown, Skipped, QueueFull, NoGoal, NoRoom}
-use Rattle.multinet.specs.declared.Growth.{Growth}
+use Rattle.multinet.specs.declared.Stop.{Stop}
+use Rattle.multinet.specs.declared.Stop.the-variants.{QueueFull, NoGoal, NoRoom}
+use Rattle.multinet.specs.declared.GrowthEnd.{GrowthEnd}
+use Rattle.multinet.specs.declared.GrowthEnd.the-variants.{Whole, Early}
+use Rattle.multinet.specs.declared.GrownBranches.{GrownBranches}
 use Rattle.multinet.specs.Tree.{Plot, grown, stopped, growFrom, growthOf, repeatersOf}
 use Rattle.multinet.specs.Growing.{Growing}
-use Rattle.multinet.specs.Sinks.{Plantable, Ended, GrowthTold}
+use Rattle.multinet.specs.Sinks.{Plantable, EndTold, GrowthTold}
 use Rattle.multinet.specs.Finishing.{Holds, Finishable}
 use Rattle.net_tree.specs.declared.Answer.{Answer}
 use Rattle.net_tree.specs.declared.Ended.the-variants.{Routed}
 use Rattle.net_tree.specs.Answers.{Lent, refused, outcomeOf, answerOf}
-use Rattle.net_tree.specs.Entry.{Harvestable, Harvested, Growable, TreeGrown, isWhole, refusedBy, Gatherable, Gathered, ended-early, in-whole}
+use Rattle.net_tree.specs.Entry.{Harvestable, Harvested, Growable, TreeGrown, refusedBy, Gatherable, Gathered, ended-early, in-whole}
 
 -- ---- lists
 
@@ -53,13 +53,6 @@ same-answer o p l = λ i. record { ended = Routed (markedCount (o i)) (markedCou
 
 -- ---- growing
 
-whole-skipped : (t : Turned) → isWhole t ≡ true → t ≡ Skipped
-whole-skipped (Grown k n) e = never (cc)
-whole-skipped Skipped e = refl
-whole-skipped (QueueFull x) e = never (cc)
-whole-skipped (NoGoal cell) e = never (cc)
-whole-skipped (NoRoom place) e = never (cc)
-
 module _ {P : Plot} {B : Lent} (A : Growable P B) where
   pub plantable : {joinable : List ℕ} → joinable ≡ markedBy (eqb (P .source)) (noMarks (length (B .joinable)))
       → Plantable P joinable (B .blocked) (B .classes) (B .known) (B .previous) (B .path) (B .best)
@@ -77,19 +70,17 @@ module _ {P : Plot} {B : Lent} (A : Growable P B) where
       → {branches occupied repeaters : List ℕ} → TreeGrown P B r branches occupied repeaters
   stopped-grown e h a = record { answer = a ∙ rw e; outputs = rw e h }
 
-  module _ {g : Growth} {joinable blocked branches : List ℕ} (T : GrowthTold P (B .blocked) (B .branches) g joinable blocked branches) where
-    told-as : {t : Turned} → g .ended ≡ t → Ended P (B .blocked) (B .branches) (g .lengths) joinable blocked branches t
+  module _ {g : GrownBranches} {joinable blocked branches : List ℕ} (T : GrowthTold P (B .blocked) (B .branches) g joinable blocked branches) where
+    told-as : {end : GrowthEnd} → g .end ≡ end → EndTold P (B .blocked) (B .branches) (g .lengths) joinable blocked branches end
     told-as e = rw (← e) (T .told)
 
-    refused-grown : (t : Turned) → g .ended ≡ t → isWhole t ≡ false → {r : Answer} → r ≡ answerOf (refusedBy t) → {branches′ occupied′ repeaters′ : List ℕ}
+    refused-grown : (stop : Stop) → g .end ≡ Early stop → {r : Answer} → r ≡ answerOf (refusedBy stop) → {branches′ occupied′ repeaters′ : List ℕ}
         → TreeGrown P B r branches′ occupied′ repeaters′
-    refused-grown (Grown k n) e f a = absurd (told-as e)
-    refused-grown Skipped e f a = never (cc)
-    refused-grown (QueueFull x) e f a = stopped-grown (told-as e) (omega arith) a
-    refused-grown (NoGoal cell) e f a = stopped-grown (told-as e) (omega arith) a
-    refused-grown (NoRoom place) e f a = stopped-grown (told-as e) (omega arith) a
+    refused-grown (QueueFull x) e a = stopped-grown (told-as e) (omega arith) a
+    refused-grown (NoGoal cell) e a = stopped-grown (told-as e) (omega arith) a
+    refused-grown (NoRoom place) e a = stopped-grown (told-as e) (omega arith) a
 
-    module _ (e : g .ended ≡ Skipped) where
+    module _ (e : g .end ≡ Whole) where
       abbrev all-in : Growing P (B .blocked) (B .branches) (P .taps .count) joinable blocked branches (g .lengths .each)
       all-in = told-as e .1
 
@@ -142,9 +133,9 @@ module _ {P : Plot} {B : Lent} (A : Growable P B) where
           each-are : g .lengths .each ≡ map length bs ++ replicate (maxSinks - length bs) 0
           each-are =
               ext-getD 0 (g .lengths .each) (map length bs ++ replicate (maxSinks - length bs) 0) (all-in .each-long ∙ sym wide)
-              (λ i h. ask (ltb i (length bs))
-              (λ t. let q : i < length bs = ltb-true i (length bs) t in all-in .lengths-are .each-is i q ∙ sym (map-at bs (replicate (maxSinks - length bs) 0) i q))
-              (λ f. let q : length bs ≤ i = ltb-false i (length bs) f in all-in .each-none i (omega (arith, q, all-in .sprouted .count-is)) ∙ sym (behind-map bs (maxSinks - length bs) i q)))
+              (λ i h. askLess i (length bs)
+              (λ q. all-in .lengths-are .each-is i q ∙ sym (map-at bs (replicate (maxSinks - length bs) 0) i q))
+              (λ q. all-in .each-none i (omega (arith, q, all-in .sprouted .count-is)) ∙ sym (behind-map bs (maxSinks - length bs) i q)))
 
       branches-are : branches ≡ filled (joined bs) (B .branches)
       branches-are =
@@ -167,9 +158,9 @@ module _ {P : Plot} {B : Lent} (A : Growable P B) where
     pub gatherable : {classes known previous path : List ℕ} → length classes ≡ length (B .classes) → length known ≡ length (B .known)
         → length previous ≡ length (B .previous) → length path ≡ length (B .path)
         → Gatherable (P .room) (P .source) (P .taps) g branches (B .occupied) (B .repeaters) classes known previous path
-    gatherable cl kn pr pa = record { harvestable = λ w. harvestable (whole-skipped (g .ended) w) cl kn pr pa }
+    gatherable cl kn pr pa = record { harvestable = λ w. harvestable w cl kn pr pa }
 
     pub gathered : {r : Answer} {occupied repeaters : List ℕ} → Gathered (P .room) (P .source) (P .taps) g branches r occupied repeaters
         → TreeGrown P B r branches occupied repeaters
-    gathered (ended-early f a) = refused-grown (g .ended) refl f a
-    gathered (in-whole w H) = harvested (whole-skipped (g .ended) w) H
+    gathered (ended-early stop e a) = refused-grown stop e a
+    gathered (in-whole w H) = harvested w H

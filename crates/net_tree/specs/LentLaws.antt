@@ -7,7 +7,7 @@ use native.Mathlib.Omega.{arith}
 use lib.ListN.{length, drop, replicate, length-append, length-drop}
 use borrow.Author.Tests.{lt-ltb, ne-eqb}
 use Rattle.basics.specs.Tests.{never}
-use Rattle.basics.specs.Zeros.{drop-zeros, zeros-long}
+use Rattle.basics.specs.Zeros.{drop-zeros, zeros-long, cleared-to}
 use Rattle.lent.specs.Lent.{touches, filled, outputAfter, workAfter, Emptied}
 use Rattle.room.specs.Room.{volume}
 use Rattle.job_sheet.specs.declared.Job.{Job}
@@ -53,9 +53,9 @@ module _ {sheet : List ℕ} {job : Job} {B : Lent} (A : Lendable sheet job B) {b
 
   pub clean-cleared : Cleared clean
   clean-cleared = record {
-    branches-clear = eb ∙ ap (λ n. replicate n 0) (sym (zeros-long {n = length (B .branches)} eb));
-    occupied-clear = eo ∙ ap (λ n. replicate n 0) (sym (zeros-long {n = length (B .occupied)} eo));
-    repeaters-clear = er ∙ ap (λ n. replicate n 0) (sym (zeros-long {n = length (B .repeaters)} er));
+    branches-clear = cleared-to (sym (zeros-long {n = length (B .branches)} eb)) eb;
+    occupied-clear = cleared-to (sym (zeros-long {n = length (B .occupied)} eo)) eo;
+    repeaters-clear = cleared-to (sym (zeros-long {n = length (B .repeaters)} er)) er;
   }
 
   -- ---- what comes of the job

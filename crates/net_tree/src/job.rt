@@ -4,8 +4,9 @@ use crate::Ended;
 use branches::BranchLengths;
 use ends::Taps;
 use job_sheet::Job;
-use multinet::Growth;
-use multinet::Turned;
+use multinet::GrownBranches;
+use multinet::GrowthEnd;
+use multinet::Stop;
 use room::Room;
 use room::RouterConfig;
 ghost use mathlib.Core.Path.{_≡_};
@@ -15,7 +16,7 @@ ghost use lib.ListN.{length};
 ghost use Rattle.routing_resources.specs.Marks.{markedBy, noMarks};
 ghost use Rattle.net_tree.specs.Answers.{answerOf, refused, lent};
 ghost use Rattle.multinet.specs.Sinks.{plotOf};
-ghost use Rattle.net_tree.specs.Entry.{Harvestable, Harvested, isWhole, refusedBy, Gatherable, Gathered, Growable, TreeGrown, Routable, JobRouted};
+ghost use Rattle.net_tree.specs.Entry.{Harvestable, Harvested, refusedBy, Gatherable, Gathered, Growable, TreeGrown, Routable, JobRouted};
 
 // A refusal carries no branches.
 pub fn refuse(number: u32, detail: usize) -> Answer
@@ -23,10 +24,7 @@ pub fn refuse(number: u32, detail: usize) -> Answer
 {
     Answer {
         ended: Ended::Refused { number, detail },
-        lengths: BranchLengths {
-            count: 0,
-            each: [0; 16],
-        },
+        lengths: branches::no_lengths(0),
     }
 }
 
@@ -81,30 +79,14 @@ fn harvest(
     }
 }
 
-// Whether every sink has its branch.
-fn is_whole(ended: Turned) -> bool
-    ensures { λ r. ⌜ r ≡ isWhole ended ⌝ }
-{
-    match ended {
-        Turned::Skipped => true,
-        Turned::Grown { sink: _, length: _ } => false,
-        Turned::QueueFull(_) => false,
-        Turned::NoGoal(_) => false,
-        Turned::NoRoom(_) => false,
-    }
-}
-
 // The number that ended the growth.
-fn refusal_of(ended: Turned) -> Answer
-    ensures { λ r. ⌜ r ≡ answerOf (refusedBy ended) ⌝ }
+fn refusal_of(stop: Stop) -> Answer
+    ensures { λ r. ⌜ r ≡ answerOf (refusedBy stop) ⌝ }
 {
-    match ended {
-        Turned::QueueFull(expanded) => refuse(13, expanded.0 as usize),
-        Turned::NoGoal(approach) => refuse(14, approach),
-        Turned::NoRoom(place) => refuse(15, place),
-        // growing ends with no single sink's branch, and a whole tree is not refused
-        Turned::Grown { sink: _, length: _ } => refuse(0, 0),
-        Turned::Skipped => refuse(0, 0),
+    match stop {
+        Stop::QueueFull(expanded) => refuse(13, expanded.0 as usize),
+        Stop::NoGoal(approach) => refuse(14, approach),
+        Stop::NoRoom(place) => refuse(15, place),
     }
 }
 
@@ -113,7 +95,7 @@ fn gather(
     room: Room,
     source: usize,
     taps: Taps,
-    growth: Growth,
+    growth: GrownBranches,
     branches: &[u32],
     occupied: &mut [u8],
     repeaters: &mut [u8],
@@ -125,11 +107,11 @@ fn gather(
     requires { ⌜ Gatherable room source taps growth (now branches) (now occupied) (now repeaters) (now classes) (now known) (now previous) (now path) ⌝ }
     ensures { λ r. ⌜ Gathered room source taps growth (now (branches .entry)) r (now (occupied .exit)) (now (repeaters .exit)) ⌝ }
 {
-    let ended = growth.ended;
-    if !is_whole(ended) {
-        return refusal_of(ended);
-    }
+    let end = growth.end;
     let lengths = growth.lengths;
+    if let GrowthEnd::Early(stop) = end {
+        return refusal_of(stop);
+    }
     harvest(
         room,
         source,

@@ -1,8 +1,8 @@
 // Whether an answer, and all lent memory behind it, are as stored.
 use crate::sheets::Told;
-use crate::sheets::no_lengths;
 use branches::BranchLengths;
 use branches::count_marks;
+use branches::no_lengths;
 use net_tree::Answer;
 use net_tree::Ended;
 use stored::memory::bytes_hold;
@@ -122,7 +122,7 @@ fn short_answer(answer: Answer, shortage: Shortage) -> bool
         return false;
     }
     let lengths = answer.lengths;
-    same_lengths(lengths, no_lengths())
+    same_lengths(lengths, no_lengths(0))
 }
 
 // The cells that the tree occupies: marks on the branches' cells, and as many as are stored. A tree without a branch occupies its

@@ -9,10 +9,8 @@ use stored::places::size_at;
 use stored::places::size_behind;
 use stored::places::word_at;
 ghost use mathlib.Core.Path.{_≡_};
-ghost use mathlib.Core.List.{[]};
 ghost use Prim.Native.Nat.{_+_, _≤_, _<_, min};
 ghost use lib.ListN.{set};
-ghost use Rattle.branches.specs.Branches.{branchLengths};
 ghost use Rattle.replay_sheets.specs.Sheets.{askedAt, sheetAt, marksOf, cellsOf, Branched, left, refusalOf, treeAt, answerAt, knownIf};
 
 // The letters that the file begins with: DRT1.
@@ -158,22 +156,13 @@ fn at_most_sixteen(count: u8) -> usize
     if count < 16 { count as usize } else { 16 }
 }
 
-pub fn no_lengths() -> BranchLengths
-    ensures { λ r. ⌜ r ≡ branchLengths [] ⌝ }
-{
-    BranchLengths {
-        count: 0,
-        each: [0; 16],
-    }
-}
-
 fn refusal(number: u32, detail: usize) -> Told
     ensures { λ r. ⌜ r ≡ refusalOf number detail ⌝ }
 {
     Told {
         number,
         detail,
-        lengths: no_lengths(),
+        lengths: branches::no_lengths(0),
         total: 0,
         occupied: 0,
         repeaters: 0,

@@ -3,7 +3,7 @@
 use mathlib.Core.Path.{_≡_, refl, sym, ap, _∙_}
 use mathlib.Core.Logic.{inl, inr}
 use mathlib.Core.List.{List, [], _∷_, _++_}
-use Prim.Native.Nat.{ℕ, suc, _+_, _≤_, _<_, max, zero-le}
+use Prim.Native.Nat.{ℕ, suc, _+_, _*_, _≤_, _<_, max, zero-le}
 use native.Mathlib.Omega.{arith}
 use lib.Dec.{eqb}
 use lib.ListN.{length}
@@ -20,7 +20,7 @@ use Rattle.room.specs.MoveLaws.{most, leads, nearer}
 use Rattle.best_first.specs.Search
 use Rattle.best_first.specs.Ways.{Step, Sound, Consistent}
 use Rattle.room_search.specs.Routing.{Task, entering, total, priceOf, moveInto, movesBy, estimateOf, graphOf, graph}
-use Rattle.room.specs.Units.{GoodConfig}
+use Rattle.room.specs.Units.{maxCost, GoodConfig}
 
 -- a move of the graph is one of the room's moves, which leads to a cell that can be entered
 pub record Made (R : Room) (C : RouterConfig) (class : ℕ → ℕ) (u : ℕ) (ms : List Move) (g : Search.Move) : Type 0 where
@@ -88,7 +88,7 @@ price-low C m class =
     let support : priceOf C m class .support ≤ C .support .0 = ask (eqb class 2) (λ t. rw t (omega arith)) (λ f. rw f (omega arith)) in
     omega arith
 
-pub dearest-most : {C : RouterConfig} → GoodConfig C → dearest C ≤ 200000
+pub dearest-most : {C : RouterConfig} → GoodConfig C → dearest C ≤ 2 * maxCost
 unfolding dearest
 dearest-most F = omega (arith, F .horizontal-most, F .stair-most, F .support-most)
 

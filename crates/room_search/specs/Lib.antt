@@ -1,5 +1,4 @@
 pub mod Routing
-pub mod Lawful
 pub mod GraphLaws
 pub mod Held
 pub mod HeldLaws

@@ -1,10 +1,10 @@
 // The moves of one cell: each neighbour that can be entered is offered at its cost.
 ghost use mathlib.Core.Path.{_≡_};
-ghost use Prim.Native.Nat.{_+_, _≤_, _<_, _^_};
+ghost use Prim.Native.Nat.{_+_, _*_, _≤_, _<_, _^_};
 ghost use lib.ListN.{length};
 ghost use mathlib.Core.List.{[], _∷_};
 ghost use Rattle.room.specs.Room.{maxVolume, SmallPos, moves, distanceAt};
-ghost use Rattle.room.specs.Units.{GoodConfig};
+ghost use Rattle.room.specs.Units.{GoodConfig, maxCost};
 ghost use Rattle.room_search.specs.Routing.{total, priceOf, estimateOf};
 ghost use Rattle.room_search.specs.Steps.{maxKnown, Ready, Offered, Able, Aside, setting, Tried, column};
 use crate::Line;
@@ -41,7 +41,7 @@ fn offer(
     goal: Pos,
 ) -> Step
     requires { ⌜ (cell < length (now known)) × (length (now previous) ≡ length (now known)) × (length (now known) ≤ maxVolume) ⌝ }
-    requires { ⌜ (from < maxVolume) × (cost ≤ maxKnown + 200000) × (line .serial + 1 < 2 ^ 32) ⌝ }
+    requires { ⌜ (from < maxVolume) × (cost ≤ maxKnown + 2 * maxCost) × (line .serial + 1 < 2 ^ 32) ⌝ }
     requires { ⌜ Ready (now queue) line ⌝ }
     requires { ⌜ SmallPos at ⌝ }
     requires { ⌜ SmallPos goal ⌝ }

@@ -8,10 +8,8 @@ use borrow.Author.Tests.{le-leb}
 use Rattle.basics.specs.Tests.{either, ask, never}
 use Rattle.net_tree.specs.declared.Lengths.{Lengths}
 use Rattle.outset.specs.declared.Outset.{Outset}
-use Rattle.room.specs.declared.Neighbour.{Neighbour}
 use Rattle.branches.specs.Branches.{branchOf}
 use Rattle.room.specs.declared.Room.{Room}
-use Rattle.room.specs.declared.Neighbour.the-variants.{Inside, Outside}
 use Rattle.room.specs.Room.{volume}
 use Rattle.job_sheet.specs.declared.Verdict.{Verdict}
 use Rattle.job_sheet.specs.declared.Verdict.the-variants.{Good, Sheet, Sides, Config, Position, Code}
@@ -56,10 +54,9 @@ after-high P k T (found path cost) = by-fit (fitsIn P T (branchOf (tapAt P k) pa
 after-high P k T failed = omega arith
 after-high P k T (full x) = omega arith
 
-sink-high : (P : Plot) (k : Neighbour) (T : Tree) → StopsHigh (growSink P k T)
+sink-high : (P : Plot) (k : ℕ) (T : Tree) → StopsHigh (growSink P k T)
 unfolding growSink
-sink-high P (Inside k) T = after-high P k T (routeToTree (siteAt P (T .joinable)) (tapAt P k .approach) (T .blocked))
-sink-high P Outside T = tt
+sink-high P k T = after-high P k T (routeToTree (siteAt P (T .joinable)) (tapAt P k .approach) (T .blocked))
 
 on-high : (rest : Tree → Growth) → ((T : Tree) → StopsHigh (rest T)) → (g : Growth) → StopsHigh g → StopsHigh (growOn rest g)
 on-high rest h (grown T) s = h T

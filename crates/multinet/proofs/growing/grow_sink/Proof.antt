@@ -7,14 +7,17 @@ use borrow.Author.Needs.{needs}
 use Rattle.multinet.proofs.growing.grow_sink.Statement.{statement}
 use Rattle.multinet.proofs.growing.grow_sink.Tie as tie
 
+sink-at-requires : tie.Need-sink-at-requires
+sink-at-requires c κs = search needs
+
 mul-tap : tie.Need-mul-tap
-mul-tap c = let s = sink-in (c .before .before .before .before .before .before .before .before .before .before .pre .0 .sound) (c .before .before .before .before .before .before .before .before .before .before .pre .0 .growing) (c .before .before .before .before .before .before .before .before .before .before .pre .0 .count-is) _ (c .before .before .before .before .before .before .before .before .before .before .pre .1) in record { fits = omega (arith, s, c .before .before .before .before .before .before .before .before .before .before .pre .0 .sound .net .taps-in .few) }
+mul-tap c = let s = sink-in (c .before .before .before .before .before .before .before .before .before .before .before .pre .sound) (c .before .before .before .before .before .before .before .before .before .before .before .pre .growing) (c .before .before .before .before .before .before .before .before .before .before .before .pre .count-is) _ (c .sink-at .ensures) (c .before .before .before .before .before .before .before .before .before .before .before .pre .turn-in) in record { fits = omega (arith, s, c .before .before .before .before .before .before .before .before .before .before .before .pre .sound .net .taps-in .few) }
 
 element-copy-out-tap : tie.Need-element-copy-out-tap
-element-copy-out-tap c = let s = sink-in (c .before .before .before .before .before .before .before .before .before .before .pre .0 .sound) (c .before .before .before .before .before .before .before .before .before .before .pre .0 .growing) (c .before .before .before .before .before .before .before .before .before .before .pre .0 .count-is) _ (c .before .before .before .before .before .before .before .before .before .before .pre .1) in omega (arith, s, c .before .before .before .before .before .before .before .before .before .before .pre .0 .sound .net .taps-in .few)
+element-copy-out-tap c = let s = sink-in (c .before .before .before .before .before .before .before .before .before .before .before .pre .sound) (c .before .before .before .before .before .before .before .before .before .before .before .pre .growing) (c .before .before .before .before .before .before .before .before .before .before .before .pre .count-is) _ (c .sink-at .ensures) (c .before .before .before .before .before .before .before .before .before .before .before .pre .turn-in) in omega (arith, s, c .before .before .before .before .before .before .before .before .before .before .before .pre .sound .net .taps-in .few)
 
 find-route-requires : tie.Need-find-route-requires
-find-route-requires c κs = findable (c .before .before .before .before .before .before .before .before .before .before .before .before .before .before .before .before .before .before .before .pre .0) _ (c .before .before .before .before .before .before .before .before .before .before .before .before .before .before .before .before .before .before .before .pre .1)
+find-route-requires c κs = findable (c .before .before .before .before .before .before .before .before .before .before .before .before .before .before .before .before .before .before .before .before .pre) _ (c .before .before .before .before .before .before .before .before .before .sink-at .ensures)
 
 enum-known-tried : tie.Need-enum-known-tried
 enum-known-tried c = search needs
@@ -32,7 +35,7 @@ slice-aggregate-place-branch : tie.Need-slice-aggregate-place-branch
 slice-aggregate-place-branch c = sym (length-take-le _ _ (found-fits (c .before .before .before .before .before .before .before .before .before .before .before .before .before .before .before .before .before .before .before .before .find-route .ensures .0) _ _ (c .before .before .tried2 .given .1)))
 
 place-branch-requires : tie.Need-place-branch-requires
-place-branch-requires c κs = placeable (c .before .before .before .before .before .before .before .before .before .before .before .before .before .before .before .before .before .before .before .before .before .before .before .before .before .before .before .before .before .before .before .before .before .before .before .before .before .before .before .before .before .before .before .pre .0) _ (c .before .before .before .before .before .before .before .before .before .before .before .before .before .before .before .before .before .before .before .before .before .before .before .before .before .before .before .before .before .before .before .before .before .before .before .before .before .before .before .before .before .before .before .pre .1) (c .before .before .before .before .before .before .before .before .before .before .before .before .before .before .before .before .before .before .before .before .before .before .before .find-route .ensures .0) _ _ (c .before .before .before .before .before .tried2 .given .1) (c .before .before .before .before .before .before .before .before .before .before .before .before .before .before .before .before .before .before .before .before .before .before .before .find-route .ensures .1 .0) (c .before .before .before .before .before .before .before .before .before .before .before .before .before .before .before .before .before .before .before .before .before .before .before .find-route .ensures .1 .1)
+place-branch-requires c κs = placeable (c .before .before .before .before .before .before .before .before .before .before .before .before .before .before .before .before .before .before .before .before .before .before .before .before .before .before .before .before .before .before .before .before .before .before .before .before .before .before .before .before .before .before .before .before .pre) _ (c .before .before .before .before .before .before .before .before .before .before .before .before .before .before .before .before .before .before .before .before .before .before .before .before .before .before .before .before .before .before .before .before .before .sink-at .ensures) (c .before .before .before .before .before .before .before .before .before .before .before .before .before .before .before .before .before .before .before .before .before .before .before .find-route .ensures .0) _ _ (c .before .before .before .before .before .tried2 .given .1) (c .before .before .before .before .before .before .before .before .before .before .before .before .before .before .before .before .before .before .before .before .before .before .before .find-route .ensures .1 .0) (c .before .before .before .before .before .before .before .before .before .before .before .before .before .before .before .before .before .before .before .before .before .before .before .find-route .ensures .1 .1)
 
 same-length : tie.Need-same-length
 same-length c = c .before .before .before .before .before .before .before .before .before .before .before .before .before .before .before .before .before .before .before .find-route .kept .1 .1 .1 .0
@@ -59,7 +62,7 @@ same-length-8 : tie.Need-same-length-8
 same-length-8 c = c .before .before .before .before .before .before .before .before .before .before .before .before .before .before .before .before .before .before .before .find-route .kept .1 .1 .1 .1 .1 .1 .1 .1 .1 .1 .0
 
 returns : tie.Need-returns
-returns c = came-full (c .before .before .before .before .before .before .before .before .before .before .before .before .before .before .before .before .before .before .before .before .before .before .before .before .before .before .before .before .before .before .before .before .before .before .before .before .before .before .before .pre .0) _ (c .before .before .before .before .before .before .before .before .before .before .before .before .before .before .before .before .before .before .before .before .before .before .before .before .before .before .before .before .before .before .before .before .before .before .before .before .before .before .before .pre .1) (c .before .before .before .before .before .before .before .before .before .before .before .before .before .before .before .before .before .before .before .find-route .ensures .0) _ (c .before .tried .given .1)
+returns c = came-full (c .before .before .before .before .before .before .before .before .before .before .before .before .before .before .before .before .before .before .before .before .before .before .before .before .before .before .before .before .before .before .before .before .before .before .before .before .before .before .before .before .pre) _ (c .before .before .before .before .before .before .before .before .before .before .before .before .before .before .before .before .before .before .before .before .before .before .before .before .before .before .before .before .before .sink-at .ensures) (c .before .before .before .before .before .before .before .before .before .before .before .before .before .before .before .before .before .before .before .find-route .ensures .0) _ (c .before .tried .given .1)
 
 same-length-9 : tie.Need-same-length-9
 same-length-9 c = c .before .before .before .before .before .before .before .before .before .before .before .before .before .before .before .before .before .before .find-route .kept .1 .1 .1 .0
@@ -86,7 +89,7 @@ same-length-16 : tie.Need-same-length-16
 same-length-16 c = c .before .before .before .before .before .before .before .before .before .before .before .before .before .before .before .before .before .before .find-route .kept .1 .1 .1 .1 .1 .1 .1 .1 .1 .1 .0
 
 returns-2 : tie.Need-returns-2
-returns-2 c = came-failed (c .before .before .before .before .before .before .before .before .before .before .before .before .before .before .before .before .before .before .before .before .before .before .before .before .before .before .before .before .before .before .before .before .before .before .before .before .before .before .pre .0) _ (c .before .before .before .before .before .before .before .before .before .before .before .before .before .before .before .before .before .before .before .before .before .before .before .before .before .before .before .before .before .before .before .before .before .before .before .before .before .before .pre .1) (c .before .before .before .before .before .before .before .before .before .before .before .before .before .before .before .before .before .before .find-route .ensures .0) (c .enum-told .given .1)
+returns-2 c = came-failed (c .before .before .before .before .before .before .before .before .before .before .before .before .before .before .before .before .before .before .before .before .before .before .before .before .before .before .before .before .before .before .before .before .before .before .before .before .before .before .before .pre) _ (c .before .before .before .before .before .before .before .before .before .before .before .before .before .before .before .before .before .before .before .before .before .before .before .before .before .before .before .before .sink-at .ensures) (c .before .before .before .before .before .before .before .before .before .before .before .before .before .before .before .before .before .before .find-route .ensures .0) (c .enum-told .given .1)
 
 same-length-17 : tie.Need-same-length-17
 same-length-17 c = c .before .before .before .before .before .before .place-branch .kept .1 .1 .1 .1 .1 .1 .0 ∙ c .before .before .before .before .before .before .before .before .before .before .before .before .before .before .before .before .before .before .before .before .before .before .before .before .before .before .before .before .before .before .find-route .kept .1 .1 .1 .0
@@ -116,12 +119,13 @@ same-length-25 : tie.Need-same-length-25
 same-length-25 c = c .before .before .before .before .before .before .place-branch .kept .1 .1 .1 .1 .1 .0
 
 returns-3 : tie.Need-returns-3
-returns-3 c = came-placed (c .before .before .before .before .before .before .before .before .before .before .before .before .before .before .before .before .before .before .before .before .before .before .before .before .before .before .before .before .before .before .before .before .before .before .before .before .before .before .before .before .before .before .before .before .before .before .before .before .before .before .pre .0) _ (c .before .before .before .before .before .before .before .before .before .before .before .before .before .before .before .before .before .before .before .before .before .before .before .before .before .before .before .before .before .before .before .before .before .before .before .before .before .before .before .before .before .before .before .before .before .before .before .before .before .before .pre .1) (c .before .before .before .before .before .before .before .before .before .before .before .before .before .before .before .before .before .before .before .before .before .before .before .before .before .before .before .before .before .before .find-route .ensures .0) _ _ (c .before .before .before .before .before .before .before .before .before .before .before .before .tried2 .given .1) refl (c .before .before .before .before .before .before .before .before .before .before .before .before .before .before .before .before .before .before .before .before .before .before .before .before .before .before .before .before .before .before .find-route .ensures .1 .0) (c .before .before .before .before .before .before .before .before .before .before .before .before .before .before .before .before .before .before .before .before .before .before .before .before .before .before .before .before .before .before .find-route .ensures .1 .1) (c .before .before .before .before .before .before .place-branch .ensures)
+returns-3 c = came-placed (c .before .before .before .before .before .before .before .before .before .before .before .before .before .before .before .before .before .before .before .before .before .before .before .before .before .before .before .before .before .before .before .before .before .before .before .before .before .before .before .before .before .before .before .before .before .before .before .before .before .before .before .pre) _ (c .before .before .before .before .before .before .before .before .before .before .before .before .before .before .before .before .before .before .before .before .before .before .before .before .before .before .before .before .before .before .before .before .before .before .before .before .before .before .before .before .sink-at .ensures) (c .before .before .before .before .before .before .before .before .before .before .before .before .before .before .before .before .before .before .before .before .before .before .before .before .before .before .before .before .before .before .find-route .ensures .0) _ _ (c .before .before .before .before .before .before .before .before .before .before .before .before .tried2 .given .1) refl (c .before .before .before .before .before .before .before .before .before .before .before .before .before .before .before .before .before .before .before .before .before .before .before .before .before .before .before .before .before .before .find-route .ensures .1 .0) (c .before .before .before .before .before .before .before .before .before .before .before .before .before .before .before .before .before .before .before .before .before .before .before .before .before .before .before .before .before .before .find-route .ensures .1 .1) (c .before .before .before .before .before .before .place-branch .ensures)
 
 pub grow-sink-spec : {M : Type 1} → statement M
 grow-sink-spec =
     tie.close
     (tie.spec
+    sink-at-requires
     mul-tap
     element-copy-out-tap
     find-route-requires

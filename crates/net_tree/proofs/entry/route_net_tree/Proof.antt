@@ -1,9 +1,9 @@
 -- `route_net_tree` keeps its promise: refused by its reading, by number 6, or routed.
-use mathlib.Core.Path.{refl, sym, _∙_}
-use borrow.Author.Tests.{not-true, not-false}
+use mathlib.Core.Path.{refl, _∙_}
 use Rattle.outset.specs.SetOutLaws.{good-room}
 use Rattle.job_sheet.specs.Theorems.{accepted-by}
 use Rattle.net_tree.specs.LentLaws.{promise-unread, promise-unlent}
+use Rattle.basics.specs.Tests.{test-fails, test-passes}
 use borrow.Author.Needs.{needs}
 use Rattle.net_tree.proofs.entry.route_net_tree.Statement.{statement}
 use Rattle.net_tree.proofs.entry.route_net_tree.Tie as tie
@@ -21,19 +21,19 @@ refuse-requires : tie.Need-refuse-requires
 refuse-requires c κs = search needs
 
 returns : tie.Need-returns
-returns c = promise-unread (c .before .before .before .before .read-sheet .ensures) (sym (c .before .before .before .is-good .ensures) ∙ not-true _ (c .before .before .if1 .taken)) (c .refuse .ensures ∙ rw (c .before .number .ensures) refl)
+returns c = promise-unread (c .before .before .before .before .read-sheet .ensures) (test-fails (c .before .before .before .is-good .ensures) (c .before .before .if1 .taken)) (c .refuse .ensures ∙ rw (c .before .number .ensures) refl)
 
 lent-enough-requires : tie.Need-lent-enough-requires
-lent-enough-requires c κs = good-room (accepted-by (c .before .before .before .read-sheet .ensures) (sym (c .before .before .is-good .ensures) ∙ not-false _ (c .before .if1 .left)))
+lent-enough-requires c κs = good-room (accepted-by (c .before .before .before .read-sheet .ensures) (test-passes (c .before .before .is-good .ensures) (c .before .if1 .left)))
 
 refuse-requires-2 : tie.Need-refuse-requires-2
 refuse-requires-2 c κs = search needs
 
 returns-2 : tie.Need-returns-2
-returns-2 c = promise-unlent (accepted-by (c .before .before .before .before .before .before .read-sheet .ensures) (sym (c .before .before .before .before .before .is-good .ensures) ∙ not-false _ (c .before .before .before .before .if1 .left))) (sym (c .before .before .lent-enough .ensures) ∙ not-true _ (c .before .if2 .taken)) (c .refuse2 .ensures)
+returns-2 c = promise-unlent (accepted-by (c .before .before .before .before .before .before .read-sheet .ensures) (test-passes (c .before .before .before .before .before .is-good .ensures) (c .before .before .before .before .if1 .left))) (test-fails (c .before .before .lent-enough .ensures) (c .before .if2 .taken)) (c .refuse2 .ensures)
 
 route-lent-requires : tie.Need-route-lent-requires
-route-lent-requires c κs = record { accepted = accepted-by (c .before .before .before .before .before .before .before .before .before .before .before .before .before .before .before .before .before .read-sheet .ensures) (sym (c .before .before .before .before .before .before .before .before .before .before .before .before .before .before .before .before .is-good .ensures) ∙ not-false _ (c .before .before .before .before .before .before .before .before .before .before .before .before .before .before .before .if1 .left)); buffers = sym (c .before .before .before .before .before .before .before .before .before .before .before .before .before .lent-enough .ensures) ∙ not-false _ (c .before .before .before .before .before .before .before .before .before .before .before .before .if2 .left) }
+route-lent-requires c κs = record { accepted = accepted-by (c .before .before .before .before .before .before .before .before .before .before .before .before .before .before .before .before .before .read-sheet .ensures) (test-passes (c .before .before .before .before .before .before .before .before .before .before .before .before .before .before .before .before .is-good .ensures) (c .before .before .before .before .before .before .before .before .before .before .before .before .before .before .before .if1 .left)); buffers = test-passes (c .before .before .before .before .before .before .before .before .before .before .before .before .before .lent-enough .ensures) (c .before .before .before .before .before .before .before .before .before .before .before .before .if2 .left) }
 
 same-length : tie.Need-same-length
 same-length c = c .before .before .before .before .before .before .before .before .before .before .before .before .before .before .before .before .before .before .before .before .before .before .before .before .route-lent .kept .1 .1 .0

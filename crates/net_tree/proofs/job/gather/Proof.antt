@@ -1,22 +1,23 @@
 -- `gather` meets its contract: the number that ended the growth, or the harvest of a whole tree.
-use mathlib.Core.Path.{sym, _∙_}
-use borrow.Author.Tests.{not-true, not-false}
 use Rattle.net_tree.specs.Entry.{ended-early, in-whole}
 use borrow.Author.Needs.{needs}
 use Rattle.net_tree.proofs.job.gather.Statement.{statement}
 use Rattle.net_tree.proofs.job.gather.Tie as tie
 
-is-whole-requires : tie.Need-is-whole-requires
-is-whole-requires c κs = search needs
+enum-known-end : tie.Need-enum-known-end
+enum-known-end c = search needs
 
 refusal-of-requires : tie.Need-refusal-of-requires
 refusal-of-requires c κs = search needs
 
 returns : tie.Need-returns
-returns c = ended-early (sym (c .before .before .is-whole .ensures) ∙ not-true _ (c .before .if1 .taken)) (c .refusal-of .ensures)
+returns c = ended-early _ (c .before .before .end .given .1) (c .refusal-of .ensures)
+
+enum-told : tie.Need-enum-told
+enum-told c = search needs
 
 harvest-requires : tie.Need-harvest-requires
-harvest-requires c κs = c .before .before .before .before .before .before .before .before .before .before .before .before .before .before .before .before .pre .harvestable (sym (c .before .before .before .before .before .before .before .before .is-whole .ensures) ∙ not-false _ (c .before .before .before .before .before .before .before .if1 .left))
+harvest-requires c κs = c .before .before .before .before .before .before .before .before .before .before .before .before .before .before .before .before .pre .harvestable (c .before .before .before .before .before .before .enum-told .given .1)
 
 same-length : tie.Need-same-length
 same-length c = c .before .before .before .before .before .before .before .before .before .before .before .before .harvest .kept .1 .1 .1 .1 .1 .0
@@ -37,15 +38,16 @@ same-length-6 : tie.Need-same-length-6
 same-length-6 c = c .before .before .before .before .before .before .before .before .before .before .before .before .harvest .kept .1 .1 .1 .1 .1 .1 .1 .1 .1 .1 .0
 
 returns-2 : tie.Need-returns-2
-returns-2 c = in-whole (sym (c .before .before .before .before .before .before .before .before .before .before .before .before .before .before .before .before .before .before .before .before .before .is-whole .ensures) ∙ not-false _ (c .before .before .before .before .before .before .before .before .before .before .before .before .before .before .before .before .before .before .before .before .if1 .left)) (c .before .before .before .before .before .before .before .before .before .before .before .before .harvest .ensures)
+returns-2 c = in-whole (c .before .before .before .before .before .before .before .before .before .before .before .before .before .before .before .before .before .before .before .enum-told .given .1) (c .before .before .before .before .before .before .before .before .before .before .before .before .harvest .ensures)
 
 pub gather-spec : {M : Type 1} → statement M
 gather-spec =
     tie.close
     (tie.spec
-    is-whole-requires
+    enum-known-end
     refusal-of-requires
     returns
+    enum-told
     harvest-requires
     same-length
     same-length-2
