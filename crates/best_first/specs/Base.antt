@@ -9,10 +9,10 @@ use lib.ListN.{length, getD, set, replicate, length-set, length-replicate}
 use lib.Seq.{getD-set-same, getD-set-other}
 use Rattle.basics.specs.Lists.{In}
 use Rattle.basics.specs.Zeros.{zeros}
-use Rattle.best_first.specs.Search.{Graph, Move, Entry, State, Taken, on, push, counted, outset, expand}
+use Rattle.best_first.specs.Search.{Graph, Move, Entry, State, Taken, on, push, oneMoreExpanded, outset, expand}
 use Rattle.best_first.specs.Ways.{Sound}
 use Rattle.best_first.specs.Statements.{Taking, stored, costOf, outcome, entered, enteredBy}
-use Rattle.best_first.specs.Lists.{After, hit, miss, after, in-reach}
+use Rattle.best_first.specs.Lists.{AfterStore, hit, miss, after, in-reach}
 use Rattle.best_first.specs.Equations.{no-cheaper, expand-none, expand-skip, Gain, offered}
 use Rattle.best_first.specs.Links.{Linked, lowered, to-in, not-itself, push-linked, start-alone, outset-linked}
 
@@ -36,7 +36,7 @@ pub record Loose (known : List ℕ) (w : ℕ) (m : Move) : Type 0 where
 -- `closed` marks the closed cells; the moves `due` of u, which is closed, are still to be tried
 pub record Base (G : Graph) (closed ages : List ℕ) (u : ℕ) (due : List Move) (s : State) : Type 0 where
   pub linked : Linked G ages (s .known) (s .previous) (s .serial)
-  pub closed-length : length closed ≡ G .size
+  pub closed-long : length closed ≡ G .size
   pub goal-open : getD closed (G .goal) 0 ≡ 0
   pub closed-known : (v : ℕ) → 0 < getD closed v 0 → 0 < stored s v
   pub loose : (w : ℕ) (m : Move) → 0 < getD closed w 0 → In m (G .moves w) → Loose (s .known) w m ⊎ ((w ≡ u) × In m due)
@@ -63,7 +63,7 @@ module _ {G : Graph} {closed ages : List ℕ} {u d : ℕ} {m : Move} {ms : List 
   skip-base : (0 < stored s (m .to)) × (stored s (m .to) ≤ suc (d + m .cost)) → Base G closed ages u ms s
   skip-base f = record {
     linked = B .linked;
-    closed-length = B .closed-length;
+    closed-long = B .closed-long;
     goal-open = B .goal-open;
     closed-known = B .closed-known;
     loose = λ w n c i. loose w n (B .loose w n c i);
@@ -94,8 +94,8 @@ module _ {G : Graph} {closed ages : List ℕ} {u d : ℕ} {m : Move} {ms : List 
     u-not-w : u ≢ m .to
     u-not-w = not-itself S (B .linked) u m due-lawful u-known _ is-x gain
 
-    mark : (v : ℕ) → After closed (m .to) 0 v
-    mark v = after closed (m .to) 0 v (omega (arith, w-in, B .linked .known-length, B .closed-length))
+    mark : (v : ℕ) → AfterStore closed (m .to) 0 v
+    mark v = after closed (m .to) 0 v (omega (arith, w-in, B .linked .known-long, B .closed-long))
 
     low : (v : ℕ) → 0 < stored s v → (0 < getD (offered s d m) v 0) × (getD (offered s d m) v 0 ≤ stored s v)
     low v = lowered (s .known) (m .to) (suc (d + m .cost)) v w-in (omega arith) gain
@@ -104,7 +104,7 @@ module _ {G : Graph} {closed ages : List ℕ} {u d : ℕ} {m : Move} {ms : List 
     pub still-closed : (v : ℕ) → 0 < getD (set closed (m .to) 0) v 0 → (v ≢ m .to) × (0 < getD closed v 0)
     still-closed v c = go (mark v)
       where
-        go : After closed (m .to) 0 v → (v ≢ m .to) × (0 < getD closed v 0)
+        go : AfterStore closed (m .to) 0 v → (v ≢ m .to) × (0 < getD closed v 0)
         go (hit e q) = absurd (omega arith)
         go (miss n q) = (n, omega arith)
 
@@ -118,7 +118,7 @@ module _ {G : Graph} {closed ages : List ℕ} {u d : ℕ} {m : Move} {ms : List 
     unfolding push
     push-base = record {
       linked = push-linked S (B .linked) u m due-lawful u-known (suc (d + m .cost)) is-x gain;
-      closed-length = simp length-set (B .closed-length);
+      closed-long = simp length-set (B .closed-long);
       goal-open = goal-open (mark (G .goal));
       closed-known = λ v c. let k = still-closed v c in low v (B .closed-known v (k .1)) .0;
       loose = λ v n c i. let k = still-closed v c in loose v n (k .0) (B .loose v n (k .1) i);
@@ -126,7 +126,7 @@ module _ {G : Graph} {closed ages : List ℕ} {u d : ℕ} {m : Move} {ms : List 
       fair = fair;
     }
       where
-        goal-open : After closed (m .to) 0 (G .goal) → getD (set closed (m .to) 0) (G .goal) 0 ≡ 0
+        goal-open : AfterStore closed (m .to) 0 (G .goal) → getD (set closed (m .to) 0) (G .goal) 0 ≡ 0
         goal-open (hit e q) = q
         goal-open (miss n q) = q ∙ B .goal-open
 
@@ -141,7 +141,7 @@ module _ {G : Graph} {closed ages : List ℕ} {u d : ℕ} {m : Move} {ms : List 
         old v n W = record { entry = W .entry; there = inr (W .there); at = W .at; fresh = omega (arith, W .fresh, same v n) }
 
         waits : (v : ℕ) → 0 < getD (offered s d m) v 0 → getD (set closed (m .to) 0) v 0 ≡ 0
-            → After (s .known) (m .to) (suc (d + m .cost)) v → After closed (m .to) 0 v
+            → AfterStore (s .known) (m .to) (suc (d + m .cost)) v → AfterStore closed (m .to) 0 v
             → Waits G (offered s d m) ((push G u (m .to) (d + m .cost) s) .waiting) v
         waits v p o (hit e q) k = record { entry = _; there = inl refl; at = sym e; fresh = omega (arith, ap (G .estimate) e) }
         waits v p o (miss n q) (hit e r) = absurd (n e)
@@ -203,10 +203,10 @@ module _ {G : Graph} {closed ages : List ℕ} {w : ℕ} {s : State} {t : Taken} 
 
   -- a closed cell: nothing is due, and nothing is pushed
   module _ (c : 0 < getD closed (t .next .cell) 0) where
-    pub again-base : Base G closed ages w [] (counted s (t .left))
+    pub again-base : Base G closed ages w [] (oneMoreExpanded s (t .left))
     again-base = record {
       linked = B .linked;
-      closed-length = B .closed-length;
+      closed-long = B .closed-long;
       goal-open = B .goal-open;
       closed-known = B .closed-known;
       loose = B .loose;
@@ -214,24 +214,24 @@ module _ {G : Graph} {closed ages : List ℕ} {w : ℕ} {s : State} {t : Taken} 
       fair = λ e i. B .fair e (k .left-in e i);
     }
 
-    pub again-outcome : outcome G s (t .next) (t .left) ≡ on (counted s (t .left))
-    again-outcome = expand-loose G _ _ (G .moves (t .next .cell)) (counted s (t .left)) taken-known (λ m i. all-loose B (t .next .cell) m c i)
+    pub again-outcome : outcome G s (t .next) (t .left) ≡ on (oneMoreExpanded s (t .left))
+    again-outcome = expand-loose G _ _ (G .moves (t .next .cell)) (oneMoreExpanded s (t .left)) taken-known (λ m i. all-loose B (t .next .cell) m c i)
 
     pub again-entered : (l : List ℕ) → enteredBy G s (t .next) (t .left) l ≡ l
-    again-entered l = entered-loose G _ _ (G .moves (t .next .cell)) l (counted s (t .left)) taken-known (λ m i. all-loose B (t .next .cell) m c i)
+    again-entered l = entered-loose G _ _ (G .moves (t .next .cell)) l (oneMoreExpanded s (t .left)) taken-known (λ m i. all-loose B (t .next .cell) m c i)
 
   pub taken-in : t .next .cell < G .size
-  taken-in = omega (arith, in-reach (s .known) (t .next .cell) (B .fair (t .next) (k .from) .reached), B .linked .known-length)
+  taken-in = omega (arith, in-reach (s .known) (t .next .cell) (B .fair (t .next) (k .from) .reached), B .linked .known-long)
 
-  pub mark-taken : (v : ℕ) → After closed (t .next .cell) 1 v
-  mark-taken v = after closed (t .next .cell) 1 v (omega (arith, taken-in, B .closed-length))
+  pub mark-taken : (v : ℕ) → AfterStore closed (t .next .cell) 1 v
+  mark-taken v = after closed (t .next .cell) 1 v (omega (arith, taken-in, B .closed-long))
 
   -- an open one: it is closed, and its moves are due
   module _ (away : t .next .cell ≢ G .goal) where
-    anew-base : Base G (set closed (t .next .cell) 1) ages (t .next .cell) (G .moves (t .next .cell)) (counted s (t .left))
+    anew-base : Base G (set closed (t .next .cell) 1) ages (t .next .cell) (G .moves (t .next .cell)) (oneMoreExpanded s (t .left))
     anew-base = record {
       linked = B .linked;
-      closed-length = simp length-set (B .closed-length);
+      closed-long = simp length-set (B .closed-long);
       goal-open = getD-set-other closed (t .next .cell) (G .goal) 1 0 (λ e. away (sym e)) ∙ B .goal-open;
       closed-known = λ v c. closed-known v c (mark-taken v);
       loose = λ v m c i. loose v m c i (mark-taken v);
@@ -239,21 +239,21 @@ module _ {G : Graph} {closed ages : List ℕ} {w : ℕ} {s : State} {t : Taken} 
       fair = λ e i. B .fair e (k .left-in e i);
     }
       where
-        closed-known : (v : ℕ) → 0 < getD (set closed (t .next .cell) 1) v 0 → After closed (t .next .cell) 1 v → 0 < stored s v
+        closed-known : (v : ℕ) → 0 < getD (set closed (t .next .cell) 1) v 0 → AfterStore closed (t .next .cell) 1 v → 0 < stored s v
         closed-known v c (hit e q) = rw e (B .fair (t .next) (k .from) .reached)
         closed-known v c (miss n q) = B .closed-known v (omega arith)
 
-        loose : (v : ℕ) (m : Move) → 0 < getD (set closed (t .next .cell) 1) v 0 → In m (G .moves v) → After closed (t .next .cell) 1 v
+        loose : (v : ℕ) (m : Move) → 0 < getD (set closed (t .next .cell) 1) v 0 → In m (G .moves v) → AfterStore closed (t .next .cell) 1 v
             → Loose (s .known) v m ⊎ ((v ≡ t .next .cell) × In m (G .moves (t .next .cell)))
         loose v m c i (hit e q) = inr (e, rw e at i)
         loose v m c i (miss n q) = inl (all-loose B v m (omega arith) i)
 
-        waits : (v : ℕ) → 0 < stored s v → getD (set closed (t .next .cell) 1) v 0 ≡ 0 → After closed (t .next .cell) 1 v → Waits G (s .known) (t .left) v
+        waits : (v : ℕ) → 0 < stored s v → getD (set closed (t .next .cell) 1) v 0 ≡ 0 → AfterStore closed (t .next .cell) 1 v → Waits G (s .known) (t .left) v
         waits v p o (hit e q) = absurd (omega arith)
         waits v p o (miss n q) = left-waits v n (B .waits v p (omega arith))
 
-    pub anew-mid : Mid G (set closed (t .next .cell) 1) ages (t .next .cell) (costOf s (t .next .cell)) (G .moves (t .next .cell)) (counted s (t .left))
-    anew-mid = record { base = anew-base; now = taken-known; done = omega (arith, getD-set-same closed (t .next .cell) 1 0 (omega (arith, taken-in, B .closed-length))); lawful = λ m i. i }
+    pub anew-mid : Mid G (set closed (t .next .cell) 1) ages (t .next .cell) (costOf s (t .next .cell)) (G .moves (t .next .cell)) (oneMoreExpanded s (t .left))
+    anew-mid = record { base = anew-base; now = taken-known; done = omega (arith, getD-set-same closed (t .next .cell) 1 0 (omega (arith, taken-in, B .closed-long))); lawful = λ m i. i }
 
 -- ---- the outset: the start waits
 
@@ -261,7 +261,7 @@ pub outset-base : {G : Graph} {degree dearest : ℕ} → Sound G degree dearest 
 unfolding outset
 outset-base {G} S = record {
   linked = outset-linked S;
-  closed-length = simp length-replicate;
+  closed-long = simp length-replicate;
   goal-open = zeros (G .size) (G .goal);
   closed-known = λ v c. absurd (omega (arith, zeros (G .size) v));
   loose = λ v m c i. absurd (omega (arith, zeros (G .size) v));

@@ -10,10 +10,10 @@ use lib.ListN.{length, getD, set, replicate, length-set}
 use lib.Seq.{getD-set-same}
 use Rattle.basics.specs.Lists.{In}
 use Rattle.basics.specs.Zeros.{zeros}
-use Rattle.best_first.specs.Search.{Graph, Move, Entry, State, Taken, push, counted, outset}
+use Rattle.best_first.specs.Search.{Graph, Move, Entry, State, Taken, push, oneMoreExpanded, outset}
 use Rattle.best_first.specs.Ways.{Sound}
 use Rattle.best_first.specs.Statements.{Taking, stored, costOf, Reached, at-outset, then, Bounded}
-use Rattle.best_first.specs.Lists.{After, hit, miss, after, in-reach, nonzeros, nonzeros-le, nonzeros-none, nonzeros-new, nonzeros-old}
+use Rattle.best_first.specs.Lists.{AfterStore, hit, miss, after, in-reach, nonzeros, nonzeros-le, nonzeros-none, nonzeros-new, nonzeros-old}
 use Rattle.best_first.specs.Entries.{same-sym, same-in}
 use Rattle.best_first.specs.Equations.{offered, Gain, no-gain}
 use Rattle.best_first.specs.Reached.{through}
@@ -28,8 +28,8 @@ record Fits (G : Graph) (dearest : ℕ) (known : List ℕ) (e : Entry) : Type 0 
 
 -- as `Bounded` of Statements, but with the cells counted that are known yet, and with the moves `due` still to be tried
 pub record Sane (G : Graph) (degree dearest : ℕ) (due : List Move) (s : State) : Type 0 where
-  pub known-length : length (s .known) ≡ G .size
-  pub previous-length : length (s .previous) ≡ G .size
+  pub known-long : length (s .known) ≡ G .size
+  pub previous-long : length (s .previous) ≡ G .size
   low : (v : ℕ) → 0 < stored s v → stored s v + dearest ≤ suc (dearest * nonzeros (s .known))
   pub previous-in : (v : ℕ) → getD (s .previous) v 0 ≤ G .size
   fits : (e : Entry) → In e (s .waiting) → Fits G dearest (s .known) e
@@ -38,8 +38,8 @@ pub record Sane (G : Graph) (degree dearest : ℕ) (due : List Move) (s : State)
 
 pub alike-sane : {G : Graph} {degree dearest : ℕ} {due : List Move} {s t : State} → Alike s t → Sane G degree dearest due s → Sane G degree dearest due t
 alike-sane {G} {degree} {dearest} L A = record {
-  known-length = rw (L .known) at (A .known-length);
-  previous-length = rw (L .previous) at (A .previous-length);
+  known-long = rw (L .known) at (A .known-long);
+  previous-long = rw (L .previous) at (A .previous-long);
   low = rw (L .known) at (A .low);
   previous-in = rw (L .previous) at (A .previous-in);
   fits = λ e i. rw (L .known) at (A .fits e (same-in (same-sym (L .waiting)) e i));
@@ -59,8 +59,8 @@ alike-still L A = record { sane = alike-sane L (A .sane); now = rw (L .known) at
 module _ {G : Graph} {degree dearest : ℕ} (S : Sound G degree dearest) where
   pub bounded : {due : List Move} {s : State} → Sane G degree dearest due s → Bounded G degree dearest s
   bounded {due} {s} A = record {
-    known-length = A .known-length;
-    previous-length = A .previous-length;
+    known-long = A .known-long;
+    previous-long = A .previous-long;
     cost = λ v. cost v (eq-zero-or-pos (stored s v));
     previous-in = A .previous-in;
     cell-in = λ e i. A .fits e i .cell-in;
@@ -72,7 +72,7 @@ module _ {G : Graph} {degree dearest : ℕ} (S : Sound G degree dearest) where
     where
       most : dearest * nonzeros (s .known) ≤ (G .size - 1) * dearest + dearest
       most =
-          let k : nonzeros (s .known) ≤ suc (G .size - 1) = omega (arith, nonzeros-le (s .known), A .known-length) in
+          let k : nonzeros (s .known) ≤ suc (G .size - 1) = omega (arith, nonzeros-le (s .known), A .known-long) in
           omega (arith, mul-le-mul-left dearest k, mul-suc dearest (G .size - 1), mul-comm dearest (G .size - 1))
 
       cost : (v : ℕ) → (stored s v ≡ 0) ⊎ (0 < stored s v) → stored s v ≤ (G .size - 1) * dearest + 1
@@ -85,8 +85,8 @@ module _ {G : Graph} {degree dearest : ℕ} (S : Sound G degree dearest) where
     pub skip-still : Still G degree dearest u d ms s
     skip-still = record {
       sane = record {
-        known-length = A .sane .known-length;
-        previous-length = A .sane .previous-length;
+        known-long = A .sane .known-long;
+        previous-long = A .sane .previous-long;
         low = A .sane .low;
         previous-in = A .sane .previous-in;
         fits = A .sane .fits;
@@ -105,9 +105,9 @@ module _ {G : Graph} {degree dearest : ℕ} (S : Sound G degree dearest) where
       to-in = S .inside u m lawful
 
       to-placed : m .to < length (s .known)
-      to-placed = omega (arith, to-in, A .sane .known-length)
+      to-placed = omega (arith, to-in, A .sane .known-long)
 
-      at : (v : ℕ) → After (s .known) (m .to) (suc (d + m .cost)) v
+      at : (v : ℕ) → AfterStore (s .known) (m .to) (suc (d + m .cost)) v
       at v = after (s .known) (m .to) (suc (d + m .cost)) v to-placed
 
       -- a first known cell adds one to the count, and its cost is one move above that of u
@@ -132,10 +132,10 @@ module _ {G : Graph} {degree dearest : ℕ} (S : Sound G degree dearest) where
       unfolding push
       push-still = record {
         sane = record {
-          known-length = simp length-set (A .sane .known-length);
-          previous-length = simp length-set (A .sane .previous-length);
+          known-long = simp length-set (A .sane .known-long);
+          previous-long = simp length-set (A .sane .previous-long);
           low = λ v p. low v p (at v);
-          previous-in = λ v. previous v (after (s .previous) (m .to) (suc u) v (omega (arith, to-in, A .sane .previous-length)));
+          previous-in = λ v. previous v (after (s .previous) (m .to) (suc u) v (omega (arith, to-in, A .sane .previous-long)));
           fits = fits;
           balance = omega (arith, A .sane .balance);
           serial = omega (arith, A .sane .serial);
@@ -144,13 +144,13 @@ module _ {G : Graph} {degree dearest : ℕ} (S : Sound G degree dearest) where
         lawful = λ n i. A .lawful n (inr i);
       }
         where
-          low : (v : ℕ) → 0 < getD (offered s d m) v 0 → After (s .known) (m .to) (suc (d + m .cost)) v
+          low : (v : ℕ) → 0 < getD (offered s d m) v 0 → AfterStore (s .known) (m .to) (suc (d + m .cost)) v
               → getD (offered s d m) v 0 + dearest ≤ suc (dearest * nonzeros (offered s d m))
           low v p (hit e q) = omega (arith, more)
           low v p (miss n q) = omega (arith, A .sane .low v (omega arith), rises)
 
-          previous : (v : ℕ) → After (s .previous) (m .to) (suc u) v → getD (set (s .previous) (m .to) (suc u)) v 0 ≤ G .size
-          previous v (hit e q) = omega (arith, in-reach (s .known) u (omega (arith, A .now)), A .sane .known-length)
+          previous : (v : ℕ) → AfterStore (s .previous) (m .to) (suc u) v → getD (set (s .previous) (m .to) (suc u)) v 0 ≤ G .size
+          previous v (hit e q) = omega (arith, in-reach (s .known) u (omega (arith, A .now)), A .sane .known-long)
           previous v (miss n q) = omega (arith, A .sane .previous-in v)
 
           fits : (e : Entry) → In e ((push G u (m .to) (d + m .cost) s) .waiting) → Fits G dearest (offered s d m) e
@@ -164,18 +164,18 @@ module _ {G : Graph} {degree dearest : ℕ} (S : Sound G degree dearest) where
               }
 
           -- its own moves never make u cheaper
-          now : After (s .known) (m .to) (suc (d + m .cost)) u → getD (offered s d m) u 0 ≡ suc d
+          now : AfterStore (s .known) (m .to) (suc (d + m .cost)) u → getD (offered s d m) u 0 ≡ suc d
           now (hit e q) = absurd (no-gain gain (omega (arith, A .now, ap (stored s) e)) (omega (arith, A .now, ap (stored s) e)))
           now (miss n q) = q ∙ A .now
 
   -- ---- a taking
 
   pub take-still : {s : State} {t : Taken} → Sane G degree dearest [] s → Taking (s .waiting) t
-      → Still G degree dearest (t .next .cell) (costOf s (t .next .cell)) (G .moves (t .next .cell)) (counted s (t .left))
+      → Still G degree dearest (t .next .cell) (costOf s (t .next .cell)) (G .moves (t .next .cell)) (oneMoreExpanded s (t .left))
   take-still {s} {t} A k = record {
     sane = record {
-      known-length = A .known-length;
-      previous-length = A .previous-length;
+      known-long = A .known-long;
+      previous-long = A .previous-long;
       low = A .low;
       previous-in = A .previous-in;
       fits = λ e i. A .fits e (k .left-in e i);
@@ -189,8 +189,8 @@ module _ {G : Graph} {degree dearest : ℕ} (S : Sound G degree dearest) where
   outset-sane : Sane G degree dearest [] (outset G)
   unfolding outset
   outset-sane = record {
-    known-length = outset-linked S .known-length;
-    previous-length = outset-linked S .previous-length;
+    known-long = outset-linked S .known-long;
+    previous-long = outset-linked S .previous-long;
     low = λ v p. rw (one, mul-suc) (omega (arith, start-alone S v p));
     previous-in = λ v. omega (arith, zeros (G .size) v);
     fits = λ e. elim [ inl p ↦ rw p (record { cell-in = S .start-in; reached = omega (arith, outset-linked S .start-known); low = rw (one, mul-suc) (omega arith) }) | inr i ↦ absurd i ];
@@ -205,4 +205,4 @@ module _ {G : Graph} {degree dearest : ℕ} (S : Sound G degree dearest) where
   sane at-outset = outset-sane
   sane (then {s = s} t R k g e) =
       (rw e at (through G (t .next .cell) (costOf s (t .next .cell)) (λ ms l r. Still G degree dearest (t .next .cell) (costOf s (t .next .cell)) ms r) (λ l. Unit {0})
-      (λ m ms l r A f. skip-still A) (λ m ms l r A f p. push-still A f) (λ m ms l r A f p. tt) (G .moves (t .next .cell)) [] (counted s (t .left)) (take-still (sane R) k))) .sane
+      (λ m ms l r A f. skip-still A) (λ m ms l r A f p. push-still A f) (λ m ms l r A f p. tt) (G .moves (t .next .cell)) [] (oneMoreExpanded s (t .left)) (take-still (sane R) k))) .sane

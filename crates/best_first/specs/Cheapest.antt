@@ -8,8 +8,8 @@ use native.Mathlib.Omega.{arith}
 use native.Mathlib.Nat.{eq-zero-or-pos, add-zero, add-assoc}
 use lib.ListN.{getD}
 use Rattle.best_first.specs.Search.{Graph, State, Taken}
-use Rattle.best_first.specs.Ways.{Step, Way, Consistent}
-use Rattle.best_first.specs.Statements.{Least, Taking, stored, costOf}
+use Rattle.best_first.specs.Ways.{GraphStep, Way, Consistent}
+use Rattle.best_first.specs.Statements.{Cheapest, Taking, stored, costOf}
 use Rattle.best_first.specs.Base.{Base, all-loose, taken-fresh}
 
 -- x is known at no more than a (costs with 1 added)
@@ -25,8 +25,8 @@ record Ahead (G : Graph) (closed : List ℕ) (s : State) (x a : ℕ) : Type 0 wh
   near : stored s cell + G .estimate cell ≤ a + G .estimate x
 
 module _ {G : Graph} (K : Consistent G) {closed ages : List ℕ} {w : ℕ} {s : State} (B : Base G closed ages w [] s) where
-  one-on : (x v c a : ℕ) → Step G x v c → Here s x a ⊎ Ahead G closed s x a → Here s v (a + c) ⊎ Ahead G closed s v (a + c)
-  unfolding Step
+  one-on : (x v c a : ℕ) → GraphStep G x v c → Here s x a ⊎ Ahead G closed s x a → Here s v (a + c) ⊎ Ahead G closed s v (a + c)
+  unfolding GraphStep
   one-on x v c a st (inr h) = inr (record {
     cell = h .cell;
     reached = h .reached;
@@ -50,7 +50,7 @@ module _ {G : Graph} (K : Consistent G) {closed ages : List ℕ} {w : ℕ} {s : 
   all-on [] x t d a W n = rw (W .1, add-zero, ← W .0) n
   all-on (v ∷ l) x t d a W n = rw (W .4, ← add-assoc) (all-on l v t (W .1) (a + W .0) (W .3) (one-on x v (W .0) a (W .2) n))
 
-  pub cheapest : {t : Taken} → Taking (s .waiting) t → t .next .cell ≡ G .goal → Least G (costOf s (G .goal))
+  pub cheapest : {t : Taken} → Taking (s .waiting) t → t .next .cell ≡ G .goal → Cheapest G (costOf s (G .goal))
   cheapest {t} k e l d W =
       go (all-on l (G .start) (G .goal) d 1 W (inl (record { reached = omega (arith, B .linked .start-known); cheap = omega (arith, B .linked .start-known) })))
     where

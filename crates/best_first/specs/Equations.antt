@@ -8,7 +8,7 @@ use native.Mathlib.Omega.{arith}
 use lib.ListN.{length, getD, set}
 use borrow.Author.Tests.{ltb-true, ltb-false, lt-ltb, le-ltb, eq-eqb, ne-eqb}
 use Rattle.basics.specs.Tests.{askSame, never}
-use Rattle.best_first.specs.Search.{Graph, Move, Entry, State, Taken, full, on, offer, expand, push, cheaper, trace, least, Answer, no-route, limit-passed, queue-full, ends, expands, arrived, counted, turn, run}
+use Rattle.best_first.specs.Search.{Graph, Move, Entry, State, Taken, full, on, offer, expand, push, cheaper, trace, least, Answer, no-route, limit-passed, queue-full, ends, expands, arrived, oneMoreExpanded, takeOne, run}
 use Rattle.best_first.specs.Statements.{Taking, stored, costOf}
 use Rattle.best_first.specs.Entries.{taking}
 
@@ -87,45 +87,45 @@ module _ (G : Graph) (u d : ℕ) (m : Move) (ms : List Move) (s : State) where
 -- ---- a taking
 
 module _ (G : Graph) (s : State) where
-  pub turn-none : s .waiting ≡ [] → turn G s ≡ ends (no-route (s .expanded))
-  unfolding turn
-  turn-none e = rw e
+  pub taking-none : s .waiting ≡ [] → takeOne G s ≡ ends (no-route (s .expanded))
+  unfolding takeOne
+  taking-none e = rw e
 
   module _ (e : Entry) (es : List Entry) (q : s .waiting ≡ e ∷ es) where
-    pub turn-goal : least e es .next .cell ≡ G .goal → turn G s ≡ ends (arrived G s)
-    unfolding turn
-    turn-goal t = rw (q, eq-eqb _ _ t)
+    pub taking-goal : least e es .next .cell ≡ G .goal → takeOne G s ≡ ends (arrived G s)
+    unfolding takeOne
+    taking-goal t = rw (q, eq-eqb _ _ t)
 
-    pub turn-on : least e es .next .cell ≢ G .goal → turn G s ≡ expands (least e es .next .cell) (counted s (least e es .left))
-    unfolding turn
-    turn-on t = rw (q, ne-eqb _ _ t)
+    pub taking-on : least e es .next .cell ≢ G .goal → takeOne G s ≡ expands (least e es .next .cell) (oneMoreExpanded s (least e es .left))
+    unfolding takeOne
+    taking-on t = rw (q, ne-eqb _ _ t)
 
 -- nothing waits, or the goal is taken, or a cell is to be expanded
-pub data Turned (G : Graph) (s : State) : Type 0 where
-  nothing : s .waiting ≡ [] → turn G s ≡ ends (no-route (s .expanded)) → Turned G s
-  goal-taken : (t : Taken) → Taking (s .waiting) t → t .next .cell ≡ G .goal → turn G s ≡ ends (arrived G s) → Turned G s
-  goes-on : (t : Taken) → Taking (s .waiting) t → t .next .cell ≢ G .goal → turn G s ≡ expands (t .next .cell) (counted s (t .left)) → Turned G s
+pub data TakeCases (G : Graph) (s : State) : Type 0 where
+  nothing : s .waiting ≡ [] → takeOne G s ≡ ends (no-route (s .expanded)) → TakeCases G s
+  goal-taken : (t : Taken) → Taking (s .waiting) t → t .next .cell ≡ G .goal → takeOne G s ≡ ends (arrived G s) → TakeCases G s
+  goes-on : (t : Taken) → Taking (s .waiting) t → t .next .cell ≢ G .goal → takeOne G s ≡ expands (t .next .cell) (oneMoreExpanded s (t .left)) → TakeCases G s
 
-pub turned : (G : Graph) (s : State) → Turned G s
-turned G s = go (s .waiting) refl
+pub take-cases : (G : Graph) (s : State) → TakeCases G s
+take-cases G s = go (s .waiting) refl
   where
-    go : (w : List Entry) → s .waiting ≡ w → Turned G s
-    go [] q = nothing q (turn-none G s q)
+    go : (w : List Entry) → s .waiting ≡ w → TakeCases G s
+    go [] q = nothing q (taking-none G s q)
     go (e ∷ es) q =
         let k : Taking (s .waiting) (least e es) = rw q (taking e es) in
         askSame (least e es .next .cell) (G .goal)
-        (λ t. goal-taken (least e es) k t (turn-goal G s e es q t))
-        (λ f. goes-on (least e es) k f (turn-on G s e es q f))
+        (λ t. goal-taken (least e es) k t (taking-goal G s e es q t))
+        (λ f. goes-on (least e es) k f (taking-on G s e es q f))
 
 -- ---- a run
 
 module _ (G : Graph) (s : State) where
-  pub run-ends : (b : ℕ) (a : Answer) → turn G s ≡ ends a → run G b s ≡ a
+  pub run-ends : (b : ℕ) (a : Answer) → takeOne G s ≡ ends a → run G b s ≡ a
   unfolding run
   run-ends zero a e = rw (e, run)
   run-ends (suc b) a e = rw (e, run)
 
-  module _ (u : ℕ) (t : State) (e : turn G s ≡ expands u t) where
+  module _ (u : ℕ) (t : State) (e : takeOne G s ≡ expands u t) where
     pub run-limit : run G zero s ≡ limit-passed (t .expanded)
     unfolding run
     run-limit = rw (e, run)

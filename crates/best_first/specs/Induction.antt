@@ -5,11 +5,11 @@ use mathlib.Core.List.{List, [], _∷_}
 use Prim.Native.Nat.{ℕ, suc, _+_, _≤_, _<_}
 use native.Mathlib.Nat.{eq-zero-or-pos}
 use lib.ListN.{length, getD, set, replicate}
-use Rattle.best_first.specs.Search.{Graph, Move, State, Taken, Pushed, full, on, push, counted, outset}
+use Rattle.best_first.specs.Search.{Graph, Move, State, Taken, Pushed, full, on, push, oneMoreExpanded, outset}
 use Rattle.best_first.specs.Ways.{Sound}
 use Rattle.best_first.specs.Statements.{Taking, stored, costOf, Reached, at-outset, then, outcome, enteredBy}
 use Rattle.best_first.specs.Equations.{Gain}
-use Rattle.best_first.specs.Reached.{Outcome, through}
+use Rattle.best_first.specs.Reached.{PushComes, through}
 use Rattle.best_first.specs.Base.{Base, Mid, skip-mid, push-mid, again-base, again-outcome, again-entered, anew-mid, outset-base}
 
 -- what is to hold between two takings, while moves are due, and where the queue is full; and that each part of the search keeps it
@@ -19,10 +19,10 @@ pub record Invariant (G : Graph) : Type 1 where
   pub Full : (pushed : List ℕ) → Type 0
   pub begins : Between (replicate (G .size) 0) [] (outset G)
   pub again : {closed ages pushed : List ℕ} {w : ℕ} {s : State} {t : Taken} → Base G closed ages w [] s → Between closed pushed s → Taking (s .waiting) t
-      → 0 < getD closed (t .next .cell) 0 → Between closed pushed (counted s (t .left))
+      → 0 < getD closed (t .next .cell) 0 → Between closed pushed (oneMoreExpanded s (t .left))
   pub anew : {closed ages pushed : List ℕ} {w : ℕ} {s : State} {t : Taken} → Base G closed ages w [] s → Between closed pushed s → Taking (s .waiting) t
       → getD closed (t .next .cell) 0 ≡ 0 → t .next .cell ≢ G .goal
-      → During (set closed (t .next .cell) 1) (t .next .cell) (costOf s (t .next .cell)) (G .moves (t .next .cell)) pushed (counted s (t .left))
+      → During (set closed (t .next .cell) 1) (t .next .cell) (costOf s (t .next .cell)) (G .moves (t .next .cell)) pushed (oneMoreExpanded s (t .left))
   pub skips : {closed ages pushed : List ℕ} {u d : ℕ} {m : Move} {ms : List Move} {s : State} → Mid G closed ages u d (m ∷ ms) s
       → During closed u d (m ∷ ms) pushed s → During closed u d ms pushed s
   pub adds : {closed ages pushed : List ℕ} {u d : ℕ} {m : Move} {ms : List Move} {s : State} → Mid G closed ages u d (m ∷ ms) s
@@ -47,7 +47,7 @@ record Trial {G : Graph} (E : Invariant G) (u d : ℕ) (due : List Move) (pushed
 
 module _ {G : Graph} {degree dearest : ℕ} (S : Sound G degree dearest) (E : Invariant G) where
   pub after-taking : {pushed : List ℕ} {s : State} {t : Taken} → Holds E pushed s → Taking (s .waiting) t → t .next .cell ≢ G .goal
-      → Outcome (λ due. Holds E) (E .Full) (enteredBy G s (t .next) (t .left) pushed) (outcome G s (t .next) (t .left))
+      → PushComes (λ due. Holds E) (E .Full) (enteredBy G s (t .next) (t .left) pushed) (outcome G s (t .next) (t .left))
   after-taking {pushed} {s} {t} H k away = go (eq-zero-or-pos (getD (H .closed) u 0))
     where
       u : ℕ
@@ -56,17 +56,17 @@ module _ {G : Graph} {degree dearest : ℕ} (S : Sound G degree dearest) (E : In
       d : ℕ
       d = costOf s (t .next .cell)
 
-      finish : (l : List ℕ) (x : Pushed) → Outcome (Trial E u d) (E .Full) l x → Outcome (λ due. Holds E) (E .Full) l x
+      finish : (l : List ℕ) (x : Pushed) → PushComes (Trial E u d) (E .Full) l x → PushComes (λ due. Holds E) (E .Full) l x
       finish l full h = h
       finish l (on r) h = record { closed = h .closed; ages = h .ages; last = u; base = h .mid .base; besides = E .ends (h .mid) (h .during) }
 
       go : (getD (H .closed) u 0 ≡ 0) ⊎ (0 < getD (H .closed) u 0)
-          → Outcome (λ due. Holds E) (E .Full) (enteredBy G s (t .next) (t .left) pushed) (outcome G s (t .next) (t .left))
+          → PushComes (λ due. Holds E) (E .Full) (enteredBy G s (t .next) (t .left) pushed) (outcome G s (t .next) (t .left))
       go (inl o) =
           finish (enteredBy G s (t .next) (t .left) pushed) (outcome G s (t .next) (t .left)) (through G u d (Trial E u d) (E .Full)
           (λ m ms l r T f. record { closed = T .closed; ages = T .ages; mid = skip-mid (T .mid) f; during = E .skips (T .mid) (T .during) })
           (λ m ms l r T g p. record { closed = _; ages = _; mid = push-mid (T .mid) S g; during = E .adds (T .mid) (T .during) g })
-          (λ m ms l r T g p. E .stops (T .mid) (T .during) g p) (G .moves u) pushed (counted s (t .left))
+          (λ m ms l r T g p. E .stops (T .mid) (T .during) g p) (G .moves u) pushed (oneMoreExpanded s (t .left))
           (record { closed = _; ages = _; mid = anew-mid (H .base) k away; during = E .anew (H .base) (H .besides) k o away }))
       go (inr c) =
           rw (again-outcome (H .base) k c, again-entered (H .base) k c pushed)

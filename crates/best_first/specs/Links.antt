@@ -11,7 +11,7 @@ use Rattle.basics.specs.Lists.{In}
 use Rattle.basics.specs.Zeros.{zeros}
 use Rattle.best_first.specs.Search.{Graph, Move}
 use Rattle.best_first.specs.Ways.{Sound}
-use Rattle.best_first.specs.Lists.{After, hit, miss, after}
+use Rattle.best_first.specs.Lists.{AfterStore, hit, miss, after}
 use Rattle.best_first.specs.Equations.{Gain, no-gain}
 
 pub record Origin (G : Graph) (previous : List ℕ) (v : ℕ) : Type 0 where
@@ -30,9 +30,9 @@ pub record Link (G : Graph) (ages known previous : List ℕ) (v : ℕ) : Type 0 
   pub older : getD known by 0 ≡ getD known v 0 → getD ages by 0 < getD ages v 0
 
 pub record Linked (G : Graph) (ages known previous : List ℕ) (serial : ℕ) : Type 0 where
-  pub known-length : length known ≡ G .size
-  pub previous-length : length previous ≡ G .size
-  pub ages-length : length ages ≡ G .size
+  pub known-long : length known ≡ G .size
+  pub previous-long : length previous ≡ G .size
+  pub ages-long : length ages ≡ G .size
   pub start-known : getD known (G .start) 0 ≡ 1
   pub young : (v : ℕ) → getD ages v 0 ≤ serial
   pub link : (v : ℕ) → 0 < getD known v 0 → Origin G previous v ⊎ Link G ages known previous v
@@ -44,7 +44,7 @@ pub lowered : (known : List ℕ) (w x v : ℕ) → w < length known → 0 < x �
     → (0 < getD (set known w x) v 0) × (getD (set known w x) v 0 ≤ getD known v 0)
 lowered known w x v h p g k = go (after known w x v h) g
   where
-    go : After known w x v → Gain x (getD known w 0) → (0 < getD (set known w x) v 0) × (getD (set known w x) v 0 ≤ getD known v 0)
+    go : AfterStore known w x v → Gain x (getD known w 0) → (0 < getD (set known w x) v 0) × (getD (set known w x) v 0 ≤ getD known v 0)
     go (hit e q) (inl z) = absurd (omega (arith, ap (λ (n : ℕ). getD known n 0) e))
     go (hit e q) (inr l) = omega (arith, ap (λ (n : ℕ). getD known n 0) e)
     go (miss n q) g = omega arith
@@ -52,7 +52,7 @@ lowered known w x v h p g k = go (after known w x v h) g
 module _ {G : Graph} {degree dearest : ℕ} (S : Sound G degree dearest) {ages known previous : List ℕ} {serial : ℕ} (L : Linked G ages known previous serial)
     (u : ℕ) (m : Move) (lawful : In m (G .moves u)) (u-known : 0 < getD known u 0) (x : ℕ) (is-x : x ≡ getD known u 0 + m .cost) (gain : Gain x (getD known (m .to) 0)) where
   pub to-in : m .to < length known
-  to-in = omega (arith, S .inside u m lawful, L .known-length)
+  to-in = omega (arith, S .inside u m lawful, L .known-long)
 
   pub not-start : m .to ≢ G .start
   not-start e =
@@ -64,12 +64,12 @@ module _ {G : Graph} {degree dearest : ℕ} (S : Sound G degree dearest) {ages k
       let same : getD known u 0 ≡ getD known (m .to) 0 = ap (λ (v : ℕ). getD known v 0) e in
       no-gain gain (omega (arith, same)) (omega (arith, same))
 
-  link-on : (v : ℕ) → After known (m .to) x v → 0 < getD (set known (m .to) x) v 0
+  link-on : (v : ℕ) → AfterStore known (m .to) x v → 0 < getD (set known (m .to) x) v 0
       → Origin G (set previous (m .to) (suc u)) v ⊎ Link G (set ages (m .to) (suc serial)) (set known (m .to) x) (set previous (m .to) (suc u)) v
   link-on v (hit e q) p = inr (record {
     by = u;
     move = m;
-    noted = ap (λ (n : ℕ). getD (set previous (m .to) (suc u)) n 0) e ∙ getD-set-same previous (m .to) (suc u) 0 (omega (arith, to-in, L .known-length, L .previous-length));
+    noted = ap (λ (n : ℕ). getD (set previous (m .to) (suc u)) n 0) e ∙ getD-set-same previous (m .to) (suc u) 0 (omega (arith, to-in, L .known-long, L .previous-long));
     lawful = lawful;
     leads-to = sym e;
     reached = omega (arith, same-u);
@@ -77,7 +77,7 @@ module _ {G : Graph} {degree dearest : ℕ} (S : Sound G degree dearest) {ages k
     older = λ z. omega (
       arith,
       ap (λ (n : ℕ). getD (set ages (m .to) (suc serial)) n 0) e,
-      getD-set-same ages (m .to) (suc serial) 0 (omega (arith, to-in, L .known-length, L .ages-length)),
+      getD-set-same ages (m .to) (suc serial) 0 (omega (arith, to-in, L .known-long, L .ages-long)),
       getD-set-other ages (m .to) u (suc serial) 0 not-itself,
       L .young u,
     );
@@ -105,7 +105,7 @@ module _ {G : Graph} {degree dearest : ℕ} (S : Sound G degree dearest) {ages k
           low = lowered known (m .to) x (k .by) to-in (omega arith) gain (k .reached)
 
           -- the cell before v has become cheaper, or is as it was
-          older : After known (m .to) x (k .by) → Gain x (getD known (m .to) 0) → getD (set known (m .to) x) (k .by) 0 ≡ getD (set known (m .to) x) v 0
+          older : AfterStore known (m .to) x (k .by) → Gain x (getD known (m .to) 0) → getD (set known (m .to) x) (k .by) 0 ≡ getD (set known (m .to) x) v 0
               → getD (set ages (m .to) (suc serial)) (k .by) 0 < getD (set ages (m .to) (suc serial)) v 0
           older (hit e r) (inl z) s = absurd (omega (arith, k .reached, ap (λ (n : ℕ). getD known n 0) e))
           older (hit e r) (inr l) s = absurd (omega (arith, k .adds, ap (λ (n : ℕ). getD known n 0) e))
@@ -118,15 +118,15 @@ module _ {G : Graph} {degree dearest : ℕ} (S : Sound G degree dearest) {ages k
 
   pub push-linked : Linked G (set ages (m .to) (suc serial)) (set known (m .to) x) (set previous (m .to) (suc u)) (suc serial)
   push-linked = record {
-    known-length = simp length-set (L .known-length);
-    previous-length = simp length-set (L .previous-length);
-    ages-length = simp length-set (L .ages-length);
+    known-long = simp length-set (L .known-long);
+    previous-long = simp length-set (L .previous-long);
+    ages-long = simp length-set (L .ages-long);
     start-known = getD-set-other known (m .to) (G .start) x 0 (λ e. not-start (sym e)) ∙ L .start-known;
-    young = λ v. young v (after ages (m .to) (suc serial) v (omega (arith, to-in, L .known-length, L .ages-length)));
+    young = λ v. young v (after ages (m .to) (suc serial) v (omega (arith, to-in, L .known-long, L .ages-long)));
     link = λ v. link-on v (after known (m .to) x v to-in);
   }
     where
-      young : (v : ℕ) → After ages (m .to) (suc serial) v → getD (set ages (m .to) (suc serial)) v 0 ≤ suc serial
+      young : (v : ℕ) → AfterStore ages (m .to) (suc serial) v → getD (set ages (m .to) (suc serial)) v 0 ≤ suc serial
       young v (hit e q) = omega arith
       young v (miss n q) = omega (arith, L .young v)
 
@@ -141,15 +141,15 @@ module _ {G : Graph} {degree dearest : ℕ} (S : Sound G degree dearest) where
       → (v ≡ G .start) × (getD {A = ℕ} (set (replicate (G .size) 0) (G .start) 1) v 0 ≡ 1)
   start-alone v p = go (after (replicate (G .size) 0) (G .start) 1 v start-placed)
     where
-      go : After (replicate (G .size) 0) (G .start) 1 v → (v ≡ G .start) × (getD {A = ℕ} (set (replicate (G .size) 0) (G .start) 1) v 0 ≡ 1)
+      go : AfterStore (replicate (G .size) 0) (G .start) 1 v → (v ≡ G .start) × (getD {A = ℕ} (set (replicate (G .size) 0) (G .start) 1) v 0 ≡ 1)
       go (hit e q) = (e, q)
       go (miss n q) = absurd (omega (arith, zeros (G .size) v))
 
   pub outset-linked : Linked G (replicate (G .size) 0) (set (replicate (G .size) 0) (G .start) 1) (replicate (G .size) 0) 0
   outset-linked = record {
-    known-length = simp (length-set, length-replicate);
-    previous-length = simp length-replicate;
-    ages-length = simp length-replicate;
+    known-long = simp (length-set, length-replicate);
+    previous-long = simp length-replicate;
+    ages-long = simp length-replicate;
     start-known = getD-set-same (replicate (G .size) 0) (G .start) 1 0 start-placed;
     young = λ v. omega (arith, zeros (G .size) v);
     link = λ v p. inl (record { is-start = start-alone v p .0; no-previous = zeros (G .size) v });

@@ -20,11 +20,11 @@ in-reach (x ∷ xs) zero h = suc-le-suc zero-le
 in-reach (x ∷ xs) (suc v) h = suc-le-suc (in-reach xs v h)
 
 -- an element after a store: the stored one, or as before
-pub data After (l : List ℕ) (i x j : ℕ) : Type 0 where
-  hit : j ≡ i → getD (set l i x) j 0 ≡ x → After l i x j
-  miss : j ≢ i → getD (set l i x) j 0 ≡ getD l j 0 → After l i x j
+pub data AfterStore (l : List ℕ) (i x j : ℕ) : Type 0 where
+  hit : j ≡ i → getD (set l i x) j 0 ≡ x → AfterStore l i x j
+  miss : j ≢ i → getD (set l i x) j 0 ≡ getD l j 0 → AfterStore l i x j
 
-pub after : (l : List ℕ) (i x j : ℕ) → i < length l → After l i x j
+pub after : (l : List ℕ) (i x j : ℕ) → i < length l → AfterStore l i x j
 after l i x j h = askSame j i (λ e. hit e (ap (λ (k : ℕ). getD (set l i x) k 0) e ∙ getD-set-same l i x 0 h)) (λ n. miss n (getD-set-other l i j x 0 n))
 
 -- ---- how many elements are not 0

@@ -7,13 +7,13 @@ use mathlib.Core.List.{List, [], _∷_}
 use Prim.Native.Nat.{ℕ, suc, _+_, _-_, _≤_, _<_}
 use native.Mathlib.Omega.{arith}
 use lib.ListN.{length}
-use Rattle.best_first.specs.Search.{Graph, Move, Entry, State, Pushed, full, on, expand, push, cheaper, Answer, no-route, limit-passed, queue-full, arrived, counted, run, outset, bestFirst}
+use Rattle.best_first.specs.Search.{Graph, Move, Entry, State, Pushed, full, on, expand, push, cheaper, Answer, no-route, limit-passed, queue-full, arrived, oneMoreExpanded, run, outset, bestFirst}
 use Rattle.best_first.specs.Ways.{Sound}
 use Rattle.best_first.specs.Statements.{stored, costOf, Reached, at-outset, then, Bounded, outcome}
 use Rattle.best_first.specs.Entries.{Popped, popped-same, popped-taking}
-use Rattle.best_first.specs.Equations.{cheaper-true, expand-none, expand-skip, expand-push, expand-full, turn-none, run-ends}
+use Rattle.best_first.specs.Equations.{cheaper-true, expand-none, expand-skip, expand-push, expand-full, taking-none, run-ends}
 use Rattle.best_first.specs.Reached.{expanded-stays}
-use Rattle.best_first.specs.Orders.{Apart, Alike, alike-refl, alike-sym, alike-trans, alike-apart, outset-apart, push-apart, Both, expand-both, counted-apart, run-both, pop-goal, pop-limit, pop-full, pop-on}
+use Rattle.best_first.specs.Orders.{Apart, Alike, alike-refl, alike-sym, alike-trans, alike-apart, outset-apart, push-apart, Both, expand-both, expanded-apart, run-both, pop-goal, pop-limit, pop-full, pop-on}
 use Rattle.best_first.specs.Bounds.{Still, bounded, alike-sane, alike-still, skip-still, push-still, take-still, sane}
 
 -- ---- the moves of u, whose cost is d: the outcome of all is x, and `due` are still to be tried
@@ -112,7 +112,7 @@ going-bounded S I = bounded S (alike-sane (I .alike) (sane S (I .reached)))
 
 module _ {G : Graph} {n : ℕ} {R : Answer} {s : State} (I : Going G n R s) where
   pub going-none : s .waiting ≡ [] → R ≡ no-route (s .expanded)
-  going-none e = sym (I .rest) ∙ run-ends G s _ _ (turn-none G s e)
+  going-none e = sym (I .rest) ∙ run-ends G s _ _ (taking-none G s e)
 
   module _ {r : Entry} {q : List Entry} (P : Popped (s .waiting) r q) where
     pub going-goal : r .cell ≡ G .goal → R ≡ arrived G s
@@ -132,9 +132,9 @@ module _ {G : Graph} {n : ℕ} {R : Answer} {s : State} (I : Going G n R s) wher
 
         module _ {degree dearest : ℕ} (S : Sound G degree dearest) where
           pub going-try : Trying G degree dearest (r .cell) (costOf s (r .cell)) (outcome G s r q)
-              (G .moves (r .cell)) (counted s q)
+              (G .moves (r .cell)) (oneMoreExpanded s q)
           going-try =
-              let A = counted-apart s r q (I .apart) P in
+              let A = expanded-apart s r q (I .apart) P in
               record {
                 still = take-still S (alike-sane (I .alike) (sane S (I .reached))) (popped-taking P);
                 apart = A;

@@ -8,13 +8,13 @@ use native.Mathlib.Nat.{eq-zero-or-pos}
 use lib.ListN.{getD}
 use Rattle.basics.specs.Lists.{In}
 use Rattle.best_first.specs.Search.{Graph, Move, State}
-use Rattle.best_first.specs.Ways.{Step, Way, NoWay, Sound}
+use Rattle.best_first.specs.Ways.{GraphStep, Way, NoWay, Sound}
 use Rattle.best_first.specs.Statements.{stored, Reached, Shut}
 use Rattle.best_first.specs.Base.{Waits, all-loose}
 use Rattle.best_first.specs.Induction.{Holds, holds, bare}
 
 pub shut-no-way : {G : Graph} {known : List ℕ} → Shut G known → NoWay G
-unfolding Step
+unfolding GraphStep
 shut-no-way {G} {known} K l d W = absurd (omega (arith, K .lacks-goal, stays l (G .start) (G .goal) d (K .holds-start) W))
   where
     stays : (l : List ℕ) (u t d : ℕ) → 0 < getD known u 0 → Way G u l t d → 0 < getD known t 0

@@ -7,11 +7,11 @@ use native.Mathlib.Omega.{arith}
 use lib.ListN.{length, getD}
 use Rattle.basics.specs.Tests.{ask, askSame, askLess}
 use Rattle.basics.specs.Lists.{In}
-use Rattle.best_first.specs.Search.{Graph, Move, Entry, State, Pushed, full, on, offer, expand, push, cheaper, least, Answer, no-route, limit-passed, queue-full, ends, expands, arrived, counted, turn, run, outset}
+use Rattle.best_first.specs.Search.{Graph, Move, Entry, State, Pushed, full, on, offer, expand, push, cheaper, least, Answer, no-route, limit-passed, queue-full, ends, expands, arrived, oneMoreExpanded, takeOne, run, outset}
 use Rattle.best_first.specs.Statements.{stored, costOf, outcome}
 use Rattle.best_first.specs.Lists.{length-zero}
 use Rattle.best_first.specs.Entries.{Same, same-refl, same-sym, same-trans, same-in, same-cons, Popped, popped-taking, Distinct, popped-next, popped-left, least-popped}
-use Rattle.best_first.specs.Equations.{offer-skip, offer-push, offer-full, expand-on, expand-stop, turn-none, turn-goal, turn-on, run-ends, run-limit, run-full, run-on}
+use Rattle.best_first.specs.Equations.{offer-skip, offer-push, offer-full, expand-on, expand-stop, taking-none, taking-goal, taking-on, run-ends, run-limit, run-full, run-on}
 
 -- no two entries have one serial, and none one above the last given
 pub record Apart (s : State) : Type 0 where
@@ -112,31 +112,31 @@ expand-both G u d (m ∷ ms) s t A L = go _ _ refl refl (offer-both G u (m .to) 
 
 -- ---- one taking
 
-counted-alike : (s t : State) (p q : List Entry) → Alike s t → Same p q → Alike (counted s p) (counted t q)
-counted-alike s t p q L S = record { known = L .known; previous = L .previous; waiting = S; serial = L .serial; expanded = ap suc (L .expanded) }
+expanded-alike : (s t : State) (p q : List Entry) → Alike s t → Same p q → Alike (oneMoreExpanded s p) (oneMoreExpanded t q)
+expanded-alike s t p q L S = record { known = L .known; previous = L .previous; waiting = S; serial = L .serial; expanded = ap suc (L .expanded) }
 
-pub counted-apart : (s : State) (r : Entry) (q : List Entry) → Apart s → Popped (s .waiting) r q → Apart (counted s q)
-counted-apart s r q A P = record {
+pub expanded-apart : (s : State) (r : Entry) (q : List Entry) → Apart s → Popped (s .waiting) r q → Apart (oneMoreExpanded s q)
+expanded-apart s r q A P = record {
   old = λ a i. A .old a (popped-taking P .left-in a i);
   distinct = λ a b i j. A .distinct a b (popped-taking P .left-in a i) (popped-taking P .left-in b j);
 }
 
 -- the entry popped is the one that the definition takes, and the same are left
 module _ (G : Graph) (s : State) (r : Entry) (q : List Entry) (A : Apart s) (P : Popped (s .waiting) r q) where
-  turn-popped-goal : r .cell ≡ G .goal → turn G s ≡ ends (arrived G s)
-  turn-popped-goal e = go (s .waiting) refl
+  taking-popped-goal : r .cell ≡ G .goal → takeOne G s ≡ ends (arrived G s)
+  taking-popped-goal e = go (s .waiting) refl
     where
-      go : (w : List Entry) → s .waiting ≡ w → turn G s ≡ ends (arrived G s)
+      go : (w : List Entry) → s .waiting ≡ w → takeOne G s ≡ ends (arrived G s)
       go [] f = absurd (omega (arith, P .same .many, ap length f))
-      go (x ∷ xs) f = turn-goal G s x xs f (ap (λ (y : Entry). y .cell) (popped-next x xs r q (rw f at (A .distinct)) (rw f at P)) ∙ e)
+      go (x ∷ xs) f = taking-goal G s x xs f (ap (λ (y : Entry). y .cell) (popped-next x xs r q (rw f at (A .distinct)) (rw f at P)) ∙ e)
 
   record Left : Type 0 where
     left : List Entry
-    goes : turn G s ≡ expands (r .cell) (counted s left)
+    goes : takeOne G s ≡ expands (r .cell) (oneMoreExpanded s left)
     same : Same left q
 
-  turn-popped-on : r .cell ≢ G .goal → Left
-  turn-popped-on n = go (s .waiting) refl
+  taking-popped-on : r .cell ≢ G .goal → Left
+  taking-popped-on n = go (s .waiting) refl
     where
       go : (w : List Entry) → s .waiting ≡ w → Left
       go [] f = absurd (omega (arith, P .same .many, ap length f))
@@ -144,24 +144,24 @@ module _ (G : Graph) (s : State) (r : Entry) (q : List Entry) (A : Apart s) (P :
           let e : least x xs .next ≡ r = popped-next x xs r q (rw f at (A .distinct)) (rw f at P) in
           record {
             left = least x xs .left;
-            goes = rw e at (turn-on G s x xs f (λ g. n (sym (ap (λ (y : Entry). y .cell) e) ∙ g)));
+            goes = rw e at (taking-on G s x xs f (λ g. n (sym (ap (λ (y : Entry). y .cell) e) ∙ g)));
             same = popped-left x xs r q (rw f at (A .distinct)) (rw f at P);
           }
 
-data Turns (G : Graph) (s t : State) : Type 0 where
-  both-end : (a : Answer) → turn G s ≡ ends a → turn G t ≡ ends a → Turns G s t
-  both-go : (u : ℕ) (s′ t′ : State) → turn G s ≡ expands u s′ → turn G t ≡ expands u t′ → Apart s′ → Alike s′ t′ → Turns G s t
+data TakingBoth (G : Graph) (s t : State) : Type 0 where
+  both-end : (a : Answer) → takeOne G s ≡ ends a → takeOne G t ≡ ends a → TakingBoth G s t
+  both-go : (u : ℕ) (s′ t′ : State) → takeOne G s ≡ expands u s′ → takeOne G t ≡ expands u t′ → Apart s′ → Alike s′ t′ → TakingBoth G s t
 
-turn-both : (G : Graph) (s t : State) → Apart s → Alike s t → Turns G s t
-turn-both G s t A L = go (t .waiting) refl
+taking-both : (G : Graph) (s t : State) → Apart s → Alike s t → TakingBoth G s t
+taking-both G s t A L = go (t .waiting) refl
   where
-    go : (w : List Entry) → t .waiting ≡ w → Turns G s t
-    go [] f = both-end _ (turn-none G s (length-zero (s .waiting) (L .waiting .many ∙ ap length f))) (turn-none G t f ∙ ap (λ (x : ℕ). ends (no-route x)) (sym (L .expanded)))
+    go : (w : List Entry) → t .waiting ≡ w → TakingBoth G s t
+    go [] f = both-end _ (taking-none G s (length-zero (s .waiting) (L .waiting .many ∙ ap length f))) (taking-none G t f ∙ ap (λ (x : ℕ). ends (no-route x)) (sym (L .expanded)))
     go (x ∷ xs) f =
         askSame (least x xs .next .cell) (G .goal)
-        (λ y. both-end _ (turn-popped-goal G s _ _ A P y) (turn-goal G t x xs f y ∙ ap ends (sym same-answer)))
-        (λ n. let k = turn-popped-on G s _ _ A P n in
-        both-go _ _ _ (k .goes) (turn-on G t x xs f n) (left-apart k) (counted-alike s t _ _ L (k .same)))
+        (λ y. both-end _ (taking-popped-goal G s _ _ A P y) (taking-goal G t x xs f y ∙ ap ends (sym same-answer)))
+        (λ n. let k = taking-popped-on G s _ _ A P n in
+        both-go _ _ _ (k .goes) (taking-on G t x xs f n) (left-apart k) (expanded-alike s t _ _ L (k .same)))
       where
         P : Popped (s .waiting) (least x xs .next) (least x xs .left)
         P = least-popped x xs (s .waiting) (rw f at (L .waiting))
@@ -169,21 +169,21 @@ turn-both G s t A L = go (t .waiting) refl
         same-answer : arrived G s ≡ arrived G t
         same-answer = cc (L .previous, L .known, L .expanded)
 
-        left-apart : (k : Left G s (least x xs .next) (least x xs .left) A P) → Apart (counted s (k .left))
+        left-apart : (k : Left G s (least x xs .next) (least x xs .left) A P) → Apart (oneMoreExpanded s (k .left))
         left-apart k =
-            alike-apart (counted-alike s s _ _ (alike-refl s) (same-sym (k .same))) (counted-apart s _ _ A P)
+            alike-apart (expanded-alike s s _ _ (alike-refl s) (same-sym (k .same))) (expanded-apart s _ _ A P)
 
 -- ---- the run
 
 pub run-both : (G : Graph) (b : ℕ) (s t : State) → Apart s → Alike s t → run G b s ≡ run G b t
-run-both G zero s t A L = go (turn-both G s t A L)
+run-both G zero s t A L = go (taking-both G s t A L)
   where
-    go : Turns G s t → run G zero s ≡ run G zero t
+    go : TakingBoth G s t → run G zero s ≡ run G zero t
     go (both-end a p q) = run-ends G s zero a p ∙ sym (run-ends G t zero a q)
     go (both-go u s′ t′ p q A′ L′) = run-limit G s u s′ p ∙ ap limit-passed (L′ .expanded) ∙ sym (run-limit G t u t′ q)
-run-both G (suc b) s t A L = go (turn-both G s t A L) (λ x y X Y. run-both G b x y X Y)
+run-both G (suc b) s t A L = go (taking-both G s t A L) (λ x y X Y. run-both G b x y X Y)
   where
-    go : Turns G s t → ((x y : State) → Apart x → Alike x y → run G b x ≡ run G b y) → run G (suc b) s ≡ run G (suc b) t
+    go : TakingBoth G s t → ((x y : State) → Apart x → Alike x y → run G b x ≡ run G b y) → run G (suc b) s ≡ run G (suc b) t
     go (both-end a p q) ih = run-ends G s (suc b) a p ∙ sym (run-ends G t (suc b) a q)
     go (both-go u s′ t′ p q A′ L′) ih = on-both _ _ refl refl (expand-both G u (costOf s′ u) (G .moves u) s′ t′ A′ L′)
       where
@@ -201,18 +201,18 @@ run-both G (suc b) s t A L = go (turn-both G s t A L) (λ x y X Y. run-both G b 
 
 module _ (G : Graph) (s : State) (r : Entry) (q : List Entry) (A : Apart s) (P : Popped (s .waiting) r q) where
   pub pop-goal : (b : ℕ) → r .cell ≡ G .goal → run G b s ≡ arrived G s
-  pop-goal b e = run-ends G s b _ (turn-popped-goal G s r q A P e)
+  pop-goal b e = run-ends G s b _ (taking-popped-goal G s r q A P e)
 
   module _ (away : r .cell ≢ G .goal) where
     K : Left G s r q A P
-    K = turn-popped-on G s r q A P away
+    K = taking-popped-on G s r q A P away
 
     pub pop-limit : run G zero s ≡ limit-passed (suc (s .expanded))
     pop-limit = run-limit G s _ _ (K .goes)
 
     both : Both (outcome G s r q)
         (outcome G s r (K .left))
-    both = expand-both G (r .cell) _ (G .moves (r .cell)) _ _ (counted-apart s r q A P) (counted-alike s s _ _ (alike-refl s) (same-sym (K .same)))
+    both = expand-both G (r .cell) _ (G .moves (r .cell)) _ _ (expanded-apart s r q A P) (expanded-alike s s _ _ (alike-refl s) (same-sym (K .same)))
 
     module _ (b : ℕ) where
       pub pop-full : outcome G s r q ≡ full → run G (suc b) s ≡ queue-full (suc (s .expanded))

@@ -5,7 +5,7 @@ use Prim.Native.Nat.{ℕ, suc, _+_, _≤_, _<_}
 use native.Mathlib.Omega.{arith}
 use lib.ListN.{length, getD, set, replicate}
 use Rattle.basics.specs.Tests.{never}
-use Rattle.best_first.specs.Search.{Graph, Move, Entry, State, Taken, push, counted, outset, Answer, queue-full, bestFirst}
+use Rattle.best_first.specs.Search.{Graph, Move, Entry, State, Taken, push, oneMoreExpanded, outset, Answer, queue-full, bestFirst}
 use Rattle.best_first.specs.Ways.{Sound, Consistent}
 use Rattle.best_first.specs.Statements.{Taking, stored, pushes, Reached, expandedOf}
 use Rattle.best_first.specs.Equations.{Gain}
@@ -18,10 +18,10 @@ use Rattle.best_first.specs.Rising.{Rising, outset-rising, again-rising,
 pub record Measure (G : Graph) : Type 1 where
   pub Held : (closed : List ℕ) (due : List Move) (top : ℕ) (pushed : List ℕ) → State → Type 0
   pub begins : Held (replicate (G .size) 0) [] 0 [] (outset G)
-  pub later : {closed pushed : List ℕ} {top : ℕ} {s : State} (next : ℕ) (left : List Entry) → top ≤ next → Held closed [] top pushed s → Held closed [] next pushed (counted s left)
+  pub later : {closed pushed : List ℕ} {top : ℕ} {s : State} (next : ℕ) (left : List Entry) → top ≤ next → Held closed [] top pushed s → Held closed [] next pushed (oneMoreExpanded s left)
   pub opens : {closed ages pushed : List ℕ} {w : ℕ} {s : State} {t : Taken} → Base G closed ages w [] s → Taking (s .waiting) t → getD closed (t .next .cell) 0 ≡ 0
-      → Held closed [] (t .next .key) pushed (counted s (t .left))
-      → Held (set closed (t .next .cell) 1) (G .moves (t .next .cell)) (t .next .key) pushed (counted s (t .left))
+      → Held closed [] (t .next .key) pushed (oneMoreExpanded s (t .left))
+      → Held (set closed (t .next .cell) 1) (G .moves (t .next .cell)) (t .next .key) pushed (oneMoreExpanded s (t .left))
   pub skips : {closed pushed : List ℕ} {top : ℕ} {m : Move} {ms : List Move} {s : State} → Held closed (m ∷ ms) top pushed s → Held closed ms top pushed s
   pub adds : {closed ages pushed : List ℕ} {u d top : ℕ} {m : Move} {ms : List Move} {s : State} → Mid G closed ages u d (m ∷ ms) s → Held closed (m ∷ ms) top pushed s
       → top ≡ d + G .estimate u → getD closed (m .to) 0 ≡ 0 → Gain (suc (d + m .cost)) (stored s (m .to))

@@ -7,7 +7,7 @@ use lib.ListN.{length, getD, set}
 use Rattle.best_first.specs.Search.{Graph, State, Taken, bestFirst}
 use Rattle.best_first.specs.Ways.{Sound, Consistent}
 use Rattle.best_first.specs.Statements.{Taking}
-use Rattle.best_first.specs.Lists.{After, hit, miss, after}
+use Rattle.best_first.specs.Lists.{AfterStore, hit, miss, after}
 use Rattle.best_first.specs.Sums.{sumBelow, sum-le, sum-same, sum-more, single, single-most, Single, there, elsewhere, at-single}
 use Rattle.best_first.specs.Base.{Base, due-lawful, taken-in, mark-taken}
 use Rattle.best_first.specs.Paced.{Measure, Frugal, frugal}
@@ -39,7 +39,7 @@ unfolding spend
 spend-more {G} {closed} {ages} {w} {s} {t} B k o =
     sum-more (G .size) (t .next .cell) (length (G .moves (t .next .cell))) _ _ (taken-in B k) (λ x _. at x (mark-taken B k x) (at-single _ _ x))
   where
-    at : (x : ℕ) → After closed (t .next .cell) 1 x → Single (t .next .cell) (length (G .moves (t .next .cell))) x
+    at : (x : ℕ) → AfterStore closed (t .next .cell) 1 x → Single (t .next .cell) (length (G .moves (t .next .cell))) x
         → spentBy (getD closed x 0) (length (G .moves x)) + single (t .next .cell) (length (G .moves (t .next .cell))) x
         ≤ spentBy (getD (set closed (t .next .cell) 1) x 0) (length (G .moves x))
     at x (hit e q) i = omega (
@@ -57,7 +57,7 @@ spend-same : (G : Graph) (closed : List ℕ) (w : ℕ) → w < length closed →
 unfolding spend
 spend-same G closed w h o = sum-le (G .size) _ _ (λ x _. at x (after closed w 0 x h))
   where
-    at : (x : ℕ) → After closed w 0 x → spentBy (getD closed x 0) (length (G .moves x)) ≤ spentBy (getD (set closed w 0) x 0) (length (G .moves x))
+    at : (x : ℕ) → AfterStore closed w 0 x → spentBy (getD closed x 0) (length (G .moves x)) ≤ spentBy (getD (set closed w 0) x 0) (length (G .moves x))
     at x (hit e q) = rw (spent-open (getD closed x 0) (length (G .moves x)) (ap (λ (n : ℕ). getD closed n 0) e ∙ o)) zero-le
     at x (miss n q) = rw q (omega arith)
 
@@ -79,7 +79,7 @@ module _ {G : Graph} {degree dearest : ℕ} (S : Sound G degree dearest) where
     opens = λ B k o h. omega (arith, spend-more B k o);
     skips = λ h. omega arith;
     adds = λ {closed} {ages} {pushed} {u} {d} {top} {m} {ms} {s} M h now o gain.
-        omega (arith, spend-same G closed (m .to) (omega (arith, M .base .closed-length, S .inside u m (due-lawful M))) o);
+        omega (arith, spend-same G closed (m .to) (omega (arith, M .base .closed-long, S .inside u m (due-lawful M))) o);
   }
 
   pub all-frugal : Consistent G → (limit : ℕ) → Frugal G (G .size * degree - degree) (bestFirst G limit)

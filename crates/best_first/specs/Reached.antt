@@ -10,7 +10,7 @@ use borrow.Author.Tests.{ltb-true, ltb-false}
 use Rattle.basics.specs.Tests.{ask}
 use Rattle.best_first.specs.Search.{Graph, Move, State, Taken, Pushed, full, on, expand, push, cheaper, Answer, no-route, limit-passed, queue-full, arrived, run, outset, bestFirst}
 use Rattle.best_first.specs.Statements.{Taking, stored, outcome, entered, enteredBy, Reached, at-outset, then, pushedBy, pushes}
-use Rattle.best_first.specs.Equations.{cheaper-true, cheaper-false, expand-skip, expand-push, expand-full, Turned, nothing, goal-taken, goes-on, turned, run-ends, run-limit, run-full, run-on, Gain}
+use Rattle.best_first.specs.Equations.{cheaper-true, cheaper-false, expand-skip, expand-push, expand-full, TakeCases, nothing, goal-taken, goes-on, take-cases, run-ends, run-limit, run-full, run-on, Gain}
 
 -- how a search ends at node limit n, and the cells that it pushed
 pub data Ending (G : Graph) (n : ℕ) : Answer → List ℕ → Type 0 where
@@ -26,9 +26,9 @@ pub data Ending (G : Graph) (n : ℕ) : Answer → List ℕ → Type 0 where
 -- ---- the moves of u, whose cost is d, one by one
 
 -- P speaks of the moves still due, the cells pushed and the state; F of the cells pushed where the queue is full
-abbrev pub Outcome : (List Move → List ℕ → State → Type 0) → (List ℕ → Type 0) → List ℕ → Pushed → Type 0
-Outcome P F l full = F l
-Outcome P F l (on r) = P [] l r
+abbrev pub PushComes : (List Move → List ℕ → State → Type 0) → (List ℕ → Type 0) → List ℕ → Pushed → Type 0
+PushComes P F l full = F l
+PushComes P F l (on r) = P [] l r
 
 module _ (G : Graph) (u d : ℕ) (P : List Move → List ℕ → State → Type 0) (F : List ℕ → Type 0)
     (skips : (m : Move) (ms : List Move) (l : List ℕ) (s : State) → P (m ∷ ms) l s
@@ -38,7 +38,7 @@ module _ (G : Graph) (u d : ℕ) (P : List Move → List ℕ → State → Type 
     → P ms (m .to ∷ l) (push G u (m .to) (d + m .cost) s))
     (stops : (m : Move) (ms : List Move) (l : List ℕ) (s : State) → P (m ∷ ms) l s
     → Gain (suc (d + m .cost)) (stored s (m .to)) → G .places ≤ length (s .waiting) → F l) where
-  pub through : (ms : List Move) (l : List ℕ) (s : State) → P ms l s → Outcome P F (entered G u d ms s l) (expand G u d ms s)
+  pub through : (ms : List Move) (l : List ℕ) (s : State) → P ms l s → PushComes P F (entered G u d ms s l) (expand G u d ms s)
   unfolding expand entered
   through [] l s p = p
   through (m ∷ ms) l s p =
@@ -59,15 +59,15 @@ expanded-stays G u d ms s r e =
 module _ (G : Graph) (n : ℕ) where
   all-end : (b : ℕ) (l : List ℕ) (s : State) → Reached G l s → s .expanded + b ≡ n → Ending G n (run G b s) (pushedBy G b s l)
   unfolding pushedBy
-  all-end zero l s R e = go (turned G s)
+  all-end zero l s R e = go (take-cases G s)
     where
-      go : Turned G s → Ending G n (run G zero s) l
+      go : TakeCases G s → Ending G n (run G zero s) l
       go (nothing q t) = rw (run-ends G s zero _ t) (empty R q)
       go (goal-taken k T q t) = rw (run-ends G s zero _ t) (arrives k R T q)
       go (goes-on k T q t) = rw (run-limit G s _ _ t) (passes k R T q (omega arith))
-  all-end (suc b) l s R e = go (turned G s) (λ l′ s′. all-end b l′ s′)
+  all-end (suc b) l s R e = go (take-cases G s) (λ l′ s′. all-end b l′ s′)
     where
-      go : Turned G s → ((l′ : List ℕ) (s′ : State) → Reached G l′ s′ → s′ .expanded + b ≡ n → Ending G n (run G b s′) (pushedBy G b s′ l′))
+      go : TakeCases G s → ((l′ : List ℕ) (s′ : State) → Reached G l′ s′ → s′ .expanded + b ≡ n → Ending G n (run G b s′) (pushedBy G b s′ l′))
           → Ending G n (run G (suc b) s) (pushedBy G (suc b) s l)
       go (nothing q t) ih = rw (run-ends G s (suc b) _ t) (rw (t, pushedBy) (empty R q))
       go (goal-taken k T q t) ih = rw (run-ends G s (suc b) _ t) (rw (t, pushedBy) (arrives k R T q))

@@ -8,10 +8,10 @@ use native.Mathlib.Nat.{eq-zero-or-pos}
 use lib.ListN.{getD, set, replicate}
 use Rattle.basics.specs.Lists.{In}
 use Rattle.basics.specs.Zeros.{zeros}
-use Rattle.best_first.specs.Search.{Graph, Move, Entry, State, Taken, push, counted, outset}
+use Rattle.best_first.specs.Search.{Graph, Move, Entry, State, Taken, push, oneMoreExpanded, outset}
 use Rattle.best_first.specs.Ways.{Sound, Consistent}
 use Rattle.best_first.specs.Statements.{Taking, stored}
-use Rattle.best_first.specs.Lists.{After, hit, miss}
+use Rattle.best_first.specs.Lists.{AfterStore, hit, miss}
 use Rattle.best_first.specs.Equations.{Gain}
 use Rattle.best_first.specs.Base.{Base, Mid, due-lawful, taken-fresh, mark-taken, still-closed, same}
 
@@ -24,16 +24,16 @@ pub outset-rising : (G : Graph) → Rising G (replicate (G .size) 0) 0 (outset G
 outset-rising G = record { settled = λ v c. absurd (omega (arith, zeros (G .size) v)); late = λ e i. zero-le }
 
 module _ {G : Graph} {closed ages : List ℕ} {w top : ℕ} {s : State} {t : Taken} (B : Base G closed ages w [] s) (A : Rising G closed top s) (k : Taking (s .waiting) t) where
-  pub again-rising : Rising G closed (t .next .key) (counted s (t .left))
+  pub again-rising : Rising G closed (t .next .key) (oneMoreExpanded s (t .left))
   again-rising = record {
     settled = λ v c. omega (arith, A .settled v c, A .late (t .next) (k .from));
     late = λ e i. k .low e (k .left-in e i);
   }
 
-  pub anew-rising : getD closed (t .next .cell) 0 ≡ 0 → Rising G (set closed (t .next .cell) 1) (t .next .key) (counted s (t .left))
+  pub anew-rising : getD closed (t .next .cell) 0 ≡ 0 → Rising G (set closed (t .next .cell) 1) (t .next .key) (oneMoreExpanded s (t .left))
   anew-rising o = record { settled = λ v c. settled v c (mark-taken B k v); late = λ e i. k .low e (k .left-in e i) }
     where
-      settled : (v : ℕ) → 0 < getD (set closed (t .next .cell) 1) v 0 → After closed (t .next .cell) 1 v → stored s v + G .estimate v ≤ suc (t .next .key)
+      settled : (v : ℕ) → 0 < getD (set closed (t .next .cell) 1) v 0 → AfterStore closed (t .next .cell) 1 v → stored s v + G .estimate v ≤ suc (t .next .key)
       settled v c (hit e q) = rw e (omega (arith, taken-fresh B k o))
       settled v c (miss n q) = again-rising .settled v (omega arith)
 

@@ -97,29 +97,29 @@ pub data Answer : Type 0 where
   queue-full : ℕ → Answer
 
 -- what the next taking does: it ends the search, or cell u is to be expanded in a state that counts it
-pub data Turn : Type 0 where
-  ends : Answer → Turn
-  expands : ℕ → State → Turn
+pub data AfterTake : Type 0 where
+  ends : Answer → AfterTake
+  expands : ℕ → State → AfterTake
 
 -- the goal is taken: its path and its known cost
 abbrev pub arrived : Graph → State → Answer
 arrived G s = route (trace (G .size) (s .previous) (G .goal) []) (pred (getD (s .known) (G .goal) 0)) (s .expanded)
 
 -- any other cell taken adds 1 to the expanded count
-abbrev pub counted : State → List Entry → State
-counted s w = record { known = s .known; previous = s .previous; waiting = w; serial = s .serial; expanded = suc (s .expanded) }
+abbrev pub oneMoreExpanded : State → List Entry → State
+oneMoreExpanded s w = record { known = s .known; previous = s .previous; waiting = w; serial = s .serial; expanded = suc (s .expanded) }
 
-abbrev pub takes : Graph → State → Taken → Turn
-takes G s t = either (eqb (t .next .cell) (G .goal)) (ends (arrived G s)) (expands (t .next .cell) (counted s (t .left)))
+abbrev pub takes : Graph → State → Taken → AfterTake
+takes G s t = either (eqb (t .next .cell) (G .goal)) (ends (arrived G s)) (expands (t .next .cell) (oneMoreExpanded s (t .left)))
 
-unfoldable pub turn : Graph → State → Turn
-turn G s = elim (s .waiting) [ [] ↦ ends (no-route (s .expanded)) | e ∷ es ↦ takes G s (least e es) ]
+unfoldable pub takeOne : Graph → State → AfterTake
+takeOne G s = elim (s .waiting) [ [] ↦ ends (no-route (s .expanded)) | e ∷ es ↦ takes G s (least e es) ]
 
 -- b more cells may be expanded; one more than that passes the node limit, before its moves
 unfoldable pub run : Graph → ℕ → State → Answer
-run G zero s = elim (turn G s) [ ends a ↦ a | expands u t ↦ limit-passed (t .expanded) ]
+run G zero s = elim (takeOne G s) [ ends a ↦ a | expands u t ↦ limit-passed (t .expanded) ]
 run G (suc b) s =
-    elim (turn G s) [
+    elim (takeOne G s) [
       | ends a ↦ a
       | expands u t ↦ elim (expand G u (pred (getD (t .known) u 0)) (G .moves u) t) [ full ↦ queue-full (t .expanded) | on r ↦ run G b r ]
     ]

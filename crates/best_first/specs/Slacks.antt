@@ -12,7 +12,7 @@ use borrow.Author.Tests.{eq-eqb, ne-eqb, ltb-true, lt-ltb, le-ltb}
 use Rattle.basics.specs.Tests.{ask, askSame}
 use Rattle.basics.specs.Lists.{In}
 use Rattle.basics.specs.Counts.{times, times-most}
-use Rattle.best_first.specs.Search.{Graph, Move, Entry, State, push, counted, bestFirst}
+use Rattle.best_first.specs.Search.{Graph, Move, Entry, State, push, oneMoreExpanded, bestFirst}
 use Rattle.best_first.specs.Ways.{Sound, Consistent}
 use Rattle.best_first.specs.Statements.{stored, pushes, slack, Slacks}
 use Rattle.best_first.specs.Sums.{sumBelow, sum-same, sum-more, single, single-most, Single, there, elsewhere, at-single}
@@ -160,10 +160,10 @@ module _ {G : Graph} {k : ℕ} {Z : Slacks G k} {top : ℕ} {pushed : List ℕ} 
 
 module _ {G : Graph} {k : ℕ} (Z : Slacks G k) where
   -- the last key taken rises
-  later : {top next : ℕ} {pushed : List ℕ} {s : State} (left : List Entry) → top ≤ next → Slotted G k Z top pushed s → Slotted G k Z next pushed (counted s left)
+  later : {top next : ℕ} {pushed : List ℕ} {s : State} (left : List Entry) → top ≤ next → Slotted G k Z top pushed s → Slotted G k Z next pushed (oneMoreExpanded s left)
   later {top} {next} {pushed} {s} left h A = record { last = λ v. last v (A .last v); start-never = A .start-never; whole = A .whole }
     where
-      last : (v : ℕ) → (times (eqb v) pushed ≡ 0) ⊎ Last G k Z top pushed s v → (times (eqb v) pushed ≡ 0) ⊎ Last G k Z next pushed (counted s left) v
+      last : (v : ℕ) → (times (eqb v) pushed ≡ 0) ⊎ Last G k Z top pushed s v → (times (eqb v) pushed ≡ 0) ⊎ Last G k Z next pushed (oneMoreExpanded s left) v
       last v (inl z) = inl z
       last v (inr L) = inr (record {
         by = L .by;

@@ -7,7 +7,7 @@ use Prim.Native.Nat.{ℕ, zero, suc, pred, _+_, _-_, _*_, _≤_, _<_}
 use lib.ListN.{length, getD}
 use lib.Dec.{ltb}
 use Rattle.basics.specs.Lists.{In}
-use Rattle.best_first.specs.Search.{Graph, Move, Entry, State, Taken, Pushed, full, on, push, cheaper, expand, counted, ends, expands, turn, outset, Answer, route, no-route, limit-passed, queue-full}
+use Rattle.best_first.specs.Search.{Graph, Move, Entry, State, Taken, Pushed, full, on, push, cheaper, expand, oneMoreExpanded, ends, expands, takeOne, outset, Answer, route, no-route, limit-passed, queue-full}
 use Rattle.best_first.specs.Ways.{Way, NoWay}
 
 -- ---- what is said of an answer
@@ -19,8 +19,8 @@ pub record Lawful (G : Graph) (path : List ℕ) (cost : ℕ) : Type 0 where
   pub way : Way G (G .start) rest (G .goal) cost
 
 -- no way is cheaper
-abbrev pub Least : Graph → ℕ → Type 0
-Least G cost = (l : List ℕ) (d : ℕ) → Way G (G .start) l (G .goal) d → cost ≤ d
+abbrev pub Cheapest : Graph → ℕ → Type 0
+Cheapest G cost = (l : List ℕ) (d : ℕ) → Way G (G .start) l (G .goal) d → cost ≤ d
 
 -- at any costs
 abbrev pub Honest : Graph → ℕ → Answer → Type 0
@@ -31,7 +31,7 @@ Honest G limit (queue-full x) = Unit {0}
 
 -- with a consistent estimate, where no cell has more than `degree` moves
 abbrev pub Right : Graph → ℕ → ℕ → Answer → Type 0
-Right G degree limit (route path cost x) = Lawful G path cost × Least G cost × (x ≤ degree * G .size)
+Right G degree limit (route path cost x) = Lawful G path cost × Cheapest G cost × (x ≤ degree * G .size)
 Right G degree limit (no-route x) = NoWay G × (x ≤ degree * G .size)
 Right G degree limit (limit-passed x) = (x ≡ limit + 1) × (x ≤ degree * G .size)
 Right G degree limit (queue-full x) = (G .places < degree * G .size) × (x ≤ degree * G .size)
@@ -67,7 +67,7 @@ pub record Taking (waiting : List Entry) (t : Taken) : Type 0 where
 
 -- the entry r has been taken, q is left, and the moves of its cell are tried
 abbrev pub outcome : Graph → State → Entry → List Entry → Pushed
-outcome G s r q = expand G (r .cell) (costOf s (r .cell)) (G .moves (r .cell)) (counted s q)
+outcome G s r q = expand G (r .cell) (costOf s (r .cell)) (G .moves (r .cell)) (oneMoreExpanded s q)
 
 -- the cells that the moves of u push, put before l, the latest first
 unfoldable pub entered : Graph → ℕ → ℕ → List Move → State → List ℕ → List ℕ
@@ -83,7 +83,7 @@ entered G u d (m ∷ ms) s l =
 
 -- those that the moves of r's cell push
 abbrev pub enteredBy : Graph → State → Entry → List Entry → List ℕ → List ℕ
-enteredBy G s r q l = entered G (r .cell) (costOf s (r .cell)) (G .moves (r .cell)) (counted s q) l
+enteredBy G s r q l = entered G (r .cell) (costOf s (r .cell)) (G .moves (r .cell)) (oneMoreExpanded s q) l
 
 -- a state between two takings, with the cells pushed so far, the latest first. Any entry of the least key may be taken, and those left may stand in
 -- any order: more states than the search reaches, among them those of a search whose queue is a heap
@@ -94,8 +94,8 @@ pub data Reached (G : Graph) : List ℕ → State → Type 0 where
 
 -- the lists have a place for each cell, and every number is in range
 pub record Bounded (G : Graph) (degree dearest : ℕ) (s : State) : Type 0 where
-  pub known-length : length (s .known) ≡ G .size
-  pub previous-length : length (s .previous) ≡ G .size
+  pub known-long : length (s .known) ≡ G .size
+  pub previous-long : length (s .previous) ≡ G .size
   pub cost : (v : ℕ) → stored s v ≤ (G .size - 1) * dearest + 1
   pub previous-in : (v : ℕ) → getD (s .previous) v 0 ≤ G .size
   pub cell-in : (e : Entry) → In e (s .waiting) → e .cell < G .size
@@ -116,7 +116,7 @@ pub record Shut (G : Graph) (known : List ℕ) : Type 0 where
 unfoldable pub pushedBy : Graph → ℕ → State → List ℕ → List ℕ
 pushedBy G zero s l = l
 pushedBy G (suc b) s l =
-    elim (turn G s) [
+    elim (takeOne G s) [
       | ends a ↦ l
       | expands u t ↦ elim (expand G u (costOf t u) (G .moves u) t) [
         | full ↦ entered G u (costOf t u) (G .moves u) t l

@@ -9,7 +9,7 @@ use native.Mathlib.Nat.{eq-zero-or-pos}
 use lib.ListN.{getD}
 use lib.Dec.{eqb}
 use Rattle.basics.specs.Counts.{times}
-use Rattle.best_first.specs.Search.{Graph, State, Taken, on, counted, Answer, route, no-route, limit-passed, queue-full, bestFirst}
+use Rattle.best_first.specs.Search.{Graph, State, Taken, on, oneMoreExpanded, Answer, route, no-route, limit-passed, queue-full, bestFirst}
 use Rattle.best_first.specs.Ways.{NoWay, Sound, Consistent}
 use Rattle.best_first.specs.Statements.{stored, Taking, outcome, Reached, Honest, Right, Decided, by-route, by-no-route, expandedOf, Bounded, pushes, Slacks}
 use Rattle.best_first.specs.Reached.{ending}
@@ -33,7 +33,7 @@ module _ {G : Graph} {degree dearest : ℕ} (S : Sound G degree dearest) where
 
   -- an old entry, one of another cost than its cell has now, pushes nothing when it is taken
   pub old-entry : {pushed : List ℕ} {s : State} {t : Taken} → Reached G pushed s → Taking (s .waiting) t
-      → suc (t .next .key) ≢ stored s (t .next .cell) + G .estimate (t .next .cell) → outcome G s (t .next) (t .left) ≡ on (counted s (t .left))
+      → suc (t .next .key) ≢ stored s (t .next .cell) + G .estimate (t .next .cell) → outcome G s (t .next) (t .left) ≡ on (oneMoreExpanded s (t .left))
   old-entry {t = t} R k old =
       let H = holds S (bare G) R in
       elim (eq-zero-or-pos (getD (H .closed) (t .next .cell) 0)) [ inl o ↦ absurd (old (taken-fresh (H .base) k o)) | inr c ↦ again-outcome (H .base) k c ]

@@ -13,7 +13,7 @@ use Rattle.basics.specs.Tests.{ask, askLess}
 use Rattle.basics.specs.Lists.{In}
 use Rattle.basics.specs.Counts.{bit, bit-small}
 use Rattle.best_first.specs.Search.{Graph, Move, trace}
-use Rattle.best_first.specs.Ways.{Step, Way}
+use Rattle.best_first.specs.Ways.{GraphStep, Way}
 use Rattle.best_first.specs.Statements.{Lawful}
 use Rattle.best_first.specs.Lists.{in-reach}
 use Rattle.best_first.specs.Sums.{sumBelow, sum-le, sum-same, sum-more, single, Single, there, elsewhere, at-single}
@@ -80,11 +80,11 @@ module _ {G : Graph} {ages known previous : List ℕ} {serial : ℕ} (L : Linked
             }
         go (inr k) ih =
             let low : weight (k .by) < weight v = link-falls k in
-            let by-in : k .by < G .size = omega (arith, in-reach known (k .by) (k .reached), L .known-length) in
+            let by-in : k .by < G .size = omega (arith, in-reach known (k .by) (k .reached), L .known-long) in
             let by-up : Up previous (k .by) (G .goal) = up-more (k .by) up (k .noted) in
             let exact = tight (k .by) by-up (λ e. omega (arith, ap weight e)) (k .move) (k .lawful) in
             let T = ih (k .by) (v ∷ rest) (k .move .cost + r) (omega (arith, below-more (k .by) (weight v) by-in low)) (omega arith) (k .reached) by-up
-            (k .move .cost, r, unfold Step in (k .move, k .lawful, k .leads-to, refl), W, refl)
+            (k .move .cost, r, unfold GraphStep in (k .move, k .lawful, k .leads-to, refl), W, refl)
             (omega (arith, k .adds, exact, ap (λ (x : ℕ). getD known x 0) (k .leads-to))) in
             record { rest = T .rest; begins = trace-back n previous v (k .by) rest (k .noted) ∙ T .begins; way = T .way }
 

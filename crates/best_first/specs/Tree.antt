@@ -16,7 +16,7 @@ use Rattle.basics.specs.Zeros.{zeros}
 use Rattle.best_first.specs.Search.{Graph, Move, State, Taken, push, outset, trace}
 use Rattle.best_first.specs.Ways.{Sound}
 use Rattle.best_first.specs.Statements.{Taking, stored, costOf, Reached, Lawful}
-use Rattle.best_first.specs.Lists.{After, hit, miss}
+use Rattle.best_first.specs.Lists.{AfterStore, hit, miss}
 use Rattle.best_first.specs.Equations.{Gain, no-gain, offered}
 use Rattle.best_first.specs.Links.{Linked, Link, Origin, start-alone}
 use Rattle.best_first.specs.Base.{Base, Mid, due-lawful, still-closed, same, now-known, all-loose, taken-fresh, mark-taken}
@@ -72,7 +72,7 @@ module _ {G : Graph} {closed ages : List ℕ} {w : ℕ} {s : State} {t : Taken} 
   still : (y : ℕ) → Open (set closed (t .next .cell) 1) (s .known) y → Open closed (s .known) y
   still y O = go (mark-taken B k y)
     where
-      go : After closed (t .next .cell) 1 y → Open closed (s .known) y
+      go : AfterStore closed (t .next .cell) 1 y → Open closed (s .known) y
       go (hit e q) = absurd (omega (arith, O .unmarked))
       go (miss n q) = record { reached = O .reached; unmarked = sym q ∙ O .unmarked }
 
@@ -94,12 +94,12 @@ module _ {G : Graph} {closed ages : List ℕ} {w : ℕ} {s : State} {t : Taken} 
     outer = λ v y up O f. outer v y up (still y O) f;
   }
     where
-      above-closed : (v : ℕ) → Up (s .previous) v (t .next .cell) → After closed (t .next .cell) 1 v → 0 < getD (set closed (t .next .cell) 1) v 0
+      above-closed : (v : ℕ) → Up (s .previous) v (t .next .cell) → AfterStore closed (t .next .cell) 1 v → 0 < getD (set closed (t .next .cell) 1) v 0
       above-closed v up (hit e q) = omega arith
       above-closed v up (miss n q) = omega (arith, up-closed v up n)
 
       inner : (v x : ℕ) → 0 < getD (set closed (t .next .cell) 1) v 0 → (Up (s .previous) v (t .next .cell) → ⊥) → Open closed (s .known) x → Up (s .previous) v x
-          → After closed (t .next .cell) 1 v → key G (s .known) v ≤ key G (s .known) x
+          → AfterStore closed (t .next .cell) 1 v → key G (s .known) v ≤ key G (s .known) x
       inner v x c f O up (hit e q) = absurd (f (here (sym e)))
       inner v x c f O up (miss n q) = omega (arith, T .between v x (t .next .cell) (omega arith) O u-open up f, least-key x O)
 
@@ -159,7 +159,7 @@ module _ {G : Graph} {degree dearest : ℕ} (S : Sound G degree dearest) {closed
       no-gain gain (f .0) (omega (arith, f, M .now))
 
   w-in : m .to < length (s .previous)
-  w-in = omega (arith, S .inside u m (due-lawful M), M .base .linked .previous-length)
+  w-in = omega (arith, S .inside u m (due-lawful M), M .base .linked .previous-long)
 
   same-key : (v : ℕ) → v ≢ m .to → key G (offered s d m) v ≡ key G (s .known) v
   same-key v n = ap (λ (k : ℕ). k + G .estimate v) (same M S gain v n)

@@ -7,13 +7,13 @@ use Rattle.basics.specs.Lists.{In}
 use Rattle.best_first.specs.Search.{Graph, Move}
 
 -- one of the moves out of u enters v and costs c
-unfoldable pub Step : Graph → ℕ → ℕ → ℕ → Type 0
-Step G u v c = (m : Move) × In m (G .moves u) × (m .to ≡ v) × (m .cost ≡ c)
+unfoldable pub GraphStep : Graph → ℕ → ℕ → ℕ → Type 0
+GraphStep G u v c = (m : Move) × In m (G .moves u) × (m .to ≡ v) × (m .cost ≡ c)
 
 -- the cells after u lead from u to t, and their steps add up to d
 abbrev pub Way : Graph → ℕ → List ℕ → ℕ → ℕ → Type 0
 Way G u [] t d = (u ≡ t) × (d ≡ 0)
-Way G u (v ∷ l) t d = (c : ℕ) × (r : ℕ) × Step G u v c × Way G v l t r × (d ≡ c + r)
+Way G u (v ∷ l) t d = (c : ℕ) × (r : ℕ) × GraphStep G u v c × Way G v l t r × (d ≡ c + r)
 
 abbrev pub NoWay : Graph → Type 0
 NoWay G = (l : List ℕ) (d : ℕ) → Way G (G .start) l (G .goal) d → ⊥

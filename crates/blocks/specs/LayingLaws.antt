@@ -16,53 +16,53 @@ use Rattle.job_sheet.specs.declared.Block.{Block}
 use Rattle.job_sheet.specs.Places.{noBlock}
 use Rattle.blocks.specs.declared.Placement.the-variants.{Placed, RepeatAt}
 use Rattle.blocks.specs.Blocks.{kindOf, nodeOf, kindsOf, nodesOf, recordCell, recordNode, recordKind, Repeat, NotAfter, Placing, placed, repeated, BlocksLaid}
-use Rattle.blocks.specs.Laying.{lesser, numbered, repeatNumber, Added, Noted, no-block, of-block, Found, no-repeat, of-repeat, Kept}
+use Rattle.blocks.specs.Laying.{lesserKept, numbered, repeatNumber, BlockAdded, Noted, no-block, of-block, RepeatFound, no-repeat, of-repeat, Kept}
 use Rattle.blocks.specs.BlockLaws.{less-or-same, tabulated-is, OfCell, of-record, of-none, of-cell, of-its-cell}
 
 -- ---- the lesser of two numbers of which 0 stands for none
 
 module _ (a b : ℕ) where
-  pub lesser-second-only : a ≡ 0 → lesser a b ≡ b
-  unfolding lesser
+  pub lesser-second-only : a ≡ 0 → lesserKept a b ≡ b
+  unfolding lesserKept
   lesser-second-only e = rw (eq-eqb a 0 e)
 
   module _ (some : a ≡ 0 → ⊥) where
-    pub lesser-first-only : b ≡ 0 → lesser a b ≡ a
-    unfolding lesser
+    pub lesser-first-only : b ≡ 0 → lesserKept a b ≡ a
+    unfolding lesserKept
     lesser-first-only e = rw (ne-eqb a 0 some, eq-eqb b 0 e)
 
     module _ (other : b ≡ 0 → ⊥) where
-      pub lesser-second : b < a → lesser a b ≡ b
-      unfolding lesser
+      pub lesser-second : b < a → lesserKept a b ≡ b
+      unfolding lesserKept
       lesser-second h = rw (ne-eqb a 0 some, ne-eqb b 0 other, lt-ltb b a h)
 
-      pub lesser-first : a ≤ b → lesser a b ≡ a
-      unfolding lesser
+      pub lesser-first : a ≤ b → lesserKept a b ≡ a
+      unfolding lesserKept
       lesser-first h = rw (ne-eqb a 0 some, ne-eqb b 0 other, le-ltb b a h)
 
 -- it is one of the two, and no more than either that is there
-pub record Lesser (a b c : ℕ) : Type 0 where
+pub record LesserKept (a b c : ℕ) : Type 0 where
   pub one-of : (c ≡ a) ⊎ (c ≡ b)
   pub to-first : 1 ≤ a → (1 ≤ c) × (c ≤ a)
   pub to-second : 1 ≤ b → (1 ≤ c) × (c ≤ b)
 
-is-first : {a b : ℕ} → (1 ≤ b → (1 ≤ a) × (a ≤ b)) → Lesser a b a
+is-first : {a b : ℕ} → (1 ≤ b → (1 ≤ a) × (a ≤ b)) → LesserKept a b a
 is-first h = record { one-of = inl refl; to-first = λ s. (s, omega arith); to-second = h }
 
-is-second : {a b : ℕ} → (1 ≤ a → (1 ≤ b) × (b ≤ a)) → Lesser a b b
+is-second : {a b : ℕ} → (1 ≤ a → (1 ≤ b) × (b ≤ a)) → LesserKept a b b
 is-second h = record { one-of = inr refl; to-first = h; to-second = λ s. (s, omega arith) }
 
-pub lesser-is : (a b : ℕ) → Lesser a b (lesser a b)
+pub lesser-is : (a b : ℕ) → LesserKept a b (lesserKept a b)
 lesser-is a b =
     askSame a 0 none (λ some. askSame b 0 (one some) (two some))
   where
-    none : a ≡ 0 → Lesser a b (lesser a b)
+    none : a ≡ 0 → LesserKept a b (lesserKept a b)
     none e = rw (lesser-second-only a b e) (is-second (λ s. (omega arith, omega arith)))
 
-    one : (a ≡ 0 → ⊥) → b ≡ 0 → Lesser a b (lesser a b)
+    one : (a ≡ 0 → ⊥) → b ≡ 0 → LesserKept a b (lesserKept a b)
     one some e = rw (lesser-first-only a b some e) (is-first (λ s. (omega arith, omega arith)))
 
-    two : (a ≡ 0 → ⊥) → (b ≡ 0 → ⊥) → Lesser a b (lesser a b)
+    two : (a ≡ 0 → ⊥) → (b ≡ 0 → ⊥) → LesserKept a b (lesserKept a b)
     two some other =
         askLess b a
         (λ l. rw (lesser-second a b some other l) (is-second (λ s. (omega (arith, other), omega arith))))
@@ -173,7 +173,7 @@ module _ (R : Room) (bs : List Block) (k : ℕ) where
     known = getD nodes here 0
 
     abbrev nodes-now : List ℕ
-    nodes-now = set nodes here (lesser known (recordNode bs k + 1))
+    nodes-now = set nodes here (lesserKept known (recordNode bs k + 1))
 
     abbrev kinds-now : List ℕ
     kinds-now = set kinds here (recordKind bs k)
@@ -182,12 +182,12 @@ module _ (R : Room) (bs : List Block) (k : ℕ) where
     new = repeatNumber known (recordNode bs k + 1) here
 
     abbrev found-now : ℕ
-    found-now = lesser found new
+    found-now = lesserKept found new
 
-    least : Lesser known (recordNode bs k + 1) (lesser known (recordNode bs k + 1))
+    least : LesserKept known (recordNode bs k + 1) (lesserKept known (recordNode bs k + 1))
     least = lesser-is known (recordNode bs k + 1)
 
-    there : getD nodes-now here 0 ≡ lesser known (recordNode bs k + 1)
+    there : getD nodes-now here 0 ≡ lesserKept known (recordNode bs k + 1)
     there = getD-set-same nodes here _ 0 (rw (K .nodes-long) cell-in)
 
     elsewhere : (v : ℕ) → (here ≡ v → ⊥) → getD nodes-now v 0 ≡ getD nodes v 0
@@ -203,11 +203,11 @@ module _ (R : Room) (bs : List Block) (k : ℕ) where
     known-least : (j : ℕ) → j < k → recordCell R bs j ≡ here → (1 ≤ known) × (known ≤ recordNode bs j + 1)
     known-least j h e = rw e at (K .least-node j h)
 
-    noted-here : Noted R bs (k + 1) here (lesser known (recordNode bs k + 1))
+    noted-here : Noted R bs (k + 1) here (lesserKept known (recordNode bs k + 1))
     noted-here = go (least .one-of) (K .noted here cell-in)
       where
-        go : (lesser known (recordNode bs k + 1) ≡ known) ⊎ (lesser known (recordNode bs k + 1) ≡ recordNode bs k + 1) → Noted R bs k here known
-            → Noted R bs (k + 1) here (lesser known (recordNode bs k + 1))
+        go : (lesserKept known (recordNode bs k + 1) ≡ known) ⊎ (lesserKept known (recordNode bs k + 1) ≡ recordNode bs k + 1) → Noted R bs k here known
+            → Noted R bs (k + 1) here (lesserKept known (recordNode bs k + 1))
         go (inl e) (no-block z) = absurd (omega (arith, least .to-second (omega arith) .0))
         go (inl e) (of-block j h c n) = of-block j (omega arith) c (e ∙ n)
         go (inr e) n = of-block k (omega arith) refl e
@@ -244,7 +244,7 @@ module _ (R : Room) (bs : List Block) (k : ℕ) where
     not-known : found-now ≡ 0 → (found ≡ 0) × (known ≡ 0)
     not-known z = go (lesser-is found new) (made known (recordNode bs k) here)
       where
-        go : Lesser found new found-now → Made known (recordNode bs k) here new → (found ≡ 0) × (known ≡ 0)
+        go : LesserKept found new found-now → Made known (recordNode bs k) here new → (found ≡ 0) × (known ≡ 0)
         go l (none-made e n) = (none (l .to-first), e)
           where
             none : (1 ≤ found → (1 ≤ found-now) × (found-now ≤ found)) → found ≡ 0
@@ -259,10 +259,10 @@ module _ (R : Room) (bs : List Block) (k : ℕ) where
         go q (inr e) = rw (e, kind-there)
         go q (inl l) = kind-elsewhere (recordCell R bs j) (λ e. omega (arith, q .1, known-least j l (sym e) .0)) ∙ K .kinds-are (q .0) j l
 
-    repeat-more : Found R bs (k + 1) found-now
+    repeat-more : RepeatFound R bs (k + 1) found-now
     repeat-more = go (lesser-is found new .one-of) (K .repeat)
       where
-        fresh : found-now ≡ new → Made known (recordNode bs k) here new → Noted R bs k here known → Found R bs (k + 1) found-now
+        fresh : found-now ≡ new → Made known (recordNode bs k) here new → Noted R bs k here known → RepeatFound R bs (k + 1) found-now
         fresh e (none-made z n) t = no-repeat (e ∙ n)
         fresh e (by-new a b n) (no-block z) = absurd (omega arith)
         fresh e (by-new a b n) (of-block h l c m) =
@@ -271,7 +271,7 @@ module _ (R : Room) (bs : List Block) (k : ℕ) where
         fresh e (by-old x a b n) (of-block h l c m) =
             of-repeat h record { repeat-in = omega arith; holder = k; holder-in = omega arith; same-cell = sym c; held = inl (omega arith) } (omega (arith, e, n, c))
 
-        go : (found-now ≡ found) ⊎ (found-now ≡ new) → Found R bs k found → Found R bs (k + 1) found-now
+        go : (found-now ≡ found) ⊎ (found-now ≡ new) → RepeatFound R bs k found → RepeatFound R bs (k + 1) found-now
         go (inl e) (no-repeat z) = no-repeat (e ∙ z)
         go (inl e) (of-repeat i r n) = of-repeat i (more r) (e ∙ n)
         go (inr e) f = fresh e (made known (recordNode bs k) here) (K .noted here cell-in)
@@ -306,10 +306,10 @@ module _ (R : Room) (bs : List Block) (k : ℕ) where
       least-repeat = least-repeat-more;
     }
 
-    pub kept-next : (b : Block) → b ≡ getD bs k noBlock → {kinds′ nodes′ : List ℕ} {found′ : ℕ} → Added R b kinds nodes found kinds′ nodes′ found′
+    pub kept-next : (b : Block) → b ≡ getD bs k noBlock → {kinds′ nodes′ : List ℕ} {found′ : ℕ} → BlockAdded R b kinds nodes found kinds′ nodes′ found′
         → Kept R bs (k + 1) kinds′ nodes′ found′
     kept-next b is A =
-        let B : Added R (getD bs k noBlock) kinds nodes found _ _ _ = rw is at A in
+        let B : BlockAdded R (getD bs k noBlock) kinds nodes found _ _ _ = rw is at A in
         rw (B .kinds-are, B .nodes-are, B .found-is) kept-more
 
 -- ---- in the end
@@ -325,7 +325,7 @@ module _ {R : Room} {bs : List Block} {kinds nodes : List ℕ} {found : ℕ} whe
     kept-repeated : (found ≡ 0 → ⊥) → ((i : ℕ) → i < n → recordCell R bs i < 65536) → Placing R bs n (RepeatAt ((found - 1) % 65536))
     kept-repeated some small = go (K .repeat)
       where
-        go : Found R bs n found → Placing R bs n (RepeatAt ((found - 1) % 65536))
+        go : RepeatFound R bs n found → Placing R bs n (RepeatAt ((found - 1) % 65536))
         go (no-repeat z) = absurd (some z)
         go (of-repeat i r e) = repeated i r first (ap RepeatAt cell)
           where

@@ -6,11 +6,11 @@ ghost use Rattle.room.specs.Room.{Good, Within, volume};
 ghost use Rattle.job_sheet.specs.Accepted.{BlockList};
 ghost use Rattle.job_sheet.specs.Places.{blocksIn};
 ghost use Rattle.blocks.specs.Blocks.{BlocksLaid};
-ghost use Rattle.blocks.specs.Laying.{lesser, repeatNumber, Added, Kept};
+ghost use Rattle.blocks.specs.Laying.{lesserKept, repeatNumber, BlockAdded, Kept};
 use job_sheet::Block;
 use job_sheet::Part;
 use room::Room;
-use room::wide;
+use room::as_index;
 
 // A repeat is kept as one number, node times this plus cell plus 1, so that the least number is that of the least node,
 // then the least cell.
@@ -24,7 +24,7 @@ pub enum Placement {
 
 // The lesser of two numbers of which 0 stands for none.
 fn lesser(a: usize, b: usize) -> usize
-    ensures { λ r. ⌜ r ≡ lesser a b ⌝ }
+    ensures { λ r. ⌜ r ≡ lesserKept a b ⌝ }
 {
     if a == 0 {
         return b;
@@ -53,10 +53,10 @@ fn place_block(block: Block, room: Room, kinds: &mut [u8], nodes: &mut [u32], fo
     requires { ⌜ Good room ⌝ }
     requires { ⌜ Within room (block .at) ⌝ }
     requires { ⌜ (length (now kinds) ≡ volume room) × (length (now nodes) ≡ volume room) ⌝ }
-    ensures { λ r. ⌜ Added room block (now (kinds .entry)) (now (nodes .entry)) found (now (kinds .exit)) (now (nodes .exit)) r ⌝ }
+    ensures { λ r. ⌜ BlockAdded room block (now (kinds .entry)) (now (nodes .entry)) found (now (kinds .exit)) (now (nodes .exit)) r ⌝ }
 {
     let cell = room.cell(block.at);
-    let known = wide(nodes[cell]);
+    let known = as_index(nodes[cell]);
     let node = block.node as usize + 1;
     kinds[cell] = block.kind;
     nodes[cell] = lesser(known, node) as u32;

@@ -15,25 +15,25 @@ use Rattle.branches.specs.Branches.{markedCount, sum}
 -- ---- marks counted
 
 -- what is counted, with the marks from the i-th cell on, is all of them
-pub record Counted (marks : List ℕ) (count i : ℕ) : Type 0 where
+pub record MarksCounted (marks : List ℕ) (count i : ℕ) : Type 0 where
   pub so-far : i ≤ length marks
   pub few : count ≤ i
   pub same : count + markedCount (drop i marks) ≡ markedCount marks
 
-pub counted-none : (marks : List ℕ) → Counted marks 0 0
+pub counted-none : (marks : List ℕ) → MarksCounted marks 0 0
 counted-none marks = record { so-far = omega arith; few = omega arith; same = omega arith }
 
-module _ {marks : List ℕ} {count i : ℕ} (C : Counted marks count i) where
+module _ {marks : List ℕ} {count i : ℕ} (C : MarksCounted marks count i) where
   one-more : i < length marks → markedCount (drop i marks) ≡ bit (eqb (getD marks i 0) 1) + markedCount (drop (i + 1) marks)
   unfolding markedCount times
   one-more h = ap markedCount (drop-next marks i 0 h)
 
-  pub counted-marked : i < length marks → getD marks i 0 ≡ 1 → Counted marks (count + 1) (i + 1)
+  pub counted-marked : i < length marks → getD marks i 0 ≡ 1 → MarksCounted marks (count + 1) (i + 1)
   counted-marked h e =
       let m : markedCount (drop i marks) ≡ 1 + markedCount (drop (i + 1) marks) = rw (eq-eqb (getD marks i 0) 1 e) at (one-more h) in
       record { so-far = omega arith; few = omega (arith, C .few); same = omega (arith, C .same) }
 
-  pub counted-other : i < length marks → (getD marks i 0 ≡ 1 → ⊥) → Counted marks count (i + 1)
+  pub counted-other : i < length marks → (getD marks i 0 ≡ 1 → ⊥) → MarksCounted marks count (i + 1)
   counted-other h n =
       let m : markedCount (drop i marks) ≡ 0 + markedCount (drop (i + 1) marks) = rw (ne-eqb (getD marks i 0) 1 n) at (one-more h) in
       record { so-far = omega arith; few = omega (arith, C .few); same = omega (arith, C .same) }

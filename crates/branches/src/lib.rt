@@ -1,6 +1,6 @@
 // A sink's branch: written into what is left of the lent branch buffer, put in sheet order, its cells marked.
 use ends::Tap;
-use room::wide;
+use room::as_index;
 ghost use mathlib.Core.Path.{_≡_};
 ghost use mathlib.Core.List.{_++_, reverse};
 ghost use Prim.Native.Nat.{_+_, _≤_, _<_};
@@ -109,7 +109,7 @@ pub fn mark_cells(marks: &mut [u8], cells: &[u32])
 {
     let mut i: usize = 0;
     while i < cells.len() {
-        routing_resources::mark(marks, wide(cells[i]));
+        routing_resources::mark(marks, as_index(cells[i]));
         i += 1;
     }
 }

@@ -14,14 +14,14 @@ use Rattle.room.specs.declared.Move.{Move}
 use Rattle.room.specs.declared.RouterConfig.{RouterConfig}
 use Rattle.room.specs.declared.Neighbour.{Neighbour}
 use Rattle.room.specs.declared.Neighbour.the-variants.{Inside, Outside}
-use Rattle.room.specs.Room.{Good, posOf, moves, neighbour, apart}
+use Rattle.room.specs.Room.{Good, posOf, moves, neighbour, apart, moveBetween}
 use Rattle.room.specs.Units.{air, solid, transparent, redstoneBlock}
-use Rattle.room.specs.MoveLaws.{Moved, small, leads, leads-cell, moveBetween, apart-by, between-moved, between-listed}
+use Rattle.room.specs.MoveLaws.{Moved, small, leads, leads-cell, apart-by, between-moved, between-listed}
 use Rattle.best_first.specs.Search
-use Rattle.best_first.specs.Ways.{Step, Way}
+use Rattle.best_first.specs.Ways.{GraphStep, Way}
 use Rattle.room_search.specs.Routing.{Task, routeable, bearing, classFor, entering, total, priceOf, moveInto, movesBy, graphOf, graph}
 use Rattle.room_search.specs.GraphLaws.{step-by}
-use Rattle.demands.specs.Lawful.{supportOf, LawfulStep, stepCost, Leads, costFrom}
+use Rattle.demands.specs.Lawful.{supportOf, LawfulStep, stepCost, LawfulSteps, costFrom}
 
 -- ---- what a cell's class says
 
@@ -92,10 +92,10 @@ module _ (T : Task) where
         price-exactly u v m (l .moved) free,
       )
 
-  pub step-lawful : (u v c : ℕ) → Step (graph T) u v c → LawfulStep T u v × (c ≡ stepCost T u v)
+  pub step-lawful : (u v c : ℕ) → GraphStep (graph T) u v c → LawfulStep T u v × (c ≡ stepCost T u v)
   step-lawful u v c s = let a = step-by T u v c s in rw (← a .cost-is) (move-lawful u (a .by) v (a .listed) (a .leads-in) (a .entered))
 
-  pub way-lawful : (l : List ℕ) (u t d : ℕ) → Way (graph T) u l t d → Leads T u l t × (d ≡ costFrom T u l)
+  pub way-lawful : (l : List ℕ) (u t d : ℕ) → Way (graph T) u l t d → LawfulSteps T u l t × (d ≡ costFrom T u l)
   way-lawful [] u t d w = w
   way-lawful (v ∷ l) u t d w =
       let s = step-lawful u v (w .0) (w .2) in
@@ -103,8 +103,8 @@ module _ (T : Task) where
       ((s .0, r .0), omega (arith, w .4, s .1, r .1))
 
   module _ (good : Good (T .room)) where
-    pub lawful-step : (u v : ℕ) → LawfulStep T u v → Step (graph T) u v (stepCost T u v)
-    unfolding Step graphOf
+    pub lawful-step : (u v : ℕ) → LawfulStep T u v → GraphStep (graph T) u v (stepCost T u v)
+    unfolding GraphStep graphOf
     lawful-step u v L =
         let p = posOf (T .room) u in
         let q = posOf (T .room) v in
@@ -118,6 +118,6 @@ module _ (T : Task) where
           price-exactly u v m moved (L .enters),
         )
 
-    pub lawful-way : (l : List ℕ) (u t : ℕ) → Leads T u l t → Way (graph T) u l t (costFrom T u l)
+    pub lawful-way : (l : List ℕ) (u t : ℕ) → LawfulSteps T u l t → Way (graph T) u l t (costFrom T u l)
     lawful-way [] u t w = (w, refl)
     lawful-way (v ∷ l) u t w = (stepCost T u v, costFrom T v l, lawful-step u v (w .0), lawful-way l v t (w .1), refl)

@@ -29,9 +29,9 @@ stepCost T u v =
     + either (eqb (supportOf T v) air) (T .config .support .0) 0
 
 -- the cells after u lead from u to t by lawful steps
-abbrev pub Leads : Task → ℕ → List ℕ → ℕ → Type 0
-Leads T u [] t = u ≡ t
-Leads T u (v ∷ l) t = LawfulStep T u v × Leads T v l t
+abbrev pub LawfulSteps : Task → ℕ → List ℕ → ℕ → Type 0
+LawfulSteps T u [] t = u ≡ t
+LawfulSteps T u (v ∷ l) t = LawfulStep T u v × LawfulSteps T v l t
 
 -- what these steps cost in all
 abbrev pub costFrom : Task → ℕ → List ℕ → ℕ
@@ -43,7 +43,7 @@ pub record LawfulWay (T : Task) (after : List ℕ) : Type 0 where
   pub start-in : T .start < volume (T .room)
   pub start-free : routeable T (T .start) ≡ true
   pub goal-free : routeable T (T .goal) ≡ true
-  pub leads : Leads T (T .start) after (T .goal)
+  pub leads : LawfulSteps T (T .start) after (T .goal)
 
 -- what a way costs
 abbrev pub wayCost : Task → List ℕ → ℕ

@@ -7,7 +7,7 @@ use Rattle.room.specs.declared.Room.{Room}
 use Rattle.room.specs.declared.RouterConfig.{RouterConfig}
 use Rattle.room.specs.Room.{volume, at, posOf, cellOf, moves, between, sidesGood, stays, neighbour, beneath, above, distance, firstBelow}
 use Rattle.room.specs.Units.{air, solid, redstoneWire, lever, facingMove, ahead, usualConfig, configGood}
-use Rattle.best_first.specs.Search.{sooner, least, push, offer, expand, trace, turn, run, outset, bestFirst}
+use Rattle.best_first.specs.Search.{sooner, least, push, offer, expand, trace, takeOne, run, outset, bestFirst}
 use Rattle.room_search.specs.Routing.{routeableKind, routeable, bearing, classFor, priceOf, movesBy, graphOf, searched}
 use Rattle.routing.specs.Answers.{Input, buffersGood, endsInside, judged, fitAnswer, answerOf, numberOf, detailOf, routeCost, routeExpanded, cellsFor}
 use Rattle.routing_resources.specs.Marks.{withByte}
@@ -30,20 +30,20 @@ use Rattle.repeaters.specs.Repeaters as repeaters
 use Rattle.multinet.specs.Tree.{planted, withBranch, afterSink, growSink, growFrom, growthOf, isEnd, repeatersOf}
 use Rattle.net_tree.specs.declared.Lengths.{Lengths}
 use Rattle.net_tree.specs.Answers as trees
-use Rattle.net_tree.specs.Answers.{Outcome, jobOutcome}
+use Rattle.net_tree.specs.Answers.{TreeOutcome, jobOutcome}
 use Rattle.basics.specs.Walks.{along}
 
 -- ---- what is answered
 
 -- by a search: the number and its detail, or, with number 0, the path, its cost and the expanded count
-pub record Told : Type 0 where
+pub record SearchSaid : Type 0 where
   pub number : ℕ
   pub detail : ℕ
   pub path : List ℕ
   pub cost : ℕ
   pub expanded : ℕ
 
-abbrev told : Input → Told
+abbrev told : Input → SearchSaid
 told I = record {
   number = numberOf (answerOf I);
   detail = detailOf (answerOf I);
@@ -54,7 +54,7 @@ told I = record {
 
 -- of a job: its branches in sheet order and its repeaters' marks; or a number with its detail
 pub data Said : Type 0 where
-  of-search : Told → Said
+  of-search : SearchSaid → Said
   of-tree : (branches : List (List ℕ)) (repeaters : List ℕ) → Said
   of-refusal : (number detail : ℕ) → Said
 
@@ -138,14 +138,14 @@ abbrev endsFor : Contents → Ends
 endsFor J = endings.endsOf (J .room) (J .source) (J .sinks)
 
 -- what comes of a job whose blocks are each in a cell of its own
-abbrev outcomeOf : Contents → Outcome
+abbrev outcomeOf : Contents → TreeOutcome
 outcomeOf J =
     let kinds = kindsOf (J .room) (J .blocks) in
     let nodes = nodesOf (J .room) (J .blocks) in
     jobOutcome J (lengths (volume (J .room))) (record { placement = Placement.Placed; ends = endsFor J }) kinds
     (outset-of.blockedAtOutset kinds nodes J (endsFor J .source) (endsFor J .taps))
 
-abbrev saidOf : Outcome → Said
+abbrev saidOf : TreeOutcome → Said
 saidOf (trees.routed branches occupied repeaters) = of-tree branches repeaters
 saidOf (trees.refused number detail) = of-refusal number detail
 
@@ -211,5 +211,5 @@ rows =
     ∷ []
 
 pub samples : map (λ s. said (s .ask)) rows ≡ map (λ s. s .answer) rows
-unfolding answerOf judged sidesGood configGood buffersGood endsInside fitAnswer routeable searched graphOf movesBy priceOf classFor bearing routeableKind posOf cellOf moves between stays neighbour beneath distance sooner least push offer expand trace turn run outset bestFirst growthOf growFrom growSink afterSink withBranch planted isEnd repeatersOf far goesBefore turnOf sinkAt routeToTree bestBelow triedGoal cheaperRoute attempts afterSearch atConflict searchedFor countsAsSolid seenKinds standsIn conductor upperOfPair firstBelow firstPair atClearance stairConflict conflictAmong withByte clearanceOf isClearance branchOf allButLast above repeaters.isStep repeaters.besideOn repeaters.neighbouring repeaters.cellsFrom repeaters.treeNeighbours repeaters.meet repeaters.spread repeaters.parentsFrom repeaters.facingBy repeaters.straight repeaters.fits repeaters.latest repeaters.earliest repeaters.withRepeater repeaters.resume repeaters.candidate repeaters.step repeaters.steps repeaters.run repeaters.reinforced along repeaters.planned repeaters.repeaterMarks jobOutcome ofBlock tabulated endings.sourceEnd endings.sinkEnd endings.firstDue endings.tapOf endings.faultOf endings.endsOf terminalOf approachOf realizedOf outset-of.powers outset-of.solidOf outset-of.sourceKeepout outset-of.blockedBy outset-of.atOrBeneath outset-of.ownCell outset-of.blockedAtOutset facingMove ahead isNeighbour inKeepout directions
+unfolding answerOf judged sidesGood configGood buffersGood endsInside fitAnswer routeable searched graphOf movesBy priceOf classFor bearing routeableKind posOf cellOf moves between stays neighbour beneath distance sooner least push offer expand trace takeOne run outset bestFirst growthOf growFrom growSink afterSink withBranch planted isEnd repeatersOf far goesBefore turnOf sinkAt routeToTree bestBelow triedGoal cheaperRoute attempts afterSearch atConflict searchedFor countsAsSolid seenKinds standsIn conductor upperOfPair firstBelow firstPair atClearance stairConflict conflictAmong withByte clearanceOf isClearance branchOf allButLast above repeaters.isStep repeaters.besideOn repeaters.neighbouring repeaters.cellsPassing repeaters.treeNeighbours repeaters.meet repeaters.spread repeaters.parentsFrom repeaters.facingBy repeaters.straight repeaters.fits repeaters.latest repeaters.earliest repeaters.withRepeater repeaters.resume repeaters.candidate repeaters.step repeaters.steps repeaters.run repeaters.reinforced along repeaters.planned repeaters.repeaterMarks jobOutcome ofBlock tabulated endings.sourceEnd endings.sinkEnd endings.firstDue endings.tapOf endings.faultOf endings.endsOf terminalOf approachOf realizedOf outset-of.powers outset-of.solidOf outset-of.sourceKeepout outset-of.blockedBy outset-of.atOrBeneath outset-of.ownCell outset-of.blockedAtOutset facingMove ahead isNeighbour inKeepout directions
 samples = refl

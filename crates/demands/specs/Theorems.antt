@@ -9,8 +9,8 @@ use native.Mathlib.Omega.{arith}
 use lib.Dec.{eqb}
 use Rattle.room.specs.Room.{volume}
 use Rattle.basics.specs.Counts.{times}
-use Rattle.best_first.specs.Search.{State, Taken, on, counted, Answer, route, no-route, limit-passed, queue-full}
-use Rattle.best_first.specs.Ways.{Step, Way, Sound, Consistent}
+use Rattle.best_first.specs.Search.{State, Taken, on, oneMoreExpanded, Answer, route, no-route, limit-passed, queue-full}
+use Rattle.best_first.specs.Ways.{GraphStep, Way, Sound, Consistent}
 use Rattle.best_first.specs.Statements.{Honest, Right, Decided, expandedOf, stored, Taking, outcome, Reached, pushes, Slacks}
 use Rattle.best_first.specs.Theorems as any-graph
 use Rattle.routing.specs.declared.Judgement.the-variants.{Fit}
@@ -18,7 +18,7 @@ use Rattle.room_search.specs.Routing.{Task, routeable, entering, graphOf, graph
 use Rattle.room_search.specs.GraphLaws.{dearest, sound, consistent}
 use Rattle.demands.specs.Lawful.{LawfulStep, stepCost, LawfulWay, wayCost}
 use Rattle.routing.specs.Answers.{Input, taskOf, judged, answered, fitAnswer, answerOf, routeCost, cellsFor}
-use Rattle.routing.specs.PromiseLaws.{roomy}
+use Rattle.routing.specs.PromiseLaws.{admitted}
 use Rattle.demands.specs.Statements.{Ready, Priced, Ample, Lawful, Cheapest, NoLawfulWay, Meaning}
 use Rattle.demands.specs.Numbers.{number-route, number-no-route, number-settled, same-expanded}
 use Rattle.demands.specs.Bridge.{step-lawful, lawful-step, way-lawful, lawful-way}
@@ -28,7 +28,7 @@ module _ {T : Task} (P : Ready T) where
   -- ---- the graph that is searched is the room's
 
   -- a move of the graph is a lawful step, and its cost is that of the step
-  pub steps-exactly : (u v c : ℕ) → Step (graph T) u v c ↔ (LawfulStep T u v × (c ≡ stepCost T u v))
+  pub steps-exactly : (u v c : ℕ) → GraphStep (graph T) u v c ↔ (LawfulStep T u v × (c ≡ stepCost T u v))
   steps-exactly u v c = (step-lawful T u v c, λ s. rw (s .1) (lawful-step T (P .good) u v (s .0)))
 
   -- so is a way
@@ -74,7 +74,7 @@ module _ {T : Task} (P : Ready T) where
 
   -- an old entry, one of another cost than its cell has now, pushes nothing when it is taken
   pub old-entry : {pushed : List ℕ} {s : State} {t : Taken} → Reached (graph T) pushed s → Taking (s .waiting) t
-      → suc (t .next .key) ≢ stored s (t .next .cell) + graph T .estimate (t .next .cell) → outcome (graph T) s (t .next) (t .left) ≡ on (counted s (t .left))
+      → suc (t .next .key) ≢ stored s (t .next .cell) + graph T .estimate (t .next .cell) → outcome (graph T) s (t .next) (t .left) ≡ on (oneMoreExpanded s (t .left))
   old-entry = any-graph.old-entry graph-sound
 
   -- ---- where a flat step costs at least 10 and a stair at least 20
@@ -135,7 +135,7 @@ module _ {T : Task} (P : Ready T) where
 module _ (I : Input) (fit : judged I ≡ Fit) (start-free : routeable (taskOf I) (I .start) ≡ true) (goal-free : routeable (taskOf I) (I .goal) ≡ true) where
   ready : Ready (taskOf I)
   ready =
-      let r = roomy {R = I .room} {C = I .config} {kinds = I .kinds} {start = I .start} {goal = I .goal} {L = I .lengths} fit in
+      let r = admitted {R = I .room} {C = I .config} {kinds = I .kinds} {start = I .start} {goal = I .goal} {L = I .lengths} fit in
       record { good = r .good; start-in = r .start-in; goal-in = r .goal-in; start-free = start-free; goal-free = goal-free }
 
   said : answerOf I ≡ answered (searched (taskOf I))

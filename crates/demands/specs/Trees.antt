@@ -34,7 +34,7 @@ use Rattle.multinet.specs.GrowingLaws.{sink-now, other-turn}
 use Rattle.net_tree.specs.declared.Lengths.{Lengths}
 use Rattle.net_tree.specs.declared.Answer as trees
 use Rattle.net_tree.specs.declared.Ended.the-variants.{Routed, Refused}
-use Rattle.net_tree.specs.Answers.{Lent, lengthsOf, plotFor, Outcome, routed, refused, Comes, answerOf, lentAfter, Promise}
+use Rattle.net_tree.specs.Answers.{Lent, lengthsOf, plotFor, TreeOutcome, routed, refused, Comes, answerOf, lentAfter, Promise}
 use Rattle.net_tree.specs.Trees.{TreeOf}
 use Rattle.net_tree.specs.TreeLaws.{tree-of}
 use Rattle.demands.specs.Statements.{Ready, Priced, Ample, NoLawfulWay}
@@ -247,7 +247,7 @@ module _ {sheet : List ℕ} {L : Lengths} {branches : List (List ℕ)} (T : Tree
 pub answer-means : {sheet : List ℕ} {B : Lent} {r : trees.Answer} {B′ : Lent} → Promise sheet B r B′ → {cells marks : ℕ} → r .ended ≡ Routed cells marks → AnswerMeans sheet B r B′
 answer-means {sheet} {B} {r} {B′} K {cells} {marks} e = go (K .outcome) (K .comes) (K .answer) (K .lent-is)
   where
-    go : (o : Outcome) → Comes sheet (lengthsOf B) o → r ≡ answerOf o → B′ ≡ lentAfter o B → AnswerMeans sheet B r B′
+    go : (o : TreeOutcome) → Comes sheet (lengthsOf B) o → r ≡ answerOf o → B′ ≡ lentAfter o B → AnswerMeans sheet B r B′
     go (routed branches occupied repeaters) c a l = record {
       branches = branches;
       occupied = occupied;

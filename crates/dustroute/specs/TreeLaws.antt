@@ -11,14 +11,14 @@ use Rattle.basics.specs.Tests.{either, ask}
 use Rattle.basics.specs.Zeros.{drop-zeros}
 use Rattle.basics.specs.Promises.{Determines}
 use Rattle.lent.specs.Lent.{touches}
-use Rattle.job_sheet.specs.declared.Verdict.{Verdict}
+use Rattle.job_sheet.specs.declared.Judgement.{Judgement}
 use Rattle.job_sheet.specs.Sheet.{isGood, numberOf}
 use Rattle.job_sheet.specs.Theorems.{coincide as one-reading}
 use Rattle.net_tree.specs.declared.Answer.{Answer}
 use Rattle.net_tree.specs.declared.Lengths.{Lengths}
-use Rattle.net_tree.specs.Answers.{Lent, Outcome, refused, answerOf, lentAfter, Promise}
+use Rattle.net_tree.specs.Answers.{Lent, TreeOutcome, refused, answerOf, lentAfter, Promise}
 use Rattle.net_tree.specs.PromiseLaws.{comes-one}
-use Rattle.net_tree.specs.LentLaws.{small}
+use Rattle.net_tree.specs.LentLaws.{unread-touches-none}
 use Rattle.dustroute.specs.TreeExport.{valueCount, numberTold, valuesAfter, ShortNumber, TreeComes, short, told, TreeExported}
 
 -- ---- four values over a cleared buffer, and the lengths written to the part behind them
@@ -35,14 +35,14 @@ lengths-behind a b c d n each e f =
 
 -- ---- the promise by its cases
 
-short-small : (v : Verdict) (number : ℕ) → number ≡ either (isGood v) 6 (numberOf v) → touches number ≡ false
-short-small v number e = ask (isGood v) (λ t. rw (e, t)) (λ f. rw (e, f) (small v f))
+short-small : (v : Judgement) (number : ℕ) → number ≡ either (isGood v) 6 (numberOf v) → touches number ≡ false
+short-small v number e = ask (isGood v) (λ t. rw (e, t)) (λ f. rw (e, f) (unread-touches-none v f))
 
 module _ {sheet : List ℕ} {B : Lent} {values : List ℕ} where
   -- too few values: nothing is touched
   pub tree-short : {r : ℕ} → length values < valueCount → ShortNumber sheet r → TreeExported sheet B values r B values
   tree-short {r = r} h n =
-      let e = short-small (n .reading .verdict) r (n .number-is) in
+      let e = short-small (n .reading .judgement) r (n .number-is) in
       record {
         outcome = refused r 0;
         comes = short h r n refl;
@@ -67,7 +67,7 @@ module _ {sheet : List ℕ} {B : Lent} {values : List ℕ} where
 short-one : {sheet : List ℕ} {m n : ℕ} → ShortNumber sheet m → ShortNumber sheet n → m ≡ n
 short-one {sheet = sheet} p q = p .number-is ∙ rw (one-reading sheet (p .reading) (q .reading) (p .read) (q .read)) (sym (q .number-is))
 
-tree-comes-one : {sheet : List ℕ} {L : Lengths} {values : ℕ} {o q : Outcome} → TreeComes sheet L values o → TreeComes sheet L values q → o ≡ q
+tree-comes-one : {sheet : List ℕ} {L : Lengths} {values : ℕ} {o q : TreeOutcome} → TreeComes sheet L values o → TreeComes sheet L values q → o ≡ q
 tree-comes-one (short h m s e) (short k n t d) = e ∙ ap (λ x. refused x 0) (short-one s t) ∙ sym d
 tree-comes-one (short h m s e) (told k c) = absurd (omega arith)
 tree-comes-one (told h c) (short k n t d) = absurd (omega arith)

@@ -20,9 +20,9 @@ fn short_number(sheet: &[u8]) -> u32
     ensures { λ r. ⌜ ShortNumber (now (sheet .entry)) r ⌝ }
 {
     let reading = sheet_reader::read_sheet(sheet);
-    let verdict = reading.verdict;
-    if !verdict.is_good() {
-        return verdict.number();
+    let judgement = reading.judgement;
+    if !judgement.is_good() {
+        return judgement.number();
     }
     6
 }

@@ -40,11 +40,11 @@ module _ {R : Room} {k : Sinks} (S : SinksWithin R k) where
 -- ---- the first end for which a number is due
 
 -- the number is due for none of the first i sinks
-pub record Passed (R : Room) (number : ℕ) (k : Sinks) (i : ℕ) : Type 0 where
+pub record NoneDue (R : Room) (number : ℕ) (k : Sinks) (i : ℕ) : Type 0 where
   pub same : firstDue number (i + 1) (map (sinkEnd R) (drop i (sinksIn k))) ≡ firstDue number 1 (map (sinkEnd R) (sinksIn k))
   pub so-far : i ≤ k .count
 
-pub none-passed : (R : Room) (number : ℕ) (k : Sinks) → Passed R number k 0
+pub none-passed : (R : Room) (number : ℕ) (k : Sinks) → NoneDue R number k 0
 none-passed R number k = record { same = refl; so-far = omega arith }
 
 module _ (R : Room) (number : ℕ) (source : Endpoint) {k : Sinks} (S : SinksWithin R k) where
@@ -53,7 +53,7 @@ module _ (R : Room) (number : ℕ) (source : Endpoint) {k : Sinks} (S : SinksWit
   due-source e = rw (eq-eqb _ _ e)
 
   -- it is not due for the source
-  module _ (n : dueFor (sourceEnd R source) ≢ number) {i : ℕ} (P : Passed R number k i) where
+  module _ (n : dueFor (sourceEnd R source) ≢ number) {i : ℕ} (P : NoneDue R number k i) where
     pub due-sink : i < k .count → dueFor (sinkEnd R (getD (k .ends) i noEndpoint)) ≡ number → i + 2 ≡ firstDue number 0 (endsAt R source (sinksIn k))
     unfolding firstDue
     due-sink h e = let p = P .same in rw (ne-eqb _ _ n, ← p, from-sink S i h, eq-eqb _ _ e) (omega arith)
@@ -65,8 +65,8 @@ module _ (R : Room) (number : ℕ) (source : Endpoint) {k : Sinks} (S : SinksWit
         let none : drop i (sinksIn k) ≡ [] = let e : i ≡ k .count = omega (arith, P .so-far) in rw e (slice-empty (k .count) (k .ends)) in
         rw (ne-eqb _ _ n, ← p, none)
 
-pub sink-passed : {R : Room} {number : ℕ} {k : Sinks} → SinksWithin R k → {i : ℕ} → Passed R number k i → i < k .count
-    → (dueFor (sinkEnd R (getD (k .ends) i noEndpoint)) ≢ number) → Passed R number k (i + 1)
+pub sink-passed : {R : Room} {number : ℕ} {k : Sinks} → SinksWithin R k → {i : ℕ} → NoneDue R number k i → i < k .count
+    → (dueFor (sinkEnd R (getD (k .ends) i noEndpoint)) ≢ number) → NoneDue R number k (i + 1)
 unfolding firstDue
 sink-passed {R = R} {number = number} {k = k} S {i = i} P h n = record { same = step ∙ P .same; so-far = omega arith }
   where

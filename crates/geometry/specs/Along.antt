@@ -30,13 +30,13 @@ laid bytes v = not (eqb (getD bytes v 0) 0)
 unfoldable pub pairWith : Room → (ℕ → Bool) → ℕ → Neighbour
 pairWith R conducts cell = either (holdsAt conducts (beneath R cell)) (Inside cell) (ifPassed conducts (above R cell))
 
-abbrev pub lesser : Neighbour → ℕ → ℕ
-lesser (Inside v) n = either (ltb v n) v n
-lesser Outside n = n
+abbrev pub lesserPlace : Neighbour → ℕ → ℕ
+lesserPlace (Inside v) n = either (ltb v n) v n
+lesserPlace Outside n = n
 
 -- the least upper cell of a pair with a cell of the path, or n where none is less
 abbrev pub leastUpper : Room → (ℕ → Bool) → List ℕ → ℕ → ℕ
-leastUpper R conducts = along (λ cell. lesser (pairWith R conducts cell))
+leastUpper R conducts = along (λ cell. lesserPlace (pairWith R conducts cell))
 
 -- the path's cells are conductors, and each pair of conductors has one of them
 pub record OnPath (R : Room) (conducts : ℕ → Bool) (path : List ℕ) : Type 0 where

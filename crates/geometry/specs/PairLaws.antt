@@ -15,7 +15,7 @@ use Rattle.room.specs.declared.Neighbour.{Neighbour}
 use Rattle.room.specs.declared.Neighbour.the-variants.{Inside, Outside}
 use Rattle.room.specs.Room.{Good, volume, inOrOut, holdsAt, beneath, above}
 use Rattle.geometry.specs.Geometry.{upperOfPair, firstPair, ifPassed}
-use Rattle.geometry.specs.Along.{pairWith, lesser, leastUpper, OnPath}
+use Rattle.geometry.specs.Along.{pairWith, lesserPlace, leastUpper, OnPath}
 use Rattle.room.specs.AboveLaws.{above-beneath, beneath-above, beneath-lt}
 use Rattle.room.specs.RoomLaws.{inside-passed}
 use Rattle.room.specs.PlaceLaws.{out-failed, first-none, first-is}
@@ -87,26 +87,26 @@ module _ (R : Room) (G : Good R) (conducts : ℕ → Bool) where
     least : (cell w : ℕ) → In cell path → pairWith R conducts cell ≡ Inside w → n ≤ w
     upper : n < start → upperOfPair R conducts n ≡ true
 
-  lesser-most : (place : Neighbour) (n : ℕ) → lesser place n ≤ n
+  lesser-most : (place : Neighbour) (n : ℕ) → lesserPlace place n ≤ n
   lesser-most (Inside v) n = ask (ltb v n) (λ t. rw t (omega (arith, ltb-true v n t))) (λ f. rw f (omega arith))
   lesser-most Outside n = omega arith
 
-  lesser-least : (place : Neighbour) (n w : ℕ) → place ≡ Inside w → lesser place n ≤ w
+  lesser-least : (place : Neighbour) (n w : ℕ) → place ≡ Inside w → lesserPlace place n ≤ w
   lesser-least (Inside v) n w e =
       let s : v ≡ w = cc in
       ask (ltb v n) (λ t. rw t (omega arith)) (λ f. rw f (omega (arith, ltb-false v n f)))
   lesser-least Outside n w e = never (cc)
 
-  lesser-upper : (place : Neighbour) (n : ℕ) → ((w : ℕ) → place ≡ Inside w → upperOfPair R conducts w ≡ true) → lesser place n < n → upperOfPair R conducts (lesser place n) ≡ true
+  lesser-upper : (place : Neighbour) (n : ℕ) → ((w : ℕ) → place ≡ Inside w → upperOfPair R conducts w ≡ true) → lesserPlace place n < n → upperOfPair R conducts (lesserPlace place n) ≡ true
   lesser-upper (Inside v) n f h = ask (ltb v n) (λ t. rw t (f v refl)) (λ g. absurd (omega (arith, rw g at h)))
   lesser-upper Outside n f h = absurd (omega arith)
 
   -- one cell more, at the path's front
-  least-more : (x : ℕ) (xs : List ℕ) (start n : ℕ) → x < volume R → conducts x ≡ true → Least xs (lesser (pairWith R conducts x) start) n → Least (x ∷ xs) start n
+  least-more : (x : ℕ) (xs : List ℕ) (start n : ℕ) → x < volume R → conducts x ≡ true → Least xs (lesserPlace (pairWith R conducts x) start) n → Least (x ∷ xs) start n
   least-more x xs start n x-in c rest = record { most = omega (arith, rest .most, lesser-most (pairWith R conducts x) start); least = one; upper = two }
     where
       next : ℕ
-      next = lesser (pairWith R conducts x) start
+      next = lesserPlace (pairWith R conducts x) start
 
       one : (cell w : ℕ) → In cell (x ∷ xs) → pairWith R conducts cell ≡ Inside w → n ≤ w
       one cell w (inl e) q = omega (arith, rest .most, lesser-least (pairWith R conducts x) start w (rw e at q))
@@ -123,8 +123,8 @@ module _ (R : Room) (G : Good R) (conducts : ℕ → Bool) where
   unfolding along
   least-along [] start cells c = record { most = omega arith; least = λ cell w i e. absurd i; upper = λ h. absurd (omega arith) }
   least-along (x ∷ xs) start cells c =
-      least-more x xs start (leastUpper R conducts xs (lesser (pairWith R conducts x) start)) (cells x (inl refl)) (c x (inl refl))
-      (least-along xs (lesser (pairWith R conducts x) start) (λ v i. cells v (inr i)) (λ v i. c v (inr i)))
+      least-more x xs start (leastUpper R conducts xs (lesserPlace (pairWith R conducts x) start)) (cells x (inl refl)) (c x (inl refl))
+      (least-along xs (lesserPlace (pairWith R conducts x) start) (λ v i. cells v (inr i)) (λ v i. c v (inr i)))
 
   first-along : (path : List ℕ) → ((v : ℕ) → In v path → v < volume R) → OnPath R conducts path
       → inOrOut (ltb (leastUpper R conducts path (volume R)) (volume R)) (leastUpper R conducts path (volume R)) ≡ firstPair R conducts

@@ -2,7 +2,7 @@
 // and a cell of the path that is not joinable has 2 while the test runs, so that one look-up tells a conductor.
 use room::Neighbour;
 use room::Room;
-use room::wide;
+use room::as_index;
 ghost use mathlib.Core.Path.{_≡_};
 ghost use Prim.Native.Nat.{ℕ, _<_};
 ghost use lib.ListN.{length};
@@ -10,7 +10,7 @@ ghost use Rattle.room.specs.Room.{Good, volume};
 ghost use Rattle.routing_resources.specs.Marks.{isMarked, Marks, CellsBelow, AllCells};
 ghost use Rattle.routing_resources.specs.Resources.{clearanceOf};
 ghost use Rattle.geometry.specs.Geometry.{standsIn, NoPair, firstPair, ifPassed, atClearance, stairConflict, conflictAmong, conflictOf};
-ghost use Rattle.geometry.specs.Along.{replaced, laid, pairWith, lesser, OnPath, nowhere};
+ghost use Rattle.geometry.specs.Along.{replaced, laid, pairWith, lesserPlace, OnPath, nowhere};
 
 // The byte of a cell of the path that is not joinable.
 const ON_PATH: u8 = 2;
@@ -22,7 +22,7 @@ fn replace(bytes: &mut [u8], path: &[u32], old: u8, new: u8)
 {
     let mut i: usize = 0;
     while i < path.len() {
-        let cell = wide(path[i]);
+        let cell = as_index(path[i]);
         if bytes[cell] == old {
             bytes[cell] = new;
         }
@@ -60,7 +60,7 @@ fn pair_with(room: Room, bytes: &[u8], cell: usize) -> Neighbour
 
 // The lesser of a number and the cell at a place.
 fn lesser_of(place: Neighbour, n: usize) -> usize
-    ensures { λ r. ⌜ r ≡ lesser place n ⌝ }
+    ensures { λ r. ⌜ r ≡ lesserPlace place n ⌝ }
 {
     let Neighbour::Inside(cell) = place else {
         return n;
@@ -80,7 +80,7 @@ fn first_pair(room: Room, bytes: &[u8], path: &[u32]) -> Neighbour
     let mut least = none;
     let mut i: usize = 0;
     while i < path.len() {
-        let found = pair_with(room, bytes, wide(path[i]));
+        let found = pair_with(room, bytes, as_index(path[i]));
         least = lesser_of(found, least);
         i += 1;
     }
@@ -117,7 +117,7 @@ fn stair_conflict(room: Room, kinds: &[u8], bytes: &[u8], path: &[u32]) -> Neigh
 {
     let mut i: usize = 0;
     while i + 1 < path.len() {
-        let found = stair_at(room, kinds, bytes, wide(path[i]), wide(path[i + 1]));
+        let found = stair_at(room, kinds, bytes, as_index(path[i]), as_index(path[i + 1]));
         if let Neighbour::Inside(_) = found {
             return found;
         }

@@ -31,7 +31,7 @@ use Rattle.goals.specs.declared.Attempt.the-variants.{Ended, Conflict}
 use Rattle.goals.specs.Goals.{Site, Trial, found, searchedFor, atConflict, afterSearch, attemptThen, attempts, endsGoal, taskSeen}
 use Rattle.goals.specs.Trials.{Tells, siteOf, Attemptable, Repeats, Attempted}
 use Rattle.goals.specs.PathLaws.{found-by, found-cells, conflict-in}
-use Rattle.room_search.specs.Turns.{Searchable}
+use Rattle.room_search.specs.Takings.{Searchable}
 use Rattle.goals.specs.SearchLaws.{tells-failed}
 
 -- an answer that is no route

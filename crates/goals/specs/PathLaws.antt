@@ -14,7 +14,7 @@ use Rattle.room.specs.Room.{Good, volume, orElse, above}
 use Rattle.room.specs.RoomLaws.{above-in, same-cell, inside-passed}
 use Rattle.room.specs.Units.{air}
 use Rattle.best_first.specs.Search.{Graph, Answer, route, no-route, limit-passed, queue-full}
-use Rattle.best_first.specs.Ways.{Step, Way, Sound}
+use Rattle.best_first.specs.Ways.{GraphStep, Way, Sound}
 use Rattle.best_first.specs.Statements.{Lawful}
 use Rattle.best_first.specs.Reached.{Ending, empty, arrives, passes, fills, ending}
 use Rattle.best_first.specs.Theorems.{honest}
@@ -55,7 +55,7 @@ found-by T path cost e = go (routeable T (T .start)) refl (routeable T (T .goal)
 
 module _ (G : Graph) {degree dearest : ℕ} (S : Sound G degree dearest) where
   way-cells : (l : List ℕ) (u t d : ℕ) → u < G .size → Way G u l t d → (i : ℕ) → i < length (u ∷ l) → getD (u ∷ l) i 0 < G .size
-  unfolding Step
+  unfolding GraphStep
   way-cells [] u t d h w zero k = h
   way-cells [] u t d h w (suc i) k = absurd (omega arith)
   way-cells (v ∷ l) u t d h w zero k = h

@@ -174,12 +174,12 @@ module _ {S : Site} {blocked : List ℕ} {start : ℕ} {path : List ℕ} {cost :
 -- ---- its cells one by one
 
 -- the i-th step
-way-step : (G : Graph) (l : List ℕ) (u t d : ℕ) → Way G u l t d → (i : ℕ) → i < length l → (c : ℕ) × Ways.Step G (getD (u ∷ l) i 0) (getD l i 0) c
+way-step : (G : Graph) (l : List ℕ) (u t d : ℕ) → Way G u l t d → (i : ℕ) → i < length l → (c : ℕ) × Ways.GraphStep G (getD (u ∷ l) i 0) (getD l i 0) c
 way-step G [] u t d w i h = absurd (omega arith)
 way-step G (v ∷ l) u t d w zero h = (w .0, w .2)
 way-step G (v ∷ l) u t d w (suc i) h = way-step G l v t (w .1) (w .3) i (omega arith)
 
-step-made : (T : Task) (u v c : ℕ) → u < volume (T .room) → Ways.Step (graph T) u v c → Step (T .room) u v
+step-made : (T : Task) (u v c : ℕ) → u < volume (T .room) → Ways.GraphStep (graph T) u v c → Step (T .room) u v
 step-made T u v c h s = let m = step-by T u v c s in record { from-in = h; move = m .by; listed = m .listed; leads = m .leads-in }
 
 module _ {S : Site} {blocked : List ℕ} {start : ℕ} {path : List ℕ} {cost : ℕ} (start-in : start < volume (S .room)) (J : Joins S blocked start path cost) where

@@ -19,7 +19,7 @@ use Rattle.room_search.specs.declared.Outcome.the-variants.{Arrived, NoRoute, L
 use Rattle.room_search.specs.Routing.{Task, routeableKind, routeable, graphOf, searched, anEnd}
 use Rattle.room_search.specs.EndLaws.{start-is-end, goal-is-end}
 use Rattle.room_search.specs.Steps.{placesOf}
-use Rattle.room_search.specs.Turns.{Ran, graphIn, spotOf}
+use Rattle.room_search.specs.Takings.{SearchRan, graphIn, spotOf}
 use Rattle.blocked_world.specs.BlockedWorld.{countsAsSolid, seenKind, seenTask}
 use Rattle.blocked_world.specs.SeenLaws.{seen-at, says-graph}
 use Rattle.goals.specs.declared.Tried.{Tried}
@@ -97,7 +97,7 @@ module _ {R : Room} {C : RouterConfig} {classes queue : List ℕ} {start goal : 
       tells = λ blocked says. rw (not-routeable R C kinds blocked start goal (placesOf queue) long start-in goal-in e) (tells-failed cells);
     }
 
-    pub told-searched : bothRouteable kinds start goal ≡ true → {o : Outcome} {known previous : List ℕ} → Ran R C classes queue (spotOf R start) (spotOf R goal) o known previous
+    pub told-searched : bothRouteable kinds start goal ≡ true → {o : Outcome} {known previous : List ℕ} → SearchRan R C classes queue (spotOf R start) (spotOf R goal) o known previous
         → length previous ≡ volume R → {r : Tried} {cells : List ℕ} → TriedOf o goal known previous r cells → SearchTold R C kinds classes queue start goal r cells
     unfolding searched graphOf
     told-searched e ran n shown = record {

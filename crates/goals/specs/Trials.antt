@@ -13,7 +13,7 @@ use Rattle.best_first.specs.Search.{Graph, Answer}
 use Rattle.room_search.specs.declared.Outcome.{Outcome}
 use Rattle.room_search.specs.Routing.{routeableKind}
 use Rattle.room_search.specs.Steps.{placesOf}
-use Rattle.room_search.specs.Turns.{Told}
+use Rattle.room_search.specs.Takings.{OutcomeTold}
 use Rattle.routing_resources.specs.Marks.{isMarked, markedBy, Marks}
 use Rattle.geometry.specs.Geometry.{NoPair}
 use Rattle.blocked_world.specs.BlockedWorld.{seenTask, Says}
@@ -47,7 +47,7 @@ bothRouteable kinds start goal = routeableKind true (getD kinds start air) && ro
 
 -- what is made of a search's outcome: the answer, and the path where there is one
 pub record TriedOf (o : Outcome) (goal : ℕ) (known previous : List ℕ) (r : Tried) (cells : List ℕ) : Type 0 where
-  pub shows : (G : Graph) (answer : Answer) → G .size ≡ length previous → G .goal ≡ goal → Told G answer known previous o → Tells (trialOf answer) r cells
+  pub shows : (G : Graph) (answer : Answer) → G .size ≡ length previous → G .goal ≡ goal → OutcomeTold G answer known previous o → Tells (trialOf answer) r cells
 
 -- whatever is blocked: where the class bytes say what is seen, it is the search over that
 pub record SearchTold (R : Room) (C : RouterConfig) (kinds classes queue : List ℕ) (start goal : ℕ) (r : Tried) (cells : List ℕ) : Type 0 where
@@ -91,13 +91,13 @@ pub record Repeats (S : Site) (blocked : List ℕ) (start goal v : ℕ) : Type 0
   pub free : isMarked blocked v ≡ false
   pub is : (again : List ℕ → Trial) → attemptThen S blocked start goal again ≡ again (markedBy (eqb v) blocked)
 
-abbrev pub Comes : Site → List ℕ → ℕ → ℕ → List ℕ → Attempt → Type 0
-Comes S blocked start goal cells (Ended r) = (again : List ℕ → Trial) → Tells (attemptThen S blocked start goal again) r cells
-Comes S blocked start goal cells (Conflict v) = Repeats S blocked start goal v
+abbrev pub AttemptComes : Site → List ℕ → ℕ → ℕ → List ℕ → Attempt → Type 0
+AttemptComes S blocked start goal cells (Ended r) = (again : List ℕ → Trial) → Tells (attemptThen S blocked start goal again) r cells
+AttemptComes S blocked start goal cells (Conflict v) = Repeats S blocked start goal v
 
 -- what an attempt comes to, whatever the attempts after it would
 pub record Attempted (S : Site) (blocked : List ℕ) (start goal : ℕ) (cells : List ℕ) (r : Attempt) : Type 0 where
-  pub comes : Comes S blocked start goal cells r
+  pub comes : AttemptComes S blocked start goal cells r
 
 -- ---- the cheapest of all goals
 

@@ -6,7 +6,7 @@ ghost use lib.ListN.{length, getD};
 ghost use Rattle.room.specs.Room.{maxVolume, volume};
 ghost use Rattle.best_first.specs.Search.{trace};
 ghost use Rattle.trace.specs.Traces.{PreviousInside};
-ghost use Rattle.room_search.specs.Turns.{Searchable, Showable};
+ghost use Rattle.room_search.specs.Takings.{Searchable, Showable};
 ghost use Rattle.goals.specs.Goals.{found};
 ghost use Rattle.goals.specs.Trials.{Tells, bothRouteable, TriedOf, SearchTold};
 use crate::Tried;

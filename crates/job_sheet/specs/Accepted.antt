@@ -12,7 +12,7 @@ use Rattle.job_sheet.specs.declared.Block.{Block}
 use Rattle.job_sheet.specs.declared.Part.{Part}
 use Rattle.job_sheet.specs.declared.Sinks.{Sinks}
 use Rattle.job_sheet.specs.declared.Job.{Job}
-use Rattle.job_sheet.specs.declared.Verdict.the-variants.{Good}
+use Rattle.job_sheet.specs.declared.Judgement.the-variants.{Good}
 use Rattle.job_sheet.specs.Sheet.{Contents, Means, judged, maxSinks, blockSize, positionSize, behind, noEndpoint, jobOf}
 use Rattle.job_sheet.specs.Places.{noBlock, noPosition, blocksIn, positionsIn}
 

@@ -15,8 +15,8 @@ use Rattle.room.specs.Units.{configGood}
 use Rattle.job_sheet.specs.declared.Block.{Block}
 use Rattle.job_sheet.specs.declared.Endpoint.{Endpoint}
 use Rattle.job_sheet.specs.declared.Part.{Part}
-use Rattle.job_sheet.specs.declared.Verdict.{Verdict}
-use Rattle.job_sheet.specs.declared.Verdict.the-variants.{Good, Sides, Config, Position}
+use Rattle.job_sheet.specs.declared.Judgement.{Judgement}
+use Rattle.job_sheet.specs.declared.Judgement.the-variants.{Good, Sides, Config, Position}
 use Rattle.job_sheet.specs.Sheet.{Contents, isGood, firstFault, sidesFault, configFault, positionFault, blockFault, endpointFault, judged, bytesOf, maxSinks, positionSize, behind, noEndpoint, sinksOf, layoutOf, jobOf}
 use Rattle.job_sheet.specs.Accepted.{BlockList, PositionList, SinkList, Usable}
 use Rattle.job_sheet.specs.Places.{noBlock, noPosition, positionsIn}
@@ -25,13 +25,13 @@ use Rattle.job_sheet.specs.FaultLaws.{every-joined, good-is, fault-first
 
 -- ---- no fault at all
 
-first-good : (l : List Verdict) → firstFault l ≡ Good → every isGood l ≡ true
+first-good : (l : List Judgement) → firstFault l ≡ Good → every isGood l ≡ true
 first-good [] e = refl
 first-good (v ∷ l) e =
     ask (isGood v) (λ g. rw g (first-good l (sym (good-first v l g) ∙ e))) (λ f. let z : v ≡ Good = sym (fault-first v l f) ∙ e in never (cc (ap isGood z)))
 
 -- a test whose failure is a fault was passed
-faultless : (t : Bool) (v : Verdict) → isGood v ≡ false → isGood (either t Good v) ≡ true → t ≡ true
+faultless : (t : Bool) (v : Judgement) → isGood v ≡ false → isGood (either t Good v) ≡ true → t ≡ true
 faultless true v f e = refl
 faultless false v f e = sym f ∙ e
 
@@ -80,7 +80,7 @@ no-fault J e =
 
 -- ---- the lists of a sheet of J's bytes
 
-module _ {X : Type 0} (fault : X → Verdict) (xs : List X) (e : every isGood (map fault xs) ≡ true) where
+module _ {X : Type 0} (fault : X → Judgement) (xs : List X) (e : every isGood (map fault xs) ≡ true) where
   good-at : (i : ℕ) → i < length xs → (d : X) → isGood (fault (getD xs i d)) ≡ true
   good-at i h d = every-in (λ x. isGood (fault x)) xs (rw every-map at e) (getD xs i d) (in-at xs i d h)
 

@@ -16,12 +16,12 @@ use Rattle.job_sheet.specs.declared.Endpoint.{Endpoint}
 use Rattle.job_sheet.specs.declared.places.Layout.{Layout}
 use Rattle.job_sheet.specs.declared.Part.{Part}
 use Rattle.job_sheet.specs.declared.faults.Records.the-variants.{Blocks, Positions, Endpoints}
-use Rattle.job_sheet.specs.declared.Verdict.{Verdict}
-use Rattle.job_sheet.specs.declared.Verdict.the-variants.{Good, Sheet, Sides, Config, Position, Code}
+use Rattle.job_sheet.specs.declared.Judgement.{Judgement}
+use Rattle.job_sheet.specs.declared.Judgement.the-variants.{Good, Sheet, Sides, Config, Position, Code}
 use Rattle.job_sheet.specs.Sheet.{Contents, joined, isGood, firstFault, sidesFault, configFault, positionFault, blockFault, endpointFault, faultsOf, judged, blockSize, positionSize, endpointSize, sidesPlace, configPlace}
 use Rattle.job_sheet.specs.Places.{roomIn, configIn, many, blocksIn, positionsIn, endpointsIn, faultsIn, headFault, layoutIn, contentsIn}
 
-pub good-is : (v : Verdict) → isGood v ≡ true → v ≡ Good
+pub good-is : (v : Judgement) → isGood v ≡ true → v ≡ Good
 good-is Good e = refl
 good-is Sheet e = cc
 good-is Sides e = cc
@@ -33,28 +33,28 @@ first-none : firstFault [] ≡ Good
 unfolding firstFault
 first-none = refl
 
-pub fault-first : (v : Verdict) (vs : List Verdict) → isGood v ≡ false → firstFault (v ∷ vs) ≡ v
+pub fault-first : (v : Judgement) (vs : List Judgement) → isGood v ≡ false → firstFault (v ∷ vs) ≡ v
 unfolding firstFault
 fault-first v vs e = rw e
 
-pub good-first : (v : Verdict) (vs : List Verdict) → isGood v ≡ true → firstFault (v ∷ vs) ≡ firstFault vs
+pub good-first : (v : Judgement) (vs : List Judgement) → isGood v ≡ true → firstFault (v ∷ vs) ≡ firstFault vs
 unfolding firstFault
 good-first v vs e = rw e
 
-pub only-first : (v : Verdict) → firstFault (v ∷ []) ≡ v
+pub only-first : (v : Judgement) → firstFault (v ∷ []) ≡ v
 only-first v = ask (isGood v) (λ e. good-first v [] e ∙ first-none ∙ sym (good-is v e)) (λ e. fault-first v [] e)
 
-first-on : (l m : List Verdict) → firstFault (l ++ m) ≡ firstFault (firstFault l ∷ m)
+first-on : (l m : List Judgement) → firstFault (l ++ m) ≡ firstFault (firstFault l ∷ m)
 unfolding firstFault
 first-on [] m = refl
 first-on (v ∷ l) m = ask (isGood v) (λ e. rw (e, first-on l m)) (λ e. rw (e, e))
 
 -- the fault so far, carried from list to list
-carried : Verdict → List (List Verdict) → Verdict
+carried : Judgement → List (List Judgement) → Judgement
 carried v [] = v
 carried v (l ∷ ls) = carried (firstFault (v ∷ l)) ls
 
-carried-is : (v : Verdict) (ls : List (List Verdict)) → carried v ls ≡ firstFault (v ∷ joined ls)
+carried-is : (v : Judgement) (ls : List (List Judgement)) → carried v ls ≡ firstFault (v ∷ joined ls)
 unfolding carried
 carried-is v [] = sym (only-first v)
 carried-is v (l ∷ ls) = carried-is (firstFault (v ∷ l)) ls ∙ sym (first-on (v ∷ l) (joined ls))
@@ -79,7 +79,7 @@ module _ (R : Room) (s : List ℕ) (p : Part) where
   endpoints-faults = many-map (endpointFault R) _ endpointSize (p .count) (drop (p .from) s)
 
 -- the faults of the records, list by list in the sheet's order
-abbrev recordFaults : List ℕ → Room → Layout → List (List Verdict)
+abbrev recordFaults : List ℕ → Room → Layout → List (List Judgement)
 recordFaults s R L =
     faultsIn R Blocks s (L .blocks)
     ∷ faultsIn R Positions s (L .conductors)
@@ -96,7 +96,7 @@ unfolding judged contentsIn layoutIn
 judged-carried s =
     let R = roomIn (drop sidesPlace s) in
     let L = layoutIn s in
-    let head : List Verdict = sidesFault R ∷ configFault (configIn (drop configPlace s)) ∷ [] in
+    let head : List Judgement = sidesFault R ∷ configFault (configIn (drop configPlace s)) ∷ [] in
     carried-is (firstFault head) (recordFaults s R L)
     ∙ sym (first-on head (joined (recordFaults s R L)))
     ∙ λ i. firstFault (
@@ -114,7 +114,7 @@ judged-carried s =
     )
 
 module _ (s : List ℕ) (R : Room) (C : RouterConfig) (L : Layout) (r : R ≡ roomIn (drop sidesPlace s)) (c : C ≡ configIn (drop configPlace s)) (l : L ≡ layoutIn s) where
-  pub judged-steps : (v₀ v₁ v₂ v₃ v₄ v₅ v₆ v₇ : Verdict)
+  pub judged-steps : (v₀ v₁ v₂ v₃ v₄ v₅ v₆ v₇ : Judgement)
       → v₀ ≡ headFault R C
       → v₁ ≡ firstFault (v₀ ∷ faultsIn R Blocks s (L .blocks))
       → v₂ ≡ firstFault (v₁ ∷ faultsIn R Positions s (L .conductors))
@@ -133,7 +133,7 @@ pub every-joined : {X : Type 0} (p : X → Bool) (ls : List (List X)) → every 
 every-joined p [] = refl
 every-joined p (l ∷ ls) = rw (every-append p l (joined ls), every-joined p ls)
 
-notSheet : Verdict → Bool
+notSheet : Judgement → Bool
 notSheet Good = true
 notSheet Sheet = false
 notSheet Sides = true
@@ -141,12 +141,12 @@ notSheet Config = true
 notSheet Position = true
 notSheet Code = true
 
-first-not : (l : List Verdict) → every notSheet l ≡ true → notSheet (firstFault l) ≡ true
+first-not : (l : List Judgement) → every notSheet l ≡ true → notSheet (firstFault l) ≡ true
 unfolding firstFault notSheet
 first-not [] e = refl
 first-not (v ∷ l) e = ask (isGood v) (λ g. rw g (first-not l (and-right (notSheet v) (every notSheet l) e))) (λ f. rw f (and-left (notSheet v) (every notSheet l) e))
 
-test-not : (t : Bool) (v : Verdict) → notSheet v ≡ true → notSheet (either t Good v) ≡ true
+test-not : (t : Bool) (v : Judgement) → notSheet v ≡ true → notSheet (either t Good v) ≡ true
 unfolding notSheet
 test-not true v e = refl
 test-not false v e = e
@@ -164,7 +164,7 @@ module _ (R : Room) where
   unfolding endpointFault notSheet
   endpoint-not e = first-not _ (search (and-both, test-not) depth 8)
 
-all-not : {X : Type 0} (fault : X → Verdict) → ((x : X) → notSheet (fault x) ≡ true) → (xs : List X) → every notSheet (map fault xs) ≡ true
+all-not : {X : Type 0} (fault : X → Judgement) → ((x : X) → notSheet (fault x) ≡ true) → (xs : List X) → every notSheet (map fault xs) ≡ true
 all-not fault f xs = rw every-map (every-all (λ x. notSheet (fault x)) f xs)
 
 pub judged-not : (J : Contents) → judged J ≡ Sheet → ⊥

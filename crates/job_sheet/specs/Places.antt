@@ -16,7 +16,7 @@ use Rattle.job_sheet.specs.declared.Part.{Part}
 use Rattle.job_sheet.specs.declared.places.Layout.{Layout}
 use Rattle.job_sheet.specs.declared.faults.Records.{Records}
 use Rattle.job_sheet.specs.declared.faults.Records.the-variants.{Blocks, Positions, Endpoints}
-use Rattle.job_sheet.specs.declared.Verdict.{Verdict}
+use Rattle.job_sheet.specs.declared.Judgement.{Judgement}
 use Rattle.job_sheet.specs.Sheet.{Contents, version, maxBytes, maxSinks, blockSize, positionSize, endpointSize, listsPlace, listed, behind, firstFault, sidesFault, configFault, positionFault, blockFault, endpointFault, sidesPlace, configPlace}
 
 -- ---- at byte k of what begins at a place
@@ -76,16 +76,16 @@ unfoldable pub endpointsIn : List ℕ → Part → List Endpoint
 endpointsIn s p = many endpointIn endpointSize (p .count) (drop (p .from) s)
 
 -- what is wrong with the record at the front, and with each record of a part
-abbrev pub faultIn : Room → Records → List ℕ → Verdict
+abbrev pub faultIn : Room → Records → List ℕ → Judgement
 faultIn R Blocks l = blockFault R (blockIn l)
 faultIn R Positions l = positionFault R (positionIn l 0)
 faultIn R Endpoints l = endpointFault R (endpointIn l)
 
-abbrev pub faultsIn : Room → Records → List ℕ → Part → List Verdict
+abbrev pub faultsIn : Room → Records → List ℕ → Part → List Judgement
 faultsIn R k s p = many (faultIn R k) (sizeOf k) (p .count) (drop (p .from) s)
 
 -- numbers 2 and 3
-abbrev pub headFault : Room → RouterConfig → Verdict
+abbrev pub headFault : Room → RouterConfig → Judgement
 headFault R C = firstFault (sidesFault R ∷ configFault C ∷ [])
 
 -- ---- the whole sheet

@@ -13,8 +13,8 @@ use Rattle.job_sheet.specs.declared.places.Layout.{Layout}
 use Rattle.job_sheet.specs.declared.Sinks.{Sinks}
 use Rattle.job_sheet.specs.declared.Job.{Job}
 use Rattle.job_sheet.specs.declared.Reading.{Reading}
-use Rattle.job_sheet.specs.declared.Verdict.{Verdict}
-use Rattle.job_sheet.specs.declared.Verdict.the-variants.{Sheet}
+use Rattle.job_sheet.specs.declared.Judgement.{Judgement}
+use Rattle.job_sheet.specs.declared.Judgement.the-variants.{Sheet}
 use Rattle.job_sheet.specs.Sheet.{Contents, Means, isGood, judged, endpointSize, sinksOf, layoutOf, jobOf, refused, Read, meaning, nothing, sidesPlace, configPlace}
 use Rattle.job_sheet.specs.Places.{roomIn, configIn, endpointIn, endpointsIn, layoutIn, contentsIn, shapeHolds, shaped, Shaped}
 use Rattle.job_sheet.specs.RecordLaws.{Bytes, many-long}
@@ -81,12 +81,12 @@ module _ (s : List ℕ) (b : Bytes s) (S : Shaped s) where
         sinks = sinks i;
       }
 
-  pub read-refused : (v : Verdict) → v ≡ judged (contentsIn s) → isGood v ≡ false → (r : Reading) → r ≡ refused v → Read s r
+  pub read-refused : (v : Judgement) → v ≡ judged (contentsIn s) → isGood v ≡ false → (r : Reading) → r ≡ refused v → Read s r
   read-refused v j f r e = meaning (contentsIn s) shaped-means (rw (← j, f) e)
 
-  pub read-accepted : (v : Verdict) → v ≡ judged (contentsIn s) → isGood v ≡ true → (job : Job) → job ≡ jobOf (contentsIn s)
-      → Read s (record { verdict = v; job = job })
-  read-accepted v j g job e = meaning (contentsIn s) shaped-means (rw (← j, g) (λ i. record { verdict = good-is v g i; job = e i }))
+  pub read-accepted : (v : Judgement) → v ≡ judged (contentsIn s) → isGood v ≡ true → (job : Job) → job ≡ jobOf (contentsIn s)
+      → Read s (record { judgement = v; job = job })
+  read-accepted v j g job e = meaning (contentsIn s) shaped-means (rw (← j, g) (λ i. record { judgement = good-is v g i; job = e i }))
 
 pub read-nothing : (s : List ℕ) → shaped s ≡ false → (r : Reading) → r ≡ refused Sheet → Read s r
 read-nothing s f r e = nothing (λ J m. let p : shaped s ≡ true = shaped-passes s (means-shaped s J m) in never (cc)) e

@@ -15,7 +15,7 @@ use Rattle.job_sheet.specs.declared.Part.{Part}
 use Rattle.job_sheet.specs.declared.Sinks.{Sinks}
 use Rattle.job_sheet.specs.declared.faults.Records.{Records}
 use Rattle.job_sheet.specs.declared.faults.Records.the-variants.{Blocks, Positions, Endpoints}
-use Rattle.job_sheet.specs.declared.Verdict.{Verdict}
+use Rattle.job_sheet.specs.declared.Judgement.{Judgement}
 use Rattle.job_sheet.specs.Sheet.{maxSinks, isGood, firstFault, endpointSize, noEndpoint, sinksOf}
 use Rattle.job_sheet.specs.Places.{sizeOf, many, endpointIn, endpointsIn, faultIn}
 use Rattle.job_sheet.specs.RecordLaws.{many-long, many-snoc}
@@ -29,11 +29,11 @@ size-few Positions = omega arith
 size-few Endpoints = omega arith
 
 -- the fault so far and the records that are left come to what was asked for
-pub record Scanned (s : List ℕ) (R : Room) (k : Records) (found : Verdict) (from count : ℕ) (fault : Verdict) (place left : ℕ) : Type 0 where
+pub record Scanned (s : List ℕ) (R : Room) (k : Records) (found : Judgement) (from count : ℕ) (fault : Judgement) (place left : ℕ) : Type 0 where
   pub same : firstFault (fault ∷ many (faultIn R k) (sizeOf k) left (drop place s)) ≡ firstFault (found ∷ many (faultIn R k) (sizeOf k) count (drop from s))
   pub inside : place + sizeOf k * left ≤ length s
 
-module _ {s : List ℕ} {R : Room} {k : Records} {found : Verdict} {from count : ℕ} {fault : Verdict} {place left : ℕ} (I : Scanned s R k found from count fault place left) where
+module _ {s : List ℕ} {R : Room} {k : Records} {found : Judgement} {from count : ℕ} {fault : Judgement} {place left : ℕ} (I : Scanned s R k found from count fault place left) where
   pub scan-stop : isGood fault ≡ false → fault ≡ firstFault (found ∷ many (faultIn R k) (sizeOf k) count (drop from s))
   scan-stop e = sym (fault-first fault _ e) ∙ I .same
 
@@ -42,7 +42,7 @@ module _ {s : List ℕ} {R : Room} {k : Records} {found : Verdict} {from count :
       let z : left ≡ 0 = omega arith in
       sym (only-first fault) ∙ rw z at (I .same)
 
-  pub scan-on : isGood fault ≡ true → 0 < left → (next : Verdict) → next ≡ faultIn R k (drop place s) → (size : ℕ) → size ≡ sizeOf k
+  pub scan-on : isGood fault ≡ true → 0 < left → (next : Judgement) → next ≡ faultIn R k (drop place s) → (size : ℕ) → size ≡ sizeOf k
       → Scanned s R k found from count next (place + size) (left - 1)
   scan-on g h next n size z =
       let e : left ≡ suc (left - 1) = omega arith in
@@ -54,12 +54,12 @@ module _ {s : List ℕ} {R : Room} {k : Records} {found : Verdict} {from count :
 
 -- ---- the sinks
 
-pub record Gathered (s : List ℕ) (from count : ℕ) (ends : List Endpoint) (k : ℕ) : Type 0 where
+pub record EndpointsRead (s : List ℕ) (from count : ℕ) (ends : List Endpoint) (k : ℕ) : Type 0 where
   pub same : ends ≡ many endpointIn endpointSize k (drop from s) ++ replicate (maxSinks - k) noEndpoint
   pub so-far : k ≤ count
 
-module _ {s : List ℕ} {from count : ℕ} {ends : List Endpoint} {k : ℕ} (I : Gathered s from count ends k) where
-  pub gather-on : k < count → count ≤ maxSinks → (e : Endpoint) → e ≡ endpointIn (drop (from + endpointSize * k) s) → Gathered s from count (set ends k e) (k + 1)
+module _ {s : List ℕ} {from count : ℕ} {ends : List Endpoint} {k : ℕ} (I : EndpointsRead s from count ends k) where
+  pub gather-on : k < count → count ≤ maxSinks → (e : Endpoint) → e ≡ endpointIn (drop (from + endpointSize * k) s) → EndpointsRead s from count (set ends k e) (k + 1)
   gather-on h few e n =
       let l = drop from s in
       let p = many endpointIn endpointSize k l in
@@ -74,7 +74,7 @@ module _ {s : List ℕ} {from count : ℕ} {ends : List Endpoint} {k : ℕ} (I :
         so-far = omega arith;
       }
 
-pub gather-done : (s : List ℕ) (p : Part) (ends : List Endpoint) (k : ℕ) → Gathered s (p .from) (p .count) ends k → p .count ≤ k
+pub gather-done : (s : List ℕ) (p : Part) (ends : List Endpoint) (k : ℕ) → EndpointsRead s (p .from) (p .count) ends k → p .count ≤ k
     → _≡_ {A = Sinks} (record { count = p .count; ends = ends }) (sinksOf (endpointsIn s p))
 unfolding endpointsIn
 gather-done s p ends k I h =

@@ -19,8 +19,8 @@ use Rattle.job_sheet.specs.declared.places.Layout.{Layout}
 use Rattle.job_sheet.specs.declared.Sinks.{Sinks}
 use Rattle.job_sheet.specs.declared.Job.{Job}
 use Rattle.job_sheet.specs.declared.Reading.{Reading}
-use Rattle.job_sheet.specs.declared.Verdict.{Verdict}
-use Rattle.job_sheet.specs.declared.Verdict.the-variants.{Good, Sheet, Sides, Config, Position, Code}
+use Rattle.job_sheet.specs.declared.Judgement.{Judgement}
+use Rattle.job_sheet.specs.declared.Judgement.the-variants.{Good, Sheet, Sides, Config, Position, Code}
 
 -- ---- the version of a sheet and its limits
 
@@ -133,7 +133,7 @@ Means sheet J = MeansBy limits sheet J
 -- ---- how it is judged: numbers 2 and 3, "then record by record 4 before 5". The first fault decides
 
 -- no number is due
-abbrev pub isGood : Verdict → Bool
+abbrev pub isGood : Judgement → Bool
 isGood Good = true
 isGood Sheet = false
 isGood Sides = false
@@ -142,35 +142,35 @@ isGood Position = false
 isGood Code = false
 
 -- the first of these numbers that is due
-unfoldable pub firstFault : List Verdict → Verdict
+unfoldable pub firstFault : List Judgement → Judgement
 firstFault [] = Good
 firstFault (v ∷ vs) = either (isGood v) (firstFault vs) v
 
-abbrev pub sidesFault : Room → Verdict
+abbrev pub sidesFault : Room → Judgement
 sidesFault R = either (sidesGood R) Good Sides
 
-abbrev pub configFault : RouterConfig → Verdict
+abbrev pub configFault : RouterConfig → Judgement
 configFault C = either (configGood C) Good Config
 
 -- "a position outside the room"
-abbrev pub positionFault : Room → Pos → Verdict
+abbrev pub positionFault : Room → Pos → Judgement
 positionFault R p = either (within R p) Good Position
 
 -- "unknown code"
-abbrev pub codeFault : Bool → Verdict
+abbrev pub codeFault : Bool → Judgement
 codeFault known = either known Good Code
 
 -- "or Air in a block record"
-unfoldable pub blockFault : Room → Block → Verdict
+unfoldable pub blockFault : Room → Block → Judgement
 blockFault R b =
     firstFault (positionFault R (b .at) ∷ codeFault (kindKnown (b .kind)) ∷ codeFault (not (eqb (b .kind) air)) ∷ codeFault (facingKnown (b .facing)) ∷ [])
 
 -- "4 before 5" in the source and in each sink
-unfoldable pub endpointFault : Room → Endpoint → Verdict
+unfoldable pub endpointFault : Room → Endpoint → Judgement
 endpointFault R e = firstFault (positionFault R (e .at) ∷ codeFault (portKnown (e .port)) ∷ codeFault (facingKnown (e .facing)) ∷ [])
 
 -- what is judged, in its order: 2, 3, then the records as the sheet has them
-abbrev pub faultsOf : Contents → List (List Verdict)
+abbrev pub faultsOf : Contents → List (List Judgement)
 faultsOf J =
     let R = J .room in
     (sidesFault R ∷ configFault (J .config) ∷ [])
@@ -183,11 +183,11 @@ faultsOf J =
     ∷ map (endpointFault R) (J .sinks)
     ∷ []
 
-unfoldable pub judged : Contents → Verdict
+unfoldable pub judged : Contents → Judgement
 judged J = firstFault (joined (faultsOf J))
 
 -- the numbers that come back
-abbrev pub numberOf : Verdict → ℕ
+abbrev pub numberOf : Judgement → ℕ
 numberOf Good = 0
 numberOf Sheet = 1
 numberOf Sides = 2
@@ -284,10 +284,10 @@ noJob = record {
 }
 
 abbrev pub accepted : Contents → Reading
-accepted J = record { verdict = Good; job = jobOf J }
+accepted J = record { judgement = Good; job = jobOf J }
 
-abbrev pub refused : Verdict → Reading
-refused v = record { verdict = v; job = noJob }
+abbrev pub refused : Judgement → Reading
+refused v = record { judgement = v; job = noJob }
 
 -- the job where no number is due, else that number
 abbrev pub answer : Contents → Reading

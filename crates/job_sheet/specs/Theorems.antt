@@ -8,7 +8,7 @@ use Rattle.basics.specs.Tests.{ask, never}
 use Rattle.basics.specs.Promises.{Determines}
 use Rattle.job_sheet.specs.declared.Job.{Job}
 use Rattle.job_sheet.specs.declared.Reading.{Reading}
-use Rattle.job_sheet.specs.declared.Verdict.the-variants.{Sheet}
+use Rattle.job_sheet.specs.declared.Judgement.the-variants.{Sheet}
 use Rattle.job_sheet.specs.Sheet.{Contents, bytesOf, Means, isGood, judged, layoutOf, accepted, refused, answer, Read, meaning, nothing}
 use Rattle.job_sheet.specs.Accepted.{Accepted, Usable}
 use Rattle.job_sheet.specs.Places.{Shaped}
@@ -41,7 +41,7 @@ coincide sheet r q (nothing no-meaning e) (meaning J m f) = absurd (no-meaning J
 coincide sheet r q (nothing no-meaning e) (nothing no-meaning′ f) = e ∙ sym f
 
 -- what is accepted is a job that the sheet means and that has no fault
-pub accepted-by : {sheet : List ℕ} {r : Reading} → Read sheet r → isGood (r .verdict) ≡ true → Accepted sheet (r .job)
+pub accepted-by : {sheet : List ℕ} {r : Reading} → Read sheet r → isGood (r .judgement) ≡ true → Accepted sheet (r .job)
 accepted-by {sheet = sheet} {r = r} (meaning J m e) g =
     ask (isGood (judged J)) (λ t. yes-job t (rw t at e)) (λ f. no-job f (rw f at e))
   where
@@ -49,16 +49,16 @@ accepted-by {sheet = sheet} {r = r} (meaning J m e) g =
     yes-job t q = record { contents = J; means = m; good = good-is (judged J) t; is = ap (λ x. x .job) q }
 
     no-job : isGood (judged J) ≡ false → r ≡ refused (judged J) → Accepted sheet (r .job)
-    no-job f q = let z : isGood (judged J) ≡ true = ap (λ x. isGood (x .verdict)) (sym q) ∙ g in never (cc)
-accepted-by {r = r} (nothing no-meaning e) g = let z : isGood Sheet ≡ true = ap (λ x. isGood (x .verdict)) (sym e) ∙ g in never (cc)
+    no-job f q = let z : isGood (judged J) ≡ true = ap (λ x. isGood (x .judgement)) (sym q) ∙ g in never (cc)
+accepted-by {r = r} (nothing no-meaning e) g = let z : isGood Sheet ≡ true = ap (λ x. isGood (x .judgement)) (sym e) ∙ g in never (cc)
 
-verdict-is : (J : Contents) → answer J .verdict ≡ judged J
-verdict-is J = ask (isGood (judged J)) (λ t. rw t (sym (good-is (judged J) t))) (λ f. rw f)
+judgement-is : (J : Contents) → answer J .judgement ≡ judged J
+judgement-is J = ask (isGood (judged J)) (λ t. rw t (sym (good-is (judged J) t))) (λ f. rw f)
 
 -- number 1 comes exactly where the sheet means nothing
-pub number-one : (sheet : List ℕ) (r : Reading) → Read sheet r → (r .verdict ≡ Sheet) ↔ ((J : Contents) → Means sheet J → ⊥)
-number-one sheet r (meaning J m e) = ((λ s. absurd (judged-not J (sym (verdict-is J) ∙ sym (ap (λ x. x .verdict) e) ∙ s))), (λ no-meaning. absurd (no-meaning J m)))
-number-one sheet r (nothing no-meaning e) = ((λ s. no-meaning), (λ n. ap (λ x. x .verdict) e))
+pub number-one : (sheet : List ℕ) (r : Reading) → Read sheet r → (r .judgement ≡ Sheet) ↔ ((J : Contents) → Means sheet J → ⊥)
+number-one sheet r (meaning J m e) = ((λ s. absurd (judged-not J (sym (judgement-is J) ∙ sym (ap (λ x. x .judgement) e) ∙ s))), (λ no-meaning. absurd (no-meaning J m)))
+number-one sheet r (nothing no-meaning e) = ((λ s. no-meaning), (λ n. ap (λ x. x .judgement) e))
 
 -- an accepted job can be used
 pub usable : (sheet : List ℕ) (job : Job) → (A : Accepted sheet job) → Usable sheet job (A .contents)

@@ -7,8 +7,8 @@ ghost use Rattle.job_sheet.specs.Sheet.{firstFault, positionFault, block
 ghost use Rattle.job_sheet.specs.Places.{sizeOf, faultIn, faultsIn, headFault, layoutIn, contentsIn, Shaped};
 use crate::Block;
 use crate::Endpoint;
+use crate::Judgement;
 use crate::Part;
-use crate::Verdict;
 use crate::places;
 use crate::places::Layout;
 use room::Pos;
@@ -22,48 +22,48 @@ enum Records {
     Endpoints,
 }
 
-fn position_fault(room: Room, p: Pos) -> Verdict
+fn position_fault(room: Room, p: Pos) -> Judgement
     ensures { λ r. ⌜ r ≡ positionFault room p ⌝ }
 {
     if room.holds(p) {
-        Verdict::Good
+        Judgement::Good
     } else {
-        Verdict::Position
+        Judgement::Position
     }
 }
 
-fn block_fault(room: Room, block: Block) -> Verdict
+fn block_fault(room: Room, block: Block) -> Judgement
     ensures { λ r. ⌜ r ≡ blockFault room block ⌝ }
 {
     if !room.holds(block.at) {
-        return Verdict::Position;
+        return Judgement::Position;
     }
     if !room::kind_known(block.kind) {
-        return Verdict::Code;
+        return Judgement::Code;
     }
     if block.kind == room::AIR {
-        return Verdict::Code;
+        return Judgement::Code;
     }
     if room::facing_known(block.facing) {
-        Verdict::Good
+        Judgement::Good
     } else {
-        Verdict::Code
+        Judgement::Code
     }
 }
 
-fn endpoint_fault(room: Room, endpoint: Endpoint) -> Verdict
+fn endpoint_fault(room: Room, endpoint: Endpoint) -> Judgement
     ensures { λ r. ⌜ r ≡ endpointFault room endpoint ⌝ }
 {
     if !room.holds(endpoint.at) {
-        return Verdict::Position;
+        return Judgement::Position;
     }
     if !room::port_known(endpoint.port) {
-        return Verdict::Code;
+        return Judgement::Code;
     }
     if room::facing_known(endpoint.facing) {
-        Verdict::Good
+        Judgement::Good
     } else {
-        Verdict::Code
+        Judgement::Code
     }
 }
 
@@ -81,7 +81,7 @@ impl Records {
 }
 
 // What is wrong with the record at a place.
-fn record_fault(sheet: &[u8], room: Room, records: Records, place: usize) -> Verdict
+fn record_fault(sheet: &[u8], room: Room, records: Records, place: usize) -> Judgement
     requires { ⌜ place + 6 < 2 ^ 64 ⌝ }
     ensures { λ r. ⌜ r ≡ faultIn room records (drop place (now (sheet .entry))) ⌝ }
 {
@@ -93,7 +93,13 @@ fn record_fault(sheet: &[u8], room: Room, records: Records, place: usize) -> Ver
 }
 
 // The fault found so far or, where there is none, the first of a part's records.
-fn first_fault(found: Verdict, sheet: &[u8], room: Room, records: Records, part: Part) -> Verdict
+fn first_fault(
+    found: Judgement,
+    sheet: &[u8],
+    room: Room,
+    records: Records,
+    part: Part,
+) -> Judgement
     requires { ⌜ behind (sizeOf records) part ≤ length (now sheet) ⌝ }
     ensures { λ r. ⌜ r ≡ firstFault (found ∷ faultsIn room records (now (sheet .entry)) part) ⌝ }
 {
@@ -112,21 +118,21 @@ fn first_fault(found: Verdict, sheet: &[u8], room: Room, records: Records, part:
 }
 
 // Number 2, then 3.
-fn head_fault(room: Room, config: RouterConfig) -> Verdict
+fn head_fault(room: Room, config: RouterConfig) -> Judgement
     ensures { λ r. ⌜ r ≡ headFault room config ⌝ }
 {
     if !room.good() {
-        return Verdict::Sides;
+        return Judgement::Sides;
     }
     if config.good() {
-        Verdict::Good
+        Judgement::Good
     } else {
-        Verdict::Config
+        Judgement::Config
     }
 }
 
 // Numbers 2 and 3, then 4 and 5 "record by record".
-pub fn judge(sheet: &[u8], layout: Layout) -> Verdict
+pub fn judge(sheet: &[u8], layout: Layout) -> Judgement
     requires { ⌜ (layout ≡ layoutIn (now sheet)) × Shaped (now sheet) ⌝ }
     ensures { λ r. ⌜ r ≡ judged (contentsIn (now (sheet .entry))) ⌝ }
 {

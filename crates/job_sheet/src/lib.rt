@@ -70,7 +70,7 @@ pub struct Job {
 }
 
 // What a sheet comes to: accepted, or the first of numbers 1 to 5 that is due.
-pub enum Verdict {
+pub enum Judgement {
     Good,
     Sheet,
     Sides,
@@ -81,22 +81,22 @@ pub enum Verdict {
 
 // What comes of a sheet: its job where it is accepted, else zeros.
 pub struct Reading {
-    pub verdict: Verdict,
+    pub judgement: Judgement,
     pub job: Job,
 }
 
-impl Verdict {
+impl Judgement {
     // The number that comes back, 0 for none.
     pub fn number(self) -> u32
         ensures { λ r. ⌜ r ≡ numberOf self ⌝ }
     {
         match self {
-            Verdict::Good => 0,
-            Verdict::Sheet => 1,
-            Verdict::Sides => 2,
-            Verdict::Config => 3,
-            Verdict::Position => 4,
-            Verdict::Code => 5,
+            Judgement::Good => 0,
+            Judgement::Sheet => 1,
+            Judgement::Sides => 2,
+            Judgement::Config => 3,
+            Judgement::Position => 4,
+            Judgement::Code => 5,
         }
     }
 
@@ -105,12 +105,12 @@ impl Verdict {
         ensures { λ r. ⌜ r ≡ isGood self ⌝ }
     {
         match self {
-            Verdict::Good => true,
-            Verdict::Sheet => false,
-            Verdict::Sides => false,
-            Verdict::Config => false,
-            Verdict::Position => false,
-            Verdict::Code => false,
+            Judgement::Good => true,
+            Judgement::Sheet => false,
+            Judgement::Sides => false,
+            Judgement::Config => false,
+            Judgement::Position => false,
+            Judgement::Code => false,
         }
     }
 }
@@ -166,13 +166,13 @@ fn job_from(sheet: &[u8], layout: Layout) -> Job
 }
 
 // A refusal carries no job.
-pub fn refusal(verdict: Verdict) -> Reading
-    ensures { λ r. ⌜ r ≡ refused verdict ⌝ }
+pub fn refusal(judgement: Judgement) -> Reading
+    ensures { λ r. ⌜ r ≡ refused judgement ⌝ }
 {
     let none = Part { from: 0, count: 0 };
     let end = no_endpoint();
     Reading {
-        verdict,
+        judgement,
         job: Job {
             room: Room {
                 wide: 0,
@@ -205,14 +205,14 @@ pub fn read_sheet(sheet: &[u8]) -> Reading
 {
     let layout = places::layout_from(sheet);
     if !places::shaped(sheet, layout) {
-        return refusal(Verdict::Sheet);
+        return refusal(Judgement::Sheet);
     }
-    let verdict = faults::judge(sheet, layout);
-    if !verdict.is_good() {
-        return refusal(verdict);
+    let judgement = faults::judge(sheet, layout);
+    if !judgement.is_good() {
+        return refusal(judgement);
     }
     Reading {
-        verdict,
+        judgement,
         job: job_from(sheet, layout),
     }
 }

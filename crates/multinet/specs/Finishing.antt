@@ -23,7 +23,7 @@ pub record EndsIn (source : ℕ) (taps : Taps) (marks : List ℕ) : Type 0 where
   pub long : length marks ≡ volume room
 
 -- the buffer has these branches in sheet order
-pub record Holds (L : BranchLengths) (branches : List ℕ) (bs : List (List ℕ)) : Type 0 where
+pub record BufferHolds (L : BranchLengths) (branches : List ℕ) (bs : List (List ℕ)) : Type 0 where
   pub in-order : SheetOrder bs (length (joined bs)) branches
   pub lengths-are : LengthsOf bs (L .each)
   pub count-is : length bs ≡ L .count
@@ -33,7 +33,7 @@ pub record Finishable (R : Room) (source : ℕ) (taps : Taps) (L : BranchLengths
   pub good : Good R
   pub net : NetIn R source taps
   pub bs : List (List ℕ)
-  pub holds : Holds L branches bs
+  pub holds : BufferHolds L branches bs
   pub few : L .count ≤ maxSinks
   pub lengths-short : Short L
   pub cells-in : (i : ℕ) → i < L .count → AllCells R (getD bs i [])
@@ -47,5 +47,5 @@ pub record Finishable (R : Room) (source : ℕ) (taps : Taps) (L : BranchLengths
 
 -- what the branches occupy, and their repeaters
 pub record Finished (R : Room) (source : ℕ) (taps : Taps) (L : BranchLengths) (branches occupied repeaters : List ℕ) : Type 0 where
-  pub occupied-are : (bs : List (List ℕ)) → Holds L branches bs → occupied ≡ markedBy (standsIn (joined bs)) (sourceMarks R source)
-  pub repeaters-are : (bs : List (List ℕ)) → Holds L branches bs → repeaters ≡ repeaterMarks R source (tapsIn taps) bs (endMarks R source taps)
+  pub occupied-are : (bs : List (List ℕ)) → BufferHolds L branches bs → occupied ≡ markedBy (standsIn (joined bs)) (sourceMarks R source)
+  pub repeaters-are : (bs : List (List ℕ)) → BufferHolds L branches bs → repeaters ≡ repeaterMarks R source (tapsIn taps) bs (endMarks R source taps)

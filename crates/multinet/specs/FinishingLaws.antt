@@ -23,7 +23,7 @@ use Rattle.repeaters.specs.Repeaters.{repeaterMarks}
 use Rattle.repeaters.specs.Joins.{Steps, AllSteps}
 use Rattle.repeaters.specs.Sinks.{Placeable}
 use Rattle.multinet.specs.Tree.{endAt, isEnd}
-use Rattle.multinet.specs.Finishing.{EndsIn, Holds, Finishable, Finished}
+use Rattle.multinet.specs.Finishing.{EndsIn, BufferHolds, Finishable, Finished}
 use Rattle.multinet.specs.Adding.{usedBy}
 
 -- ---- the ends
@@ -54,7 +54,7 @@ all-below : (R : Room) (bs : List (List ℕ)) → ((i : ℕ) → i < length bs �
 all-below R [] f = record { below = λ i h. absurd (omega arith) }
 all-below R (b ∷ bs) f = below-append (f 0 (omega arith)) (all-below R bs (λ i h. f (suc i) (omega arith)))
 
-module _ {L : BranchLengths} {branches : List ℕ} {bs : List (List ℕ)} (H : Holds L branches bs) where
+module _ {L : BranchLengths} {branches : List ℕ} {bs : List (List ℕ)} (H : BufferHolds L branches bs) where
   lengths-list : lengthsIn L ≡ map length bs
   lengths-list =
       let n : length (lengthsIn L) ≡ L .count = length-take-le (L .count) (L .each) (omega (arith, H .count-is, H .lengths-are .all)) in

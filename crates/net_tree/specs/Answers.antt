@@ -12,7 +12,7 @@ use Rattle.lent.specs.Lent.{outputAfter, workAfter}
 use Rattle.room.specs.declared.Room.{Room}
 use Rattle.room.specs.Room.{volume}
 use Rattle.job_sheet.specs.declared.Reading.{Reading}
-use Rattle.job_sheet.specs.declared.Verdict.the-variants as verdict
+use Rattle.job_sheet.specs.declared.Judgement.the-variants as judgement
 use Rattle.job_sheet.specs.Sheet.{Contents, Means, Read, judged, isGood, numberOf, joined}
 use Rattle.outset.specs.declared.Outset.{Outset}
 use Rattle.outset.specs.SetOut.{ready, numberBy, detailBy, OutsetOf}
@@ -62,9 +62,9 @@ buffersGood R L =
     && leb 1 (L .queue / 2)
 
 -- what a tree comes to: its branches in sheet order, and marks of the cells that it occupies and of its repeaters; or a number with its detail
-pub data Outcome : Type 0 where
-  routed : (branches : List (List ℕ)) (occupied repeaters : List ℕ) → Outcome
-  refused : (number detail : ℕ) → Outcome
+pub data TreeOutcome : Type 0 where
+  routed : (branches : List (List ℕ)) (occupied repeaters : List ℕ) → TreeOutcome
+  refused : (number detail : ℕ) → TreeOutcome
 
 -- what the tree of a job that is set out grows over
 abbrev pub plotFor : Contents → Lengths → Outset → List ℕ → Plot
@@ -79,54 +79,54 @@ plotFor J L O kinds = record {
 }
 
 -- a grown tree with its repeaters, or the number that stopped the growth
-abbrev pub outcomeOf : Plot → Growth → Outcome
+abbrev pub outcomeOf : Plot → Growth → TreeOutcome
 outcomeOf P (grown T) = routed (T .branches) (T .occupied) (repeatersOf P T)
 outcomeOf P (stopped number detail) = refused number detail
 
 -- "7, all of 8, all of 9, then per sink 13 or 14, then 15", of a job that is set out
-unfoldable pub jobOutcome : Contents → Lengths → Outset → List ℕ → List ℕ → Outcome
+unfoldable pub jobOutcome : Contents → Lengths → Outset → List ℕ → List ℕ → TreeOutcome
 jobOutcome J L O kinds blocked =
     either (ready O)
     (outcomeOf (plotFor J L O kinds) (growthOf (plotFor J L O kinds) blocked))
     (refused (numberBy (O .placement) (O .ends .fault)) (detailBy (O .placement) (O .ends .fault)))
 
 -- "A tree checks 1, 2, 3, then record by record 4 before 5, then 6, 7, ..": what comes of a sheet
-pub data Comes (sheet : List ℕ) (L : Lengths) (o : Outcome) : Type 0 where
-  unread : (r : Reading) → Read sheet r → isGood (r .verdict) ≡ false → o ≡ refused (numberOf (r .verdict)) 0 → Comes sheet L o
-  unlent : (J : Contents) → Means sheet J → judged J ≡ verdict.Good → buffersGood (J .room) L ≡ false → o ≡ refused 6 0 → Comes sheet L o
-  set-out : (J : Contents) → Means sheet J → judged J ≡ verdict.Good → buffersGood (J .room) L ≡ true
+pub data Comes (sheet : List ℕ) (L : Lengths) (o : TreeOutcome) : Type 0 where
+  unread : (r : Reading) → Read sheet r → isGood (r .judgement) ≡ false → o ≡ refused (numberOf (r .judgement)) 0 → Comes sheet L o
+  unlent : (J : Contents) → Means sheet J → judged J ≡ judgement.Good → buffersGood (J .room) L ≡ false → o ≡ refused 6 0 → Comes sheet L o
+  set-out : (J : Contents) → Means sheet J → judged J ≡ judgement.Good → buffersGood (J .room) L ≡ true
       → (O : Outset) (kinds nodes blocked : List ℕ) → OutsetOf J O kinds nodes blocked → o ≡ jobOutcome J L O kinds blocked
       → Comes sheet L o
 
 -- ---- the answer
 
 -- the counts of the marked cells, and the branches' lengths; a refusal has no branches
-abbrev pub answerOf : Outcome → Answer
+abbrev pub answerOf : TreeOutcome → Answer
 answerOf (routed bs occupied repeaters) = record { ended = Routed (markedCount occupied) (markedCount repeaters); lengths = branchLengths bs }
 answerOf (refused number detail) = record { ended = Refused number detail; lengths = branchLengths [] }
 
 -- its number, 0 for a tree
-abbrev pub numberFor : Outcome → ℕ
+abbrev pub numberFor : TreeOutcome → ℕ
 numberFor (routed bs occupied repeaters) = 0
 numberFor (refused number detail) = number
 
 -- ---- the lent buffers
 
 -- what the outputs get: the branches' cells in sheet order, the marks of what they occupy, the repeaters' marks; nothing after a refusal
-abbrev pub branchesFor : Outcome → List ℕ
+abbrev pub branchesFor : TreeOutcome → List ℕ
 branchesFor (routed bs occupied repeaters) = joined bs
 branchesFor (refused number detail) = []
 
-abbrev pub occupiedFor : Outcome → List ℕ
+abbrev pub occupiedFor : TreeOutcome → List ℕ
 occupiedFor (routed bs occupied repeaters) = occupied
 occupiedFor (refused number detail) = []
 
-abbrev pub repeatersFor : Outcome → List ℕ
+abbrev pub repeatersFor : TreeOutcome → List ℕ
 repeatersFor (routed bs occupied repeaters) = repeaters
 repeatersFor (refused number detail) = []
 
 -- "Numbers 1 to 6 touch nothing; 7 to 15 leave every lent writable buffer zero. A success writes the answer, zeros behind it, and zeroes work memory."
-abbrev pub lentAfter : Outcome → Lent → Lent
+abbrev pub lentAfter : TreeOutcome → Lent → Lent
 lentAfter o B = record {
   branches = outputAfter (numberFor o) (branchesFor o) (B .branches);
   occupied = outputAfter (numberFor o) (occupiedFor o) (B .occupied);
@@ -144,7 +144,7 @@ lentAfter o B = record {
 
 -- the promise of `route_net_tree`
 pub record Promise (sheet : List ℕ) (B : Lent) (r : Answer) (B′ : Lent) : Type 0 where
-  pub outcome : Outcome
+  pub outcome : TreeOutcome
   pub comes : Comes sheet (lengthsOf B) outcome
   pub answer : r ≡ answerOf outcome
   pub lent-is : B′ ≡ lentAfter outcome B

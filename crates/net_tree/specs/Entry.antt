@@ -27,14 +27,14 @@ use Rattle.multinet.specs.Finishing.{Finishable, Finished}
 use Rattle.net_tree.specs.declared.Answer.{Answer}
 use Rattle.net_tree.specs.declared.Ended.{Ended}
 use Rattle.net_tree.specs.declared.Ended.the-variants.{Routed, Refused}
-use Rattle.net_tree.specs.Answers.{Lent, lengthsOf, buffersGood, Outcome, routed, refused, outcomeOf, jobOutcome, answerOf}
+use Rattle.net_tree.specs.Answers.{Lent, lengthsOf, buffersGood, TreeOutcome, routed, refused, outcomeOf, jobOutcome, answerOf}
 use Rattle.multinet.specs.Sinks.{stopNumber, stopDetail}
 
 -- what the outputs hold: the answer and zeros behind it; after a number, whatever it was that they held when it was due
-abbrev pub Written : Outcome → (branches branches′ occupied′ repeaters′ : List ℕ) → Type 0
-Written (routed bs occupied repeaters) branches branches′ occupied′ repeaters′ =
+abbrev pub OutputsHold : TreeOutcome → (branches branches′ occupied′ repeaters′ : List ℕ) → Type 0
+OutputsHold (routed bs occupied repeaters) branches branches′ occupied′ repeaters′ =
     (branches′ ≡ filled (joined bs) branches) × (occupied′ ≡ occupied) × (repeaters′ ≡ repeaters)
-Written (refused number detail) branches branches′ occupied′ repeaters′ = 6 < number
+OutputsHold (refused number detail) branches branches′ occupied′ repeaters′ = 6 < number
 
 -- a grown tree in the buffer, cleared outputs, and work memory of exactly V cells
 pub record Harvestable (R : Room) (source : ℕ) (taps : Taps) (L : BranchLengths) (branches occupied repeaters classes known previous path : List ℕ) : Type 0 where
@@ -47,7 +47,7 @@ pub record Harvested (R : Room) (source : ℕ) (taps : Taps) (L : BranchLengths)
   pub finished : Finished R source taps L branches occupied repeaters
 
 -- the number that ended the growth
-abbrev pub refusedBy : Stop → Outcome
+abbrev pub refusedBy : Stop → TreeOutcome
 refusedBy stop = refused (stopNumber stop) (stopDetail stop)
 
 -- a growth that can be harvested if it is whole
@@ -75,7 +75,7 @@ pub record Growable (P : Plot) (B : Lent) : Type 0 where
 -- the tree that grows there
 pub record TreeGrown (P : Plot) (B : Lent) (r : Answer) (branches′ occupied′ repeaters′ : List ℕ) : Type 0 where
   pub answer : r ≡ answerOf (outcomeOf P (growthOf P (B .blocked)))
-  pub outputs : Written (outcomeOf P (growthOf P (B .blocked))) (B .branches) branches′ occupied′ repeaters′
+  pub outputs : OutputsHold (outcomeOf P (growthOf P (B .blocked))) (B .branches) branches′ occupied′ repeaters′
 
 -- an accepted job, cleared outputs, and work memory of exactly V cells
 pub record Routable (sheet : List ℕ) (job : Job) (B : Lent) : Type 0 where
@@ -99,11 +99,11 @@ pub record JobRouted (sheet : List ℕ) (B : Lent) (r : Answer) (branches′ occ
   pub kinds : List ℕ
   pub nodes : List ℕ
   pub blocked : List ℕ
-  pub outcome : Outcome
+  pub outcome : TreeOutcome
   pub is-set : (J : Contents) → Means sheet J → OutsetOf J outset kinds nodes blocked
   pub comes : (J : Contents) → Means sheet J → outcome ≡ jobOutcome J (lengthsOf B) outset kinds blocked
   pub answer : r ≡ answerOf outcome
-  pub outputs : Written outcome (B .branches) branches′ occupied′ repeaters′
+  pub outputs : OutputsHold outcome (B .branches) branches′ occupied′ repeaters′
 
 -- an accepted job, and lent memory that number 6 does not refuse
 pub record Lendable (sheet : List ℕ) (job : Job) (B : Lent) : Type 0 where
@@ -111,7 +111,7 @@ pub record Lendable (sheet : List ℕ) (job : Job) (B : Lent) : Type 0 where
   pub buffers : buffersGood (job .room) (lengthsOf B) ≡ true
 
 -- the outputs are all zero
-pub record Cleared (B : Lent) : Type 0 where
+pub record OutputsClear (B : Lent) : Type 0 where
   pub branches-clear : B .branches ≡ replicate (length (B .branches)) 0
   pub occupied-clear : B .occupied ≡ replicate (length (B .occupied)) 0
   pub repeaters-clear : B .repeaters ≡ replicate (length (B .repeaters)) 0

@@ -20,10 +20,10 @@ use Rattle.outset.specs.declared.Outset.{Outset}
 use Rattle.net_tree.specs.declared.Lengths.{Lengths}
 use Rattle.net_tree.specs.declared.Answer.{Answer}
 use Rattle.net_tree.specs.Answers.{Lent, lent, lengthsOf, buffersGood, jobOutcome}
-use Rattle.net_tree.specs.Entry.{Routable, JobRouted, Lendable, Cleared}
+use Rattle.net_tree.specs.Entry.{Routable, JobRouted, Lendable, OutputsClear}
 
 -- what number 6 does not refuse
-pub record Roomy (n : ℕ) (L : Lengths) : Type 0 where
+pub record LongEnough (n : ℕ) (L : Lengths) : Type 0 where
   pub occupied-room : n ≤ L .occupied
   pub repeaters-room : n ≤ L .repeaters
   pub kinds-room : n ≤ L .kinds
@@ -40,9 +40,9 @@ pub record Roomy (n : ℕ) (L : Lengths) : Type 0 where
 all-fit : (n : ℕ) (l : List ℕ) → every (leb n) l ≡ true → (a : ℕ) → In a l → n ≤ a
 all-fit n l e a i = leb-true n a (every-in (leb n) l e a i)
 
-pub roomy : (R : Room) (L : Lengths) → buffersGood R L ≡ true → Roomy (volume R) L
+pub long-enough : (R : Room) (L : Lengths) → buffersGood R L ≡ true → LongEnough (volume R) L
 unfolding buffersGood
-roomy R L e =
+long-enough R L e =
     let l = L .occupied ∷ L .repeaters ∷ L .kinds ∷ L .blocked ∷ L .classes ∷ L .joinable ∷ L .known ∷ L .previous ∷ L .path ∷ L .best ∷ [] in
     let all = every (leb (volume R)) l in
     let fit = all-fit (volume R) l (and-left all (leb 1 (L .queue / 2)) e) in
@@ -61,14 +61,14 @@ roomy R L e =
     }
 
 module _ {sheet : List ℕ} {job : Job} {B : Lent} (A : Lendable sheet job B) where
-  pub enough : Roomy (volume (job .room)) (lengthsOf B)
-  enough = roomy (job .room) (lengthsOf B) (A .buffers)
+  pub enough : LongEnough (volume (job .room)) (lengthsOf B)
+  enough = long-enough (job .room) (lengthsOf B) (A .buffers)
 
   -- a cleared output's front
   clear-front : {marks : List ℕ} {n : ℕ} → n ≤ length marks → marks ≡ replicate (length marks) 0 → take n marks ≡ noMarks n
   clear-front {marks = marks} {n = n} h e = ap (take n) e ∙ take-zeros n (length marks) h
 
-  pub routable : Cleared B → {cells : ℕ} → cells ≡ volume (job .room)
+  pub routable : OutputsClear B → {cells : ℕ} → cells ≡ volume (job .room)
       → Routable sheet job (lent (B .branches) (take cells (B .occupied)) (take cells (B .repeaters)) (take cells (B .kinds)) (take cells (B .blocked)) (take cells (B .classes)) (take cells (B .joinable)) (take cells (B .known)) (take cells (B .previous)) (take cells (B .path)) (take cells (B .best)) (B .queue))
   routable C e = record {
     accepted = A .accepted;

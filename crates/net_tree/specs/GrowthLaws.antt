@@ -24,7 +24,7 @@ use Rattle.multinet.specs.declared.GrownBranches.{GrownBranches}
 use Rattle.multinet.specs.Tree.{Plot, grown, stopped, growFrom, growthOf, repeatersOf}
 use Rattle.multinet.specs.Growing.{Growing}
 use Rattle.multinet.specs.Sinks.{Plantable, EndTold, GrowthTold}
-use Rattle.multinet.specs.Finishing.{Holds, Finishable}
+use Rattle.multinet.specs.Finishing.{BufferHolds, Finishable}
 use Rattle.net_tree.specs.declared.Answer.{Answer}
 use Rattle.net_tree.specs.declared.Ended.the-variants.{Routed}
 use Rattle.net_tree.specs.Answers.{Lent, refused, outcomeOf, answerOf}
@@ -94,7 +94,7 @@ module _ {P : Plot} {B : Lent} (A : Growable P B) where
       count-is : length bs ≡ g .lengths .count
       count-is = all-in .sprouted .count-is ∙ sym (told-as e .0)
 
-      holds : Holds (g .lengths) branches bs
+      holds : BufferHolds (g .lengths) branches bs
       holds = record { in-order = all-in .in-order; lengths-are = all-in .lengths-are; count-is = count-is }
 
       harvestable : {classes known previous path : List ℕ} → length classes ≡ length (B .classes) → length known ≡ length (B .known)

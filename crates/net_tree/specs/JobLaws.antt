@@ -10,7 +10,7 @@ use Rattle.room.specs.Room.{volume}
 use Rattle.routing_resources.specs.Marks.{noMarks, Marks}
 use Rattle.routing_resources.specs.MarkLaws.{with-length, marks-none, marks-with}
 use Rattle.job_sheet.specs.declared.Job.{Job}
-use Rattle.job_sheet.specs.declared.Verdict.the-variants.{Good}
+use Rattle.job_sheet.specs.declared.Judgement.the-variants.{Good}
 use Rattle.job_sheet.specs.Sheet.{Contents, Means, judged, jobOf}
 use Rattle.job_sheet.specs.Accepted.{Accepted, Usable}
 use Rattle.job_sheet.specs.Theorems.{one-meaning, usable}
@@ -32,7 +32,7 @@ use Rattle.net_tree.specs.declared.Lengths.{Lengths}
 use Rattle.net_tree.specs.declared.Answer.{Answer}
 use Rattle.net_tree.specs.Answers.{Lent, lent, lengthsOf, buffersGood, refused, plotFor, outcomeOf, jobOutcome, answerOf}
 use Rattle.net_tree.specs.Entry.{Growable, TreeGrown, Routable, JobRouted}
-use Rattle.net_tree.specs.EntryLaws.{roomy}
+use Rattle.net_tree.specs.EntryLaws.{long-enough}
 
 -- a number from setting out is above 6
 pub late : (p : Placement) (f : Fault) → readyBy p f ≡ false → 6 < numberBy p f
@@ -120,7 +120,7 @@ pub plot-sound : {sheet : List ℕ} (J : Contents) → Means sheet J → judged 
     → {O : Outset} {kinds nodes blocked : List ℕ} → OutsetOf J O kinds nodes blocked → ready O ≡ true → SoundPlot (plotFor J L O kinds)
 plot-sound J m g L b S r =
     let A : Accepted _ (jobOf J) = record { contents = J; means = m; good = g; is = refl } in
-    subst SoundPlot (sym (same-plot A S r L)) (job-sound A S r L (roomy (J .room) L b .places-some))
+    subst SoundPlot (sym (same-plot A S r L)) (job-sound A S r L (long-enough (J .room) L b .places-some))
 
 -- ---- the same, over work memory of exactly V cells
 

@@ -12,14 +12,14 @@ use Rattle.lent.specs.Lent.{touches, filled, outputAfter, workAfter, Emptied}
 use Rattle.room.specs.Room.{volume}
 use Rattle.job_sheet.specs.declared.Job.{Job}
 use Rattle.job_sheet.specs.declared.Reading.{Reading}
-use Rattle.job_sheet.specs.declared.Verdict.{Verdict}
-use Rattle.job_sheet.specs.declared.Verdict.the-variants as verdict
+use Rattle.job_sheet.specs.declared.Judgement.{Judgement}
+use Rattle.job_sheet.specs.declared.Judgement.the-variants as judgement
 use Rattle.job_sheet.specs.Sheet.{Read, isGood, numberOf, joined}
 use Rattle.job_sheet.specs.Accepted.{Accepted}
 use Rattle.job_sheet.specs.Theorems.{usable}
 use Rattle.net_tree.specs.declared.Answer.{Answer}
-use Rattle.net_tree.specs.Answers.{Lent, lent, lengthsOf, buffersGood, Outcome, routed, refused, jobOutcome, Comes, unread, unlent, set-out, answerOf, numberFor, branchesFor, occupiedFor, repeatersFor, lentAfter, Promise}
-use Rattle.net_tree.specs.Entry.{Written, Lendable, Cleared, FrontRouted, settledBy}
+use Rattle.net_tree.specs.Answers.{Lent, lent, lengthsOf, buffersGood, TreeOutcome, routed, refused, jobOutcome, Comes, unread, unlent, set-out, answerOf, numberFor, branchesFor, occupiedFor, repeatersFor, lentAfter, Promise}
+use Rattle.net_tree.specs.Entry.{OutputsHold, Lendable, OutputsClear, FrontRouted, settledBy}
 use Rattle.net_tree.specs.EntryLaws.{enough}
 
 -- ---- cleared outputs
@@ -51,7 +51,7 @@ module _ {sheet : List ℕ} {job : Job} {B : Lent} (A : Lendable sheet job B) {b
   pub clean-lendable : Lendable sheet job clean
   clean-lendable = record { accepted = A .accepted; buffers = ap (buffersGood (job .room)) same-lengths ∙ A .buffers }
 
-  pub clean-cleared : Cleared clean
+  pub clean-cleared : OutputsClear clean
   clean-cleared = record {
     branches-clear = cleared-to (sym (zeros-long {n = length (B .branches)} eb)) eb;
     occupied-clear = cleared-to (sym (zeros-long {n = length (B .occupied)} eo)) eo;
@@ -62,7 +62,7 @@ module _ {sheet : List ℕ} {job : Job} {B : Lent} (A : Lendable sheet job B) {b
 
   module _ {r : Answer} {branches′ occupied′ repeaters′ : List ℕ} (F : FrontRouted sheet job clean r branches′ occupied′ repeaters′)
       (kb : length branches′ ≡ length branches) (ko : length occupied′ ≡ length occupied) (kr : length repeaters′ ≡ length repeaters) where
-    abbrev job-outcome : Outcome
+    abbrev job-outcome : TreeOutcome
     job-outcome = F .is-routed .outcome
 
     comes : Comes sheet (lengthsOf B) job-outcome
@@ -73,7 +73,7 @@ module _ {sheet : List ℕ} {job : Job} {B : Lent} (A : Lendable sheet job B) {b
         (J .outset) (J .kinds) (J .nodes) (J .blocked) (J .is-set told (A .accepted .means))
         (J .comes told (A .accepted .means) ∙ ap (λ L. jobOutcome told L (J .outset) (J .kinds) (J .blocked)) same-lengths)
 
-    touched : (o : Outcome) → Written o branches branches′ (F .occupied-front) (F .repeaters-front) → touches (numberFor o) ≡ true
+    touched : (o : TreeOutcome) → OutputsHold o branches branches′ (F .occupied-front) (F .repeaters-front) → touches (numberFor o) ≡ true
     touched (routed bs marks repeating) w = refl
     touched (refused number detail) w = high w
 
@@ -95,12 +95,12 @@ module _ {sheet : List ℕ} {job : Job} {B : Lent} (A : Lendable sheet job B) {b
 
     module _ {branches″ occupied″ repeaters″ : List ℕ}
         (sb : branches″ ≡ settledBy (r .ended) branches′) (so : occupied″ ≡ settledBy (r .ended) occupied′) (sr : repeaters″ ≡ settledBy (r .ended) repeaters′) where
-      record Outputs (o : Outcome) : Type 0 where
+      record Outputs (o : TreeOutcome) : Type 0 where
         branches-are : branches″ ≡ outputAfter (numberFor o) (branchesFor o) (B .branches)
         occupied-are : occupied″ ≡ outputAfter (numberFor o) (occupiedFor o) (B .occupied)
         repeaters-are : repeaters″ ≡ outputAfter (numberFor o) (repeatersFor o) (B .repeaters)
 
-      outputs : (o : Outcome) → r ≡ answerOf o → Written o branches branches′ (F .occupied-front) (F .repeaters-front) → Outputs o
+      outputs : (o : TreeOutcome) → r ≡ answerOf o → OutputsHold o branches branches′ (F .occupied-front) (F .repeaters-front) → Outputs o
       outputs (routed bs marks repeating) a w = record {
         branches-are = sb ∙ ap (λ x. settledBy (x .ended) branches′) a ∙ w .0 ∙ ap (λ n. joined bs ++ replicate (n - length (joined bs)) 0) (zeros-long {n = length (B .branches)} eb);
         occupied-are =
@@ -151,24 +151,24 @@ module _ {sheet : List ℕ} {job : Job} {B : Lent} (A : Lendable sheet job B) {b
 
 -- ---- refused before anything is touched
 
-small-stays : (B : Lent) (o : Outcome) → touches (numberFor o) ≡ false → B ≡ lentAfter o B
+small-stays : (B : Lent) (o : TreeOutcome) → touches (numberFor o) ≡ false → B ≡ lentAfter o B
 small-stays B o e = rw e refl
 
-pub small : (v : Verdict) → isGood v ≡ false → touches (numberOf v) ≡ false
-small verdict.Good e = never (cc)
-small verdict.Sheet e = refl
-small verdict.Sides e = refl
-small verdict.Config e = refl
-small verdict.Position e = refl
-small verdict.Code e = refl
+pub unread-touches-none : (v : Judgement) → isGood v ≡ false → touches (numberOf v) ≡ false
+unread-touches-none judgement.Good e = never (cc)
+unread-touches-none judgement.Sheet e = refl
+unread-touches-none judgement.Sides e = refl
+unread-touches-none judgement.Config e = refl
+unread-touches-none judgement.Position e = refl
+unread-touches-none judgement.Code e = refl
 
 -- numbers 1 to 5
-pub promise-unread : {sheet : List ℕ} {B : Lent} {reading : Reading} → Read sheet reading → isGood (reading .verdict) ≡ false → {r : Answer} → r ≡ answerOf (refused (numberOf (reading .verdict)) 0) → Promise sheet B r B
+pub promise-unread : {sheet : List ℕ} {B : Lent} {reading : Reading} → Read sheet reading → isGood (reading .judgement) ≡ false → {r : Answer} → r ≡ answerOf (refused (numberOf (reading .judgement)) 0) → Promise sheet B r B
 promise-unread {B = B} {reading = reading} p f a = record {
-  outcome = refused (numberOf (reading .verdict)) 0;
+  outcome = refused (numberOf (reading .judgement)) 0;
   comes = unread reading p f refl;
   answer = a;
-  lent-is = small-stays B (refused (numberOf (reading .verdict)) 0) (small (reading .verdict) f);
+  lent-is = small-stays B (refused (numberOf (reading .judgement)) 0) (unread-touches-none (reading .judgement) f);
 }
 
 -- number 6

@@ -6,7 +6,7 @@ use Prim.Native.Nat.{ℕ}
 use Rattle.basics.specs.Tests.{never}
 use Rattle.basics.specs.Promises.{Determines}
 use Rattle.job_sheet.specs.declared.Reading.{Reading}
-use Rattle.job_sheet.specs.declared.Verdict.the-variants as verdict
+use Rattle.job_sheet.specs.declared.Judgement.the-variants as judgement
 use Rattle.job_sheet.specs.Sheet.{Contents, Means, Read, judged, isGood}
 use Rattle.job_sheet.specs.Theorems.{one-meaning, coincide as one-reading, answers-meaning}
 use Rattle.outset.specs.declared.Outset.{Outset}
@@ -14,10 +14,10 @@ use Rattle.outset.specs.SetOut.{OutsetOf}
 use Rattle.outset.specs.SetOutLaws.{outset-one}
 use Rattle.net_tree.specs.declared.Lengths.{Lengths}
 use Rattle.net_tree.specs.declared.Answer.{Answer}
-use Rattle.net_tree.specs.Answers.{Lent, Outcome, jobOutcome, Comes, unread, unlent, set-out, answerOf, lentAfter, Promise}
+use Rattle.net_tree.specs.Answers.{Lent, TreeOutcome, jobOutcome, Comes, unread, unlent, set-out, answerOf, lentAfter, Promise}
 
 -- a sheet that is accepted is not refused by its reading
-pub read-good : {sheet : List ℕ} {r : Reading} {J : Contents} → Read sheet r → Means sheet J → judged J ≡ verdict.Good → isGood (r .verdict) ≡ true
+pub read-good : {sheet : List ℕ} {r : Reading} {J : Contents} → Read sheet r → Means sheet J → judged J ≡ judgement.Good → isGood (r .judgement) ≡ true
 read-good {sheet = sheet} {r = r} {J = J} p m g = rw (answers-meaning sheet J r m p, g)
 
 clash : {X : Type 0} → false ≡ true → X
@@ -33,7 +33,7 @@ module _ {sheet : List ℕ} (L : Lengths) where
 
 -- one outcome comes of a sheet
 module _ {sheet : List ℕ} {L : Lengths} where
-  pub comes-one : {o q : Outcome} → Comes sheet L o → Comes sheet L q → o ≡ q
+  pub comes-one : {o q : TreeOutcome} → Comes sheet L o → Comes sheet L q → o ≡ q
   comes-one (unread r p f e) (unread s q g d) = e ∙ rw (one-reading sheet r s p q) (sym d)
   comes-one (unread r p f e) (unlent J m g b d) = clash (sym f ∙ read-good p m g)
   comes-one (unread r p f e) (set-out J m g b O kinds nodes blocked s d) = clash (sym f ∙ read-good p m g)

@@ -9,7 +9,7 @@ use room::Room;
 ghost use mathlib.Core.Path.{_≡_};
 ghost use Rattle.lent.specs.Lent.{Emptied};
 ghost use Rattle.net_tree.specs.Answers.{buffersGood, Promise, lent};
-ghost use Rattle.net_tree.specs.Entry.{settledBy, Lendable, Cleared, FrontRouted};
+ghost use Rattle.net_tree.specs.Entry.{settledBy, Lendable, OutputsClear, FrontRouted};
 ghost use Rattle.room.specs.Room.{Good};
 
 // Whether the lent memory suffices; where it doesn't, number 6 is due.
@@ -108,7 +108,7 @@ fn route_front(
     queue: &mut [u64],
 ) -> Answer
     requires { ⌜ Lendable (now sheet) job (lent (now branches) (now occupied) (now repeaters) (now kinds) (now blocked) (now classes) (now joinable) (now known) (now previous) (now path) (now best) (now queue)) ⌝ }
-    requires { ⌜ Cleared (lent (now branches) (now occupied) (now repeaters) (now kinds) (now blocked) (now classes) (now joinable) (now known) (now previous) (now path) (now best) (now queue)) ⌝ }
+    requires { ⌜ OutputsClear (lent (now branches) (now occupied) (now repeaters) (now kinds) (now blocked) (now classes) (now joinable) (now known) (now previous) (now path) (now best) (now queue)) ⌝ }
     ensures { λ r. ⌜ FrontRouted (now (sheet .entry)) job (lent (now (branches .entry)) (now (occupied .entry)) (now (repeaters .entry)) (now (kinds .entry)) (now (blocked .entry)) (now (classes .entry)) (now (joinable .entry)) (now (known .entry)) (now (previous .entry)) (now (path .entry)) (now (best .entry)) (now (queue .entry))) r (now (branches .exit)) (now (occupied .exit)) (now (repeaters .exit)) ⌝ }
 {
     let cells = job.room.volume();
@@ -204,9 +204,9 @@ pub fn route_net_tree(
     ensures { λ r. ⌜ Promise (now (sheet .entry)) (lent (now (branches .entry)) (now (occupied .entry)) (now (repeaters .entry)) (now (kinds .entry)) (now (blocked .entry)) (now (classes .entry)) (now (joinable .entry)) (now (known .entry)) (now (previous .entry)) (now (path .entry)) (now (best .entry)) (now (queue .entry))) r (lent (now (branches .exit)) (now (occupied .exit)) (now (repeaters .exit)) (now (kinds .exit)) (now (blocked .exit)) (now (classes .exit)) (now (joinable .exit)) (now (known .exit)) (now (previous .exit)) (now (path .exit)) (now (best .exit)) (now (queue .exit))) ⌝ }
 {
     let reading = sheet_reader::read_sheet(sheet);
-    let verdict = reading.verdict;
-    if !verdict.is_good() {
-        return refuse(verdict.number(), 0);
+    let judgement = reading.judgement;
+    if !judgement.is_good() {
+        return refuse(judgement.number(), 0);
     }
     let lengths = Lengths {
         branches: branches.len(),

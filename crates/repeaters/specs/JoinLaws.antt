@@ -17,9 +17,9 @@ use Rattle.room.specs.declared.Room.{Room}
 use Rattle.room.specs.declared.Pos.{Pos}
 use Rattle.room.specs.declared.Move.{Move}
 use Rattle.room.specs.declared.Neighbour.{Neighbour}
-use Rattle.room.specs.Room.{Good, volume, posOf, by, moves, moveAt, holdsAt, neighbour, Step}
+use Rattle.room.specs.Room.{Good, volume, posOf, by, moves, moveAt, holdsAt, neighbour, Step, moveBetween}
 use Rattle.room.specs.RoomLaws.{small-pos}
-use Rattle.room.specs.MoveLaws.{Moved, leads, small, symmetric, opposite, opposite-in, sameMove, same-move, moveBetween, between-is}
+use Rattle.room.specs.MoveLaws.{Moved, leads, small, symmetric, opposite, opposite-in, sameMove, same-move, between-is}
 use Rattle.repeaters.specs.Repeaters.{isStep}
 use Rattle.repeaters.specs.Links.{numberOrder, orderedMoves, orderedMove}
 use Rattle.repeaters.specs.Joins.{maskOf, isLink, Masks, Masked, withLink, Joined, moveIndex, stepIndex}
@@ -279,13 +279,13 @@ module _ {R : Room} where
   }
 
 -- joining in turns: what is left to add, with what was added to the relation of the start, makes all with it
-pub record Added (R : Room) (left all p : ℕ → ℕ → Bool) (links : List ℕ) : Type 0 where
+pub record JoinedSoFar (R : Room) (left all p : ℕ → ℕ → Bool) (links : List ℕ) : Type 0 where
   pub relation : ℕ → ℕ → Bool
   pub masks : Masks R relation links
   pub same : (u v : ℕ) → left u v || relation u v ≡ all u v || p u v
 
 pub record Adding (R : Room) (left all : ℕ → ℕ → Bool) (start links : List ℕ) : Type 0 where
-  pub goes : (p : ℕ → ℕ → Bool) → Masks R p start → Added R left all p links
+  pub goes : (p : ℕ → ℕ → Bool) → Masks R p start → JoinedSoFar R left all p links
 
 module _ {R : Room} where
   pub adding-none : {all : ℕ → ℕ → Bool} {start : List ℕ} → Adding R all all start start

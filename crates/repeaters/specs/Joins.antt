@@ -9,8 +9,7 @@ use Rattle.basics.specs.Tests.{either}
 use Rattle.basics.specs.Counts.{bit}
 use Rattle.room.specs.declared.Room.{Room}
 use Rattle.room.specs.declared.Move.{Move}
-use Rattle.room.specs.Room.{volume, posOf, holdsAt, neighbour, Step}
-use Rattle.room.specs.MoveLaws.{moveBetween}
+use Rattle.room.specs.Room.{volume, posOf, holdsAt, neighbour, Step, moveBetween}
 use Rattle.branches.specs.declared.BranchLengths.{BranchLengths}
 use Rattle.branches.specs.Branches.{branchesOf, Branched}
 use Rattle.repeaters.specs.Links.{orderedMove}

@@ -41,17 +41,17 @@ inside-one (Neighbour.Inside v) = omega arith
 inside-one Neighbour.Outside = omega arith
 
 -- the loop that counts: those that are left and those counted make all
-pub record Counted (R : Room) (p : Pos) (mask rest count k : ℕ) : Type 0 where
+pub record LinksCounted (R : Room) (p : Pos) (mask rest count k : ℕ) : Type 0 where
   pub within : k ≤ 12
   pub few : count ≤ k
   pub same : count + length (cellsLeft R p rest k) ≡ length (cellsBy R p mask orderedMoves)
 
 module _ {R : Room} {p : Pos} {mask : ℕ} where
-  pub counted-none : Counted R p mask mask 0 0
+  pub counted-none : LinksCounted R p mask mask 0 0
   counted-none = record { within = omega arith; few = omega arith; same = omega arith }
 
-  module _ {rest count k : ℕ} (I : Counted R p mask rest count k) where
-    pub counted-next : k < 12 → (n : ℕ) → n ≡ insideCount (linkedPlace R p rest (orderedMove k)) → Counted R p mask (rest / 2) (count + n) (k + 1)
+  module _ {rest count k : ℕ} (I : LinksCounted R p mask rest count k) where
+    pub counted-next : k < 12 → (n : ℕ) → n ≡ insideCount (linkedPlace R p rest (orderedMove k)) → LinksCounted R p mask (rest / 2) (count + n) (k + 1)
     counted-next h n e = record {
       within = omega arith;
       few = omega (arith, I .few, e, inside-one (linkedPlace R p rest (orderedMove k)));

@@ -50,7 +50,7 @@ abbrev pub fitBy : Room → List ℕ → List ℕ → List ℕ → ℕ → Bool
 fitBy R links forbidden path = fits R (linkedCells R links) forbidden path
 
 -- what the test of a place asks of its parameters
-pub record Ready (R : Room) (links forbidden path : List ℕ) : Type 0 where
+pub record PathReady (R : Room) (links forbidden path : List ℕ) : Type 0 where
   pub good : Good R
   pub links-long : length links ≡ volume R
   pub forbidden-long : length forbidden ≡ volume R

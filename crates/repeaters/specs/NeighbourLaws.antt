@@ -19,7 +19,7 @@ use Rattle.room.specs.declared.Neighbour.{Neighbour}
 use Rattle.room.specs.Room.{Good, volume, posOf, by, moves, neighbourAt, neighbour, Step}
 use Rattle.room.specs.RoomLaws.{Before, order, cell-pos}
 use Rattle.room.specs.MoveLaws.{Moved, leads}
-use Rattle.repeaters.specs.Repeaters.{cellsFrom, treeNeighbours, isStep, besideOn, neighbouring}
+use Rattle.repeaters.specs.Repeaters.{cellsPassing, treeNeighbours, isStep, besideOn, neighbouring}
 use Rattle.repeaters.specs.Links.{orderedMoves, orderedMove, consPlace, cellsBy, linkedCells}
 use Rattle.repeaters.specs.Joins.{Steps, AllSteps, maskOf, isLink, stepIndex, Masks, Joined}
 use Rattle.repeaters.specs.JoinLaws.{mask-low, mask-rest, masks-same, masks-none, step-back, step-in, step-ordered}
@@ -50,29 +50,29 @@ one-list (x ∷ xs) (y ∷ ys) a b f g =
 -- ---- the cells that pass a test, from one on
 
 module _ (p : ℕ → Bool) where
-  cells-in : (n v w : ℕ) → In w (cellsFrom p n v) → (v ≤ w) × (w < v + n) × (p w ≡ true)
-  unfolding cellsFrom
+  cells-in : (n v w : ℕ) → In w (cellsPassing p n v) → (v ≤ w) × (w < v + n) × (p w ≡ true)
+  unfolding cellsPassing
   cells-in zero v w i = absurd i
   cells-in (suc n) v w i = ask (p v) (λ t. first t (cells-in n (suc v) w) (rw t at i)) (λ f. later (cells-in n (suc v) w (rw f at i)))
     where
       later : (suc v ≤ w) × (w < suc v + n) × (p w ≡ true) → (v ≤ w) × (w < v + suc n) × (p w ≡ true)
       later r = (omega (arith, r .0), omega (arith, r .1), r .2)
 
-      first : p v ≡ true → (In w (cellsFrom p n (suc v)) → (suc v ≤ w) × (w < suc v + n) × (p w ≡ true)) → (w ≡ v) ⊎ In w (cellsFrom p n (suc v))
+      first : p v ≡ true → (In w (cellsPassing p n (suc v)) → (suc v ≤ w) × (w < suc v + n) × (p w ≡ true)) → (w ≡ v) ⊎ In w (cellsPassing p n (suc v))
           → (v ≤ w) × (w < v + suc n) × (p w ≡ true)
       first t ih (inl e) = (omega arith, omega arith, rw e t)
       first t ih (inr j) = later (ih j)
 
-  cells-all : (n v w : ℕ) → v ≤ w → w < v + n → p w ≡ true → In w (cellsFrom p n v)
-  unfolding cellsFrom
+  cells-all : (n v w : ℕ) → v ≤ w → w < v + n → p w ≡ true → In w (cellsPassing p n v)
+  unfolding cellsPassing
   cells-all zero v w h k e = absurd (omega arith)
   cells-all (suc n) v w h k e =
       askSame w v
       (λ q. let t : p v ≡ true = rw (← q) e in rw t (inl q))
       (λ d. let rest = cells-all n (suc v) w (omega (arith, d)) (omega arith) e in ask (p v) (λ t. rw t (inr rest)) (λ f. rw f rest))
 
-  cells-ascend : (n v : ℕ) → Ascending (cellsFrom p n v)
-  unfolding cellsFrom
+  cells-ascend : (n v : ℕ) → Ascending (cellsPassing p n v)
+  unfolding cellsPassing
   cells-ascend zero v = tt
   cells-ascend (suc n) v = ask (p v) (λ t. rw t ((λ w i. cells-in n (suc v) w i .0), cells-ascend n (suc v))) (λ f. rw f (cells-ascend n (suc v)))
 
@@ -253,7 +253,7 @@ module _ {R : Room} (G : Good R) where
     unfolding linkedCells treeNeighbours
     far u h =
         rw (List·getD-eq-default links 0 {n = u} (rw (M .long) h), by-nothing R (posOf R u) orderedMoves)
-        (one-list [] (cellsFrom (neighbouring branches u) (volume R) 0) tt (cells-ascend (neighbouring branches u) (volume R) 0) (λ w i. absurd i)
+        (one-list [] (cellsPassing (neighbouring branches u) (volume R) 0) tt (cells-ascend (neighbouring branches u) (volume R) 0) (λ w i. absurd i)
         (λ w i. absurd (omega (arith, neighbour-step branches S u w (cells-in (neighbouring branches u) (volume R) 0 w i .2) .from-in))))
 
     linked-neighbours : linkedCells R links ≡ treeNeighbours branches (volume R)

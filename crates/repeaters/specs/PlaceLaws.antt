@@ -7,7 +7,7 @@ use native.Mathlib.Omega.{arith}
 use lib.ListN.{length, getD}
 use borrow.Author.Tests.{eq-eqb, ne-eqb, lt-ltb, le-ltb}
 use Rattle.room.specs.declared.Room.{Room}
-use Rattle.repeaters.specs.Repeaters.{cellAt, fits, straight}
+use Rattle.repeaters.specs.Repeaters.{pathCell, fits, straight}
 
 module _ (R : Room) (next : ℕ → List ℕ) (forbidden path : List ℕ) (i : ℕ) where
   pub fits-not-first : i ≡ 0 → false ≡ fits R next forbidden path i
@@ -23,18 +23,18 @@ module _ (R : Room) (next : ℕ → List ℕ) (forbidden path : List ℕ) (i : �
     fits-not-last h = rw (lt-ltb 0 i some, le-ltb (i + 1) (length path) h)
 
     module _ (more : i + 1 < length path) where
-      pub fits-not-taken : getD forbidden (cellAt path i) 0 ≡ 1 → false ≡ fits R next forbidden path i
+      pub fits-not-taken : getD forbidden (pathCell path i) 0 ≡ 1 → false ≡ fits R next forbidden path i
       unfolding fits
-      fits-not-taken e = rw (lt-ltb 0 i some, lt-ltb (i + 1) (length path) more, eq-eqb (getD forbidden (cellAt path i) 0) 1 e)
+      fits-not-taken e = rw (lt-ltb 0 i some, lt-ltb (i + 1) (length path) more, eq-eqb (getD forbidden (pathCell path i) 0) 1 e)
 
-      module _ (free : getD forbidden (cellAt path i) 0 ≡ 1 → ⊥) where
-        pub fits-not-joined : (length (next (cellAt path i)) ≡ 2 → ⊥) → false ≡ fits R next forbidden path i
+      module _ (free : getD forbidden (pathCell path i) 0 ≡ 1 → ⊥) where
+        pub fits-not-joined : (length (next (pathCell path i)) ≡ 2 → ⊥) → false ≡ fits R next forbidden path i
         unfolding fits
         fits-not-joined n =
-            rw (lt-ltb 0 i some, lt-ltb (i + 1) (length path) more, ne-eqb (getD forbidden (cellAt path i) 0) 1 free, ne-eqb (length (next (cellAt path i))) 2 n)
+            rw (lt-ltb 0 i some, lt-ltb (i + 1) (length path) more, ne-eqb (getD forbidden (pathCell path i) 0) 1 free, ne-eqb (length (next (pathCell path i))) 2 n)
 
-        pub fits-if : length (next (cellAt path i)) ≡ 2
-            → straight R (cellAt path (i - 1)) (cellAt path i) (cellAt path (i + 1)) ≡ fits R next forbidden path i
+        pub fits-if : length (next (pathCell path i)) ≡ 2
+            → straight R (pathCell path (i - 1)) (pathCell path i) (pathCell path (i + 1)) ≡ fits R next forbidden path i
         unfolding fits
         fits-if e =
-            rw (lt-ltb 0 i some, lt-ltb (i + 1) (length path) more, ne-eqb (getD forbidden (cellAt path i) 0) 1 free, eq-eqb (length (next (cellAt path i))) 2 e)
+            rw (lt-ltb 0 i some, lt-ltb (i + 1) (length path) more, ne-eqb (getD forbidden (pathCell path i) 0) 1 free, eq-eqb (length (next (pathCell path i))) 2 e)

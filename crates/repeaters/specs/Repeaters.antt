@@ -37,13 +37,13 @@ consIf true v vs = v ∷ vs
 consIf false v vs = vs
 
 -- the cells that pass the test, of n from v on, in number order
-unfoldable pub cellsFrom : (ℕ → Bool) → ℕ → ℕ → List ℕ
-cellsFrom p zero v = []
-cellsFrom p (suc n) v = consIf (p v) v (cellsFrom p n (suc v))
+unfoldable pub cellsPassing : (ℕ → Bool) → ℕ → ℕ → List ℕ
+cellsPassing p zero v = []
+cellsPassing p (suc n) v = consIf (p v) v (cellsPassing p n (suc v))
 
 -- the tree neighbours of a cell, of the cells below n, in number order
 unfoldable pub treeNeighbours : List (List ℕ) → ℕ → ℕ → List ℕ
-treeNeighbours branches n u = cellsFrom (neighbouring branches u) n 0
+treeNeighbours branches n u = cellsPassing (neighbouring branches u) n 0
 
 -- ---- "the path from the source (breadth first, neighbours in number order)"
 
@@ -103,14 +103,14 @@ facingOf R a b = facingBy (posOf R a) (posOf R b)
 unfoldable pub straight : Room → ℕ → ℕ → ℕ → Bool
 straight R a b c = not (eqb (facingOf R a b) noFacing) && eqb (facingOf R a b) (facingOf R b c)
 
-abbrev pub cellAt : List ℕ → ℕ → ℕ
-cellAt path i = getD path i 0
+abbrev pub pathCell : List ℕ → ℕ → ℕ
+pathCell path i = getD path i 0
 
 -- "not a terminal or approach of this net, has a next cell, two tree neighbours and equal flat facing in and out"; so it has a cell before it, too
 unfoldable pub fits : Room → (ℕ → List ℕ) → List ℕ → List ℕ → ℕ → Bool
 fits R next forbidden path i =
-    ltb 0 i && (ltb (i + 1) (length path) && (not (isMarked forbidden (cellAt path i))
-    && (eqb (length (next (cellAt path i))) 2 && straight R (cellAt path (i - 1)) (cellAt path i) (cellAt path (i + 1)))))
+    ltb 0 i && (ltb (i + 1) (length path) && (not (isMarked forbidden (pathCell path i))
+    && (eqb (length (next (pathCell path i))) 2 && straight R (pathCell path (i - 1)) (pathCell path i) (pathCell path (i + 1)))))
 
 -- the latest place below n that passes the test, 0 for none
 unfoldable pub latest : (ℕ → Bool) → ℕ → ℕ
@@ -124,11 +124,11 @@ earliest p (suc n) from = either (p from) from (earliest p n (from + 1))
 
 -- a repeater stands at this place of the path
 abbrev pub repeaterAt : List ℕ → List ℕ → ℕ → Bool
-repeaterAt path marks i = isMarked marks (cellAt path i)
+repeaterAt path marks i = isMarked marks (pathCell path i)
 
 -- a repeater is put at a place of the path; at place 0, which stands for none, nothing changes
 unfoldable pub withRepeater : List ℕ → List ℕ → ℕ → List ℕ
-withRepeater path marks i = either (eqb i 0) marks (set marks (cellAt path i) 1)
+withRepeater path marks i = either (eqb i 0) marks (set marks (pathCell path i) 1)
 
 -- ---- the runs
 

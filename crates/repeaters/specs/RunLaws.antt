@@ -12,7 +12,7 @@ use lib.ListN.{length, getD, set}
 use borrow.Author.Tests.{lt-ltb, le-ltb, ltb-true, eq-eqb, ne-eqb}
 use Rattle.basics.specs.Tests.{either, ask, and-left}
 use Rattle.repeaters.specs.declared.Stride.{Stride}
-use Rattle.repeaters.specs.Repeaters.{cellAt, latest, withRepeater, walk, candidate, resume, step, steps, run}
+use Rattle.repeaters.specs.Repeaters.{pathCell, latest, withRepeater, walk, candidate, resume, step, steps, run}
 use Rattle.repeaters.specs.Runs.{Walking, stepsLeft, Strode}
 
 -- ---- the latest place that passes a test
@@ -86,15 +86,15 @@ module _ (limit : ℕ) (fit : ℕ → Bool) (path marks : List ℕ) (s : Stride)
   fresh : (i : ℕ) → Walking fit (at-reset i)
   fresh i = record { past = omega arith; known = sym (candidate-none fit i (i + 1) (omega arith)) }
 
-  pub strode-met : getD marks (cellAt path place) 0 ≡ 1 → Strode limit fit path marks s marks (at-reset place)
+  pub strode-met : getD marks (pathCell path place) 0 ≡ 1 → Strode limit fit path marks s marks (at-reset place)
   unfolding step
   strode-met e = record {
-    is = rw (eq-eqb (getD marks (cellAt path place) 0) 1 e);
+    is = rw (eq-eqb (getD marks (pathCell path place) 0) 1 e);
     walking = fresh place;
     less = reset-less path s (at-reset place) (W .past) inside;
   }
 
-  module _ (none : getD marks (cellAt path place) 0 ≡ 1 → ⊥) (c : ℕ) (found : c ≡ either (fit place) place (s .latest)) where
+  module _ (none : getD marks (pathCell path place) 0 ≡ 1 → ⊥) (c : ℕ) (found : c ≡ either (fit place) place (s .latest)) where
     chosen : c ≡ candidate fit (s .reset) (place + 1)
     chosen = chosen-is W c found
 
@@ -107,7 +107,7 @@ module _ (limit : ℕ) (fit : ℕ → Bool) (path marks : List ℕ) (s : Stride)
     pub strode-near : place - s .reset ≤ limit → Strode limit fit path marks s marks onward
     unfolding step
     strode-near h = record {
-      is = rw (ne-eqb (getD marks (cellAt path place) 0) 1 none, le-ltb (s .reset + limit) place (omega arith));
+      is = rw (ne-eqb (getD marks (pathCell path place) 0) 1 none, le-ltb (s .reset + limit) place (omega arith));
       walking = walks;
       less = on-less path (s .reset) place (s .latest) c inside;
     }
@@ -116,22 +116,22 @@ module _ (limit : ℕ) (fit : ℕ → Bool) (path marks : List ℕ) (s : Stride)
       pub strode-none : c ≡ 0 → Strode limit fit path marks s marks onward
       unfolding step resume
       strode-none z = record {
-        is = rw (ne-eqb (getD marks (cellAt path place) 0) 1 none, lt-ltb (s .reset + limit) place (omega arith), ← chosen, eq-eqb c 0 z);
+        is = rw (ne-eqb (getD marks (pathCell path place) 0) 1 none, lt-ltb (s .reset + limit) place (omega arith), ← chosen, eq-eqb c 0 z);
         walking = walks;
         less = on-less path (s .reset) place (s .latest) c inside;
       }
 
-      pub strode-put : (c ≡ 0 → ⊥) → Strode limit fit path marks s (set marks (cellAt path c) 1) (at-reset c)
+      pub strode-put : (c ≡ 0 → ⊥) → Strode limit fit path marks s (set marks (pathCell path c) 1) (at-reset c)
       unfolding step resume withRepeater
       strode-put n = record {
-        is = rw (ne-eqb (getD marks (cellAt path place) 0) 1 none, lt-ltb (s .reset + limit) place (omega arith), ← chosen, ne-eqb c 0 n);
+        is = rw (ne-eqb (getD marks (pathCell path place) 0) 1 none, lt-ltb (s .reset + limit) place (omega arith), ← chosen, ne-eqb c 0 n);
         walking = fresh c;
         less = reset-less path s (at-reset c) (chosen-after W c found n .0) (omega (arith, chosen-after W c found n .1));
       }
 
 -- ---- the loop over the steps
 
-pub record Running (limit : ℕ) (fit : ℕ → Bool) (path start marks : List ℕ) (s : Stride) : Type 0 where
+pub record Striding (limit : ℕ) (fit : ℕ → Bool) (path start marks : List ℕ) (s : Stride) : Type 0 where
   pub walking : Walking fit s
   pub long : length marks ≡ length start
   pub fuel : ℕ
@@ -139,7 +139,7 @@ pub record Running (limit : ℕ) (fit : ℕ → Bool) (path start marks : List �
   pub same : steps limit fit path fuel (walk marks (s .reset) (s .place)) ≡ run limit fit path start
 
 module _ {limit : ℕ} {fit : ℕ → Bool} {path start : List ℕ} where
-  pub running-outset : Running limit fit path start start (record { reset = 0; place = 1; latest = 0 })
+  pub running-outset : Striding limit fit path start start (record { reset = 0; place = 1; latest = 0 })
   unfolding run stepsLeft
   running-outset = record {
     walking = record { past = omega arith; known = sym (candidate-none fit 0 1 (omega arith)) };
@@ -149,13 +149,13 @@ module _ {limit : ℕ} {fit : ℕ → Bool} {path start : List ℕ} where
     same = refl;
   }
 
-  module _ {marks : List ℕ} {s : Stride} (I : Running limit fit path start marks s) where
+  module _ {marks : List ℕ} {s : Stride} (I : Striding limit fit path start marks s) where
     pub running-next : s .place < length path → {marks′ : List ℕ} {r : Stride} → length marks′ ≡ length marks
-        → Strode limit fit path marks s marks′ r → Running limit fit path start marks′ r
+        → Strode limit fit path marks s marks′ r → Striding limit fit path start marks′ r
     unfolding steps
     running-next h {marks′} {r} e S = go (I .fuel) (I .enough) (I .same)
       where
-        go : (f : ℕ) → stepsLeft path s ≤ f → steps limit fit path f (walk marks (s .reset) (s .place)) ≡ run limit fit path start → Running limit fit path start marks′ r
+        go : (f : ℕ) → stepsLeft path s ≤ f → steps limit fit path f (walk marks (s .reset) (s .place)) ≡ run limit fit path start → Striding limit fit path start marks′ r
         go zero a q = absurd (omega (arith, S .less))
         go (suc f) a q = record {
           walking = S .walking;

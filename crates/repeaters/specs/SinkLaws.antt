@@ -11,7 +11,7 @@ use Rattle.ends.specs.declared.Tap.{Tap}
 use Rattle.ends.specs.declared.Taps.{Taps}
 use Rattle.ends.specs.Ends.{noTap, tapsIn}
 use Rattle.repeaters.specs.Repeaters.{treeNeighbours, parentsFrom, runOf, tailOf, planned, repeaterMarks}
-use Rattle.repeaters.specs.Links.{linkedCells, Ready}
+use Rattle.repeaters.specs.Links.{linkedCells, PathReady}
 use Rattle.repeaters.specs.Roots.{Traced}
 use Rattle.repeaters.specs.RootLaws.{path-cells}
 use Rattle.repeaters.specs.Sinks.{Grown}
@@ -19,9 +19,9 @@ use Rattle.basics.specs.Walks.{along, Walk, walk-first, walk-next, walk-last}
 use Rattle.ends.specs.EndLaws.{tap-is}
 
 -- a path of a grown tree is ready for the tests of its places
-pub ready : {R : Room} {links parents forbidden : List ℕ} → Grown R links parents forbidden → {cell : ℕ} {line : List ℕ} {count : ℕ} → cell < volume R
-    → Traced parents cell line count → Ready R links forbidden (take count line)
-ready {R} {links} {parents} G {cell} h T = record {
+pub path-ready : {R : Room} {links parents forbidden : List ℕ} → Grown R links parents forbidden → {cell : ℕ} {line : List ℕ} {count : ℕ} → cell < volume R
+    → Traced parents cell line count → PathReady R links forbidden (take count line)
+path-ready {R} {links} {parents} G {cell} h T = record {
   good = G .good;
   links-long = G .links-long;
   forbidden-long = G .forbidden-long;

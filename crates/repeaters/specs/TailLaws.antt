@@ -10,7 +10,7 @@ use lib.ListN.{length, getD, set}
 use borrow.Author.Tests.{lt-ltb, le-ltb, eq-eqb, ne-eqb}
 use Rattle.basics.specs.Tests.{either, ask, passed}
 use Rattle.room.specs.declared.Room.{Room}
-use Rattle.repeaters.specs.Repeaters.{cellAt, fits, latest, earliest, repeaterAt, withRepeater, end, lastReset, tailFit, tailPlace, reinforced}
+use Rattle.repeaters.specs.Repeaters.{pathCell, fits, latest, earliest, repeaterAt, withRepeater, end, lastReset, tailFit, tailPlace, reinforced}
 use Rattle.repeaters.specs.RunLaws.{latest-is, latest-next}
 
 -- a place that fits has a cell before it and one behind it
@@ -35,7 +35,7 @@ module _ {path marks : List ℕ} where
   last-none = record { within = omega arith; is = refl }
 
   module _ {last i : ℕ} (I : Last path marks last i) where
-    pub last-next : i < length path → (cell : ℕ) → cell ≡ cellAt path i → (r : ℕ) → r ≡ either (eqb (getD marks cell 0) 1) i last → Last path marks r (i + 1)
+    pub last-next : i < length path → (cell : ℕ) → cell ≡ pathCell path i → (r : ℕ) → r ≡ either (eqb (getD marks cell 0) 1) i last → Last path marks r (i + 1)
     last-next h cell f r e = record {
       within = omega arith;
       is = e ∙ rw (f, I .is) (sym (latest-next (repeaterAt path marks) i));
@@ -103,6 +103,6 @@ module _ (limit : ℕ) (fit : ℕ → Bool) (path marks : List ℕ) (last : ℕ)
     unfolding reinforced withRepeater
     reinforced-none z = rw (← l, lt-ltb (last + limit) (end path) (omega arith), ← is-tail, eq-eqb place 0 z)
 
-    pub reinforced-put : (place ≡ 0 → ⊥) → set marks (cellAt path place) 1 ≡ reinforced limit fit path marks
+    pub reinforced-put : (place ≡ 0 → ⊥) → set marks (pathCell path place) 1 ≡ reinforced limit fit path marks
     unfolding reinforced withRepeater
     reinforced-put n = rw (← l, lt-ltb (last + limit) (end path) (omega arith), ← is-tail, ne-eqb place 0 n)

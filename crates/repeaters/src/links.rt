@@ -4,7 +4,7 @@ use room::Move;
 use room::Neighbour;
 use room::Pos;
 use room::Room;
-use room::wide;
+use room::as_index;
 ghost use mathlib.Core.Path.{_≡_};
 ghost use mathlib.Core.Bool.{_&&_};
 ghost use Prim.Native.Nat.{_≤_, _<_, _^_};
@@ -142,7 +142,7 @@ fn link_branch(room: Room, branch: &[u32], links: &mut [u32])
 {
     let mut i: usize = 0;
     while i + 1 < branch.len() {
-        join(room, links, wide(branch[i]), wide(branch[i + 1]));
+        join(room, links, as_index(branch[i]), as_index(branch[i + 1]));
         i += 1;
     }
 }

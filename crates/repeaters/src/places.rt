@@ -7,14 +7,14 @@ use room::Pos;
 use room::Room;
 use room::SOUTH;
 use room::WEST;
-use room::wide;
+use room::as_index;
 use routing_resources::MARKED;
 ghost use mathlib.Core.Path.{_≡_};
 ghost use Prim.Native.Nat.{_<_};
 ghost use lib.ListN.{length};
 ghost use Rattle.room.specs.Room.{Good, SmallPos, volume};
 ghost use Rattle.repeaters.specs.Repeaters.{stepsBy, facingBy, facingOf, straight, fits};
-ghost use Rattle.repeaters.specs.Links.{linkedCells, Ready};
+ghost use Rattle.repeaters.specs.Links.{linkedCells, PathReady};
 
 // Whether b is one more than a, and c is d.
 fn steps_by(a: usize, b: usize, c: usize, d: usize) -> bool
@@ -82,7 +82,7 @@ fn goes_straight(room: Room, a: usize, b: usize, c: usize) -> bool
 // Whether a repeater may stand at a place of the path: "not a terminal or approach of this net, has a next cell, two tree
 // neighbours and equal flat facing in and out".
 pub fn may_stand(room: Room, links: &[u32], forbidden: &[u8], path: &[u32], i: usize) -> bool
-    requires { ⌜ Ready room (now links) (now forbidden) (now path) ⌝ }
+    requires { ⌜ PathReady room (now links) (now forbidden) (now path) ⌝ }
     requires { ⌜ i < length (now path) ⌝ }
     ensures { λ r. ⌜ r ≡ fits room (linkedCells room (now (links .entry))) (now (forbidden .entry)) (now (path .entry)) i ⌝ }
 {
@@ -92,12 +92,12 @@ pub fn may_stand(room: Room, links: &[u32], forbidden: &[u8], path: &[u32], i: u
     if path.len() <= i + 1 {
         return false;
     }
-    let cell = wide(path[i]);
+    let cell = as_index(path[i]);
     if forbidden[cell] == MARKED {
         return false;
     }
     if count_links(room, links[cell], cell) != 2 {
         return false;
     }
-    goes_straight(room, wide(path[i - 1]), cell, wide(path[i + 1]))
+    goes_straight(room, as_index(path[i - 1]), cell, as_index(path[i + 1]))
 }

@@ -3,7 +3,7 @@
 use crate::links::linked_place;
 use room::Neighbour;
 use room::Room;
-use room::wide;
+use room::as_index;
 ghost use mathlib.Core.Path.{_≡_};
 ghost use mathlib.Core.List.{[], _∷_};
 ghost use Prim.Native.Nat.{ℕ, _≤_, _<_};
@@ -97,7 +97,7 @@ pub fn rooted_parent(
     let mut head: usize = 0;
     let mut tail: usize = 1;
     while head < tail {
-        let cell = wide(line[head]);
+        let cell = as_index(line[head]);
         head += 1;
         tail = visit(room, links[cell], cell, parents, line, tail);
     }

@@ -2,7 +2,7 @@
 use crate::Stride;
 use crate::places::may_stand;
 use room::Room;
-use room::wide;
+use room::as_index;
 use routing_resources::MARKED;
 ghost use mathlib.Core.Path.{_≡_};
 ghost use Prim.Native.Nat.{_<_};
@@ -10,7 +10,7 @@ ghost use lib.ListN.{length};
 ghost use Rattle.basics.specs.Tests.{either};
 ghost use Rattle.room.specs.Room.{volume};
 ghost use Rattle.repeaters.specs.Repeaters.{run};
-ghost use Rattle.repeaters.specs.Links.{fitBy, Ready};
+ghost use Rattle.repeaters.specs.Links.{fitBy, PathReady};
 ghost use Rattle.repeaters.specs.Runs.{Walking, Strode};
 
 // The place itself where it passes, else the latest before it.
@@ -31,14 +31,14 @@ fn stride(
     limit: usize,
     s: Stride,
 ) -> Stride
-    requires { ⌜ Ready room (now links) (now forbidden) (now path) ⌝ }
+    requires { ⌜ PathReady room (now links) (now forbidden) (now path) ⌝ }
     requires { ⌜ length (now repeaters) ≡ volume room ⌝ }
     requires { ⌜ Walking (fitBy room (now links) (now forbidden) (now path)) s ⌝ }
     requires { ⌜ s .place < length (now path) ⌝ }
     ensures { λ r. ⌜ Strode limit (fitBy room (now (links .entry)) (now (forbidden .entry)) (now (path .entry))) (now (path .entry)) (now (repeaters .entry)) s (now (repeaters .exit)) r ⌝ }
 {
     let place = s.place;
-    let cell = wide(path[place]);
+    let cell = as_index(path[place]);
     if repeaters[cell] == MARKED {
         return Stride {
             reset: place,
@@ -50,7 +50,7 @@ fn stride(
     let latest = later(passes, place, s.latest);
     if limit < place - s.reset {
         if latest != 0 {
-            let chosen = wide(path[latest]);
+            let chosen = as_index(path[latest]);
             repeaters[chosen] = MARKED;
             return Stride {
                 reset: latest,
@@ -75,7 +75,7 @@ pub fn plan_path(
     repeaters: &mut [u8],
     limit: usize,
 )
-    requires { ⌜ Ready room (now links) (now forbidden) (now path) ⌝ }
+    requires { ⌜ PathReady room (now links) (now forbidden) (now path) ⌝ }
     requires { ⌜ length (now repeaters) ≡ volume room ⌝ }
     ensures { λ _. ⌜ now (repeaters .exit) ≡ run limit (fitBy room (now (links .entry)) (now (forbidden .entry)) (now (path .entry))) (now (path .entry)) (now (repeaters .entry)) ⌝ }
 {

@@ -3,14 +3,14 @@
 use crate::places::may_stand;
 use crate::runs::later;
 use room::Room;
-use room::wide;
+use room::as_index;
 use routing_resources::MARKED;
 ghost use mathlib.Core.Path.{_≡_};
 ghost use Prim.Native.Nat.{_+_, _-_, _≤_, _<_};
 ghost use lib.ListN.{length};
 ghost use Rattle.room.specs.Room.{volume};
 ghost use Rattle.repeaters.specs.Repeaters.{earliest, lastReset, alone, tailFit, reinforced};
-ghost use Rattle.repeaters.specs.Links.{fitBy, Ready};
+ghost use Rattle.repeaters.specs.Links.{fitBy, PathReady};
 ghost use Rattle.routing_resources.specs.Marks.{CellsBelow};
 
 // The place of the last repeater on the path, 0 for none: the source.
@@ -21,7 +21,7 @@ fn last_reset(path: &[u32], repeaters: &[u8]) -> usize
     let mut last: usize = 0;
     let mut i: usize = 0;
     while i < path.len() {
-        let cell = wide(path[i]);
+        let cell = as_index(path[i]);
         last = later(repeaters[cell] == MARKED, i, last);
         i += 1;
     }
@@ -35,11 +35,11 @@ fn stands_alone(path: &[u32], repeaters: &[u8], i: usize) -> bool
     requires { ⌜ i + 1 < length (now path) ⌝ }
     ensures { λ r. ⌜ r ≡ alone (now (path .entry)) (now (repeaters .entry)) i ⌝ }
 {
-    let before = wide(path[i - 1]);
+    let before = as_index(path[i - 1]);
     if repeaters[before] == MARKED {
         return false;
     }
-    let behind = wide(path[i + 1]);
+    let behind = as_index(path[i + 1]);
     repeaters[behind] != MARKED
 }
 
@@ -52,7 +52,7 @@ fn may_reinforce(
     repeaters: &[u8],
     i: usize,
 ) -> bool
-    requires { ⌜ Ready room (now links) (now forbidden) (now path) ⌝ }
+    requires { ⌜ PathReady room (now links) (now forbidden) (now path) ⌝ }
     requires { ⌜ length (now repeaters) ≡ volume room ⌝ }
     requires { ⌜ i < length (now path) ⌝ }
     ensures { λ r. ⌜ r ≡ tailFit (fitBy room (now (links .entry)) (now (forbidden .entry)) (now (path .entry))) (now (path .entry)) (now (repeaters .entry)) i ⌝ }
@@ -73,7 +73,7 @@ fn tail_place(
     start: usize,
     end: usize,
 ) -> usize
-    requires { ⌜ Ready room (now links) (now forbidden) (now path) ⌝ }
+    requires { ⌜ PathReady room (now links) (now forbidden) (now path) ⌝ }
     requires { ⌜ length (now repeaters) ≡ volume room ⌝ }
     requires { ⌜ (start ≤ end) × (end ≤ length (now path)) ⌝ }
     ensures { λ r. ⌜ r ≡ earliest (tailFit (fitBy room (now (links .entry)) (now (forbidden .entry)) (now (path .entry))) (now (path .entry)) (now (repeaters .entry))) (end - start) start ⌝ }
@@ -97,7 +97,7 @@ pub fn reinforce_path(
     repeaters: &mut [u8],
     limit: usize,
 )
-    requires { ⌜ Ready room (now links) (now forbidden) (now path) ⌝ }
+    requires { ⌜ PathReady room (now links) (now forbidden) (now path) ⌝ }
     requires { ⌜ length (now repeaters) ≡ volume room ⌝ }
     ensures { λ _. ⌜ now (repeaters .exit) ≡ reinforced limit (fitBy room (now (links .entry)) (now (forbidden .entry)) (now (path .entry))) (now (path .entry)) (now (repeaters .entry)) ⌝ }
 {
@@ -111,7 +111,7 @@ pub fn reinforce_path(
     }
     let place = tail_place(room, links, forbidden, path, repeaters, end - limit, end);
     if place != 0 {
-        let cell = wide(path[place]);
+        let cell = as_index(path[place]);
         repeaters[cell] = MARKED;
     }
 }

@@ -15,13 +15,13 @@ use Rattle.stored.specs.MemoryLaws.{rubbish-one}
 use Rattle.replay.specs.declared.compare.LentLengths.{LentLengths}
 use Rattle.replay.specs.declared.searches.Stored.{Stored}
 use Rattle.replay.specs.declared.replay.Stand.{Stand}
-use Rattle.replay.specs.Verdicts.{Memory, memory, AllRubbish, lengthsOfMemory, verdictOf, Judged, Ran, too-long, judged}
+use Rattle.replay.specs.Verdicts.{LentMemory, memory, AllRubbish, lengthsOfMemory, verdictOf, Judged, Ran, too-long, judged}
 use Rattle.replay.specs.Runs.{lentLengths, storedLengths, longerLengths, tally, SameTwice, RanWith, ReplayedOne, differs, twice-alone, narrowed, oneFurther, Next, stopped, replayed, Replayed}
 
 -- ---- a run
 
 -- memory of some lengths that is full of rubbish
-memory-one : (M N : Memory) → lengthsOfMemory M ≡ lengthsOfMemory N → AllRubbish M → AllRubbish N → M ≡ N
+memory-one : (M N : LentMemory) → lengthsOfMemory M ≡ lengthsOfMemory N → AllRubbish M → AllRubbish N → M ≡ N
 memory-one M N e p q =
     let path = rubbish-one (M .path) (N .path) (ap (λ L. L .path) e) (p .path-spoiled) (q .path-spoiled) in
     let known = rubbish-one (M .known) (N .known) (ap (λ L. L .known) e) (p .known-spoiled) (q .known-spoiled) in

@@ -45,16 +45,16 @@ module _ {file : List ℕ} {longs : ℕ} {S : Stored} where
 
 -- ---- counting a number: so many records are passed, and what the rest comes to is the whole
 
-pub record Counted (file : List ℕ) (number count start passed at met : ℕ) : Type 0 where
+pub record NumbersCounted (file : List ℕ) (number count start passed at met : ℕ) : Type 0 where
   pub rest : numberedFrom file number (count - passed) at met ≡ numberedFrom file number count start 0
 
 module _ {file : List ℕ} {number count start : ℕ} where
-  pub counted-none : Counted file number count start 0 start 0
+  pub counted-none : NumbersCounted file number count start 0 start 0
   counted-none = let z : count - 0 ≡ count = omega arith in record { rest = rw z }
 
-  module _ {passed at met : ℕ} (C : Counted file number count start passed at met) where
+  module _ {passed at met : ℕ} (C : NumbersCounted file number count start passed at met) where
     pub counted-next : {S : Stored} {met′ : ℕ} → passed < count → S ≡ storedAt file at → met′ ≡ oneMore met (S .told .number) number
-        → Counted file number count start (passed + 1) (S .next) met′
+        → NumbersCounted file number count start (passed + 1) (S .next) met′
     counted-next h s m =
         let e : count - passed ≡ suc (count - (passed + 1)) = omega arith in
         record { rest = rw (m, s) (rw e at (C .rest)) }

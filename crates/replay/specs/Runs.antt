@@ -7,7 +7,7 @@ use Prim.Native.Nat.{ℕ, zero, suc, _*_}
 use lib.Dec.{eqb, ltb}
 use Rattle.basics.specs.Tests.{either}
 use Rattle.stored.specs.Places.{countIn, firstPlace}
-use Rattle.stored.specs.Runs.{Turns, isSame, longerBy, cellsMore, queueMore, sumOf, Narrowed}
+use Rattle.stored.specs.Runs.{Repeated, isSame, longerBy, cellsMore, queueMore, sumOf, Narrowed}
 use Rattle.replay.specs.declared.searches.Stored.{Stored}
 use Rattle.stored.specs.declared.runs.Verdict.{Verdict}
 use Rattle.replay.specs.declared.compare.LentLengths.{LentLengths}
@@ -79,7 +79,7 @@ noneYet file = record { at = firstPlace file; searches = 0; runs = 0; agreed = t
 
 -- from no search on, record by record, as many as the file says
 pub record Replayed (file : List ℕ) (longs : ℕ) (r : Stand) : Type 0 where
-  pub searches : Turns (λ _. Next file longs) (noneYet file) (countIn letters file) r
+  pub searches : Repeated (λ _. Next file longs) (noneYet file) (countIn letters file) r
 
 -- ---- how many answers have a number
 
@@ -91,5 +91,5 @@ abbrev pub numberedFrom : List ℕ → ℕ → ℕ → ℕ → ℕ → ℕ
 numberedFrom file number zero at met = met
 numberedFrom file number (suc n) at met = numberedFrom file number n (storedAt file at .next) (oneMore met (storedAt file at .told .number) number)
 
-unfoldable pub numbered : List ℕ → ℕ → ℕ
-numbered file number = numberedFrom file number (countIn letters file) (firstPlace file) 0
+unfoldable pub timesNumbered : List ℕ → ℕ → ℕ
+timesNumbered file number = numberedFrom file number (countIn letters file) (firstPlace file) 0

@@ -10,15 +10,15 @@ use Rattle.room.specs.declared.RouterConfig.{RouterConfig}
 use Rattle.replay.specs.declared.searches.Told.{Told}
 use Rattle.replay.specs.declared.searches.Stored.{Stored}
 use Rattle.stored.specs.Places.{past, byteBehind, wordBehind}
-use Rattle.replay.specs.Searches.{roomAt, configAt, toldAt, endOf, answerPlace, storedAt, partOf}
+use Rattle.replay.specs.Searches.{roomAt, configAt, toldAt, endOf, answerPlace, storedAt, bytesHeld}
 
 module _ (file : List ℕ) (at bytes : ℕ) where
-  pub part-out : length file < at + bytes → [] ≡ partOf file at bytes
-  unfolding partOf
+  pub part-out : length file < at + bytes → [] ≡ bytesHeld file at bytes
+  unfolding bytesHeld
   part-out h = rw (lt-leb (at + bytes) (length file) h)
 
-  pub part-in : at + bytes ≤ length file → take (at + bytes - at) (drop at file) ≡ partOf file at bytes
-  unfolding partOf
+  pub part-in : at + bytes ≤ length file → take (at + bytes - at) (drop at file) ≡ bytesHeld file at bytes
+  unfolding bytesHeld
   part-in h = rw (le-leb (at + bytes) (length file) h, add-sub-cancel-left at bytes)
 
 -- ---- what is read field by field

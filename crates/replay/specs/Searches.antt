@@ -57,11 +57,11 @@ storedAt file at = record {
 }
 
 -- so many bytes, none where the file does not hold them all
-unfoldable pub partOf : List ℕ → ℕ → ℕ → List ℕ
-partOf file at bytes = either (leb (at + bytes) (length file)) (take bytes (drop at file)) []
+unfoldable pub bytesHeld : List ℕ → ℕ → ℕ → List ℕ
+bytesHeld file at bytes = either (leb (at + bytes) (length file)) (take bytes (drop at file)) []
 
 abbrev pub kindsIn : List ℕ → Stored → List ℕ
-kindsIn file S = partOf file (S .kinds) (S .count)
+kindsIn file S = bytesHeld file (S .kinds) (S .count)
 
 abbrev pub cellsIn : List ℕ → Told → List ℕ
 cellsIn file T = cellsFrom file (T .cells) (T .length)

@@ -11,13 +11,13 @@ use Rattle.replay.specs.declared.searches.Stored.{Stored}
 use Rattle.stored.specs.declared.runs.Verdict.{Verdict}
 use Rattle.replay.specs.declared.compare.LentLengths.{LentLengths}
 use Rattle.replay.specs.Searches.{kindsIn, cellsIn}
-use Rattle.replay.specs.Verdicts.{verdictOf, Memory, AllRubbish, Promised, Judged, lengthsBy, fits, Ran, judged, own, RanIn}
+use Rattle.replay.specs.Verdicts.{verdictOf, LentMemory, AllRubbish, Promised, Judged, lengthsBy, memoryFits, Ran, judged, own, RanIn}
 
 -- ---- a run, judged
 
 module _ {S : Stored} {kinds cells : List ℕ} {L : Lengths} {r : Verdict} where
   -- spoiling keeps the lengths
-  pub judged-by : {M M′ : Memory} {a : Answer} → AllRubbish M → Promised S kinds M a M′ → r ≡ verdictOf (S .told) cells a M′
+  pub judged-by : {M M′ : LentMemory} {a : Answer} → AllRubbish M → Promised S kinds M a M′ → r ≡ verdictOf (S .told) cells a M′
       → length (M .path) ≡ L .path → length (M .known) ≡ L .known → length (M .previous) ≡ L .previous → length (M .classes) ≡ L .classes
       → length (M .queue) ≡ L .queue → Judged S kinds cells L r
   judged-by {M = M} {M′ = M′} {a = a} s p v e0 e1 e2 e3 e4 = record {
@@ -31,7 +31,7 @@ module _ {S : Stored} {kinds cells : List ℕ} {L : Lengths} {r : Verdict} where
   }
 
   -- the fronts that are lent have the lengths asked for
-  pub ran-at : {O : Lengths} {N : LentLengths} → fits O N ≡ true → Judged S kinds cells L r → L ≡ lengthsBy N → Ran S kinds cells O N r
+  pub ran-at : {O : Lengths} {N : LentLengths} → memoryFits O N ≡ true → Judged S kinds cells L r → L ≡ lengthsBy N → Ran S kinds cells O N r
   ran-at f J e = judged f (record {
     lent-before = J .lent-before;
     lent-after = J .lent-after;
@@ -44,8 +44,8 @@ module _ {S : Stored} {kinds cells : List ℕ} {L : Lengths} {r : Verdict} where
 
 -- buffers that are long enough
 pub fits-in : (L : Lengths) (N : LentLengths) → N .cells ≤ L .path → N .cells ≤ L .known → N .cells ≤ L .previous → N .cells ≤ L .classes
-    → N .queue ≤ L .queue → fits L N ≡ true
-unfolding fits
+    → N .queue ≤ L .queue → memoryFits L N ≡ true
+unfolding memoryFits
 fits-in L N p q r s t =
     rw (le-leb (N .cells) (L .path) p, le-leb (N .cells) (L .known) q, le-leb (N .cells) (L .previous) r, le-leb (N .cells) (L .classes) s, le-leb (N .queue) (L .queue) t)
 

@@ -41,24 +41,24 @@ fullEarly a T = eqb (numberOf a) 13 && earlyEnough a T
 
 -- ---- lent memory
 
-pub record Memory : Type 0 where
+pub record LentMemory : Type 0 where
   pub path : List ℕ
   pub known : List ℕ
   pub previous : List ℕ
   pub classes : List ℕ
   pub queue : List ℕ
 
-abbrev pub memory : (path known previous classes queue : List ℕ) → Memory
+abbrev pub memory : (path known previous classes queue : List ℕ) → LentMemory
 memory path known previous classes queue = record { path = path; known = known; previous = previous; classes = classes; queue = queue }
 
 -- the rubbish that was there; or these cells, and zeros
-unfoldable pub memoryHolds : Bool → List ℕ → Memory → Bool
+unfoldable pub memoryHolds : Bool → List ℕ → LentMemory → Bool
 memoryHolds kept cells M = holds kept cells (M .path) && fourHold kept (M .known) (M .previous) (M .classes) (M .queue)
 
 -- ---- both
 
 -- all as stored; or the queue was full, and zeros; or something else
-unfoldable pub verdictOf : Told → List ℕ → Answer → Memory → Verdict
+unfoldable pub verdictOf : Told → List ℕ → Answer → LentMemory → Verdict
 verdictOf T cells a M =
     either (sameAnswer a T)
     (sameIf (memoryHolds (not (touches (T .number))) cells M))
@@ -66,26 +66,26 @@ verdictOf T cells a M =
 
 -- ---- a run
 
-pub record AllRubbish (M : Memory) : Type 0 where
+pub record AllRubbish (M : LentMemory) : Type 0 where
   pub path-spoiled : Rubbish (M .path)
   pub known-spoiled : Rubbish (M .known)
   pub previous-spoiled : Rubbish (M .previous)
   pub classes-spoiled : Rubbish (M .classes)
   pub queue-spoiled : Rubbish (M .queue)
 
-abbrev pub lengthsOfMemory : Memory → Lengths
+abbrev pub lengthsOfMemory : LentMemory → Lengths
 lengthsOfMemory M = lengthsOf (M .path) (M .known) (M .previous) (M .classes) (M .queue)
 
 -- what `astar_route` promises of a stored search, over memory
-abbrev pub Promised : Stored → List ℕ → Memory → Answer → Memory → Type 0
+abbrev pub Promised : Stored → List ℕ → LentMemory → Answer → LentMemory → Type 0
 Promised S kinds M a M′ =
     Promise (input (S .room) (S .config) kinds (S .start) (S .goal) (lengthsOfMemory M)) (M .path) (M .known) (M .previous) (M .classes) (M .queue)
     a (M′ .path) (M′ .known) (M′ .previous) (M′ .classes) (M′ .queue)
 
 -- what it promises over memory of these lengths that is full of rubbish, judged
 pub record Judged (S : Stored) (kinds cells : List ℕ) (L : Lengths) (r : Verdict) : Type 0 where
-  pub lent-before : Memory
-  pub lent-after : Memory
+  pub lent-before : LentMemory
+  pub lent-after : LentMemory
   pub answer : Answer
   pub lengths : lengthsOfMemory lent-before ≡ L
   pub spoiled : AllRubbish lent-before
@@ -96,8 +96,8 @@ abbrev pub lengthsBy : LentLengths → Lengths
 lengthsBy N = record { path = N .cells; known = N .cells; previous = N .cells; classes = N .cells; queue = N .queue }
 
 -- each buffer is as long as what of it is to be lent
-unfoldable pub fits : Lengths → LentLengths → Bool
-fits L N =
+unfoldable pub memoryFits : Lengths → LentLengths → Bool
+memoryFits L N =
     leb (N .cells) (L .path)
     && leb (N .cells) (L .known)
     && leb (N .cells) (L .previous)
@@ -106,8 +106,8 @@ fits L N =
 
 -- a run at these lengths, in the front of buffers; lengths that a buffer does not have are no run, and something else
 pub data Ran (S : Stored) (kinds cells : List ℕ) (L : Lengths) (N : LentLengths) (r : Verdict) : Type 0 where
-  too-long : fits L N ≡ false → r ≡ Other → Ran S kinds cells L N r
-  judged : fits L N ≡ true → Judged S kinds cells (lengthsBy N) r → Ran S kinds cells L N r
+  too-long : memoryFits L N ≡ false → r ≡ Other → Ran S kinds cells L N r
+  judged : memoryFits L N ≡ true → Judged S kinds cells (lengthsBy N) r → Ran S kinds cells L N r
 
 -- the program's own buffers, with a queue of so many numbers
 abbrev pub own : ℕ → Lengths

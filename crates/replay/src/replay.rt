@@ -20,7 +20,7 @@ ghost use mathlib.Core.Path.{_≡_};
 ghost use lib.ListN.{length};
 ghost use Rattle.stored.specs.Runs.{Halved, Narrowed};
 ghost use Rattle.replay.specs.Runs.{storedLengths, longerLengths, SameTwice};
-ghost use Rattle.replay.specs.Runs.{RanWith, isNarrowed, ReplayedOne, oneFurther, Next, Replayed, oneMore, numbered};
+ghost use Rattle.replay.specs.Runs.{RanWith, isNarrowed, ReplayedOne, oneFurther, Next, Replayed, oneMore, timesNumbered};
 
 struct Tally {
     runs: u32,
@@ -199,7 +199,7 @@ fn one_more(met: u32, here: u32, number: u32) -> u32
 
 // How many stored answers have a number.
 pub fn count_number(file: &[u8], number: u32) -> u32
-    ensures { λ r. ⌜ r ≡ numbered (now (file .entry)) number ⌝ }
+    ensures { λ r. ⌜ r ≡ timesNumbered (now (file .entry)) number ⌝ }
 {
     let count = count_in(file, LETTERS);
     let mut met: u32 = 0;

@@ -1,6 +1,6 @@
 // The stored searches: a file of big-endian records, each a search with its answer, as the oracle's README lays them out.
 ghost use mathlib.Core.Path.{_≡_};
-ghost use Rattle.replay.specs.Searches.{roomAt, configAt, toldAt, endOf, answerPlace, storedAt, partOf};
+ghost use Rattle.replay.specs.Searches.{roomAt, configAt, toldAt, endOf, answerPlace, storedAt, bytesHeld};
 use room::Cost;
 use room::Nodes;
 use room::Room;
@@ -109,7 +109,7 @@ pub fn stored_at(file: &[u8], at: usize) -> Stored
 
 // So many bytes from a place on, none where the file does not hold them all.
 pub fn part(file: &[u8], at: usize, bytes: usize) -> &[u8]
-    ensures { λ r. ⌜ now r ≡ partOf (now (file .entry)) at bytes ⌝ }
+    ensures { λ r. ⌜ now r ≡ bytesHeld (now (file .entry)) at bytes ⌝ }
 {
     if file.len() < at {
         return &file[..0];

@@ -6,7 +6,7 @@ use mathlib.Core.List.{List}
 use Prim.Native.Nat.{ℕ}
 use lib.Dec.{eqb}
 use Rattle.basics.specs.Tests.{either}
-use Rattle.stored.specs.Runs.{Turns}
+use Rattle.stored.specs.Runs.{Repeated}
 use Rattle.stored.specs.Places.{countIn, firstPlace}
 use Rattle.replay_sheets.specs.declared.counts.Tally.{Tally}
 use Rattle.replay_sheets.specs.declared.replay.Stand.{Stand}
@@ -14,7 +14,7 @@ use Rattle.replay_sheets.specs.declared.sheets.Asked.{Asked}
 use Rattle.replay_sheets.specs.declared.sheets.Told.{Told}
 use Rattle.replay_sheets.specs.Counts.{nothingYet, met, compared}
 use Rattle.replay_sheets.specs.Runs.{dueIn, AgreesIn}
-use Rattle.replay_sheets.specs.Sheets.{letters, askedAt, sheetOf, answerOf, toldOf}
+use Rattle.replay_sheets.specs.Sheets.{letters, askedAt, sheetOf, answerLeft, toldOf}
 
 -- a sheet in one comparison, if it is due
 pub data InComparison (comparison : ℕ) (sheet : List ℕ) (A : Asked) (S : Told) (cells covered marks : List ℕ) (longs : ℕ) (t r : Tally) : Type 0 where
@@ -24,14 +24,14 @@ pub data InComparison (comparison : ℕ) (sheet : List ℕ) (A : Asked) (S : Tol
 
 -- one sheet more, in each of the five
 abbrev pub InComparisons : List ℕ → Asked → Told → (cells covered marks : List ℕ) → ℕ → Tally → Tally → Type 0
-InComparisons sheet A S cells covered marks longs t r = Turns (λ comparison. InComparison comparison sheet A S cells covered marks longs) (met t (S .number)) 5 r
+InComparisons sheet A S cells covered marks longs t r = Repeated (λ comparison. InComparison comparison sheet A S cells covered marks longs) (met t (S .number)) 5 r
 
 -- the record that stands there, and where the next one does
 pub record Next (F : List ℕ) (longs : ℕ) (s r : Stand) : Type 0 where
-  pub passed : r .at ≡ answerOf F (s .at) .end
+  pub passed : r .at ≡ answerLeft F (s .at) .end
   pub replayed :
-      InComparisons (sheetOf F (s .at)) (askedAt F (s .at)) (toldOf F (s .at)) (answerOf F (s .at) .cells) (answerOf F (s .at) .covered)
-      (answerOf F (s .at) .marks) longs (s .tally) (r .tally)
+      InComparisons (sheetOf F (s .at)) (askedAt F (s .at)) (toldOf F (s .at)) (answerLeft F (s .at) .cells) (answerLeft F (s .at) .covered)
+      (answerLeft F (s .at) .marks) longs (s .tally) (r .tally)
 
 -- no record yet
 abbrev pub noneYet : List ℕ → Stand
@@ -39,7 +39,7 @@ noneYet F = record { at = firstPlace F; tally = nothingYet }
 
 -- as many as the file says
 abbrev pub Replayed : List ℕ → ℕ → Stand → Type 0
-Replayed F longs r = Turns (λ _. Next F longs) (noneYet F) (countIn letters F) r
+Replayed F longs r = Repeated (λ _. Next F longs) (noneYet F) (countIn letters F) r
 
 -- the file ends where the last record does, and within the million bytes of its buffer
 unfoldable pub endsThere : ℕ → ℕ → Bool

@@ -24,7 +24,7 @@ use Rattle.replay_sheets.specs.Verdicts.{Ran}
 
 -- V, or the stored length where that is shorter, and the node limit
 pub data SizeOf (sheet : List ℕ) (lent : ℕ) (r : Size) : Type 0 where
-  refused : (reading : Reading) → Read sheet reading → isGood (reading .verdict) ≡ false → r .cells ≡ lent → r .limit ≡ 0 → SizeOf sheet lent r
+  refused : (reading : Reading) → Read sheet reading → isGood (reading .judgement) ≡ false → r .cells ≡ lent → r .limit ≡ 0 → SizeOf sheet lent r
   accepted : (job : Job) → Accepted sheet job → r .cells ≡ min lent (volume (job .room)) → r .limit ≡ job .config .limit .0 → SizeOf sheet lent r
 
 -- ---- the comparisons, beside buffers of exactly V cells
@@ -59,11 +59,11 @@ longerLengths A number =
     (longerBy (A .places * 2) (queueMore number))
 
 -- a branch buffer that is exactly full, one cell short, or as it is stored
-unfoldable pub branchOf : ℕ → ℕ → ℕ → ℕ
-branchOf comparison branch total = either (eqb comparison branchFull) total (either (eqb comparison branchShort) (total - 1) branch)
+unfoldable pub branchBuffer : ℕ → ℕ → ℕ → ℕ
+branchBuffer comparison branch total = either (eqb comparison branchFull) total (either (eqb comparison branchShort) (total - 1) branch)
 
 unfoldable pub lengthsFor : ℕ → Asked → ℕ → Told → LentLengths
-lengthsFor comparison A cells S = either (eqb comparison longerBuffers) (longerLengths A (S .number)) (lentLengths cells (branchOf comparison (A .branch) (S .total)) (A .places * 2))
+lengthsFor comparison A cells S = either (eqb comparison longerBuffers) (longerLengths A (S .number)) (lentLengths cells (branchBuffer comparison (A .branch) (S .total)) (A .places * 2))
 
 -- ---- what a run must come to
 

@@ -8,10 +8,10 @@ use borrow.Author.Tests.{eq-eqb, ne-eqb}
 use Rattle.stored.specs.Places.{past, byteAt, cellAt, wordAt, byteBehind, wordBehind}
 use Rattle.stored.specs.PlaceLaws.{past-within, past-behind}
 use Rattle.replay_sheets.specs.declared.sheets.Asked.{Asked}
-use Rattle.replay_sheets.specs.declared.sheets.Part.{Part}
+use Rattle.replay_sheets.specs.declared.sheets.SheetPart.{SheetPart}
 use Rattle.replay_sheets.specs.declared.sheets.Told.{Told}
-use Rattle.replay_sheets.specs.Sheets.{askedAt, partOf, sheetAt, marksOf, cellsOf}
-use Rattle.replay_sheets.specs.Sheets.{branchAt, totalTo, eachTo, cellsTo, coveredTo, Branched}
+use Rattle.replay_sheets.specs.Sheets.{askedAt, sheetPart, sheetAt, marksOf, cellsPut}
+use Rattle.replay_sheets.specs.Sheets.{branchAt, totalTo, eachTo, cellsTo, coveredTo, BranchesRead}
 use Rattle.replay_sheets.specs.Sheets.{Left, left, refusalOf, treeOf, treeAt, answerAt}
 
 -- ---- what a record begins with
@@ -24,16 +24,16 @@ module _ (F : List ℕ) where
     asked-by e b l = rw (e, b, l)
 
     pub sheet-by : {count from end : ℕ} → count ≡ wordBehind F at 12 → from ≡ past F at 16 → end ≡ past F from count
-        → partOf from count end ≡ sheetAt F at
+        → sheetPart from count end ≡ sheetAt F at
     unfolding sheetAt
     sheet-by c f e = rw (e, f, c)
 
     -- the sheet's bytes are a part of the file
-    pub sheet-starts : {P : Part} → P ≡ sheetAt F at → P .from ≤ P .end
+    pub sheet-starts : {P : SheetPart} → P ≡ sheetAt F at → P .from ≤ P .end
     unfolding sheetAt
     sheet-starts e = rw e (past-behind F (wordBehind F at 12) (past-within F at 16 refl) refl)
 
-    pub sheet-ends : {P : Part} → P ≡ sheetAt F at → P .end ≤ length F
+    pub sheet-ends : {P : SheetPart} → P ≡ sheetAt F at → P .end ≤ length F
     unfolding sheetAt
     sheet-ends e = rw e (past-within F (past F at 16) (wordBehind F at 12) refl)
 
@@ -42,8 +42,8 @@ module _ (F : List ℕ) where
 pub record Marked (F : List ℕ) (from : ℕ) (marks₀ : List ℕ) (k : ℕ) (marks : List ℕ) : Type 0 where
   pub marks-are : marks ≡ marksOf F from k marks₀
 
-pub record Put (F : List ℕ) (from start : ℕ) (cells₀ : List ℕ) (k : ℕ) (cells : List ℕ) : Type 0 where
-  pub cells-are : cells ≡ cellsOf F from start k cells₀
+pub record CellsPut (F : List ℕ) (from start : ℕ) (cells₀ : List ℕ) (k : ℕ) (cells : List ℕ) : Type 0 where
+  pub cells-are : cells ≡ cellsPut F from start k cells₀
 
 module _ {F : List ℕ} {from : ℕ} where
   pub marked-none : {marks : List ℕ} → Marked F from marks 0 marks
@@ -55,26 +55,26 @@ module _ {F : List ℕ} {from : ℕ} where
   unfolding marksOf
   marked-next M place cell e = let m = M .marks-are in record { marks-are = rw add-one (cc) }
 
-  pub put-none : {start : ℕ} {cells : List ℕ} → Put F from start cells 0 cells
-  unfolding cellsOf
+  pub put-none : {start : ℕ} {cells : List ℕ} → CellsPut F from start cells 0 cells
+  unfolding cellsPut
   put-none = record { cells-are = refl }
 
-  pub put-next : {start k p x : ℕ} {cells₀ cells cells′ : List ℕ} → Put F from start cells₀ k cells → p ≡ past F from (k * 2) → x ≡ cellAt F p
-      → cells′ ≡ set cells (start + k) x → Put F from start cells₀ (k + 1) cells′
-  unfolding cellsOf
+  pub put-next : {start k p x : ℕ} {cells₀ cells cells′ : List ℕ} → CellsPut F from start cells₀ k cells → p ≡ past F from (k * 2) → x ≡ cellAt F p
+      → cells′ ≡ set cells (start + k) x → CellsPut F from start cells₀ (k + 1) cells′
+  unfolding cellsPut
   put-next P place cell e = let m = P .cells-are in record { cells-are = rw add-one (cc) }
 
 -- ---- branches behind one another
 
 module _ {F : List ℕ} {at : ℕ} {cells₀ covered₀ : List ℕ} where
-  pub branched-none : Branched F at cells₀ covered₀ 0 cells₀ covered₀ (replicate 16 0) 0 at
+  pub branched-none : BranchesRead F at cells₀ covered₀ 0 cells₀ covered₀ (replicate 16 0) 0 at
   unfolding branchAt totalTo eachTo cellsTo coveredTo
   branched-none = record { cells-put = refl; cells-marked = refl; each-is = refl; total-is = refl; end-is = refl }
 
-  pub branched-next : {k : ℕ} {cells covered each : List ℕ} {total end : ℕ} → Branched F at cells₀ covered₀ k cells covered each total end
-      → {count from end′ : ℕ} {cells′ covered′ : List ℕ} → count ≡ wordAt F end → from ≡ past F end 4 → cells′ ≡ cellsOf F from total count cells
+  pub branched-next : {k : ℕ} {cells covered each : List ℕ} {total end : ℕ} → BranchesRead F at cells₀ covered₀ k cells covered each total end
+      → {count from end′ : ℕ} {cells′ covered′ : List ℕ} → count ≡ wordAt F end → from ≡ past F end 4 → cells′ ≡ cellsPut F from total count cells
       → covered′ ≡ marksOf F from count covered → end′ ≡ past F from (count * 2)
-      → Branched F at cells₀ covered₀ (k + 1) cells′ covered′ (set each k count) (total + count) end′
+      → BranchesRead F at cells₀ covered₀ (k + 1) cells′ covered′ (set each k count) (total + count) end′
   unfolding branchAt totalTo eachTo cellsTo coveredTo
   branched-next {k} B n f p m e = let e0 = B .cells-put in let e1 = B .cells-marked in let e2 = B .each-is in let e3 = B .total-is in let e4 = B .end-is in record {
     cells-put = rw add-one (cc);
@@ -89,7 +89,7 @@ module _ {F : List ℕ} {at : ℕ} {cells₀ covered₀ : List ℕ} where
 module _ (F : List ℕ) (at : ℕ) (cells covered marks : List ℕ) where
   pub tree-by : {detail count from sinks : ℕ} {cells′ covered′ each : List ℕ} {total end occupied repeaters behind last : ℕ} {marks′ : List ℕ}
       → detail ≡ wordBehind F at 1 → count ≡ byteBehind F at 5 → from ≡ past F at 6 → sinks ≡ min count 16
-      → Branched F from cells covered sinks cells′ covered′ each total end → occupied ≡ wordAt F end → repeaters ≡ wordBehind F end 4
+      → BranchesRead F from cells covered sinks cells′ covered′ each total end → occupied ≡ wordAt F end → repeaters ≡ wordBehind F end 4
       → behind ≡ past F end 8 → marks′ ≡ marksOf F behind repeaters marks → last ≡ past F behind (repeaters * 2)
       → left (treeOf detail (record { count = count; each = each }) total occupied repeaters) last cells′ covered′ marks′ ≡ treeAt F at cells covered marks
   unfolding treeAt

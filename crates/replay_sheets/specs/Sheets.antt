@@ -12,7 +12,7 @@ use Rattle.branches.specs.Branches.{branchLengths}
 use Rattle.stored.specs.Memory.{ownLength}
 use Rattle.stored.specs.Places.{past, byteAt, cellAt, wordAt, byteBehind, wordBehind}
 use Rattle.replay_sheets.specs.declared.sheets.Asked.{Asked}
-use Rattle.replay_sheets.specs.declared.sheets.Part.{Part}
+use Rattle.replay_sheets.specs.declared.sheets.SheetPart.{SheetPart}
 use Rattle.replay_sheets.specs.declared.sheets.Told.{Told}
 
 -- ---- the head, and what a record begins with
@@ -25,12 +25,12 @@ letters = 0x44525431
 unfoldable pub askedAt : List ℕ → ℕ → Asked
 askedAt F at = record { places = wordAt F at; branch = wordBehind F at 4; lent = wordBehind F at 8 }
 
-abbrev pub partOf : ℕ → ℕ → ℕ → Part
-partOf from length end = record { from = from; end = end; whole = leb length (end - from) }
+abbrev pub sheetPart : ℕ → ℕ → ℕ → SheetPart
+sheetPart from length end = record { from = from; end = end; whole = leb length (end - from) }
 
 -- where the sheet's bytes stand, and whether the file holds all of them
-unfoldable pub sheetAt : List ℕ → ℕ → Part
-sheetAt F at = partOf (past F at 16) (wordBehind F at 12) (past F (past F at 16) (wordBehind F at 12))
+unfoldable pub sheetAt : List ℕ → ℕ → SheetPart
+sheetAt F at = sheetPart (past F at 16) (wordBehind F at 12) (past F (past F at 16) (wordBehind F at 12))
 
 -- ---- cells that stand behind one another
 
@@ -43,9 +43,9 @@ marksOf F from zero marks = marks
 marksOf F from (suc n) marks = set (marksOf F from n marks) (cellFrom F from n) 1
 
 -- the first n of them, in a buffer from its place `start` on
-unfoldable pub cellsOf : List ℕ → ℕ → ℕ → ℕ → List ℕ → List ℕ
-cellsOf F from start zero cells = cells
-cellsOf F from start (suc n) cells = set (cellsOf F from start n cells) (start + n) (cellFrom F from n)
+unfoldable pub cellsPut : List ℕ → ℕ → ℕ → ℕ → List ℕ → List ℕ
+cellsPut F from start zero cells = cells
+cellsPut F from start (suc n) cells = set (cellsPut F from start n cells) (start + n) (cellFrom F from n)
 
 -- ---- a tree's branches, which stand behind one another, each a length and as many cells
 
@@ -72,14 +72,14 @@ eachTo F at (suc k) = set (eachTo F at k) k (lengthAt F at k)
 -- their cells, behind one another, and marks on them
 unfoldable pub cellsTo : List ℕ → ℕ → ℕ → List ℕ → List ℕ
 cellsTo F at zero cells = cells
-cellsTo F at (suc k) cells = cellsOf F (branchCells F at k) (totalTo F at k) (lengthAt F at k) (cellsTo F at k cells)
+cellsTo F at (suc k) cells = cellsPut F (branchCells F at k) (totalTo F at k) (lengthAt F at k) (cellsTo F at k cells)
 
 unfoldable pub coveredTo : List ℕ → ℕ → ℕ → List ℕ → List ℕ
 coveredTo F at zero covered = covered
 coveredTo F at (suc k) covered = marksOf F (branchCells F at k) (lengthAt F at k) (coveredTo F at k covered)
 
 -- the first k of them, read: their cells and the marks, the length of each, how many cells they have, and where they end
-pub record Branched (F : List ℕ) (at : ℕ) (cells₀ covered₀ : List ℕ) (k : ℕ) (cells covered each : List ℕ) (total end : ℕ) : Type 0 where
+pub record BranchesRead (F : List ℕ) (at : ℕ) (cells₀ covered₀ : List ℕ) (k : ℕ) (cells covered each : List ℕ) (total end : ℕ) : Type 0 where
   pub cells-put : cells ≡ cellsTo F at k cells₀
   pub cells-marked : covered ≡ coveredTo F at k covered₀
   pub each-is : each ≡ eachTo F at k
@@ -139,15 +139,15 @@ answerAt F at cells covered marks =
 abbrev pub sheetOf : List ℕ → ℕ → List ℕ
 sheetOf F at = take (sheetAt F at .end - sheetAt F at .from) (drop (sheetAt F at .from) F)
 
-unfoldable pub zeros : List ℕ
-zeros = replicate ownLength 0
+unfoldable pub sixteenZeros : List ℕ
+sixteenZeros = replicate ownLength 0
 
-abbrev pub answerOf : List ℕ → ℕ → Left
-answerOf F at = answerAt F (sheetAt F at .end) zeros zeros zeros
+abbrev pub answerLeft : List ℕ → ℕ → Left
+answerLeft F at = answerAt F (sheetAt F at .end) sixteenZeros sixteenZeros sixteenZeros
 
 -- no answer has the number 16: it stands for the number where the file ends within the sheet
 abbrev pub knownIf : Bool → Told → Told
 knownIf whole told = either whole told (refusalOf 16 0)
 
 abbrev pub toldOf : List ℕ → ℕ → Told
-toldOf F at = knownIf (sheetAt F at .whole) (answerOf F at .told)
+toldOf F at = knownIf (sheetAt F at .whole) (answerLeft F at .told)

@@ -18,7 +18,7 @@ use Rattle.replay_sheets.specs.declared.sheets.Told.{Told}
 use Rattle.replay_sheets.specs.declared.judging.Shortage.{Shortage}
 use Rattle.stored.specs.declared.runs.Verdict.{Verdict}
 use Rattle.replay_sheets.specs.declared.attempt.LentLengths.{LentLengths}
-use Rattle.replay_sheets.specs.Verdicts.{sameBelow, AllRubbish, Judged, OwnRubbish, fits, lengthsBy, Ran, judged}
+use Rattle.replay_sheets.specs.Verdicts.{sameBelow, AllRubbish, Judged, OwnRubbish, memoryFits, lengthsBy, Ran, judged}
 
 -- ---- the same numbers at the first places
 
@@ -44,20 +44,20 @@ module _ (a b : List ℕ) where
 
 -- ---- the fronts that are lent have the lengths asked for
 
-module _ (N : LentLengths) (queue : ℕ) (e : fits N queue ≡ true) where
+module _ (N : LentLengths) (queue : ℕ) (e : memoryFits N queue ≡ true) where
   pub fits-branch : N .branch ≤ ownLength
-  unfolding fits
+  unfolding memoryFits
   fits-branch = search passed
 
   pub fits-cells : N .cells ≤ ownLength
-  unfolding fits
+  unfolding memoryFits
   fits-cells = search passed
 
   pub fits-queue : N .queue ≤ queue
-  unfolding fits
+  unfolding memoryFits
   fits-queue = search passed
 
-pub fits-again : (N : LentLengths) (queue queue′ : List ℕ) → fits N (length queue) ≡ true → length queue′ ≡ length queue → N .queue ≤ length queue′
+pub fits-again : (N : LentLengths) (queue queue′ : List ℕ) → memoryFits N (length queue) ≡ true → length queue′ ≡ length queue → N .queue ≤ length queue′
 fits-again N queue queue′ e k = rw k (fits-queue N (length queue) e)
 
 module _ {s : List ℕ} (R : OwnRubbish s) where
@@ -97,7 +97,7 @@ module _ (N : LentLengths) {words bytes : List ℕ} (W : OwnRubbish words) (B : 
     queue-spoiled = Q;
   }
 
-  pub fronts-by : (longs : ℕ) → fits N longs ≡ true → N .queue ≤ length queue → lengthsOf (fronts N words bytes queue) ≡ lengthsBy N
+  pub fronts-by : (longs : ℕ) → memoryFits N longs ≡ true → N .queue ≤ length queue → lengthsOf (fronts N words bytes queue) ≡ lengthsBy N
   fronts-by longs e h =
       let f = front-long W (N .branch) (fits-branch N longs e) in
       let w = front-long W (N .cells) (fits-cells N longs e) in
@@ -119,7 +119,7 @@ module _ (N : LentLengths) {words bytes : List ℕ} (W : OwnRubbish words) (B : 
       }
 
 pub ran-at : {sheet : List ℕ} {L : Lengths} {S : Told} {F : Shortage} {cells covered marks : List ℕ} {r : Verdict} (N : LentLengths) (longs : ℕ)
-    → fits N longs ≡ true → Judged sheet L S F cells covered marks r → L ≡ lengthsBy N → Ran sheet N S F cells covered marks longs r
+    → memoryFits N longs ≡ true → Judged sheet L S F cells covered marks r → L ≡ lengthsBy N → Ran sheet N S F cells covered marks longs r
 ran-at N longs h J e = judged h (record {
   lent-before = J .lent-before;
   lent-after = J .lent-after;

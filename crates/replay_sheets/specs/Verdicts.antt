@@ -47,12 +47,12 @@ unfoldable pub sameAnswer : Answer → Told → Bool
 sameAnswer a S = sameEnd (a .ended) S && sameLengths (a .lengths) (S .lengths)
 
 -- the number that a buffer gives that is too short
-unfoldable pub shortRefusal : ℕ → ℕ → Shortage → Bool
-shortRefusal number detail F = eqb number (F .number) && leb 1 detail && leb detail (F .most)
+unfoldable pub shortageTold : ℕ → ℕ → Shortage → Bool
+shortageTold number detail F = eqb number (F .number) && leb 1 detail && leb detail (F .most)
 
 abbrev pub shortEnd : Ended → Shortage → Bool
 shortEnd (Routed occupied repeaters) F = false
-shortEnd (Refused number detail) F = shortRefusal number detail F
+shortEnd (Refused number detail) F = shortageTold number detail F
 
 unfoldable pub shortAnswer : Answer → Shortage → Bool
 shortAnswer a F = shortEnd (a .ended) F && sameLengths (a .lengths) (branchLengths [])
@@ -119,8 +119,8 @@ pub record OwnRubbish (s : List ℕ) : Type 0 where
   pub rubbish-all : Rubbish s
 
 -- lengths that the program's own memory has, with a queue so long
-unfoldable pub fits : LentLengths → ℕ → Bool
-fits N queue = leb (N .branch) ownLength && leb (N .cells) ownLength && leb (N .queue) queue
+unfoldable pub memoryFits : LentLengths → ℕ → Bool
+memoryFits N queue = leb (N .branch) ownLength && leb (N .cells) ownLength && leb (N .queue) queue
 
 abbrev pub lengthsBy : LentLengths → Lengths
 lengthsBy N = record {
@@ -140,5 +140,5 @@ lengthsBy N = record {
 
 -- a run at these lengths, with a queue so long; lengths that the program's own memory does not have are no run, and something else
 pub data Ran (sheet : List ℕ) (N : LentLengths) (S : Told) (F : Shortage) (cells covered marks : List ℕ) (longs : ℕ) (r : Verdict) : Type 0 where
-  too-long : fits N longs ≡ false → r ≡ Other → Ran sheet N S F cells covered marks longs r
-  judged : fits N longs ≡ true → Judged sheet (lengthsBy N) S F cells covered marks r → Ran sheet N S F cells covered marks longs r
+  too-long : memoryFits N longs ≡ false → r ≡ Other → Ran sheet N S F cells covered marks longs r
+  judged : memoryFits N longs ≡ true → Judged sheet (lengthsBy N) S F cells covered marks r → Ran sheet N S F cells covered marks longs r

@@ -12,7 +12,7 @@ ghost use Prim.Native.Nat.{_≤_};
 ghost use lib.ListN.{length, take};
 ghost use Rattle.net_tree.specs.Answers.{lent, lengthsOf};
 ghost use Rattle.stored.specs.Memory.{Rubbish};
-ghost use Rattle.replay_sheets.specs.Verdicts.{OwnRubbish, AllRubbish, Judged, fits, Ran};
+ghost use Rattle.replay_sheets.specs.Verdicts.{OwnRubbish, AllRubbish, Judged, memoryFits, Ran};
 
 // The lengths at which buffers are lent: those of a number a cell, the branch buffer, and the queue.
 pub struct LentLengths {
@@ -108,7 +108,7 @@ fn attempt(
 }
 
 fn fits(lent: LentLengths, longs: usize) -> bool
-    ensures { λ r. ⌜ r ≡ fits lent longs ⌝ }
+    ensures { λ r. ⌜ r ≡ memoryFits lent longs ⌝ }
 {
     if OWN_LENGTH < lent.branch {
         return false;

@@ -17,7 +17,7 @@ ghost use mathlib.Core.Bool.{false};
 ghost use mathlib.Core.List.{[]};
 ghost use Rattle.stored.specs.Memory.{fourHold};
 ghost use Rattle.net_tree.specs.Answers.{lent};
-ghost use Rattle.replay_sheets.specs.Verdicts.{sameLengths, sameCounts, sameRefusal, sameEnd, sameAnswer, shortRefusal, shortEnd, shortAnswer};
+ghost use Rattle.replay_sheets.specs.Verdicts.{sameLengths, sameCounts, sameRefusal, sameEnd, sameAnswer, shortageTold, shortEnd, shortAnswer};
 ghost use Rattle.replay_sheets.specs.Verdicts.{occupiedHolds, outputsHold, workHolds, memoryHolds, verdictOf};
 
 // What a buffer gives that is too short: a number, and the greatest detail that it can have. The least is 1.
@@ -90,7 +90,7 @@ fn same_answer(answer: Answer, told: Told) -> bool
 }
 
 fn short_refusal(number: u32, detail: usize, shortage: Shortage) -> bool
-    ensures { λ r. ⌜ r ≡ shortRefusal number detail shortage ⌝ }
+    ensures { λ r. ⌜ r ≡ shortageTold number detail shortage ⌝ }
 {
     if number != shortage.number {
         return false;

@@ -30,7 +30,7 @@ ghost use mathlib.Core.Path.{_≡_};
 ghost use Prim.Native.Nat.{_-_, min};
 ghost use lib.ListN.{length};
 ghost use Rattle.stored.specs.Runs.{Halved};
-ghost use Rattle.replay_sheets.specs.Runs.{SizeOf, branchMore, longerLengths, branchOf, lengthsFor, isFull, agreesIn, dueIn, RanWith, Narrows, AgreesIn};
+ghost use Rattle.replay_sheets.specs.Runs.{SizeOf, branchMore, longerLengths, branchBuffer, lengthsFor, isFull, agreesIn, dueIn, RanWith, Narrows, AgreesIn};
 ghost use Rattle.replay_sheets.specs.Replays.{InComparison, InComparisons, Next, Replayed};
 
 // The kinds of comparison: buffers of exactly V cells, longer ones, a branch buffer exactly full, one that is one cell short, and
@@ -61,8 +61,8 @@ fn size_of(sheet: &[u8], lent: usize) -> Size
     ensures { λ r. ⌜ SizeOf (now (sheet .entry)) lent r ⌝ }
 {
     let reading = sheet_reader::read_sheet(sheet);
-    let verdict = reading.verdict;
-    if !verdict.is_good() {
+    let judgement = reading.judgement;
+    if !judgement.is_good() {
         return Size {
             cells: lent,
             limit: 0,
@@ -109,7 +109,7 @@ fn one_less(count: usize) -> usize
 }
 
 fn branch_of(comparison: usize, branch: usize, total: usize) -> usize
-    ensures { λ r. ⌜ r ≡ branchOf comparison branch total ⌝ }
+    ensures { λ r. ⌜ r ≡ branchBuffer comparison branch total ⌝ }
 {
     if comparison == BRANCH_FULL {
         return total;

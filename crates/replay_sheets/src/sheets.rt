@@ -11,7 +11,7 @@ use stored::places::word_at;
 ghost use mathlib.Core.Path.{_≡_};
 ghost use Prim.Native.Nat.{_+_, _≤_, _<_, min};
 ghost use lib.ListN.{set};
-ghost use Rattle.replay_sheets.specs.Sheets.{askedAt, sheetAt, marksOf, cellsOf, Branched, left, refusalOf, treeAt, answerAt, knownIf};
+ghost use Rattle.replay_sheets.specs.Sheets.{askedAt, sheetAt, marksOf, cellsPut, BranchesRead, left, refusalOf, treeAt, answerAt, knownIf};
 
 // The letters that the file begins with: DRT1.
 pub const LETTERS: u32 = 0x44525431;
@@ -27,7 +27,7 @@ pub struct Asked {
 }
 
 // Where a sheet's bytes stand, and whether the file holds all of them.
-pub struct Part {
+pub struct SheetPart {
     pub from: usize,
     pub end: usize,
     pub whole: bool,
@@ -67,13 +67,13 @@ pub fn asked_at(file: &[u8], at: usize) -> Asked
     }
 }
 
-pub fn sheet_at(file: &[u8], at: usize) -> Part
+pub fn sheet_at(file: &[u8], at: usize) -> SheetPart
     ensures { λ r. ⌜ r ≡ sheetAt (now (file .entry)) at ⌝ }
 {
     let length = size_behind(file, at, 12);
     let from = past(file, at, 16);
     let end = past(file, from, length);
-    Part {
+    SheetPart {
         from,
         end,
         whole: length <= end - from,
@@ -113,7 +113,7 @@ fn mark_cells(file: &[u8], from: usize, count: usize, marks: &mut [u8])
 // Writes them from a place on.
 fn put_cells(file: &[u8], from: usize, count: usize, start: usize, cells: &mut [u32])
     requires { ⌜ (count < 4294967296) × (start ≤ 68719476736) ⌝ }
-    ensures { λ _. ⌜ now (cells .exit) ≡ cellsOf (now (file .entry)) from start count (now (cells .entry)) ⌝ }
+    ensures { λ _. ⌜ now (cells .exit) ≡ cellsPut (now (file .entry)) from start count (now (cells .entry)) ⌝ }
 {
     let mut k: usize = 0;
     while k < count {
@@ -131,7 +131,7 @@ fn branches_at(
     covered: &mut [u8],
 ) -> Branches
     requires { ⌜ count ≤ 16 ⌝ }
-    ensures { λ r. ⌜ Branched (now (file .entry)) at (now (cells .entry)) (now (covered .entry)) count (now (cells .exit)) (now (covered .exit)) (r .each) (r .total) (r .end) ⌝ }
+    ensures { λ r. ⌜ BranchesRead (now (file .entry)) at (now (cells .entry)) (now (covered .entry)) count (now (cells .exit)) (now (covered .exit)) (r .each) (r .total) (r .end) ⌝ }
 {
     let mut each = [0usize; 16];
     let mut total: usize = 0;

@@ -15,7 +15,7 @@ use Rattle.room.specs.declared.Room.{Room}
 use Rattle.room.specs.declared.Pos.{Pos}
 use Rattle.room.specs.declared.Move.{Move}
 use Rattle.room.specs.declared.Neighbour.the-variants.{Inside, Outside}
-use Rattle.room.specs.Room.{Good, Within, by, volume, cellOf, posOf, moves, moveAt, flat, between, stays, shifted, neighbourAt, neighbour, apart, distanceAt, distance}
+use Rattle.room.specs.Room.{Good, Within, by, volume, cellOf, posOf, moves, moveBetween, moveAt, flat, between, stays, shifted, neighbourAt, neighbour, apart, distanceAt, distance}
 use Rattle.room.specs.Units.{north, east, south, facingHorizontal, facingMove, ahead}
 use Rattle.room.specs.RoomLaws.{cell-in, cell-pos, pos-cell, pos-in}
 
@@ -183,9 +183,9 @@ part (suc (suc (suc a))) h = absurd (omega arith)
 abbrev listedIf : ℕ → ℕ → ℕ → Bool
 listedIf dx dy dz = either (oneAside (by dx dy dz)) (among (by dx dy dz) moves) true
 
-listed : (m : Move) → Small m → In m moves
+small-listed : (m : Move) → Small m → In m moves
 unfolding moves
-listed m s =
+small-listed m s =
     let x = every-in (λ dx. every (λ dy. every (listedIf dx dy) parts) parts) parts refl (m .x) (part (m .x) (s .x-small)) in
     let y = every-in (λ dy. every (listedIf (m .x) dy) parts) parts x (m .y) (part (m .y) (s .y-small)) in
     let z = every-in (listedIf (m .x) (m .y)) parts y (m .z) (part (m .z) (s .z-small)) in
@@ -206,9 +206,6 @@ pub symmetric : (R : Room) → Good R → (n : ℕ) (m : Move) (v : ℕ) → n <
 symmetric R G n m v h i e = leads-cell R G v (opposite m) n h (moved-back (posOf R n) m (posOf R v) (small m i) (leads R n m v e .moved))
 
 -- ---- the move between two positions
-
-abbrev pub moveBetween : Pos → Pos → Move
-moveBetween p q = by (q .x + 1 - p .x) (q .y + 1 - p .y) (q .z + 1 - p .z)
 
 -- no other move leads from one to the other
 pub between-is : (p q : Pos) (m : Move) → Moved p m q → moveBetween p q ≡ m
@@ -236,7 +233,7 @@ module _ (p q : Pos) (aside : apart (p .x) (q .x) + apart (p .z) (q .z) ≡ 1) (
   }
 
   pub between-listed : In (moveBetween p q) moves
-  between-listed = listed (moveBetween p q) between-small
+  between-listed = small-listed (moveBetween p q) between-small
 
 -- ---- the flat move of a facing
 

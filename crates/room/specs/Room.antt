@@ -82,6 +82,10 @@ moves =
 abbrev pub moveAt : ℕ → Move
 moveAt k = getD moves k (by 0 0 0)
 
+-- the move that leads from position p to q, where they are a step apart
+abbrev pub moveBetween : Pos → Pos → Move
+moveBetween p q = by (q .x + 1 - p .x) (q .y + 1 - p .y) (q .z + 1 - p .z)
+
 -- a flat step leaves y as it is; every other is a stair
 abbrev pub flat : Move → Bool
 flat m = eqb (m .y) 1

@@ -172,14 +172,14 @@ impl RouterConfig {
 }
 
 // A number kept in four bytes, as an index.
-pub fn wide(number: u32) -> usize
+pub fn as_index(number: u32) -> usize
     ensures { λ r. ⌜ (r ≡ number) × (r < 2 ^ 32) ⌝ }
 {
     number as usize
 }
 
 // A number kept in four bytes, in eight.
-pub fn long(number: u32) -> u64
+pub fn as_long(number: u32) -> u64
     ensures { λ r. ⌜ r ≡ number ⌝ }
 {
     number as u64

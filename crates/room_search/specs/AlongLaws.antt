@@ -15,8 +15,8 @@ use Rattle.room.specs.RoomLaws.{cell-in, pos-cell, pos-in}
 use Rattle.room.specs.MoveLaws.{not-stays, one-less-in, move-small}
 use Rattle.room_search.specs.declared.Line.{Line}
 use Rattle.room_search.specs.declared.Spot.{Spot}
-use Rattle.room_search.specs.declared.Step.the-variants.{On, Full}
-use Rattle.room_search.specs.Steps.{Ready, Placed, Able, Aside, Tried, setting, column}
+use Rattle.room_search.specs.declared.MovesTried.the-variants.{On, Full}
+use Rattle.room_search.specs.Steps.{HeapReady, Placed, Able, Aside, Tried, setting, column}
 use Rattle.room_search.specs.TryLaws.{tried-out, tried-none, tried-then, tried-full}
 
 module _ (R : Room) (C : RouterConfig) (classes : List ℕ) (goal from : Spot) (cost : ℕ) (known₀ previous₀ queue₀ : List ℕ) (line₀ : Line) where
@@ -27,7 +27,7 @@ module _ (R : Room) (C : RouterConfig) (classes : List ℕ) (goal from : Spot) (
     pub previous-kept : length previous ≡ length previous₀
     pub queue-kept : length queue ≡ length queue₀
 
-  pub along-start : Ready queue₀ line₀ → Along [] known₀ previous₀ queue₀ line₀
+  pub along-start : HeapReady queue₀ line₀ → Along [] known₀ previous₀ queue₀ line₀
   along-start r = record { tried = tried-none r; known-kept = refl; previous-kept = refl; queue-kept = refl }
 
   module _ {done : List Move} {known previous queue : List ℕ} {line : Line} (I : Along done known previous queue line) (more : List Move)
@@ -52,9 +52,9 @@ module _ (R : Room) (C : RouterConfig) (classes : List ℕ) (goal from : Spot) (
   able-along k A I h = record {
     good = A .good;
     fair = A .fair;
-    classes-length = A .classes-length;
-    known-length = I .known-kept ∙ A .known-length;
-    previous-length = I .previous-kept ∙ A .previous-length;
+    classes-long = A .classes-long;
+    known-long = I .known-kept ∙ A .known-long;
+    previous-long = I .previous-kept ∙ A .previous-long;
     goal-placed = A .goal-placed;
     from-placed = A .from-placed;
     cost-most = A .cost-most;
@@ -84,7 +84,7 @@ column-all m y e = rw e
 
 -- ---- a column's level cell, if it is in the room
 
-module _ (R : Room) (C : RouterConfig) (classes : List ℕ) (goal from : Spot) (cost : ℕ) (known previous queue : List ℕ) (line : Line) (ready : Ready queue line)
+module _ (R : Room) (C : RouterConfig) (classes : List ℕ) (goal from : Spot) (cost : ℕ) (known previous queue : List ℕ) (line : Line) (ready : HeapReady queue line)
     (m : Move) where
   all-out : ((y : ℕ) → neighbour R (from .cell) (by (m .x) y (m .z)) ≡ Outside)
       → Tried (setting R C classes goal queue from cost) (column m) known previous queue line (On line) known previous queue

@@ -18,7 +18,7 @@ use Rattle.room.specs.declared.Neighbour.the-variants.{Inside, Outside}
 use Rattle.room.specs.Room.{volume, moves, neighbour, distance, flat}
 use Rattle.room.specs.MoveLaws.{most, leads, nearer}
 use Rattle.best_first.specs.Search
-use Rattle.best_first.specs.Ways.{Step, Sound, Consistent}
+use Rattle.best_first.specs.Ways.{GraphStep, Sound, Consistent}
 use Rattle.room_search.specs.Routing.{Task, entering, total, priceOf, moveInto, movesBy, estimateOf, graphOf, graph}
 use Rattle.room.specs.Units.{maxCost, GoodConfig}
 
@@ -69,8 +69,8 @@ pub record StepBy (T : Task) (u v c : ℕ) : Type 0 where
   pub entered : entering T v ≡ 0 → ⊥
   pub cost-is : total (priceOf (T .config) by (entering T v)) ≡ c
 
-pub step-by : (T : Task) (u v c : ℕ) → Step (graph T) u v c → StepBy T u v c
-unfolding Step graphOf
+pub step-by : (T : Task) (u v c : ℕ) → GraphStep (graph T) u v c → StepBy T u v c
+unfolding GraphStep graphOf
 step-by T u v c s =
     let a = made (T .room) (T .config) (entering T) u moves (s .0) (s .1) in
     let to : a .into ≡ v = ap (λ (g : Search.Move). g .to) (sym (a .is)) ∙ s .2 in

@@ -9,7 +9,7 @@ use Rattle.basics.specs.Tests.{askLess}
 use Rattle.basics.specs.Lists.{In}
 use Rattle.best_first.specs.Search.{Entry}
 use Rattle.best_first.specs.Entries.{Late, by-key, by-serial, Same, same-refl, same-trans, same-cons, same-swap, Popped}
-use Rattle.queue.specs.Queue.{asOne, insert, bag, entry, Pushed, Taken}
+use Rattle.queue.specs.Queue.{asOne, insert, bag, entry, EntryPushed, EntryTaken}
 use Rattle.queue.specs.BagLaws.{insert-nil, insert-le, insert-gt, bag-zero, bag-suc, length-bag}
 use Rattle.room_search.specs.Held.{packed, unpacked, entriesIn}
 
@@ -42,7 +42,7 @@ same-insert e (x ∷ w) =
     (λ h. rw (insert-gt e x w h) (same-trans (same-swap (unpacked e) (unpacked x) (map unpacked w)) (same-cons (unpacked x) (same-insert e w))))
     (λ h. rw (insert-le e x w h) (same-refl _))
 
-pub pushed-entries : (h : List ℕ) (n key serial cell : ℕ) (h′ : List ℕ) → serial < 2 ^ 32 → cell < 2 ^ 64 → Pushed h n (packed key serial cell) h′
+pub pushed-entries : (h : List ℕ) (n key serial cell : ℕ) (h′ : List ℕ) → serial < 2 ^ 32 → cell < 2 ^ 64 → EntryPushed h n (packed key serial cell) h′
     → Same (record { key = key; serial = serial; cell = cell } ∷ entriesIn h n) (entriesIn h′ (suc n))
 unfolding entriesIn
 pushed-entries h n key serial cell h′ s c P =
@@ -93,7 +93,7 @@ low-entries a (x ∷ w) k y (inr i) = low-entries a w (k .1) y i
 unfoldable pub takenEntry : List ℕ → ℕ → Entry
 takenEntry h cell = record { key = asOne (getD h 0 0) cell / 2 ^ 96; serial = asOne (getD h 0 0) cell / 2 ^ 64 % 2 ^ 32; cell = cell }
 
-pub taken-entries : (h : List ℕ) (n cell : ℕ) (h′ : List ℕ) → cell < 2 ^ 64 → Taken h n cell h′ → Popped (entriesIn h n) (takenEntry h cell) (entriesIn h′ (n - 1))
+pub taken-entries : (h : List ℕ) (n cell : ℕ) (h′ : List ℕ) → cell < 2 ^ 64 → EntryTaken h n cell h′ → Popped (entriesIn h n) (takenEntry h cell) (entriesIn h′ (n - 1))
 unfolding entriesIn Ascending AtLeast unpacked takenEntry
 taken-entries h n cell h′ c T =
     let first : ℕ = asOne (getD h 0 0) cell in

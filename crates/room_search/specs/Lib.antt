@@ -6,8 +6,8 @@ pub mod Steps
 pub mod OfferLaws
 pub mod TryLaws
 pub mod AlongLaws
-pub mod Turns
-pub mod TurnLaws
+pub mod Takings
+pub mod TakingLaws
 pub mod RunLaws
 pub mod EndLaws
 pub mod Classes

@@ -10,14 +10,14 @@ use lib.ListN.{length, getD, set}
 use Rattle.best_first.specs.Search.{cheaper, push}
 use Rattle.best_first.specs.Equations.{is-cheaper, no-cheaper}
 use Rattle.best_first.specs.Loops.{trying-skip, trying-push, trying-full}
-use Rattle.queue.specs.Queue.{Pushed}
+use Rattle.queue.specs.Queue.{EntryPushed}
 use Rattle.room_search.specs.declared.Line.{Line}
-use Rattle.room_search.specs.declared.Step.the-variants.{On, Full}
+use Rattle.room_search.specs.declared.MovesTried.the-variants.{On, Full}
 use Rattle.room_search.specs.Held.{packed, held}
 use Rattle.room_search.specs.HeldLaws.{pushed-entries, length-entries}
-use Rattle.room_search.specs.Steps.{placesOf, Ready, Offered}
+use Rattle.room_search.specs.Steps.{placesOf, HeapReady, Offered}
 
-module _ (u v c estimate : ℕ) (known previous queue : List ℕ) (line : Line) (R : Ready queue line) where
+module _ (u v c estimate : ℕ) (known previous queue : List ℕ) (line : Line) (R : HeapReady queue line) where
   -- its known cost is no higher
   pub offer-kept : getD known v 0 ≢ 0 → getD known v 0 ≤ c + 1 → Offered u v c estimate known previous queue line (On line) known previous queue
   unfolding held
@@ -40,7 +40,7 @@ module _ (u v c estimate : ℕ) (known previous queue : List ℕ) (line : Line) 
 
     -- the push
     pub offer-pushed : (queue′ : List ℕ) → line .waiting < placesOf queue → line .serial + 1 < 2 ^ 32 → v < 2 ^ 64 → length queue′ ≡ length queue
-        → Pushed queue (line .waiting) (packed (c + estimate) (line .serial + 1) v) queue′
+        → EntryPushed queue (line .waiting) (packed (c + estimate) (line .serial + 1) v) queue′
         → Offered u v c estimate known previous queue line (On (record { waiting = line .waiting + 1; serial = line .serial + 1 })) (set known v (c + 1)) (set previous v (u + 1)) queue′
     unfolding held push
     offer-pushed queue′ r s w l P = record {

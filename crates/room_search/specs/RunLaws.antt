@@ -14,18 +14,18 @@ use Rattle.best_first.specs.Search.{Graph, no-route, outset, bestFirst, Answer}
 use Rattle.best_first.specs.Entries.{Same}
 use Rattle.best_first.specs.Statements.{Bounded}
 use Rattle.best_first.specs.Loops.{Going, going-outset, going-alike, going-bounded, going-none}
-use Rattle.queue.specs.Queue.{asOne, Pushed}
+use Rattle.queue.specs.Queue.{asOne, EntryPushed}
 use Rattle.queue.specs.BagLaws.{bag-zero}
 use Rattle.room_search.specs.declared.Line.{Line}
 use Rattle.room_search.specs.declared.Spot.{Spot}
 use Rattle.room_search.specs.declared.Outcome.{Outcome}
-use Rattle.room_search.specs.declared.Turn.the-variants.{GoesOn, Ended}
+use Rattle.room_search.specs.declared.AfterTaking.the-variants.{GoesOn, Ended}
 use Rattle.room_search.specs.Routing.{estimateOf, graphOf}
 use Rattle.room_search.specs.Held.{entriesIn, held}
 use Rattle.room_search.specs.HeldLaws.{pushed-entries}
 use Rattle.room_search.specs.GraphLaws.{dearest, sound, dearest-most}
-use Rattle.room_search.specs.Steps.{maxKnown, placesOf, Ready, Placed}
-use Rattle.room_search.specs.Turns.{graphIn, Takeable, Told, Turned, Fresh, Searchable, Showable}
+use Rattle.room_search.specs.Steps.{maxKnown, placesOf, HeapReady, Placed}
+use Rattle.room_search.specs.Takings.{graphIn, Takeable, OutcomeTold, TakingCame, Fresh, Searchable, Showable}
 use Rattle.room_search.specs.declared.Outcome.the-variants.{Arrived, NoRoute, LimitPassed, QueueFull}
 use Rattle.room.specs.declared.Pos.{Pos}
 
@@ -33,7 +33,7 @@ use Rattle.room.specs.declared.Pos.{Pos}
 pub record Arena (R : Room) (C : RouterConfig) (classes : List ℕ) (start : ℕ) (goal : Spot) : Type 0 where
   pub good : Good R
   pub fair : GoodConfig C
-  pub classes-length : length classes ≡ volume R
+  pub classes-long : length classes ≡ volume R
   pub start-in : start < volume R
   pub goal-placed : Placed R goal
 
@@ -42,7 +42,7 @@ pub arena : {R : Room} {C : RouterConfig} {classes known previous queue : List �
 arena F = record {
   good = F .good;
   fair = F .fair;
-  classes-length = F .classes-length;
+  classes-long = F .classes-long;
   start-in = F .start-placed .inside;
   goal-placed = F .goal-placed;
 }
@@ -52,13 +52,13 @@ pub record Running (R : Room) (C : RouterConfig) (classes queue₀ : List ℕ) (
     (expanded : ℕ) : Type 0 where
   pub going : Going (graphIn R C classes start (goal .cell) queue₀) (C .limit .0) (bestFirst (graphIn R C classes start (goal .cell) queue₀) (C .limit .0))
       (held known previous queue line expanded)
-  pub ready : Ready queue line
+  pub ready : HeapReady queue line
   pub kept : length queue ≡ length queue₀
 
 -- the start is known at cost 0 and waits
 pub running-outset : {R : Room} {C : RouterConfig} {classes known previous queue₀ : List ℕ} {start goal : Spot} → Fresh R C classes known previous queue₀ start goal
     → (queue : List ℕ) (rank : ℕ) → length queue ≡ length queue₀ → rank ≡ estimateOf (distanceAt (start .at) (goal .at)) * 2 ^ 32
-    → Pushed queue₀ 0 (asOne rank (start .cell)) queue
+    → EntryPushed queue₀ 0 (asOne rank (start .cell)) queue
     → Running R C classes queue (start .cell) goal (set known (start .cell) 1) previous queue (record { waiting = 1; serial = 0 }) 0
 unfolding graphOf outset held distance entriesIn
 running-outset {R} {C} {classes} {known} {previous} {queue₀} {start} {goal} F queue rank same e P = record {
@@ -103,9 +103,9 @@ module _ {R : Room} {C : RouterConfig} {classes queue₀ : List ℕ} {start : �
   running-takeable some = record {
     good = A .good;
     fair = A .fair;
-    classes-length = A .classes-length;
-    known-length = bounds .known-length;
-    previous-length = bounds .previous-length;
+    classes-long = A .classes-long;
+    known-long = bounds .known-long;
+    previous-long = bounds .previous-long;
     goal-placed = A .goal-placed;
     some = some;
     ready = I .ready;
@@ -115,14 +115,14 @@ module _ {R : Room} {C : RouterConfig} {classes queue₀ : List ℕ} {start : �
   }
 
   module _ {known′ previous′ queue′ : List ℕ} where
-    pub running-on : {next : Line} → length queue′ ≡ length queue → Turned R C classes known previous queue line expanded goal (GoesOn next) known′ previous′ queue′
+    pub running-on : {next : Line} → length queue′ ≡ length queue → TakingCame R C classes known previous queue line expanded goal (GoesOn next) known′ previous′ queue′
         → Running R C classes queue₀ start goal known′ previous′ queue′ next (expanded + 1)
     running-on same T =
         let W = T .goes start (bestFirst G (C .limit .0)) (A .start-in) (rw (I .kept) (I .going)) in
         record { going = rw (I .kept) at (W .0); ready = W .1; kept = same ∙ I .kept }
 
-    pub running-ended : {o : Outcome} → Turned R C classes known previous queue line expanded goal (Ended o) known′ previous′ queue′
-        → Told G (bestFirst G (C .limit .0)) known′ previous′ o
+    pub running-ended : {o : Outcome} → TakingCame R C classes known previous queue line expanded goal (Ended o) known′ previous′ queue′
+        → OutcomeTold G (bestFirst G (C .limit .0)) known′ previous′ o
     running-ended T = rw (I .kept) at (T .goes start (bestFirst G (C .limit .0)) (A .start-in) (rw (I .kept) (I .going)))
 
   -- nothing waits any more
@@ -140,7 +140,7 @@ pub searchable-fresh : {R : Room} {C : RouterConfig} {classes known₀ previous�
 searchable-fresh S known previous from to k p f t = record {
   good = S .good;
   fair = S .fair;
-  classes-length = S .classes-long;
+  classes-long = S .classes-long;
   known-zero = cleared-to (S .known-long) k;
   previous-zero = cleared-to (S .previous-long) p;
   start-placed = record { inside = S .start-in; is = f };
@@ -149,7 +149,7 @@ searchable-fresh S known previous from to k p f t = record {
 }
 
 -- the path of a search that arrived can be written
-pub told-showable : (G : Graph) (answer : Answer) (o : Outcome) (known previous : List ℕ) → length previous ≡ G .size → Told G answer known previous o → Showable o (G .goal) known previous
+pub told-showable : (G : Graph) (answer : Answer) (o : Outcome) (known previous : List ℕ) → length previous ≡ G .size → OutcomeTold G answer known previous o → Showable o (G .goal) known previous
 told-showable G answer (Arrived x) known previous e t = (λ v. rw e (t .linked v), t .reached)
 told-showable G answer (NoRoute x) known previous e t = tt
 told-showable G answer (LimitPassed x) known previous e t = tt

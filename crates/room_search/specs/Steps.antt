@@ -16,8 +16,8 @@ use Rattle.best_first.specs.Loops.{Trying}
 use Rattle.queue.specs.Queue.{Heap, entry}
 use Rattle.room_search.specs.declared.Line.{Line}
 use Rattle.room_search.specs.declared.Spot.{Spot}
-use Rattle.room_search.specs.declared.Step.{Step}
-use Rattle.room_search.specs.declared.Step.the-variants.{On, Full}
+use Rattle.room_search.specs.declared.MovesTried.{MovesTried}
+use Rattle.room_search.specs.declared.MovesTried.the-variants.{On, Full}
 use Rattle.room_search.specs.Routing.{movesBy, graphOf}
 use Rattle.room_search.specs.Held.{held}
 
@@ -30,7 +30,7 @@ abbrev pub maxKnown : ℕ
 maxKnown = 3276600000
 
 -- the queue's first places are a heap
-pub record Ready (queue : List ℕ) (line : Line) : Type 0 where
+pub record HeapReady (queue : List ℕ) (line : Line) : Type 0 where
   pub heap : Heap (entry queue) (line .waiting)
   pub room : line .waiting ≤ placesOf queue
 
@@ -51,19 +51,19 @@ Stage A due known previous queue line =
     Trying (A .graph) (A .degree) (A .dearest) (A .cell) (A .cost) (A .outcome) due (held known previous queue line (A .expanded))
 
 -- what a function that tries moves answers, where `rest` is left to be tried
-abbrev pub After : Attempt → List Search.Move → List ℕ → List ℕ → List ℕ → Step → Type 0
-After A rest known previous queue (On line) = Stage A rest known previous queue line
-After A rest known previous queue Full = A .outcome ≡ full
+abbrev pub AfterMoves : Attempt → List Search.Move → List ℕ → List ℕ → List ℕ → MovesTried → Type 0
+AfterMoves A rest known previous queue (On line) = Stage A rest known previous queue line
+AfterMoves A rest known previous queue Full = A .outcome ≡ full
 
-abbrev pub Readied : List ℕ → ℕ → Step → Type 0
-Readied queue most (On line) = Ready queue line × (line .serial ≤ most)
+abbrev pub Readied : List ℕ → ℕ → MovesTried → Type 0
+Readied queue most (On line) = HeapReady queue line × (line .serial ≤ most)
 Readied queue most Full = Unit {0}
 
 -- one move, to cell v at cost c
-pub record Offered (u v c estimate : ℕ) (known previous queue : List ℕ) (line : Line) (r : Step) (known′ previous′ queue′ : List ℕ) : Type 0 where
+pub record Offered (u v c estimate : ℕ) (known previous queue : List ℕ) (line : Line) (r : MovesTried) (known′ previous′ queue′ : List ℕ) : Type 0 where
   pub readied : Readied queue′ (line .serial + 1) r
   pub goes : (A : Attempt) (m : Search.Move) (ms : List Search.Move) → A .cell ≡ u → m .to ≡ v → A .cost + m .cost ≡ c → A .graph .estimate v ≡ estimate
-      → A .graph .places ≡ placesOf queue → Stage A (m ∷ ms) known previous queue line → After A ms known′ previous′ queue′ r
+      → A .graph .places ≡ placesOf queue → Stage A (m ∷ ms) known previous queue line → AfterMoves A ms known′ previous′ queue′ r
 
 -- the position of a spot is that of its cell
 pub record Placed (R : Room) (s : Spot) : Type 0 where
@@ -90,10 +90,10 @@ pub record Fitting (S : Setting) (A : Attempt) : Type 0 where
   pub cost-is : A .cost ≡ S .cost
 
 -- the moves `tried` of that cell
-pub record Tried (S : Setting) (tried : List Move) (known previous queue : List ℕ) (line : Line) (r : Step) (known′ previous′ queue′ : List ℕ) : Type 0 where
+pub record Tried (S : Setting) (tried : List Move) (known previous queue : List ℕ) (line : Line) (r : MovesTried) (known′ previous′ queue′ : List ℕ) : Type 0 where
   pub readied : Readied queue′ (line .serial + length tried) r
   pub goes : (A : Attempt) → Fitting S A → (ms : List Move) → Stage A (dueOf S (tried ++ ms)) known previous queue line
-      → After A (dueOf S ms) known′ previous′ queue′ r
+      → AfterMoves A (dueOf S ms) known′ previous′ queue′ r
 
 abbrev pub setting : Room → RouterConfig → List ℕ → Spot → List ℕ → Spot → ℕ → Setting
 setting R C classes goal queue from cost = record {
@@ -121,11 +121,11 @@ pub record Aside (R : Room) (from beside : Spot) (m : Move) : Type 0 where
 pub record Able (tries : ℕ) (R : Room) (C : RouterConfig) (classes : List ℕ) (goal : Spot) (from : Spot) (cost : ℕ) (known previous queue : List ℕ) (line : Line) : Type 0 where
   pub good : Good R
   pub fair : GoodConfig C
-  pub classes-length : length classes ≡ volume R
-  pub known-length : length known ≡ volume R
-  pub previous-length : length previous ≡ volume R
+  pub classes-long : length classes ≡ volume R
+  pub known-long : length known ≡ volume R
+  pub previous-long : length previous ≡ volume R
   pub goal-placed : Placed R goal
   pub from-placed : Placed R from
   pub cost-most : cost ≤ maxKnown
   pub serial-most : line .serial + tries < 2 ^ 32
-  pub ready : Ready queue line
+  pub ready : HeapReady queue line

@@ -19,10 +19,10 @@ use Rattle.room.specs.MoveLaws.{Moved, leads-to, not-stays, one-less-in}
 use Rattle.best_first.specs.Search.{Graph}
 use Rattle.room_search.specs.declared.Line.{Line}
 use Rattle.room_search.specs.declared.Spot.{Spot}
-use Rattle.room_search.specs.declared.Step.{Step}
-use Rattle.room_search.specs.declared.Step.the-variants.{On, Full}
+use Rattle.room_search.specs.declared.MovesTried.{MovesTried}
+use Rattle.room_search.specs.declared.MovesTried.the-variants.{On, Full}
 use Rattle.room_search.specs.Routing.{total, priceOf, movesBy, estimateOf, graphOf}
-use Rattle.room_search.specs.Steps.{Ready, Readied, Placed, Offered, Setting, setting, dueOf, Tried, Aside}
+use Rattle.room_search.specs.Steps.{HeapReady, Readied, Placed, Offered, Setting, setting, dueOf, Tried, Aside}
 
 -- ---- what one move adds to the moves due
 
@@ -114,7 +114,7 @@ rise-few R G k h = mul-le-mul h (G .z-most)
 -- ---- one move
 
 module _ (R : Room) (C : RouterConfig) (classes : List ℕ) (goal : Spot) (from : Spot) (cost : ℕ) (known previous queue : List ℕ) (line : Line)
-    (ready : Ready queue line) (m : Move) where
+    (ready : HeapReady queue line) (m : Move) where
   abbrev S : Setting
   S = setting R C classes goal queue from cost
 
@@ -126,7 +126,7 @@ module _ (R : Room) (C : RouterConfig) (classes : List ℕ) (goal : Spot) (from 
   tried-shut v e z = record { readied = (ready, omega arith); goes = λ A F ms T. rw (moves-shut R C (λ v. getD classes v 0) (from .cell) m ms v e z) at T }
 
   pub tried-offered : (v : ℕ) (p : Pos) → neighbour R (from .cell) m ≡ Inside v → getD classes v 0 ≢ 0 → Placed R goal → p ≡ posOf R v
-      → (r : Step) (known′ previous′ queue′ : List ℕ)
+      → (r : MovesTried) (known′ previous′ queue′ : List ℕ)
       → Offered (from .cell) v (cost + total (priceOf C m (getD classes v 0))) (estimateOf (distanceAt p (goal .at))) known previous queue line r known′ previous′ queue′
       → Tried S (m ∷ []) known previous queue line r known′ previous′ queue′
   unfolding graphOf distance
@@ -142,17 +142,17 @@ module _ (R : Room) (C : RouterConfig) (classes : List ℕ) (goal : Spot) (from 
 
 -- ---- several moves
 
-readied-more : (queue : List ℕ) (a b : ℕ) (r : Step) → a ≤ b → Readied queue a r → Readied queue b r
+readied-more : (queue : List ℕ) (a b : ℕ) (r : MovesTried) → a ≤ b → Readied queue a r → Readied queue b r
 readied-more queue a b (On l) h d = (d .0, omega (arith, d .1))
 readied-more queue a b Full h d = tt
 
 module _ {S : Setting} {known previous queue : List ℕ} {line : Line} where
-  pub tried-none : Ready queue line → Tried S [] known previous queue line (On line) known previous queue
+  pub tried-none : HeapReady queue line → Tried S [] known previous queue line (On line) known previous queue
   tried-none ready = record { readied = (ready, omega arith); goes = λ A F ms T. T }
 
   module _ {a : List Move} {known′ previous′ queue′ : List ℕ} (b : List Move) where
     -- all went on, and then some more were tried
-    pub tried-then : {l : Line} → Tried S a known previous queue line (On l) known′ previous′ queue′ → {r : Step} {known″ previous″ queue″ : List ℕ}
+    pub tried-then : {l : Line} → Tried S a known previous queue line (On l) known′ previous′ queue′ → {r : MovesTried} {known″ previous″ queue″ : List ℕ}
         → Tried S b known′ previous′ queue′ l r known″ previous″ queue″ → Tried S (a ++ b) known previous queue line r known″ previous″ queue″
     tried-then {l} T {r} U = record {
       readied = readied-more _ _ _ r (omega (arith, T .readied .1, length-append a b)) (U .readied);

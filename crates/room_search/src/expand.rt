@@ -6,15 +6,15 @@ ghost use mathlib.Core.List.{[], _∷_};
 ghost use Rattle.room.specs.Room.{maxVolume, SmallPos, moves, distanceAt};
 ghost use Rattle.room.specs.Units.{GoodConfig, maxCost};
 ghost use Rattle.room_search.specs.Routing.{total, priceOf, estimateOf};
-ghost use Rattle.room_search.specs.Steps.{maxKnown, Ready, Offered, Able, Aside, setting, Tried, column};
+ghost use Rattle.room_search.specs.Steps.{maxKnown, HeapReady, Offered, Able, Aside, setting, Tried, column};
 use crate::Line;
+use crate::MovesTried;
 use crate::Spot;
-use crate::Step;
 use room::Move;
 use room::Pos;
 use room::Room;
 use room::RouterConfig;
-use room::long;
+use room::as_long;
 
 // A rank is its key times this, plus its serial, which fits 32 bits.
 pub const KEY_UNIT: u64 = 4294967296;
@@ -39,10 +39,10 @@ fn offer(
     cost: u32,
     at: Pos,
     goal: Pos,
-) -> Step
+) -> MovesTried
     requires { ⌜ (cell < length (now known)) × (length (now previous) ≡ length (now known)) × (length (now known) ≤ maxVolume) ⌝ }
     requires { ⌜ (from < maxVolume) × (cost ≤ maxKnown + 2 * maxCost) × (line .serial + 1 < 2 ^ 32) ⌝ }
-    requires { ⌜ Ready (now queue) line ⌝ }
+    requires { ⌜ HeapReady (now queue) line ⌝ }
     requires { ⌜ SmallPos at ⌝ }
     requires { ⌜ SmallPos goal ⌝ }
     ensures { λ r. ⌜ Offered from cell cost (estimateOf (distanceAt at goal)) (now (known .entry)) (now (previous .entry)) (now (queue .entry)) line r (now (known .exit)) (now (previous .exit)) (now (queue .exit)) ⌝ }
@@ -50,19 +50,19 @@ fn offer(
     let old = known[cell];
     if old != 0 {
         if old <= cost + 1 {
-            return Step::On(line);
+            return MovesTried::On(line);
         }
     }
     let waiting = line.waiting;
     if queue.len() / 2 <= waiting {
-        return Step::Full;
+        return MovesTried::Full;
     }
     let serial = line.serial + 1;
-    let key = long(cost) + estimate(at, goal);
+    let key = as_long(cost) + estimate(at, goal);
     known[cell] = cost + 1;
     previous[cell] = (from + 1) as u32;
     queue::push(queue, waiting, key * KEY_UNIT + serial, cell as u64);
-    Step::On(Line {
+    MovesTried::On(Line {
         waiting: waiting + 1,
         serial: serial,
     })
@@ -106,7 +106,7 @@ fn try_move(
     beside: Spot,
     goal: Spot,
     m: Move,
-) -> Step
+) -> MovesTried
     requires { ⌜ Able 1 room config (now classes) goal from cost (now known) (now previous) (now queue) line ⌝ }
     requires { ⌜ Aside room from beside m ⌝ }
     requires { ⌜ m .y ≤ 2 ⌝ }
@@ -114,15 +114,15 @@ fn try_move(
 {
     let y = beside.at.y + m.y;
     if y < 1 {
-        return Step::On(line);
+        return MovesTried::On(line);
     }
     if room.high < y {
-        return Step::On(line);
+        return MovesTried::On(line);
     }
     let cell = beside.cell + m.y * room.deep - room.deep;
     let class = classes[cell];
     if class == 0 {
-        return Step::On(line);
+        return MovesTried::On(line);
     }
     let at = Pos {
         x: beside.at.x,
@@ -156,7 +156,7 @@ fn try_beside(
     beside: Spot,
     goal: Spot,
     m: Move,
-) -> Step
+) -> MovesTried
     requires { ⌜ Able 3 room config (now classes) goal from cost (now known) (now previous) (now queue) line ⌝ }
     requires { ⌜ Aside room from beside m ⌝ }
     ensures { λ r. ⌜ Tried (setting room config (now (classes .entry)) goal (now (queue .entry)) from cost) (column m) (now (known .entry)) (now (previous .entry)) (now (queue .entry)) line r (now (known .exit)) (now (previous .exit)) (now (queue .exit)) ⌝ }
@@ -169,7 +169,7 @@ fn try_beside(
             y: y,
             z: m.z,
         };
-        let Step::On(next) = try_move(
+        let MovesTried::On(next) = try_move(
             room,
             config,
             classes,
@@ -183,12 +183,12 @@ fn try_beside(
             goal,
             rising,
         ) else {
-            return Step::Full;
+            return MovesTried::Full;
         };
         now_at = next;
         y += 1;
     }
-    Step::On(now_at)
+    MovesTried::On(now_at)
 }
 
 // Tries the three moves that go aside as m does, where that stays in the room.
@@ -204,24 +204,24 @@ fn try_column(
     cost: u32,
     goal: Spot,
     m: Move,
-) -> Step
+) -> MovesTried
     requires { ⌜ Able 3 room config (now classes) goal from cost (now known) (now previous) (now queue) line ⌝ }
     requires { ⌜ (m .x ≤ 2) × (m .z ≤ 2) ⌝ }
     ensures { λ r. ⌜ Tried (setting room config (now (classes .entry)) goal (now (queue .entry)) from cost) (column m) (now (known .entry)) (now (previous .entry)) (now (queue .entry)) line r (now (known .exit)) (now (previous .exit)) (now (queue .exit)) ⌝ }
 {
     let x = from.at.x + m.x;
     if x < 1 {
-        return Step::On(line);
+        return MovesTried::On(line);
     }
     if room.wide < x {
-        return Step::On(line);
+        return MovesTried::On(line);
     }
     let z = from.at.z + m.z;
     if z < 1 {
-        return Step::On(line);
+        return MovesTried::On(line);
     }
     if room.deep < z {
-        return Step::On(line);
+        return MovesTried::On(line);
     }
     let at = Pos {
         x: x - 1,
@@ -260,7 +260,7 @@ pub fn expand(
     from: Spot,
     cost: u32,
     goal: Spot,
-) -> Step
+) -> MovesTried
     requires { ⌜ Able 12 room config (now classes) goal from cost (now known) (now previous) (now queue) line ⌝ }
     ensures { λ r. ⌜ Tried (setting room config (now (classes .entry)) goal (now (queue .entry)) from cost) moves (now (known .entry)) (now (previous .entry)) (now (queue .entry)) line r (now (known .exit)) (now (previous .exit)) (now (queue .exit)) ⌝ }
 {
@@ -268,7 +268,7 @@ pub fn expand(
     let mut side: usize = 0;
     while side < 4 {
         let m = Room::move_at(side * 3);
-        let Step::On(next) = try_column(
+        let MovesTried::On(next) = try_column(
             room,
             config,
             classes,
@@ -281,10 +281,10 @@ pub fn expand(
             goal,
             m,
         ) else {
-            return Step::Full;
+            return MovesTried::Full;
         };
         now_at = next;
         side += 1;
     }
-    Step::On(now_at)
+    MovesTried::On(now_at)
 }

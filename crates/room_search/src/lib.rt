@@ -16,7 +16,7 @@ pub struct Line {
 }
 
 // What trying a cell's moves comes to: the search goes on, or a push found the queue full.
-pub enum Step {
+pub enum MovesTried {
     On(Line),
     Full,
 }
@@ -36,7 +36,7 @@ pub enum Outcome {
 }
 
 // What one taking comes to.
-pub enum Turn {
+pub enum AfterTaking {
     GoesOn(Line),
     Ended(Outcome),
 }

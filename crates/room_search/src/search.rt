@@ -1,11 +1,11 @@
 // The takings of one search, until the goal is taken, nothing waits, or a limit is met.
 ghost use Prim.Native.Nat.{_≤_};
-ghost use Rattle.room_search.specs.Turns.{Fresh, Ran, Takeable, Turned, spotOf, Searchable};
+ghost use Rattle.room_search.specs.Takings.{Fresh, SearchRan, Takeable, TakingCame, spotOf, Searchable};
+use crate::AfterTaking;
 use crate::Line;
+use crate::MovesTried;
 use crate::Outcome;
 use crate::Spot;
-use crate::Step;
-use crate::Turn;
 use crate::expand::KEY_UNIT;
 use crate::expand::estimate;
 use crate::expand::expand;
@@ -14,7 +14,7 @@ use room::Room;
 use room::RouterConfig;
 
 // Takes the least entry and, unless its cell is the goal or the node limit is passed, tries the cell's moves.
-fn take_turn(
+fn take_one(
     room: Room,
     config: RouterConfig,
     classes: &[u8],
@@ -24,18 +24,18 @@ fn take_turn(
     line: Line,
     expanded: u32,
     goal: Spot,
-) -> Turn
+) -> AfterTaking
     requires { ⌜ Takeable room config (now classes) (now known) (now previous) (now queue) line goal ⌝ }
     requires { ⌜ expanded ≤ config .limit .0 ⌝ }
-    ensures { λ r. ⌜ Turned room config (now (classes .entry)) (now (known .entry)) (now (previous .entry)) (now (queue .entry)) line expanded goal r (now (known .exit)) (now (previous .exit)) (now (queue .exit)) ⌝ }
+    ensures { λ r. ⌜ TakingCame room config (now (classes .entry)) (now (known .entry)) (now (previous .entry)) (now (queue .entry)) line expanded goal r (now (known .exit)) (now (previous .exit)) (now (queue .exit)) ⌝ }
 {
     let waiting = line.waiting;
     let cell = queue::take(queue, waiting) as usize;
     if cell == goal.cell {
-        return Turn::Ended(Outcome::Arrived(Nodes(expanded)));
+        return AfterTaking::Ended(Outcome::Arrived(Nodes(expanded)));
     }
     if config.limit.0 <= expanded {
-        return Turn::Ended(Outcome::LimitPassed(Nodes(expanded + 1)));
+        return AfterTaking::Ended(Outcome::LimitPassed(Nodes(expanded + 1)));
     }
     let rest = Line {
         waiting: waiting - 1,
@@ -46,7 +46,7 @@ fn take_turn(
         at: room.pos(cell),
     };
     let cost = known[cell] - 1;
-    let Step::On(next) = expand(
+    let MovesTried::On(next) = expand(
         room,
         config,
         classes,
@@ -58,9 +58,9 @@ fn take_turn(
         cost,
         goal,
     ) else {
-        return Turn::Ended(Outcome::QueueFull(Nodes(expanded + 1)));
+        return AfterTaking::Ended(Outcome::QueueFull(Nodes(expanded + 1)));
     };
-    Turn::GoesOn(next)
+    AfterTaking::GoesOn(next)
 }
 
 // One whole search over fresh memory: the start is known at cost 0 and waits, and entries are taken until it ends.
@@ -75,7 +75,7 @@ fn run(
     goal: Spot,
 ) -> Outcome
     requires { ⌜ Fresh room config (now classes) (now known) (now previous) (now queue) start goal ⌝ }
-    ensures { λ r. ⌜ Ran room config (now (classes .entry)) (now (queue .entry)) start goal r (now (known .exit)) (now (previous .exit)) ⌝ }
+    ensures { λ r. ⌜ SearchRan room config (now (classes .entry)) (now (queue .entry)) start goal r (now (known .exit)) (now (previous .exit)) ⌝ }
 {
     let first = start.cell;
     known[first] = 1;
@@ -91,7 +91,7 @@ fn run(
     };
     let mut expanded: u32 = 0;
     while 0 < line.waiting {
-        let turn = take_turn(
+        let after = take_one(
             room,
             config,
             classes,
@@ -102,12 +102,12 @@ fn run(
             expanded,
             goal,
         );
-        match turn {
-            Turn::GoesOn(next) => {
+        match after {
+            AfterTaking::GoesOn(next) => {
                 line = next;
                 expanded += 1;
             }
-            Turn::Ended(outcome) => {
+            AfterTaking::Ended(outcome) => {
                 return outcome;
             }
         }
@@ -127,7 +127,7 @@ pub fn search_classes(
     goal: usize,
 ) -> Outcome
     requires { ⌜ Searchable room config (now classes) (now known) (now previous) (now queue) start goal ⌝ }
-    ensures { λ r. ⌜ Ran room config (now (classes .entry)) (now (queue .entry)) (spotOf room start) (spotOf room goal) r (now (known .exit)) (now (previous .exit)) ⌝ }
+    ensures { λ r. ⌜ SearchRan room config (now (classes .entry)) (now (queue .entry)) (spotOf room start) (spotOf room goal) r (now (known .exit)) (now (previous .exit)) ⌝ }
 {
     lent::clear_words(known);
     lent::clear_words(previous);

@@ -10,12 +10,12 @@ use Rattle.branches.specs.declared.BranchLengths.{BranchLengths}
 use Rattle.branches.specs.Branches.{sum, lengthsIn, cutInto, branchesOf, Branched}
 use Rattle.route.specs.Lines.{netLine, branchLine, branchLines, repeatersLine, treeText}
 use Rattle.route.specs.Marked.{marked}
-use Rattle.route.specs.Putting.{Put, Fits, Going}
+use Rattle.route.specs.Putting.{Put, Fits, PutSoFar}
 use Rattle.route.specs.PutLaws.{both, then-fits, first-fits, going-begun, going-on, going-done, going-fits}
 
 -- the branches of the first k sinks are put: those left stand from `from` on
 pub record Branching (out : List ℕ) (at : ℕ) (whole cells lengths : List ℕ) (from k : ℕ) (out′ : List ℕ) (end : ℕ) : Type 0 where
-  pub going : Going out at whole (branchLines (cutInto (drop k lengths) (drop from cells))) out′ end
+  pub going : PutSoFar out at whole (branchLines (cutInto (drop k lengths) (drop from cells))) out′ end
   pub within : from + sum (drop k lengths) ≤ length cells
 
 module _ {out : List ℕ} {at : ℕ} {whole cells lengths : List ℕ} where
@@ -29,7 +29,7 @@ module _ {out : List ℕ} {at : ℕ} {whole cells lengths : List ℕ} where
       unfolding sum
       next-within = omega (arith, e, rw (drop-next lengths k 0 h) at (B .within))
 
-      next-branch : Going out at whole (branchLine (take n (drop from cells)) ++ branchLines (cutInto (drop (k + 1) lengths) (drop (from + n) cells))) out′ end
+      next-branch : PutSoFar out at whole (branchLine (take n (drop from cells)) ++ branchLines (cutInto (drop (k + 1) lengths) (drop (from + n) cells))) out′ end
       unfolding cutInto
       next-branch = rw (e, ← drop-drop (getD lengths k 0) from cells) (rw (drop-next lengths k 0 h) at (B .going))
 

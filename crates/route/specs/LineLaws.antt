@@ -12,7 +12,7 @@ use Rattle.basics.specs.Tests.{askLess, never}
 use Rattle.basics.specs.Lists.{drop-next}
 use Rattle.io.specs.Digits.{digits, glyph, Fewest}
 use Rattle.route.specs.Lines.{decimalWithin, decimal, number, numbers, line}
-use Rattle.route.specs.Putting.{Put, Fits, Going}
+use Rattle.route.specs.Putting.{Put, Fits, PutSoFar}
 use Rattle.route.specs.PutLaws.{both, then-fits, first-fits, going-on, going-done, going-fits}
 use Rattle.route.specs.Marked.{ifMarked, markedFrom}
 
@@ -113,15 +113,15 @@ unfolding numbers
 numbers-next cells i h = ap numbers (drop-next cells i 0 h)
 
 -- cells are put, one after another
-module _ {out whole : List ℕ} {at : ℕ} (cells : List ℕ) (i : ℕ) {out′ : List ℕ} {end : ℕ} (g : Going out at whole (numbers (drop i cells)) out′ end) where
+module _ {out whole : List ℕ} {at : ℕ} (cells : List ℕ) (i : ℕ) {out′ : List ℕ} {end : ℕ} (g : PutSoFar out at whole (numbers (drop i cells)) out′ end) where
   module _ (h : i < length cells) {n : ℕ} (e : n ≡ getD cells i 0) where
-    next-cell : Going out at whole (number n ++ numbers (drop (i + 1) cells)) out′ end
+    next-cell : PutSoFar out at whole (number n ++ numbers (drop (i + 1) cells)) out′ end
     next-cell = rw e (rw (numbers-next cells i h) at g)
 
     pub cell-fits : Fits out at whole → Fits out′ end (number n)
     cell-fits f = going-fits (numbers (drop (i + 1) cells)) next-cell f
 
-    pub cells-on : {out″ : List ℕ} {end′ : ℕ} → Put out′ end (number n) out″ end′ → Going out at whole (numbers (drop (i + 1) cells)) out″ end′
+    pub cells-on : {out″ : List ℕ} {end′ : ℕ} → Put out′ end (number n) out″ end′ → PutSoFar out at whole (numbers (drop (i + 1) cells)) out″ end′
     cells-on p = going-on next-cell p
 
   pub cells-done : length cells ≤ i → Put out at whole out′ end
@@ -134,16 +134,16 @@ unfolding markedFrom
 marked-next marks i h = rw (add-one i, drop-cons marks i 0 h) (numbers-append (ifMarked (getD marks i 0) i) (markedFrom (suc i) (drop (suc i) marks)))
 
 -- the marked cells are put, one after another
-module _ {out whole : List ℕ} {at : ℕ} (marks : List ℕ) (i : ℕ) {out′ : List ℕ} {end : ℕ} (g : Going out at whole (numbers (markedFrom i (drop i marks))) out′ end) where
+module _ {out whole : List ℕ} {at : ℕ} (marks : List ℕ) (i : ℕ) {out′ : List ℕ} {end : ℕ} (g : PutSoFar out at whole (numbers (markedFrom i (drop i marks))) out′ end) where
   module _ (h : i < length marks) where
-    next-mark : Going out at whole (numbers (ifMarked (getD marks i 0) i) ++ numbers (markedFrom (i + 1) (drop (i + 1) marks))) out′ end
+    next-mark : PutSoFar out at whole (numbers (ifMarked (getD marks i 0) i) ++ numbers (markedFrom (i + 1) (drop (i + 1) marks))) out′ end
     next-mark = rw (marked-next marks i h) at g
 
     pub mark-fits : Fits out at whole → Fits out′ end (numbers (ifMarked (getD marks i 0) i))
     mark-fits f = going-fits (numbers (markedFrom (i + 1) (drop (i + 1) marks))) next-mark f
 
     pub marks-on : {out″ : List ℕ} {end′ : ℕ} → Put out′ end (numbers (ifMarked (getD marks i 0) i)) out″ end′
-        → Going out at whole (numbers (markedFrom (i + 1) (drop (i + 1) marks))) out″ end′
+        → PutSoFar out at whole (numbers (markedFrom (i + 1) (drop (i + 1) marks))) out″ end′
     marks-on p = going-on next-mark p
 
   pub marks-done : length marks ≤ i → Put out at whole out′ end

@@ -11,19 +11,19 @@ use Rattle.outset.specs.declared.Outset.{Outset}
 use Rattle.branches.specs.Branches.{branchOf}
 use Rattle.room.specs.declared.Room.{Room}
 use Rattle.room.specs.Room.{volume}
-use Rattle.job_sheet.specs.declared.Verdict.{Verdict}
-use Rattle.job_sheet.specs.declared.Verdict.the-variants.{Good, Sheet, Sides, Config, Position, Code}
+use Rattle.job_sheet.specs.declared.Judgement.{Judgement}
+use Rattle.job_sheet.specs.declared.Judgement.the-variants.{Good, Sheet, Sides, Config, Position, Code}
 use Rattle.job_sheet.specs.Sheet.{numberOf, Contents}
 use Rattle.outset.specs.SetOut.{numberBy, ready}
 use Rattle.goals.specs.Goals.{Trial, found, failed, full, routeToTree}
 use Rattle.multinet.specs.Tree.{Plot, Tree, Growth, grown, stopped, fitsIn, afterSink, growSink, sinkNow, growOn, growFrom, growthOf, tapAt, siteAt, withBranch, planted}
-use Rattle.net_tree.specs.Answers.{buffersGood, Outcome, numberFor, outcomeOf, jobOutcome, unread, unlent, set-out, plotFor}
+use Rattle.net_tree.specs.Answers.{buffersGood, TreeOutcome, numberFor, outcomeOf, jobOutcome, unread, unlent, set-out, plotFor}
 use Rattle.net_tree.specs.JobLaws.{late}
 use Rattle.route.specs.Printed.{maxCells, programLengths, ComesHere, over, not-over}
 
 -- ---- a sheet that is refused has one of 1 to 5
 
-refused-low : (v : Verdict) → numberOf v ≡ 6 → ⊥
+refused-low : (v : Judgement) → numberOf v ≡ 6 → ⊥
 refused-low Good e = omega arith
 refused-low Sheet e = omega arith
 refused-low Sides e = omega arith
@@ -83,8 +83,8 @@ job-high J L O kinds blocked e =
 
 -- ---- so it never says 6
 
-pub no-six : {sheet : List ℕ} {o : Outcome} → ComesHere sheet o → numberFor o ≡ 6 → ⊥
+pub no-six : {sheet : List ℕ} {o : TreeOutcome} → ComesHere sheet o → numberFor o ≡ 6 → ⊥
 no-six (over J m h e) n = let k : _≡_ {A = ℕ} 2 6 = sym (ap numberFor e) ∙ n in omega (arith, k)
-no-six (not-over small (unread r p f e)) n = refused-low (r .verdict) (sym (ap numberFor e) ∙ n)
+no-six (not-over small (unread r p f e)) n = refused-low (r .judgement) (sym (ap numberFor e) ∙ n)
 no-six (not-over small (unlent J m g b e)) n = never (cc (sym b ∙ lent-enough (J .room) (small J m)))
 no-six (not-over small (set-out J m g b O kinds nodes blocked s e)) n = job-high J programLengths O kinds blocked (sym (ap numberFor e) ∙ n)

@@ -14,8 +14,8 @@ use Rattle.basics.specs.Padding.{padded-long}
 use Rattle.lent.specs.Lent.{filled}
 use Rattle.room.specs.Room.{volume}
 use Rattle.job_sheet.specs.declared.Reading.{Reading}
-use Rattle.job_sheet.specs.declared.Verdict.{Verdict}
-use Rattle.job_sheet.specs.declared.Verdict.the-variants.{Good, Sheet, Sides, Config, Position, Code}
+use Rattle.job_sheet.specs.declared.Judgement.{Judgement}
+use Rattle.job_sheet.specs.declared.Judgement.the-variants.{Good, Sheet, Sides, Config, Position, Code}
 use Rattle.job_sheet.specs.Sheet.{Contents, Means, Read, meaning, nothing, bytesBy, rest, numberOf, joined, maxSinks}
 use Rattle.job_sheet.specs.Theorems.{number-one}
 use Rattle.branches.specs.declared.BranchLengths.{BranchLengths}
@@ -25,7 +25,7 @@ use Rattle.net_tree.specs.declared.Lengths.{Lengths}
 use Rattle.net_tree.specs.declared.Answer.{Answer}
 use Rattle.net_tree.specs.declared.Ended.{Ended}
 use Rattle.net_tree.specs.declared.Ended.the-variants.{Routed, Refused}
-use Rattle.net_tree.specs.Answers.{Lent, Outcome, routed, refused, Comes, Promise, answerOf, lentAfter, lengthsOf, lent}
+use Rattle.net_tree.specs.Answers.{Lent, TreeOutcome, routed, refused, Comes, Promise, answerOf, lentAfter, lengthsOf, lent}
 use Rattle.net_tree.specs.PromiseLaws.{comes-one}
 use Rattle.route.specs.Lines.{decimalWithin, number, numbers, line, netWord, branchWord, repeatersWord, refusedWord, netLine, branchLine, branchLines, repeatersLine, refusedLine, treeText, endedText, answerText}
 use Rattle.route.specs.Marked.{ifMarked, markedFrom, marked}
@@ -41,7 +41,7 @@ pub sides-stand : {sheet : List ℕ} {J : Contents} → Means sheet J
 unfolding bytesBy rest
 sides-stand {J = J} m = rw (← m .bytes) (omega arith, refl)
 
-number-is-one : (v : Verdict) → numberOf v ≡ 1 → v ≡ Sheet
+number-is-one : (v : Judgement) → numberOf v ≡ 1 → v ≡ Sheet
 number-is-one Good e = never (cc)
 number-is-one Sheet e = refl
 number-is-one Sides e = never (omega arith)
@@ -50,14 +50,14 @@ number-is-one Position e = never (omega arith)
 number-is-one Code e = never (omega arith)
 
 -- number 1 is judged first: then the sheet means nothing
-pub size-unread : {sheet : List ℕ} {r : Reading} {n : ℕ} → Read sheet r → n ≡ numberOf (r .verdict) → n ≡ 1 → {large : Bool} → large ≡ false → SizeJudged sheet large
+pub size-unread : {sheet : List ℕ} {r : Reading} {n : ℕ} → Read sheet r → n ≡ numberOf (r .judgement) → n ≡ 1 → {large : Bool} → large ≡ false → SizeJudged sheet large
 size-unread {sheet} {r} R e one f =
-    is-not (λ J m. absurd (number-one sheet r R .0 (number-is-one (r .verdict) (sym e ∙ one)) J m)) f
+    is-not (λ J m. absurd (number-one sheet r R .0 (number-is-one (r .judgement) (sym e ∙ one)) J m)) f
 
 -- otherwise it means something
-pub has-meaning : {sheet : List ℕ} {r : Reading} {n : ℕ} → Read sheet r → n ≡ numberOf (r .verdict) → (n ≡ 1 → ⊥) → (J : Contents) × Means sheet J
+pub has-meaning : {sheet : List ℕ} {r : Reading} {n : ℕ} → Read sheet r → n ≡ numberOf (r .judgement) → (n ≡ 1 → ⊥) → (J : Contents) × Means sheet J
 has-meaning (meaning J m e) d not-one = (J, m)
-has-meaning (nothing none e) d not-one = absurd (not-one (d ∙ ap (λ x. numberOf (x .verdict)) e))
+has-meaning (nothing none e) d not-one = absurd (not-one (d ∙ ap (λ x. numberOf (x .judgement)) e))
 
 pub size-judged : {sheet : List ℕ} (M : (J : Contents) × Means sheet J) {cells : ℕ} → cells ≡ getD sheet 5 0 * getD sheet 6 0 * getD sheet 7 0
     → SizeJudged sheet (ltb maxCells cells)
@@ -81,7 +81,7 @@ unfolding markedFrom
 marked-filled cell [] n = none-marked cell n
 marked-filled cell (m ∷ marks) n = ap (λ l. ifMarked m cell ++ l) (marked-filled (suc cell) marks n)
 
-answer-printed : (o : Outcome) (B : Lent) → answerText (answerOf o) (lentAfter o B .branches) (lentAfter o B .repeaters) ≡ printed o
+answer-printed : (o : TreeOutcome) (B : Lent) → answerText (answerOf o) (lentAfter o B .branches) (lentAfter o B .repeaters) ≡ printed o
 answer-printed (routed bs occupied repeaters) B =
     let cut = ap (λ l. cutInto l (filled (joined bs) (B .branches))) (lengths-are bs (replicate (maxSinks - length bs) 0))
     ∙ cut-joined bs (replicate (length (B .branches) - length (joined bs)) 0) in
@@ -155,7 +155,7 @@ unfolding sum
 sum-lengths [] = refl
 sum-lengths (b ∷ bs) = ap (λ n. length b + n) (sum-lengths bs) ∙ sym (length-append b (joined bs))
 
-outcome-branched : (o : Outcome) {sheet : List ℕ} {L : Lengths} → Comes sheet L o → (B : Lent) → Branched (answerOf o .lengths) (lentAfter o B .branches)
+outcome-branched : (o : TreeOutcome) {sheet : List ℕ} {L : Lengths} → Comes sheet L o → (B : Lent) → Branched (answerOf o .lengths) (lentAfter o B .branches)
 unfolding sum
 outcome-branched (routed bs occupied repeaters) c B =
     let few = few-branches c in
@@ -205,7 +205,7 @@ printed-not-over (is-over J m h e) f s = never (cc)
 printed-not-over (is-not small e) f s = record { outcome = s .outcome; so = not-over small (s .so); within = s .within; is = s .is }
 
 -- a sheet has one outcome here, and so one text
-here-one : {sheet : List ℕ} {o q : Outcome} → ComesHere sheet o → ComesHere sheet q → o ≡ q
+here-one : {sheet : List ℕ} {o q : TreeOutcome} → ComesHere sheet o → ComesHere sheet q → o ≡ q
 here-one (over J m h e) (over K n g d) = e ∙ sym d
 here-one (over J m h e) (not-over small c) = absurd (omega (arith, small J m))
 here-one (not-over small c) (over K n g d) = absurd (omega (arith, small K n))

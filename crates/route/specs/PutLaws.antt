@@ -6,7 +6,7 @@ use native.Mathlib.Omega.{arith}
 use lib.ListN.{length, take, length-append}
 use lib.Seq.{paste, take-paste, take-length}
 use Rattle.basics.specs.Copies.{Copied, copied-all}
-use Rattle.route.specs.Putting.{Put, Fits, Going}
+use Rattle.route.specs.Putting.{Put, Fits, PutSoFar}
 
 -- ---- pieces one after another
 
@@ -31,16 +31,16 @@ pub put-nothing : {out : List ℕ} {at : ℕ} → Put out at [] out at
 put-nothing {out} {at} = record { ends = omega arith; front = sym (append-nil (take at out)); same = refl }
 
 module _ {out : List ℕ} {at : ℕ} {whole : List ℕ} where
-  pub going-begun : Going out at whole whole out at
+  pub going-begun : PutSoFar out at whole whole out at
   going-begun = record { done = []; put = put-nothing; is = refl }
 
-  pub going-on : {text left out′ out″ : List ℕ} {end end′ : ℕ} → Going out at whole (text ++ left) out′ end → Put out′ end text out″ end′ → Going out at whole left out″ end′
+  pub going-on : {text left out′ out″ : List ℕ} {end end′ : ℕ} → PutSoFar out at whole (text ++ left) out′ end → Put out′ end text out″ end′ → PutSoFar out at whole left out″ end′
   going-on {text} {left} g p = record { done = g .done ++ text; put = both (g .put) p; is = append-assoc (g .done) text left ∙ g .is }
 
-  pub going-done : {out′ : List ℕ} {end : ℕ} → Going out at whole [] out′ end → Put out at whole out′ end
+  pub going-done : {out′ : List ℕ} {end : ℕ} → PutSoFar out at whole [] out′ end → Put out at whole out′ end
   going-done g = rw (sym (g .is) ∙ append-nil (g .done)) (g .put)
 
-  pub going-fits : {text : List ℕ} (left : List ℕ) {out′ : List ℕ} {end : ℕ} → Going out at whole (text ++ left) out′ end → Fits out at whole → Fits out′ end text
+  pub going-fits : {text : List ℕ} (left : List ℕ) {out′ : List ℕ} {end : ℕ} → PutSoFar out at whole (text ++ left) out′ end → Fits out at whole → Fits out′ end text
   going-fits {text} left g f =
       first-fits left (record { place = omega (arith, f .place, g .put .ends, g .put .same, length-append (g .done) (text ++ left), ap length (g .is)) })
 

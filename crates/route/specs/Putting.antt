@@ -15,7 +15,7 @@ pub record Fits (out : List ℕ) (at : ℕ) (text : List ℕ) : Type 0 where
   pub place : at + length text ≤ length out
 
 -- of the whole text a first part is put, and the rest is left
-pub record Going (out : List ℕ) (at : ℕ) (whole left out′ : List ℕ) (end : ℕ) : Type 0 where
+pub record PutSoFar (out : List ℕ) (at : ℕ) (whole left out′ : List ℕ) (end : ℕ) : Type 0 where
   pub done : List ℕ
   pub put : Put out at done out′ end
   pub is : done ++ left ≡ whole

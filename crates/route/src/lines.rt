@@ -2,7 +2,7 @@
 use branches::BranchLengths;
 use net_tree::Answer;
 use net_tree::Ended;
-use room::long;
+use room::as_long;
 ghost use Rattle.branches.specs.Branches.{branchesOf, Branched};
 ghost use Rattle.route.specs.Lines.{number, numbers, netLine, branchLine, branchLines, repeatersLine, refusedLine, treeText, answerText};
 ghost use Rattle.route.specs.Putting.{Put, Fits};
@@ -39,7 +39,7 @@ fn put_cells(out: &mut [u8], at: usize, cells: &[u32]) -> usize
     let mut end = at;
     let mut i: usize = 0;
     while i < cells.len() {
-        end = put_number(out, end, long(cells[i]));
+        end = put_number(out, end, as_long(cells[i]));
         i += 1;
     }
     end

@@ -35,8 +35,8 @@ fn too_large(sheet: &[u8]) -> bool
     ensures { λ r. ⌜ SizeJudged (now (sheet .entry)) r ⌝ }
 {
     let reading = sheet_reader::read_sheet(sheet);
-    let verdict = reading.verdict;
-    if verdict.number() == 1 {
+    let judgement = reading.judgement;
+    if judgement.number() == 1 {
         return false;
     }
     MAX_CELLS < cells_in(sheet)

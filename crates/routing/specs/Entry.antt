@@ -16,12 +16,12 @@ use Rattle.best_first.specs.Search.{trace}
 use Rattle.room.specs.declared.Nodes.{Nodes}
 use Rattle.routing.specs.declared.Lengths.{Lengths}
 use Rattle.routing.specs.declared.Route.{Route}
-use Rattle.routing.specs.declared.Ends.{Ends}
-use Rattle.routing.specs.declared.Ends.the-variants.{Good as EndsGood, Bad as EndsBad}
+use Rattle.routing.specs.declared.EndsFit.{EndsFit}
+use Rattle.routing.specs.declared.EndsFit.the-variants.{Good as EndsGood, Bad as EndsBad}
 use Rattle.routing.specs.declared.Answer.{Answer}
 use Rattle.room_search.specs.Routing.{Task, routeableKind, graph, searched}
 use Rattle.room_search.specs.Steps.{placesOf}
-use Rattle.room_search.specs.Turns.{Told, Searchable}
+use Rattle.room_search.specs.Takings.{OutcomeTold, Searchable}
 use Rattle.routing.specs.Answers.{answered, cellsOf}
 
 -- the task of a search over that queue
@@ -30,35 +30,35 @@ searchTask R C kinds start goal queue = record { room = R; config = C; kinds = k
 
 -- what an input has that no number from 2 to 6 refuses, with work memory of exactly V cells
 pub record RoomSearchable (R : Room) (C : RouterConfig) (kinds : List ℕ) (start goal : ℕ) (known previous classes queue : List ℕ) : Type 0 where
-  pub kinds-length : length kinds ≡ volume R
+  pub kinds-long : length kinds ≡ volume R
   pub memory : Searchable R C classes known previous queue start goal
 
 -- the outcome is the defined search's
-pub record Found (T : Task) (o : Outcome) (known previous : List ℕ) : Type 0 where
-  pub told : Told (graph T) (searched T) known previous o
+pub record SearchFound (T : Task) (o : Outcome) (known previous : List ℕ) : Type 0 where
+  pub told : OutcomeTold (graph T) (searched T) known previous o
 
 -- the answer, and the path written to a cleared buffer
-pub record Shown (o : Outcome) (goal : ℕ) (known previous path : List ℕ) (r : Answer) (path′ : List ℕ) : Type 0 where
-  pub shows : (T : Task) → volume (T .room) ≡ length previous → T .goal ≡ goal → Found T o known previous
+pub record RouteShown (o : Outcome) (goal : ℕ) (known previous path : List ℕ) (r : Answer) (path′ : List ℕ) : Type 0 where
+  pub shows : (T : Task) → volume (T .room) ≡ length previous → T .goal ≡ goal → SearchFound T o known previous
       → (r ≡ answered (searched T)) × (path′ ≡ filled (cellsOf (searched T)) path)
 
 -- the path by predecessors, and the goal's known cost
-pub record Written (goal : ℕ) (known previous path : List ℕ) (expanded : Nodes) (r : Route) (path′ : List ℕ) : Type 0 where
+pub record RouteWritten (goal : ℕ) (known previous path : List ℕ) (expanded : Nodes) (r : Route) (path′ : List ℕ) : Type 0 where
   pub length-is : r .length ≡ length (trace (length previous) previous goal [])
   pub cost-is : r .cost .0 ≡ pred (getD known goal 0)
   pub expanded-is : r .expanded ≡ expanded
   pub path-is : path′ ≡ trace (length previous) previous goal [] ++ drop (length (trace (length previous) previous goal [])) path
 
 -- which end is not routeable: the start, else the goal
-abbrev pub endsOf : List ℕ → ℕ → ℕ → Ends
-endsOf kinds start goal =
+abbrev pub endsFit : List ℕ → ℕ → ℕ → EndsFit
+endsFit kinds start goal =
     either (routeableKind true (getD kinds start air)) (either (routeableKind true (getD kinds goal air)) EndsGood (EndsBad goal)) (EndsBad start)
 
 -- what an input has that no number from 2 to 6 refuses
-pub record Roomy (R : Room) (C : RouterConfig) (kinds : List ℕ) (start goal : ℕ) (L : Lengths) : Type 0 where
+pub record Admitted (R : Room) (C : RouterConfig) (kinds : List ℕ) (start goal : ℕ) (L : Lengths) : Type 0 where
   pub good : Good R
   pub fair : GoodConfig C
-  pub kinds-length : length kinds ≡ volume R
+  pub kinds-long : length kinds ≡ volume R
   pub start-in : start < volume R
   pub goal-in : goal < volume R
   pub path-room : volume R ≤ L .path

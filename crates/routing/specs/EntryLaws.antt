@@ -19,8 +19,8 @@ use Rattle.room_search.specs.declared.Outcome.the-variants.{Arrived}
 use Rattle.room_search.specs.Routing.{Task, graphOf, searched}
 use Rattle.room_search.specs.Classes.{Plain, withEnd}
 use Rattle.room_search.specs.SameGraphLaws.{made-length, made-graph}
-use Rattle.room_search.specs.Turns.{Ran, spotOf, Searchable}
-use Rattle.routing.specs.Entry.{searchTask, Found, Written, Roomy, RoomSearchable}
+use Rattle.room_search.specs.Takings.{SearchRan, spotOf, Searchable}
+use Rattle.routing.specs.Entry.{searchTask, SearchFound, RouteWritten, Admitted, RoomSearchable}
 use Rattle.routing.specs.Answers.{lengthsOf, answered, cellsOf}
 
 -- with the classes filled in, the search can run; what it comes to is what the definition says
@@ -41,8 +41,8 @@ module _ {R : Room} {C : RouterConfig} {kinds : List ℕ} {start goal : ℕ} {kn
     places-some = S .memory .places-some;
   }
 
-  pub filled-found : {o : Outcome} {known′ previous′ : List ℕ} → Ran R C (withEnd R kinds goal (withEnd R kinds start classes)) queue (spotOf R start) (spotOf R goal) o known′ previous′
-      → Found T o known′ previous′
+  pub filled-found : {o : Outcome} {known′ previous′ : List ℕ} → SearchRan R C (withEnd R kinds goal (withEnd R kinds start classes)) queue (spotOf R start) (spotOf R goal) o known′ previous′
+      → SearchFound T o known′ previous′
   unfolding searched
   filled-found r = record { told = rw (made-graph T classes P (S .memory .start-in) (S .memory .goal-in)) at (r .told) }
 
@@ -50,8 +50,8 @@ module _ {R : Room} {C : RouterConfig} {kinds : List ℕ} {start goal : ℕ} {kn
 
 module _ {goal : ℕ} {known previous path : List ℕ} where
   module _ {T : Task} (v : volume (T .room) ≡ length previous) (g : T .goal ≡ goal) where
-    pub shown-route : {x : Nodes} {r : Route} {path′ : List ℕ} → path ≡ replicate (length path) 0 → Found T (Arrived x) known previous
-        → Written goal known previous path x r path′
+    pub shown-route : {x : Nodes} {r : Route} {path′ : List ℕ} → path ≡ replicate (length path) 0 → SearchFound T (Arrived x) known previous
+        → RouteWritten goal known previous path x r path′
         → (Routed r ≡ answered (searched T)) × (path′ ≡ filled (cellsOf (searched T)) path)
     unfolding graphOf
     shown-route {x} {r} {path′} z F W =
@@ -81,10 +81,10 @@ module _ (front whole : List ℕ) (v : ℕ) (kept : length front ≡ length (tak
   emptied-whole after e = cleared-to (length-front whole front v kept) e
 
 pub searchable : {R : Room} {C : RouterConfig} {kinds : List ℕ} {start goal : ℕ} (path known previous classes queue : List ℕ) {v : ℕ}
-    → Roomy R C kinds start goal (lengthsOf path known previous classes queue) → v ≡ volume R
+    → Admitted R C kinds start goal (lengthsOf path known previous classes queue) → v ≡ volume R
     → RoomSearchable R C kinds start goal (take v known) (take v previous) (take v classes) queue
 searchable {R} {C} {kinds} {start} {goal} path known previous classes queue {v} P e = record {
-  kinds-length = P .kinds-length;
+  kinds-long = P .kinds-long;
   memory = record {
     good = P .good;
     fair = P .fair;

@@ -21,13 +21,13 @@ use Rattle.routing.specs.declared.Lengths.{Lengths}
 use Rattle.routing.specs.declared.Refusal.{Refusal}
 use Rattle.routing.specs.declared.Refusal.the-variants.{Sides, Config, Buffer, Code, Position}
 use Rattle.routing.specs.declared.Judgement.the-variants.{Fit, Unfit}
-use Rattle.routing.specs.declared.Ends.the-variants.{Good as EndsGood, Bad as EndsBad}
+use Rattle.routing.specs.declared.EndsFit.the-variants.{Good as EndsGood, Bad as EndsBad}
 use Rattle.routing.specs.declared.Answer.{Answer}
 use Rattle.routing.specs.declared.Answer.the-variants.{Refused, NotRouteable}
 use Rattle.room_search.specs.Routing.{routeableKind, routeable, searched}
 use Rattle.room_search.specs.EndLaws.{start-is-end, goal-is-end}
 use Rattle.routing.specs.Answers.{Input, taskOf, buffersGood, endsInside, judged, answered, fitAnswer, answerOf, refusalNumber, numberOf, cellsOf, cellsFor, Promise, input, lengthsOf}
-use Rattle.routing.specs.Entry.{endsOf, Roomy, Fitted, searchTask}
+use Rattle.routing.specs.Entry.{endsFit, Admitted, Fitted, searchTask}
 
 -- ---- an input that is judged fit
 
@@ -57,9 +57,9 @@ module _ {R : Room} {C : RouterConfig} {kinds : List ℕ} {start goal : ℕ} {L 
       (λ n. differ Config (rw (a, n) at e)))
       (λ n. differ Sides (rw n at e))
 
-  pub roomy : judged (input R C kinds start goal L) ≡ Fit → Roomy R C kinds start goal L
+  pub admitted : judged (input R C kinds start goal L) ≡ Fit → Admitted R C kinds start goal L
   unfolding buffersGood endsInside
-  roomy e =
+  admitted e =
       let p = fit-passed e in
       let b : (eqb (length kinds) (volume R)
       && (leb (volume R) (L .path) && (leb (volume R) (L .known) && (leb (volume R) (L .previous) && (leb (volume R) (L .classes) && leb 1 (L .queue / 2)))))) ≡ true = p .buffers in
@@ -67,7 +67,7 @@ module _ {R : Room} {C : RouterConfig} {kinds : List ℕ} {start goal : ℕ} {L 
       record {
         good = good R (p .sides);
         fair = good-config C (p .config);
-        kinds-length = search passed;
+        kinds-long = search passed;
         start-in = search passed;
         goal-in = search passed;
         path-room = search passed;
@@ -122,7 +122,7 @@ module _ (R : Room) (C : RouterConfig) (kinds : List ℕ) (start goal : ℕ) (pa
     goal-is = rw (goal-is-end start goal)
 
     -- number 10
-    pub promise-end : (cell : ℕ) {path′ known′ previous′ classes′ queue′ : List ℕ} → EndsBad cell ≡ endsOf kinds start goal → Emptied path path′ → Emptied known known′ → Emptied previous previous′
+    pub promise-end : (cell : ℕ) {path′ known′ previous′ classes′ queue′ : List ℕ} → EndsBad cell ≡ endsFit kinds start goal → Emptied path path′ → Emptied known known′ → Emptied previous previous′
         → Emptied classes classes′ → Emptied queue queue′
         → Promise I path known previous classes queue (NotRouteable cell) path′ known′ previous′ classes′ queue′
     unfolding answerOf fitAnswer
@@ -150,7 +150,7 @@ module _ (R : Room) (C : RouterConfig) (kinds : List ℕ) (start goal : ℕ) (pa
     cells-are (search.limit-passed x) e = refl
     cells-are (search.queue-full x) e = refl
 
-    both-free : EndsGood ≡ endsOf kinds start goal → answerOf I ≡ answered (searched (taskOf I))
+    both-free : EndsGood ≡ endsFit kinds start goal → answerOf I ≡ answered (searched (taskOf I))
     unfolding answerOf fitAnswer
     both-free e =
         rw (fit, start-is, goal-is)
@@ -159,7 +159,7 @@ module _ (R : Room) (C : RouterConfig) (kinds : List ℕ) (start goal : ℕ) (pa
         (λ s. absurd (other-end (rw s at e))))
 
     -- the defined search
-    pub promise-searched : (r : Answer) {path′ known′ previous′ classes′ queue′ : List ℕ} → EndsGood ≡ endsOf kinds start goal
+    pub promise-searched : (r : Answer) {path′ known′ previous′ classes′ queue′ : List ℕ} → EndsGood ≡ endsFit kinds start goal
         → Fitted (searched (searchTask R C kinds start goal queue)) path known previous classes queue r path′ known′ previous′ classes′ queue′
         → Promise I path known previous classes queue r path′ known′ previous′ classes′ queue′
     promise-searched r e F =

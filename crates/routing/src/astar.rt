@@ -2,15 +2,15 @@
 ghost use mathlib.Core.Path.{_≡_};
 ghost use Prim.Native.Nat.{_≤_, _<_};
 ghost use lib.ListN.{length, getD, replicate};
-ghost use Rattle.room_search.specs.Turns.{Showable};
+ghost use Rattle.room_search.specs.Takings.{Showable};
 ghost use Rattle.lent.specs.Lent.{Emptied};
 ghost use Rattle.trace.specs.Traces.{PreviousInside};
 ghost use Rattle.room.specs.Room.{maxVolume};
 ghost use Rattle.routing.specs.Answers.{input, lengthsOf, Promise};
-ghost use Rattle.routing.specs.Entry.{RoomSearchable, Found, searchTask, Shown, Written, endsOf, Roomy, Fitted};
+ghost use Rattle.routing.specs.Entry.{RoomSearchable, SearchFound, searchTask, RouteShown, RouteWritten, endsFit, Admitted, Fitted};
 ghost use Rattle.room_search.specs.Routing.{searched};
 use crate::Answer;
-use crate::Ends;
+use crate::EndsFit;
 use crate::Judgement;
 use crate::Lengths;
 use crate::Route;
@@ -38,7 +38,7 @@ fn search_room(
     queue: &mut [u64],
 ) -> Outcome
     requires { ⌜ RoomSearchable room config (now kinds) start goal (now known) (now previous) (now classes) (now queue) ⌝ }
-    ensures { λ r. ⌜ Found (searchTask room config (now (kinds .entry)) start goal (now (queue .entry))) r (now (known .exit)) (now (previous .exit)) ⌝ }
+    ensures { λ r. ⌜ SearchFound (searchTask room config (now (kinds .entry)) start goal (now (queue .entry))) r (now (known .exit)) (now (previous .exit)) ⌝ }
 {
     fill_classes(room, kinds, classes);
     make_end(room, kinds, classes, start);
@@ -57,7 +57,7 @@ fn show_route(
     requires { ⌜ (goal < length (now previous)) × (length (now previous) ≤ maxVolume) × (length (now known) ≡ length (now previous)) × (length (now previous) ≤ length (now path)) ⌝ }
     requires { ⌜ PreviousInside (now previous) ⌝ }
     requires { ⌜ 0 < getD (now known) goal 0 ⌝ }
-    ensures { λ r. ⌜ Written goal (now (known .entry)) (now (previous .entry)) (now (path .entry)) expanded r (now (path .exit)) ⌝ }
+    ensures { λ r. ⌜ RouteWritten goal (now (known .entry)) (now (previous .entry)) (now (path .entry)) expanded r (now (path .exit)) ⌝ }
 {
     let length = trace::path_to(previous, goal, path);
     Route {
@@ -78,7 +78,7 @@ fn answer_of(
     requires { ⌜ (goal < length (now previous)) × (length (now previous) ≤ maxVolume) × (length (now known) ≡ length (now previous)) × (length (now previous) ≤ length (now path)) ⌝ }
     requires { ⌜ now path ≡ replicate (length (now path)) 0 ⌝ }
     requires { ⌜ Showable outcome goal (now known) (now previous) ⌝ }
-    ensures { λ r. ⌜ Shown outcome goal (now (known .entry)) (now (previous .entry)) (now (path .entry)) r (now (path .exit)) ⌝ }
+    ensures { λ r. ⌜ RouteShown outcome goal (now (known .entry)) (now (previous .entry)) (now (path .entry)) r (now (path .exit)) ⌝ }
 {
     match outcome {
         Outcome::Arrived(expanded) => {
@@ -101,17 +101,17 @@ fn clear_work(known: &mut [u32], previous: &mut [u32], classes: &mut [u8], queue
 }
 
 // The end that is not routeable: the start, else the goal.
-fn bad_end(kinds: &[u8], start: usize, goal: usize) -> Ends
+fn bad_end(kinds: &[u8], start: usize, goal: usize) -> EndsFit
     requires { ⌜ (start < length (now kinds)) × (goal < length (now kinds)) ⌝ }
-    ensures { λ r. ⌜ r ≡ endsOf (now (kinds .entry)) start goal ⌝ }
+    ensures { λ r. ⌜ r ≡ endsFit (now (kinds .entry)) start goal ⌝ }
 {
     if !routeable_kind(true, kinds[start]) {
-        return Ends::Bad(start);
+        return EndsFit::Bad(start);
     }
     if !routeable_kind(true, kinds[goal]) {
-        return Ends::Bad(goal);
+        return EndsFit::Bad(goal);
     }
-    Ends::Good
+    EndsFit::Good
 }
 
 // The defined search, with both ends routeable: its answer, its path, and all work memory cleared.
@@ -127,7 +127,7 @@ fn answer_fit(
     classes: &mut [u8],
     queue: &mut [u64],
 ) -> Answer
-    requires { ⌜ Roomy room config (now kinds) start goal (lengthsOf (now path) (now known) (now previous) (now classes) (now queue)) ⌝ }
+    requires { ⌜ Admitted room config (now kinds) start goal (lengthsOf (now path) (now known) (now previous) (now classes) (now queue)) ⌝ }
     ensures { λ r. ⌜ Fitted (searched (searchTask room config (now (kinds .entry)) start goal (now (queue .entry)))) (now (path .entry)) (now (known .entry)) (now (previous .entry)) (now (classes .entry)) (now (queue .entry)) r (now (path .exit)) (now (known .exit)) (now (previous .exit)) (now (classes .exit)) (now (queue .exit)) ⌝ }
 {
     let cells = room.volume();
@@ -190,7 +190,7 @@ pub fn astar_route(
     if let Judgement::Unfit(why) = judge(room, config, kinds, start, goal, lengths) {
         return Answer::Refused(why);
     }
-    if let Ends::Bad(cell) = bad_end(kinds, start, goal) {
+    if let EndsFit::Bad(cell) = bad_end(kinds, start, goal) {
         return refuse_end(cell, path, known, previous, classes, queue);
     }
     answer_fit(

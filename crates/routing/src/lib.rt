@@ -36,7 +36,7 @@ pub enum Judgement {
 }
 
 // Whether both ends are routeable, or which is not: the start, else the goal.
-pub enum Ends {
+pub enum EndsFit {
     Good,
     Bad(usize),
 }

@@ -71,16 +71,16 @@ module _ (byte : ℕ) where
 
 -- Writing in turns: `rest k` tests for the cells that the turns from k on write, `rest 0` for all of them. Those that are left, written to the
 -- marks of now, make what all make of the marks at the start
-pub record Turn (byte : ℕ) (rest : ℕ → ℕ → Bool) (start marks : List ℕ) (k : ℕ) : Type 0 where
+pub record MarksInTurn (byte : ℕ) (rest : ℕ → ℕ → Bool) (start marks : List ℕ) (k : ℕ) : Type 0 where
   pub long : length marks ≡ length start
   pub left : withByte byte (rest k) marks ≡ withByte byte (rest 0) start
 
-pub first-turn : (byte : ℕ) (rest : ℕ → ℕ → Bool) (start : List ℕ) → Turn byte rest start start 0
+pub first-turn : (byte : ℕ) (rest : ℕ → ℕ → Bool) (start : List ℕ) → MarksInTurn byte rest start start 0
 first-turn byte rest start = record { long = refl; left = refl }
 
-module _ {byte : ℕ} {rest : ℕ → ℕ → Bool} {start marks : List ℕ} {k : ℕ} (turn : Turn byte rest start marks k) where
+module _ {byte : ℕ} {rest : ℕ → ℕ → Bool} {start marks : List ℕ} {k : ℕ} (turn : MarksInTurn byte rest start marks k) where
   pub next-turn : (p : ℕ → Bool) {marks′ : List ℕ} → marks′ ≡ withByte byte p marks → ((v : ℕ) → rest k v ≡ p v || rest (k + 1) v)
-      → Turn byte rest start marks′ (k + 1)
+      → MarksInTurn byte rest start marks′ (k + 1)
   next-turn p e s = record {
     long = ap length e ∙ with-length byte p marks ∙ turn .long;
     left =
@@ -101,9 +101,9 @@ module _ {X : Type 0} (test : ℕ → X → Bool) (xs : List X) where
   from-here : (k : ℕ) (d : X) → k < length xs → (v : ℕ) → restOf test xs k v ≡ test v (getD xs k d) || restOf test xs (k + 1) v
   from-here k d h v = ap (any (test v)) (drop-next xs k d h)
 
-  module _ {byte : ℕ} {start marks : List ℕ} {k : ℕ} (turn : Turn byte (restOf test xs) start marks k) where
+  module _ {byte : ℕ} {start marks : List ℕ} {k : ℕ} (turn : MarksInTurn byte (restOf test xs) start marks k) where
     pub turn-on : (d x : X) → x ≡ getD xs k d → k < length xs → {marks′ : List ℕ} → marks′ ≡ withByte byte (λ v. test v x) marks
-        → Turn byte (restOf test xs) start marks′ (k + 1)
+        → MarksInTurn byte (restOf test xs) start marks′ (k + 1)
     turn-on d x s h e = next-turn turn (λ v. test v x) e (λ v. from-here k d h v ∙ ap (λ y. test v y || restOf test xs (k + 1) v) (sym s))
 
     pub turn-done : length xs ≤ k → marks ≡ withByte byte (λ v. any (test v) xs) start

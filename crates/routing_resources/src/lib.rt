@@ -2,7 +2,7 @@
 // it is not. Cells outside the room have no mark.
 use room::Neighbour;
 use room::Room;
-use room::wide;
+use room::as_index;
 ghost use mathlib.Core.Path.{_≡_};
 ghost use Prim.Native.Nat.{ℕ, _<_};
 ghost use lib.Dec.{eqb};
@@ -105,7 +105,7 @@ pub fn branch_stair_clearances(room: Room, branch: &[u32], marks: &mut [u8])
 {
     let mut i: usize = 0;
     while i + 1 < branch.len() {
-        let place = clearance(room, wide(branch[i]), wide(branch[i + 1]));
+        let place = clearance(room, as_index(branch[i]), as_index(branch[i + 1]));
         put_mark(marks, place, MARKED);
         i += 1;
     }

@@ -27,11 +27,11 @@ unfoldable pub onward : List ℕ → ℕ → ℕ → ℕ
 onward s place n = either (leb (place + n) (length s)) (place + n) (length s + 1)
 
 -- at most sixteen endpoints that the sheet has whole, or none
-unfoldable pub held : List ℕ → Part → Part
-held s p = either (leb (p .count) maxSinks && leb (behind endpointSize p) (length s)) p noPart
+unfoldable pub wholeSinks : List ℕ → Part → Part
+wholeSinks s p = either (leb (p .count) maxSinks && leb (behind endpointSize p) (length s)) p noPart
 
 abbrev pub sinksFound : List ℕ → ℕ → Sinks
-sinksFound s place = sinksOf (endpointsIn s (held s (sinksAt s place)))
+sinksFound s place = sinksOf (endpointsIn s (wholeSinks s (sinksAt s place)))
 
 -- ---- what a reader finds from the front of a sheet to its end
 
@@ -61,7 +61,7 @@ abbrev pub bodyOf : Layout → Endpoint → Sinks → Bool → Body
 bodyOf layout source sinks whole = record { layout = layout; source = source; sinks = sinks; whole = whole }
 
 -- It is at the end exactly where the sheet's parts end there, and then it found them where they stand.
-pub record Found (s : List ℕ) (b : Body) : Type 0 where
+pub record PartsFound (s : List ℕ) (b : Body) : Type 0 where
   pub whole-is : b .whole ≡ eqb (behind endpointSize (layoutIn s .sinks)) (length s)
   pub count-is : b .layout .sinks .count ≡ layoutIn s .sinks .count
   pub layout-is : b .whole ≡ true → b .layout ≡ layoutIn s

@@ -20,7 +20,7 @@ use Rattle.job_sheet.specs.RecordLaws.{Bytes}
 use Rattle.job_sheet.specs.ReadLaws.{job-forth}
 use Rattle.sheet_reader.specs.declared.Head.{Head}
 use Rattle.sheet_reader.specs.declared.Body.{Body}
-use Rattle.sheet_reader.specs.Reader.{Stands, onward, held, sinksFound, headOf, headIn, layoutFrom, bodyOf, Found, jobFound}
+use Rattle.sheet_reader.specs.Reader.{Stands, onward, wholeSinks, sinksFound, headOf, headIn, layoutFrom, bodyOf, PartsFound, jobFound}
 
 -- ---- where a reader stands
 
@@ -40,19 +40,19 @@ module _ (s : List ℕ) (place n : ℕ) where
 -- ---- the sinks that can be read
 
 module _ (s : List ℕ) (p : Part) where
-  pub held-some : p .count ≤ maxSinks → behind endpointSize p ≤ length s → held s p ≡ p
-  unfolding held
+  pub held-some : p .count ≤ maxSinks → behind endpointSize p ≤ length s → wholeSinks s p ≡ p
+  unfolding wholeSinks
   held-some few inside = rw (le-leb _ _ few, le-leb _ _ inside)
 
-  pub held-over : maxSinks < p .count → held s p ≡ noPart
-  unfolding held
+  pub held-over : maxSinks < p .count → wholeSinks s p ≡ noPart
+  unfolding wholeSinks
   held-over many = rw (lt-leb _ _ many)
 
-  pub held-short : p .count ≤ maxSinks → length s < behind endpointSize p → held s p ≡ noPart
-  unfolding held
+  pub held-short : p .count ≤ maxSinks → length s < behind endpointSize p → wholeSinks s p ≡ noPart
+  unfolding wholeSinks
   held-short few short = rw (le-leb _ _ few, lt-leb _ _ short)
 
-  holds : (q : Part) → q ≡ held s p → (q .count ≤ maxSinks) × (behind endpointSize q ≤ length s)
+  holds : (q : Part) → q ≡ wholeSinks s p → (q .count ≤ maxSinks) × (behind endpointSize q ≤ length s)
   holds q e =
       askLess maxSinks (p .count)
       (λ many. none (held-over many))
@@ -61,14 +61,14 @@ module _ (s : List ℕ) (p : Part) where
       whole : p .count ≤ maxSinks → behind endpointSize p ≤ length s → (q .count ≤ maxSinks) × (behind endpointSize q ≤ length s)
       whole few inside = rw (e, held-some few inside) (few, inside)
 
-      none : held s p ≡ noPart → (q .count ≤ maxSinks) × (behind endpointSize q ≤ length s)
+      none : wholeSinks s p ≡ noPart → (q .count ≤ maxSinks) × (behind endpointSize q ≤ length s)
       none z = rw (e, z) (omega arith, omega arith)
 
-  pub held-few : held s p .count ≤ maxSinks
-  held-few = holds (held s p) refl .0
+  pub held-few : wholeSinks s p .count ≤ maxSinks
+  held-few = holds (wholeSinks s p) refl .0
 
-  pub held-inside : behind endpointSize (held s p) ≤ length s
-  held-inside = holds (held s p) refl .1
+  pub held-inside : behind endpointSize (wholeSinks s p) ≤ length s
+  held-inside = holds (wholeSinks s p) refl .1
 
 -- ---- a reader beside the places of the definitions, which run on past the end: it stands where they do, or both are off the sheet
 
@@ -187,7 +187,7 @@ module _ (s : List ℕ) where
       → k ≡ sinksAt s (onward s (after s positionSize r) endpointSize)
       → n ≡ sinksFound s (onward s (after s positionSize r) endpointSize)
       → w ≡ eqb (after s endpointSize k) (length s)
-      → Found s (bodyOf (layoutFrom b c l t r (after s positionSize r) k) e n w)
+      → PartsFound s (bodyOf (layoutFrom b c l t r (after s positionSize r) k) e n w)
   unfolding layoutIn
   body-read b c l t r k e n w eb ec el et er ee ek en ew =
       let q₁ : ℕ = listsPlace in
@@ -229,15 +229,15 @@ module _ (s : List ℕ) where
         layout-is = λ z i. layoutFrom ((eb ∙ ap (listAt s) (p₁ z)) i) ((ec ∙ ap (listAt s) (p₂ z)) i) ((el ∙ ap (listAt s) (p₃ z)) i) ((et ∙ ap (listAt s) (p₄ z)) i) ((er ∙ ap (listAt s) (p₅ z)) i) (p₆ z i) (k-is z i);
         source-is = λ z. ee ∙ ap (λ x. endpointIn (drop x s)) (p₆ z);
         sinks-are = λ z few.
-            en ∙ ap (λ x. sinksOf (endpointsIn s (held s (sinksAt s x)))) (p₇ z) ∙ ap (λ x. sinksOf (endpointsIn s x)) (held-some s (sinksAt s q₇) few (omega (arith, ends z)));
+            en ∙ ap (λ x. sinksOf (endpointsIn s (wholeSinks s (sinksAt s x)))) (p₇ z) ∙ ap (λ x. sinksOf (endpointsIn s x)) (held-some s (sinksAt s q₇) few (omega (arith, ends z)));
       }
 
-  pub found-as : (x y : Body) → x ≡ y → Found s y → Found s x
+  pub found-as : (x y : Body) → x ≡ y → PartsFound s y → PartsFound s x
   found-as x y e F = rw e F
 
 -- ---- what was found is the job of the sheet's contents
 
-module _ (s : List ℕ) (b : Body) (F : Found s b) (S : Shaped s) where
+module _ (s : List ℕ) (b : Body) (F : PartsFound s b) (S : Shaped s) where
   found-whole : b .whole ≡ true
   found-whole = F .whole-is ∙ eq-eqb _ _ (S .whole)
 

@@ -9,13 +9,13 @@ ghost use lib.Dec.{eqb};
 ghost use lib.ListN.{length, getD, drop};
 ghost use Rattle.job_sheet.specs.Sheet.{Read};
 ghost use Rattle.job_sheet.specs.Places.{fourIn, positionIn, endpointIn, Listed, SinksListed, shaped};
-ghost use Rattle.sheet_reader.specs.Reader.{Stands, onward, sinksFound, headOf, headIn, layoutFrom, bodyOf, Found, jobFound};
+ghost use Rattle.sheet_reader.specs.Reader.{Stands, onward, sinksFound, headOf, headIn, layoutFrom, bodyOf, PartsFound, jobFound};
 use job_sheet::Endpoint;
 use job_sheet::Job;
+use job_sheet::Judgement;
 use job_sheet::Part;
 use job_sheet::Reading;
 use job_sheet::Sinks;
-use job_sheet::Verdict;
 use job_sheet::faults;
 use job_sheet::places;
 use job_sheet::places::Layout;
@@ -232,7 +232,7 @@ fn body_of(layout: Layout, source: Endpoint, sinks: Sinks, whole: bool) -> Body
 
 // From a sheet's lists to its end.
 fn read_body(sheet: &[u8]) -> Body
-    ensures { λ r. ⌜ Found (now (sheet .entry)) r ⌝ }
+    ensures { λ r. ⌜ PartsFound (now (sheet .entry)) r ⌝ }
 {
     let reader = Reader::new(sheet);
     let reader = reader.past(places::LISTS);
@@ -267,7 +267,7 @@ fn read_body(sheet: &[u8]) -> Body
 
 // Number 1, over the whole sheet. A count past the end has led the reader off the sheet, so that it is not at the end.
 fn shaped(sheet: &[u8], head: Head, body: Body) -> bool
-    requires { ⌜ (head ≡ headIn (now sheet)) × Found (now sheet) body ⌝ }
+    requires { ⌜ (head ≡ headIn (now sheet)) × PartsFound (now sheet) body ⌝ }
     ensures { λ r. ⌜ r ≡ shaped (now (sheet .entry)) ⌝ }
 {
     places::shape_holds(
@@ -314,14 +314,14 @@ pub fn read_sheet(sheet: &[u8]) -> Reading
     let head = read_head(sheet);
     let body = read_body(sheet);
     if !shaped(sheet, head, body) {
-        return job_sheet::refusal(Verdict::Sheet);
+        return job_sheet::refusal(Judgement::Sheet);
     }
-    let verdict = faults::judge(sheet, body.layout);
-    if !verdict.is_good() {
-        return job_sheet::refusal(verdict);
+    let judgement = faults::judge(sheet, body.layout);
+    if !judgement.is_good() {
+        return job_sheet::refusal(judgement);
     }
     Reading {
-        verdict,
+        judgement,
         job: job_of(head, body),
     }
 }

@@ -3,7 +3,7 @@ ghost use mathlib.Core.Path.{_≡_};
 ghost use Prim.Native.Nat.{_+_, _*_, _≤_, _<_};
 ghost use lib.Dec.{eqb};
 ghost use lib.ListN.{length};
-ghost use Rattle.sheet_reader.specs.Reader.{Stands, onward, held, sinksFound};
+ghost use Rattle.sheet_reader.specs.Reader.{Stands, onward, wholeSinks, sinksFound};
 use job_sheet::Part;
 use job_sheet::Sinks;
 use job_sheet::places;
@@ -41,7 +41,7 @@ pub fn at_end(sheet: &[u8], place: usize) -> bool
 // The part itself where it is of at most sixteen endpoints that the sheet has whole, else a part of none.
 fn held(sheet: &[u8], part: Part) -> Part
     requires { ⌜ part .from ≤ length (now sheet) + 2 ⌝ }
-    ensures { λ r. ⌜ r ≡ held (now (sheet .entry)) part ⌝ }
+    ensures { λ r. ⌜ r ≡ wholeSinks (now (sheet .entry)) part ⌝ }
 {
     let none = Part { from: 0, count: 0 };
     if job_sheet::MAX_SINKS < part.count {

@@ -39,18 +39,18 @@ rubbish-one s t e p q = ext-getD 0 s t e (λ i h. p i h ∙ sym (q i (omega (ari
 
 -- ---- a test of each place: those before the i-th have passed
 
-pub record Passed (p : ℕ → ℕ → Bool) (l : List ℕ) (i : ℕ) : Type 0 where
+pub record PassedSoFar (p : ℕ → ℕ → Bool) (l : List ℕ) (i : ℕ) : Type 0 where
   pub rest : allFrom p i (drop i l) ≡ allFrom p 0 l
 
 all-from : (p : ℕ → ℕ → Bool) (l : List ℕ) (i : ℕ) → i < length l → allFrom p i (drop i l) ≡ (p i (getD l i 0) && allFrom p (i + 1) (drop (i + 1) l))
 all-from p l i h = rw add-one (ap (allFrom p i) (drop-cons l i 0 h))
 
 module _ {p : ℕ → ℕ → Bool} {l : List ℕ} where
-  pub passed-none : Passed p l 0
+  pub passed-none : PassedSoFar p l 0
   passed-none = record { rest = refl }
 
-  module _ {i : ℕ} (P : Passed p l i) where
-    pub passed-next : i < length l → p i (getD l i 0) ≡ true → Passed p l (i + 1)
+  module _ {i : ℕ} (P : PassedSoFar p l i) where
+    pub passed-next : i < length l → p i (getD l i 0) ≡ true → PassedSoFar p l (i + 1)
     passed-next h e = record { rest = rw (all-from p l i h, e) at (P .rest) }
 
     pub passed-failed : i < length l → p i (getD l i 0) ≡ false → false ≡ allFrom p 0 l

@@ -5,9 +5,9 @@ use Rattle.basics.specs.Tests.{never}
 use Rattle.basics.specs.Promises.{Determines}
 use Rattle.stored.specs.declared.runs.Verdict.{Verdict}
 use Rattle.stored.specs.declared.runs.Gap.{Gap}
-use Rattle.stored.specs.Runs.{Turns, none, one-more, narrowedBy, wholeGap, Halved, stays, halves, Narrowed}
+use Rattle.stored.specs.Runs.{Repeated, none, one-more, narrowedBy, wholeGap, Halved, stays, halves, Narrowed}
 
-pub turns-one : {X : Type 0} {next : ℕ → X → X → Type 0} {start : X} → ((k : ℕ) (x : X) → Determines (next k x)) → (n : ℕ) → Determines (Turns next start n)
+pub turns-one : {X : Type 0} {next : ℕ → X → X → Type 0} {start : X} → ((k : ℕ) (x : X) → Determines (next k x)) → (n : ℕ) → Determines (Repeated next start n)
 turns-one one zero x y (none e) (none f) = e ∙ sym f
 turns-one {next = next} one (suc n) x y (one-more {x = a} t p) (one-more {x = b} u q) =
     let e = turns-one one n a b t u in

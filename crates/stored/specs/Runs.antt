@@ -43,9 +43,9 @@ sumOf count more = either (ltb 1000000 count) count (either (ltb 1000000 more) c
 -- ---- turns
 
 -- what so many turns lead to, where turn k follows from the one before it by a relation
-pub data Turns {X : Type 0} (next : ℕ → X → X → Type 0) (start : X) : ℕ → X → Type 0 where
-  none : {r : X} → r ≡ start → Turns next start 0 r
-  one-more : {k : ℕ} {x r : X} → Turns next start k x → next k x r → Turns next start (suc k) r
+pub data Repeated {X : Type 0} (next : ℕ → X → X → Type 0) (start : X) : ℕ → X → Type 0 where
+  none : {r : X} → r ≡ start → Repeated next start 0 r
+  one-more : {k : ℕ} {x r : X} → Repeated next start k x → next k x r → Repeated next start (suc k) r
 
 -- ---- the least queue
 
@@ -74,4 +74,4 @@ pub data Halved (ran : ℕ → Verdict → Type 0) (G r : Gap) : Type 0 where
 
 -- halved 32 times: a count of places has 32 bits
 pub record Narrowed (ran : ℕ → Verdict → Type 0) (places : ℕ) (r : Gap) : Type 0 where
-  pub halvings : Turns (λ _. Halved ran) (wholeGap places) 32 r
+  pub halvings : Repeated (λ _. Halved ran) (wholeGap places) 32 r

@@ -7,7 +7,7 @@ use Rattle.room.specs.declared.Room.{Room}
 use Rattle.room.specs.declared.Pos.{Pos}
 use Rattle.room.specs.Room.{Good, Within, volume, cellOf}
 use Rattle.room.specs.RoomLaws.{cell-in}
-use Rattle.blocks.specs.Laying.{lesser}
+use Rattle.blocks.specs.Laying.{lesserKept}
 use Rattle.blocks.specs.LayingLaws.{lesser-is}
 use Rattle.blocks.proofs.place_block.Statement.{statement}
 use Rattle.blocks.proofs.place_block.Tie as tie
@@ -15,24 +15,24 @@ use Rattle.blocks.proofs.place_block.Tie as tie
 cell-small : {R : Room} {p : Pos} → Good R → Within R p → (cell : ℕ) → cell ≡ cellOf R p → (cell < volume R) × (cell < 65536)
 cell-small {R} {p} G w cell e = let h = cell-in R p w in rw e (h, omega (arith, G .few))
 
-not-higher : (known node kept : ℕ) → kept ≡ lesser known (node + 1) → kept ≤ node + 1
+not-higher : (known node kept : ℕ) → kept ≡ lesserKept known (node + 1) → kept ≤ node + 1
 not-higher known node kept e = rw e (lesser-is known (node + 1) .to-second (omega arith) .1)
 
 cell-requires : tie.Need-cell-requires
 cell-requires c κs = search needs
 
-mul-wide : tie.Need-mul-wide
-mul-wide c =
+mul-as-index : tie.Need-mul-as-index
+mul-as-index c =
     let start = c .before .before .before in
     omega (arith, cell-small (start .pre .0) (start .pre .1 .0) _ (c .cell .ensures))
 
-slice-read-wide : tie.Need-slice-read-wide
-slice-read-wide c =
+slice-read-as-index : tie.Need-slice-read-as-index
+slice-read-as-index c =
     let start = c .before .before .before .before in
     omega (arith, cell-small (start .pre .0) (start .pre .1 .0) _ (c .before .cell .ensures), start .pre .1 .1)
 
-wide-requires : tie.Need-wide-requires
-wide-requires c κs = search needs
+as-index-requires : tie.Need-as-index-requires
+as-index-requires c κs = search needs
 
 cast-node : tie.Need-cast-node
 cast-node c = search needs
@@ -64,7 +64,7 @@ slice-write-nodes c =
 repeat-number-requires : tie.Need-repeat-number-requires
 repeat-number-requires c κs =
     let start = c .before .before .before .before .before .before .before in (
-      c .before .before .wide .ensures .1,
+      c .before .before .as-index .ensures .1,
       search needs,
       cell-small (start .pre .0) (start .pre .1 .0) _ (c .before .before .before .before .cell .ensures) .1,
     )
@@ -81,7 +81,7 @@ same-length-2 c = search needs
 returns : tie.Need-returns
 returns c =
     let cell = c .before .before .before .before .before .before .cell .ensures in
-    let known = c .before .before .before .before .wide .ensures .0 in
+    let known = c .before .before .before .before .as-index .ensures .0 in
     record {
       kinds-are = rw cell;
       nodes-are = rw (c .before .before .lesser .ensures, known, cell);
@@ -93,9 +93,9 @@ place-block-spec =
     tie.close
     (tie.spec
     cell-requires
-    mul-wide
-    slice-read-wide
-    wide-requires
+    mul-as-index
+    slice-read-as-index
+    as-index-requires
     cast-node
     add-node
     slice-write-kinds

@@ -3,12 +3,12 @@ use borrow.Author.Needs.{needs}
 use Prim.Native.Nat.{_-_}
 use lib.ListN.{length}
 use mathlib.Core.Logic.{⊎-elim}
-use Rattle.branches.specs.LoopLaws.{Counted, counted-none, counted-marked, counted-other, counted-all}
+use Rattle.branches.specs.LoopLaws.{MarksCounted, counted-none, counted-marked, counted-other, counted-all}
 use Rattle.branches.proofs.count_marks.Statement.{statement}
 use Rattle.branches.proofs.count_marks.Tie as tie
 
 abbrev Inv-loop : tie.InvT-loop
-Inv-loop marks count₀ i₀ count i = Counted marks count i
+Inv-loop marks count₀ i₀ count i = MarksCounted marks count i
 
 abbrev μ-loop : tie.MeasureT-loop
 μ-loop marks count₀ i₀ count i = length marks - i

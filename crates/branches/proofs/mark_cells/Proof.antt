@@ -4,13 +4,13 @@ use Prim.Native.Nat.{_≤_, _-_}
 use native.Mathlib.Omega.{arith}
 use lib.ListN.{length}
 use lib.Dec.{eqb}
-use Rattle.routing_resources.specs.MarkLaws.{Turn, first-turn, restOf, turn-on, turn-done}
+use Rattle.routing_resources.specs.MarkLaws.{MarksInTurn, first-turn, restOf, turn-on, turn-done}
 use Rattle.geometry.specs.Geometry.{standsIn}
 use Rattle.branches.proofs.mark_cells.Statement.{statement}
 use Rattle.branches.proofs.mark_cells.Tie as tie
 
 abbrev Inv-loop : tie.InvT-loop
-Inv-loop marks₀ cells i₀ marks i = (i ≤ length cells) × Turn 1 (restOf (λ v cell. eqb cell v) cells) marks₀ marks i
+Inv-loop marks₀ cells i₀ marks i = (i ≤ length cells) × MarksInTurn 1 (restOf (λ v cell. eqb cell v) cells) marks₀ marks i
 
 abbrev μ-loop : tie.MeasureT-loop
 μ-loop marks₀ cells i₀ marks i = length cells - i
@@ -18,19 +18,19 @@ abbrev μ-loop : tie.MeasureT-loop
 loop-holds : tie.Need-loop-holds Inv-loop μ-loop
 loop-holds c = (omega arith, first-turn _ _ _)
 
-mul-wide : tie.Need-mul-wide Inv-loop μ-loop
-mul-wide c = search needs
+mul-as-index : tie.Need-mul-as-index Inv-loop μ-loop
+mul-as-index c = search needs
 
-shared-slice-read-wide : tie.Need-shared-slice-read-wide Inv-loop μ-loop
-shared-slice-read-wide c = search needs
+shared-slice-read-as-index : tie.Need-shared-slice-read-as-index Inv-loop μ-loop
+shared-slice-read-as-index c = search needs
 
-wide-requires : tie.Need-wide-requires Inv-loop μ-loop
-wide-requires c κs = search needs
+as-index-requires : tie.Need-as-index-requires Inv-loop μ-loop
+as-index-requires c κs = search needs
 
 mark-requires : tie.Need-mark-requires Inv-loop μ-loop
 mark-requires c κs =
     let turn = c .before .before .before .before .loop in
-    rw (c .wide .ensures .0, turn .inv .1 .long) (c .before .before .before .before .before .before .before .pre .below (turn .i) (c .before .before .before .loop-test .taken))
+    rw (c .as-index .ensures .0, turn .inv .1 .long) (c .before .before .before .before .before .before .before .pre .below (turn .i) (c .before .before .before .loop-test .taken))
 
 add-i : tie.Need-add-i Inv-loop μ-loop
 add-i c = search needs
@@ -41,7 +41,7 @@ loop-less c = search needs
 loop-again : tie.Need-loop-again Inv-loop μ-loop
 loop-again c =
     let turn = c .before .before .before .before .before .before .before .loop in
-    (omega arith, turn-on (λ v cell. eqb cell v) _ (turn .inv .1) 0 _ (c .before .before .before .wide .ensures .0) (c .before .before .before .before .before .before .loop-test .taken) (c .before .before .mark .ensures))
+    (omega arith, turn-on (λ v cell. eqb cell v) _ (turn .inv .1) 0 _ (c .before .before .before .as-index .ensures .0) (c .before .before .before .before .before .before .loop-test .taken) (c .before .before .mark .ensures))
 
 same-length : tie.Need-same-length Inv-loop μ-loop
 same-length c = c .before .loop .inv .1 .long
@@ -57,9 +57,9 @@ mark-cells-spec =
     Inv-loop
     μ-loop
     loop-holds
-    mul-wide
-    shared-slice-read-wide
-    wide-requires
+    mul-as-index
+    shared-slice-read-as-index
+    as-index-requires
     mark-requires
     add-i
     loop-less

@@ -2,13 +2,13 @@
 use mathlib.Core.Path.{sym, ap, _∙_}
 use Prim.Native.Nat.{_-_}
 use Rattle.ends.specs.Ends.{dueFor}
-use Rattle.ends.specs.EndLaws.{Passed, none-passed, due-source, due-sink, due-none, sink-passed}
+use Rattle.ends.specs.EndLaws.{NoneDue, none-passed, due-source, due-sink, due-none, sink-passed}
 use borrow.Author.Needs.{needs}
 use Rattle.ends.proofs.first_due.Statement.{statement}
 use Rattle.ends.proofs.first_due.Tie as tie
 
 abbrev Inv-loop : tie.InvT-loop
-Inv-loop room number sinks k₀ k = Passed room number sinks k
+Inv-loop room number sinks k₀ k = NoneDue room number sinks k
 
 abbrev μ-loop : tie.MeasureT-loop
 μ-loop room number sinks k₀ k = sinks .count - k

@@ -2,7 +2,7 @@
 use Prim.Native.Nat.{_-_}
 use lib.ListN.{length}
 use borrow.Author.Needs.{needs}
-use Rattle.geometry.specs.Along.{pairWith, laid, lesser}
+use Rattle.geometry.specs.Along.{pairWith, laid, lesserPlace}
 use Rattle.geometry.specs.LayLaws.{cells-in}
 use Rattle.geometry.specs.PairLaws.{first-found, first-missing}
 use Rattle.geometry.proofs.first_pair.Statement.{statement}
@@ -10,7 +10,7 @@ use Rattle.basics.specs.Walks.{Walk, walk-first, walk-next, walk-last}
 use Rattle.geometry.proofs.first_pair.Tie as tie
 
 abbrev Inv-loop : tie.InvT-loop
-Inv-loop room bytes path none least₀ i₀ least i = Walk (λ cell. lesser (pairWith room (laid bytes) cell)) path none least i
+Inv-loop room bytes path none least₀ i₀ least i = Walk (λ cell. lesserPlace (pairWith room (laid bytes) cell)) path none least i
 
 abbrev μ-loop : tie.MeasureT-loop
 μ-loop room bytes path none least₀ i₀ least i = length path - i
@@ -18,17 +18,17 @@ abbrev μ-loop : tie.MeasureT-loop
 loop-holds : tie.Need-loop-holds Inv-loop μ-loop
 loop-holds c = walk-first _ _ _
 
-mul-wide : tie.Need-mul-wide Inv-loop μ-loop
-mul-wide c = search needs
+mul-as-index : tie.Need-mul-as-index Inv-loop μ-loop
+mul-as-index c = search needs
 
-shared-slice-read-wide : tie.Need-shared-slice-read-wide Inv-loop μ-loop
-shared-slice-read-wide c = search needs
+shared-slice-read-as-index : tie.Need-shared-slice-read-as-index Inv-loop μ-loop
+shared-slice-read-as-index c = search needs
 
-wide-requires : tie.Need-wide-requires Inv-loop μ-loop
-wide-requires c κs = search needs
+as-index-requires : tie.Need-as-index-requires Inv-loop μ-loop
+as-index-requires c κs = search needs
 
 pair-with-requires : tie.Need-pair-with-requires Inv-loop μ-loop
-pair-with-requires c κs = let s = c .before .before .before .before .before .before in (s .pre .0, (s .pre .1 .0, rw (c .wide .ensures .0) (s .pre .1 .1 .0 .below _ (c .before .before .loop-test .taken))))
+pair-with-requires c κs = let s = c .before .before .before .before .before .before in (s .pre .0, (s .pre .1 .0, rw (c .as-index .ensures .0) (s .pre .1 .1 .0 .below _ (c .before .before .loop-test .taken))))
 
 lesser-of-requires : tie.Need-lesser-of-requires Inv-loop μ-loop
 lesser-of-requires c κs = search needs
@@ -40,7 +40,7 @@ loop-less : tie.Need-loop-less Inv-loop μ-loop
 loop-less c = search needs
 
 loop-again : tie.Need-loop-again Inv-loop μ-loop
-loop-again c = walk-next _ _ (c .before .before .before .before .before .loop .inv) 0 (c .before .before .before .before .loop-test .taken) _ (rw (c .before .pair-with .ensures, c .before .before .wide .ensures .0) at (c .lesser-of .ensures))
+loop-again c = walk-next _ _ (c .before .before .before .before .before .loop .inv) 0 (c .before .before .before .before .loop-test .taken) _ (rw (c .before .pair-with .ensures, c .before .before .as-index .ensures .0) at (c .lesser-of .ensures))
 
 returns : tie.Need-returns Inv-loop μ-loop
 returns c = let s = c .before .before .before .before .before in first-found _ (s .pre .0) _ _ (cells-in _ _ (s .pre .1 .1 .0)) (s .pre .1 .1 .1) _ _ (s .pre .1 .0) (walk-last _ _ (c .before .before .loop .inv) (c .before .loop-test .left)) (c .if1 .taken)
@@ -55,9 +55,9 @@ first-pair-spec =
     Inv-loop
     μ-loop
     loop-holds
-    mul-wide
-    shared-slice-read-wide
-    wide-requires
+    mul-as-index
+    shared-slice-read-as-index
+    as-index-requires
     pair-with-requires
     lesser-of-requires
     add-i

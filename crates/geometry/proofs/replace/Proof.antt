@@ -19,20 +19,20 @@ abbrev μ-loop : tie.MeasureT-loop
 loop-holds : tie.Need-loop-holds Inv-loop μ-loop
 loop-holds c = walk-first _ _ _
 
-mul-wide : tie.Need-mul-wide Inv-loop μ-loop
-mul-wide c = search needs
+mul-as-index : tie.Need-mul-as-index Inv-loop μ-loop
+mul-as-index c = search needs
 
-shared-slice-read-wide : tie.Need-shared-slice-read-wide Inv-loop μ-loop
-shared-slice-read-wide c = search needs
+shared-slice-read-as-index : tie.Need-shared-slice-read-as-index Inv-loop μ-loop
+shared-slice-read-as-index c = search needs
 
-wide-requires : tie.Need-wide-requires Inv-loop μ-loop
-wide-requires c κs = search needs
+as-index-requires : tie.Need-as-index-requires Inv-loop μ-loop
+as-index-requires c κs = search needs
 
 slice-read-if1 : tie.Need-slice-read-if1 Inv-loop μ-loop
-slice-read-if1 c = walk-in _ _ (c .before .before .before .before .loop .inv) (c .before .before .before .before .before .before .before .pre) (c .before .before .before .loop-test .taken) _ (c .before .wide .ensures .0)
+slice-read-if1 c = walk-in _ _ (c .before .before .before .before .loop .inv) (c .before .before .before .before .before .before .before .pre) (c .before .before .before .loop-test .taken) _ (c .before .as-index .ensures .0)
 
 slice-write-bytes : tie.Need-slice-write-bytes Inv-loop μ-loop
-slice-write-bytes c = walk-in _ _ (c .before .before .before .before .before .loop .inv) (c .before .before .before .before .before .before .before .before .pre) (c .before .before .before .before .loop-test .taken) _ (c .before .before .wide .ensures .0)
+slice-write-bytes c = walk-in _ _ (c .before .before .before .before .before .loop .inv) (c .before .before .before .before .before .before .before .before .pre) (c .before .before .before .before .loop-test .taken) _ (c .before .before .as-index .ensures .0)
 
 add-i : tie.Need-add-i Inv-loop μ-loop
 add-i c = search needs
@@ -46,7 +46,7 @@ loop-again c =
     let bytes = c .before .before .before .before .before .loop .bytes in
     let walk = c .before .before .before .before .before .loop .inv in
     let more = c .before .before .before .before .loop-test .taken in
-    let cell = c .before .before .wide .ensures .0 in
+    let cell = c .before .before .as-index .ensures .0 in
     ⊎-elim
     (λ w. walk-next _ _ walk 0 more _ (w .1 ∙ one-put _ (args .new) _ _ bytes cell (w .0 .taken)))
     (λ w. walk-next _ _ walk 0 more _ (w .1 ∙ one-kept _ (args .new) _ _ bytes cell (w .0 .left)))
@@ -65,9 +65,9 @@ replace-spec =
     Inv-loop
     μ-loop
     loop-holds
-    mul-wide
-    shared-slice-read-wide
-    wide-requires
+    mul-as-index
+    shared-slice-read-as-index
+    as-index-requires
     slice-read-if1
     slice-write-bytes
     add-i

@@ -22,29 +22,29 @@ loop-holds c = (omega arith, refl)
 add-loop : tie.Need-add-loop Inv-loop μ-loop
 add-loop c = search needs
 
-mul-wide : tie.Need-mul-wide Inv-loop μ-loop
-mul-wide c = search needs
+mul-as-index : tie.Need-mul-as-index Inv-loop μ-loop
+mul-as-index c = search needs
 
-shared-slice-read-wide : tie.Need-shared-slice-read-wide Inv-loop μ-loop
-shared-slice-read-wide c = search needs
+shared-slice-read-as-index : tie.Need-shared-slice-read-as-index Inv-loop μ-loop
+shared-slice-read-as-index c = search needs
 
-wide-requires : tie.Need-wide-requires Inv-loop μ-loop
-wide-requires c κs = search needs
+as-index-requires : tie.Need-as-index-requires Inv-loop μ-loop
+as-index-requires c κs = search needs
 
-add-wide : tie.Need-add-wide Inv-loop μ-loop
-add-wide c = search needs
+add-as-index : tie.Need-add-as-index Inv-loop μ-loop
+add-as-index c = search needs
 
-mul-wide-2 : tie.Need-mul-wide-2 Inv-loop μ-loop
-mul-wide-2 c = search needs
+mul-as-index-2 : tie.Need-mul-as-index-2 Inv-loop μ-loop
+mul-as-index-2 c = search needs
 
-shared-slice-read-wide-2 : tie.Need-shared-slice-read-wide-2 Inv-loop μ-loop
-shared-slice-read-wide-2 c = search needs
+shared-slice-read-as-index-2 : tie.Need-shared-slice-read-as-index-2 Inv-loop μ-loop
+shared-slice-read-as-index-2 c = search needs
 
-wide-requires-2 : tie.Need-wide-requires-2 Inv-loop μ-loop
-wide-requires-2 c κs = search needs
+as-index-requires-2 : tie.Need-as-index-requires-2 Inv-loop μ-loop
+as-index-requires-2 c κs = search needs
 
 stair-at-requires : tie.Need-stair-at-requires Inv-loop μ-loop
-stair-at-requires c κs = let s = c .before .before .before .before .before .before .before .before .before in (s .pre .0, (s .pre .1 .0, (rw (c .before .before .wide .ensures .0) (s .pre .1 .1 .0 .below _ (omega arith)), rw (c .wide2 .ensures .0) (s .pre .1 .1 .0 .below _ (c .before .before .before .before .loop-test .taken)))))
+stair-at-requires c κs = let s = c .before .before .before .before .before .before .before .before .before in (s .pre .0, (s .pre .1 .0, (rw (c .before .before .as-index .ensures .0) (s .pre .1 .1 .0 .below _ (omega arith)), rw (c .as-index2 .ensures .0) (s .pre .1 .1 .0 .below _ (c .before .before .before .before .loop-test .taken)))))
 
 enum-told : tie.Need-enum-told Inv-loop μ-loop
 enum-told c = search needs
@@ -54,7 +54,7 @@ returns c =
     let pre = c .before .before .before .before .before .before .before .before .before .before .before .before .pre in
     let i = c .before .before .before .before .before .before .before .before .loop .i in
     let more = c .before .before .before .before .before .before .before .loop-test .taken in
-    let read = c .before .before .stair-at .ensures ∙ stair-read _ (pre .0) _ _ _ (pre .1 .1 .0) (pre .1 .1 .1 .0) (pre .1 .1 .1 .1) i more _ _ (c .before .before .before .before .before .wide .ensures .0) (c .before .before .before .wide2 .ensures .0) in
+    let read = c .before .before .stair-at .ensures ∙ stair-read _ (pre .0) _ _ _ (pre .1 .1 .0) (pre .1 .1 .1 .0) (pre .1 .1 .1 .1) i more _ _ (c .before .before .before .before .before .as-index .ensures .0) (c .before .before .before .as-index2 .ensures .0) in
     read ∙ stairs-found _ _ _ _ _ i more _ (sym read ∙ c .enum-told .given .1) ∙ c .before .before .before .before .before .before .before .before .loop .inv .1
 
 enum-told-2 : tie.Need-enum-told-2 Inv-loop μ-loop
@@ -71,7 +71,7 @@ loop-again c =
     let pre = c .before .before .before .before .before .before .before .before .before .before .before .before .pre in
     let i = c .before .before .before .before .before .before .before .before .loop .i in
     let more = c .before .before .before .before .before .before .before .loop-test .taken in
-    let read = c .before .before .stair-at .ensures ∙ stair-read _ (pre .0) _ _ _ (pre .1 .1 .0) (pre .1 .1 .1 .0) (pre .1 .1 .1 .1) i more _ _ (c .before .before .before .before .before .wide .ensures .0) (c .before .before .before .wide2 .ensures .0) in
+    let read = c .before .before .stair-at .ensures ∙ stair-read _ (pre .0) _ _ _ (pre .1 .1 .0) (pre .1 .1 .1 .0) (pre .1 .1 .1 .1) i more _ _ (c .before .before .before .before .before .as-index .ensures .0) (c .before .before .before .as-index2 .ensures .0) in
     (omega arith, stairs-next _ _ _ _ _ i more (sym read ∙ c .enum-told2 .given .1) ∙ c .before .before .before .before .before .before .before .before .loop .inv .1)
 
 returns-2 : tie.Need-returns-2 Inv-loop μ-loop
@@ -85,13 +85,13 @@ stair-conflict-spec =
     μ-loop
     loop-holds
     add-loop
-    mul-wide
-    shared-slice-read-wide
-    wide-requires
-    add-wide
-    mul-wide-2
-    shared-slice-read-wide-2
-    wide-requires-2
+    mul-as-index
+    shared-slice-read-as-index
+    as-index-requires
+    add-as-index
+    mul-as-index-2
+    shared-slice-read-as-index-2
+    as-index-requires-2
     stair-at-requires
     enum-told
     returns

@@ -2,12 +2,12 @@
 use native.Mathlib.Omega.{arith}
 use Prim.Native.Nat.{_-_}
 use borrow.Author.Needs.{needs}
-use Rattle.job_sheet.specs.ScanLaws.{Gathered, gather-on, gather-done}
+use Rattle.job_sheet.specs.ScanLaws.{EndpointsRead, gather-on, gather-done}
 use Rattle.job_sheet.proofs.sinks_from.Statement.{statement}
 use Rattle.job_sheet.proofs.sinks_from.Tie as tie
 
 abbrev Inv-loop : tie.InvT-loop
-Inv-loop sheet from count ends₀ k₀ ends k = Gathered sheet from count ends k
+Inv-loop sheet from count ends₀ k₀ ends k = EndpointsRead sheet from count ends k
 
 abbrev μ-loop : tie.MeasureT-loop
 μ-loop sheet from count ends₀ k₀ ends k = count - k

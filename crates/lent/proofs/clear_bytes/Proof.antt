@@ -1,12 +1,12 @@
 -- `clear_bytes` meets its contract: the law of the clearing loop, at this width.
 use borrow.Author.Needs.{needs}
 use Prim.Native.Nat.{_-_}
-use Rattle.lent.specs.Clearing.{Cleared, cleared-none, cleared-next, cleared-all}
+use Rattle.lent.specs.Clearing.{FrontCleared, cleared-none, cleared-next, cleared-all}
 use Rattle.lent.proofs.clear_bytes.Statement.{statement}
 use Rattle.lent.proofs.clear_bytes.Tie as tie
 
 abbrev Inv-loop : tie.InvT-loop
-Inv-loop s₀ n byte₀ s byte = Cleared s₀ byte s
+Inv-loop s₀ n byte₀ s byte = FrontCleared s₀ byte s
 
 abbrev μ-loop : tie.MeasureT-loop
 μ-loop s₀ n byte₀ s byte = n - byte

@@ -1,12 +1,12 @@
 -- `clear_longs` meets its contract: the law of the clearing loop, at this width.
 use borrow.Author.Needs.{needs}
 use Prim.Native.Nat.{_-_}
-use Rattle.lent.specs.Clearing.{Cleared, cleared-none, cleared-next, cleared-all}
+use Rattle.lent.specs.Clearing.{FrontCleared, cleared-none, cleared-next, cleared-all}
 use Rattle.lent.proofs.clear_longs.Statement.{statement}
 use Rattle.lent.proofs.clear_longs.Tie as tie
 
 abbrev Inv-loop : tie.InvT-loop
-Inv-loop s₀ n long₀ s long = Cleared s₀ long s
+Inv-loop s₀ n long₀ s long = FrontCleared s₀ long s
 
 abbrev μ-loop : tie.MeasureT-loop
 μ-loop s₀ n long₀ s long = n - long

@@ -1,12 +1,12 @@
 -- `clear_words` meets its contract: the law of the clearing loop, at this width.
 use borrow.Author.Needs.{needs}
 use Prim.Native.Nat.{_-_}
-use Rattle.lent.specs.Clearing.{Cleared, cleared-none, cleared-next, cleared-all}
+use Rattle.lent.specs.Clearing.{FrontCleared, cleared-none, cleared-next, cleared-all}
 use Rattle.lent.proofs.clear_words.Statement.{statement}
 use Rattle.lent.proofs.clear_words.Tie as tie
 
 abbrev Inv-loop : tie.InvT-loop
-Inv-loop s₀ n word₀ s word = Cleared s₀ word s
+Inv-loop s₀ n word₀ s word = FrontCleared s₀ word s
 
 abbrev μ-loop : tie.MeasureT-loop
 μ-loop s₀ n word₀ s word = n - word

@@ -1,7 +1,7 @@
 -- `cell_source_keepout` meets its contract: each turn marks the keepout that one block asks for.
 use Prim.Native.Nat.{_≤_, _-_}
 use native.Mathlib.Omega.{arith}
-use Rattle.routing_resources.specs.MarkLaws.{Turn, first-turn, restOf, turn-on, turn-done}
+use Rattle.routing_resources.specs.MarkLaws.{MarksInTurn, first-turn, restOf, turn-on, turn-done}
 use Rattle.job_sheet.specs.Places.{noBlock, blocksIn}
 use Rattle.outset.specs.Outset.{sourceKeepout}
 use borrow.Author.Needs.{needs}
@@ -10,7 +10,7 @@ use Rattle.job_sheet.specs.RecordLaws.{blocks-long}
 use Rattle.outset.proofs.cell_source_keepout.Tie as tie
 
 abbrev Inv-loop : tie.InvT-loop
-Inv-loop sheet part room kinds nodes marks₀ i₀ marks i = (i ≤ part .count) × Turn 1 (restOf (sourceKeepout room kinds nodes) (blocksIn sheet part)) marks₀ marks i
+Inv-loop sheet part room kinds nodes marks₀ i₀ marks i = (i ≤ part .count) × MarksInTurn 1 (restOf (sourceKeepout room kinds nodes) (blocksIn sheet part)) marks₀ marks i
 
 abbrev μ-loop : tie.MeasureT-loop
 μ-loop sheet part room kinds nodes marks₀ i₀ marks i = part .count - i

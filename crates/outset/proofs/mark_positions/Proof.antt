@@ -2,7 +2,7 @@
 use Prim.Native.Nat.{_≤_, _-_}
 use native.Mathlib.Omega.{arith}
 use Rattle.room.specs.RoomLaws.{cell-in}
-use Rattle.routing_resources.specs.MarkLaws.{Turn, first-turn, restOf, turn-on, turn-done}
+use Rattle.routing_resources.specs.MarkLaws.{MarksInTurn, first-turn, restOf, turn-on, turn-done}
 use Rattle.job_sheet.specs.Places.{noPosition, positionsIn}
 use Rattle.outset.specs.Outset.{standsAt}
 use borrow.Author.Needs.{needs}
@@ -11,7 +11,7 @@ use Rattle.job_sheet.specs.RecordLaws.{positions-long}
 use Rattle.outset.proofs.mark_positions.Tie as tie
 
 abbrev Inv-loop : tie.InvT-loop
-Inv-loop sheet part room marks₀ i₀ marks i = (i ≤ part .count) × Turn 1 (restOf (standsAt room) (positionsIn sheet part)) marks₀ marks i
+Inv-loop sheet part room marks₀ i₀ marks i = (i ≤ part .count) × MarksInTurn 1 (restOf (standsAt room) (positionsIn sheet part)) marks₀ marks i
 
 abbrev μ-loop : tie.MeasureT-loop
 μ-loop sheet part room marks₀ i₀ marks i = part .count - i

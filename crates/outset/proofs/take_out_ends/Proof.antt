@@ -3,7 +3,7 @@ use mathlib.Core.Path.{_∙_}
 use Prim.Native.Nat.{_≤_, _-_}
 use native.Mathlib.Omega.{arith}
 use Rattle.ends.specs.EndLaws.{taps-long, tap-is}
-use Rattle.routing_resources.specs.MarkLaws.{Turn, first-turn, restOf, turn-on, turn-done}
+use Rattle.routing_resources.specs.MarkLaws.{MarksInTurn, first-turn, restOf, turn-on, turn-done}
 use Rattle.ends.specs.Ends.{noTap, tapsIn}
 use Rattle.outset.specs.Outset.{tapCell}
 use Rattle.outset.specs.OutsetLaws.{out-ends}
@@ -11,7 +11,7 @@ use Rattle.outset.proofs.take_out_ends.Statement.{statement}
 use Rattle.outset.proofs.take_out_ends.Tie as tie
 
 abbrev Inv-loop : tie.InvT-loop
-Inv-loop room source marks₀ taps i₀ marks i = (i ≤ taps .count) × Turn 0 (restOf (tapCell room) (tapsIn taps)) marks₀ marks i
+Inv-loop room source marks₀ taps i₀ marks i = (i ≤ taps .count) × MarksInTurn 0 (restOf (tapCell room) (tapsIn taps)) marks₀ marks i
 
 abbrev μ-loop : tie.MeasureT-loop
 μ-loop room source marks₀ taps i₀ marks i = taps .count - i

@@ -10,7 +10,7 @@ use Rattle.basics.specs.Walks.{ByPairs, pairs-next, pairs-end}
 use Rattle.room.specs.declared.Room.{Room}
 use Rattle.room.specs.Room.{volume}
 use Rattle.routing_resources.specs.Marks.{isCell, AllCells}
-use Rattle.routing_resources.specs.MarkLaws.{Turn, first-turn, next-turn, last-turn, read-below}
+use Rattle.routing_resources.specs.MarkLaws.{MarksInTurn, first-turn, next-turn, last-turn, read-below}
 use Rattle.routing_resources.specs.Resources.{clearanceOf, isClearance}
 use Rattle.routing_resources.specs.ResourceLaws.{clearance-in}
 use Rattle.routing_resources.proofs.branch_stair_clearances.Statement.{statement}
@@ -36,7 +36,7 @@ ends-in : (R : Room) (branch : List ℕ) → AllCells R branch → (i : ℕ) →
 ends-in R branch cells i h a b e f = (read-below cells i (omega arith) a e, read-below cells (i + 1) h b f)
 
 abbrev Inv-loop : tie.InvT-loop
-Inv-loop room branch marks₀ i₀ marks i = (i ≤ length branch) × Turn 1 (clears room branch) marks₀ marks i
+Inv-loop room branch marks₀ i₀ marks i = (i ≤ length branch) × MarksInTurn 1 (clears room branch) marks₀ marks i
 
 abbrev μ-loop : tie.MeasureT-loop
 μ-loop room branch marks₀ i₀ marks i = length branch - i
@@ -47,37 +47,37 @@ loop-holds c = (omega arith, first-turn _ _ _)
 add-loop : tie.Need-add-loop Inv-loop μ-loop
 add-loop c = search needs
 
-mul-wide : tie.Need-mul-wide Inv-loop μ-loop
-mul-wide c = search needs
+mul-as-index : tie.Need-mul-as-index Inv-loop μ-loop
+mul-as-index c = search needs
 
-shared-slice-read-wide : tie.Need-shared-slice-read-wide Inv-loop μ-loop
-shared-slice-read-wide c = search needs
+shared-slice-read-as-index : tie.Need-shared-slice-read-as-index Inv-loop μ-loop
+shared-slice-read-as-index c = search needs
 
-wide-requires : tie.Need-wide-requires Inv-loop μ-loop
-wide-requires c κs = search needs
+as-index-requires : tie.Need-as-index-requires Inv-loop μ-loop
+as-index-requires c κs = search needs
 
-add-wide : tie.Need-add-wide Inv-loop μ-loop
-add-wide c = search needs
+add-as-index : tie.Need-add-as-index Inv-loop μ-loop
+add-as-index c = search needs
 
-mul-wide-2 : tie.Need-mul-wide-2 Inv-loop μ-loop
-mul-wide-2 c = search needs
+mul-as-index-2 : tie.Need-mul-as-index-2 Inv-loop μ-loop
+mul-as-index-2 c = search needs
 
-shared-slice-read-wide-2 : tie.Need-shared-slice-read-wide-2 Inv-loop μ-loop
-shared-slice-read-wide-2 c = search needs
+shared-slice-read-as-index-2 : tie.Need-shared-slice-read-as-index-2 Inv-loop μ-loop
+shared-slice-read-as-index-2 c = search needs
 
-wide-requires-2 : tie.Need-wide-requires-2 Inv-loop μ-loop
-wide-requires-2 c κs = search needs
+as-index-requires-2 : tie.Need-as-index-requires-2 Inv-loop μ-loop
+as-index-requires-2 c κs = search needs
 
 clearance-requires : tie.Need-clearance-requires Inv-loop μ-loop
 clearance-requires c κs =
     let start = c .before .before .before .before .before .before .before .before in
-    let ends = ends-in _ _ (start .pre .1 .0) (c .before .before .before .before .before .loop .i) (c .before .before .before .before .loop-test .taken) _ _ (c .before .before .wide .ensures .0) (c .wide2 .ensures .0) in
+    let ends = ends-in _ _ (start .pre .1 .0) (c .before .before .before .before .before .loop .i) (c .before .before .before .before .loop-test .taken) _ _ (c .before .before .as-index .ensures .0) (c .as-index2 .ensures .0) in
     (start .pre .0, (ends .0, ends .1))
 
 put-mark-requires : tie.Need-put-mark-requires Inv-loop μ-loop
 put-mark-requires c κs =
     let start = c .before .before .before .before .before .before .before .before .before .before in
-    let ends = ends-in _ _ (start .pre .1 .0) (c .before .before .before .before .before .before .before .loop .i) (c .before .before .before .before .before .before .loop-test .taken) _ _ (c .before .before .before .before .wide .ensures .0) (c .before .before .wide2 .ensures .0) in
+    let ends = ends-in _ _ (start .pre .1 .0) (c .before .before .before .before .before .before .before .loop .i) (c .before .before .before .before .before .before .loop-test .taken) _ _ (c .before .before .before .before .as-index .ensures .0) (c .before .before .as-index2 .ensures .0) in
     λ v e. rw (c .before .before .before .before .before .before .before .loop .inv .1 .long, start .pre .1 .1) (clearance-in _ (start .pre .0) _ _ (ends .0) (ends .1) v (rw (c .before .clearance .ensures) at e))
 
 add-i : tie.Need-add-i Inv-loop μ-loop
@@ -88,7 +88,7 @@ loop-less c = search needs
 
 loop-again : tie.Need-loop-again Inv-loop μ-loop
 loop-again c =
-    (omega arith, let more = one-more _ _ (c .before .before .before .before .before .before .before .before .before .before .loop .i) (c .before .before .before .before .before .before .before .before .before .loop-test .taken) in next-turn (c .before .before .before .before .before .before .before .before .before .before .loop .inv .1) _ (c .before .before .put-mark .ensures) (rw (c .before .before .before .before .clearance .ensures, c .before .before .before .before .before .before .before .wide .ensures .0, c .before .before .before .before .before .wide2 .ensures .0) more))
+    (omega arith, let more = one-more _ _ (c .before .before .before .before .before .before .before .before .before .before .loop .i) (c .before .before .before .before .before .before .before .before .before .loop-test .taken) in next-turn (c .before .before .before .before .before .before .before .before .before .before .loop .inv .1) _ (c .before .before .put-mark .ensures) (rw (c .before .before .before .before .clearance .ensures, c .before .before .before .before .before .before .before .as-index .ensures .0, c .before .before .before .before .before .as-index2 .ensures .0) more))
 
 same-length : tie.Need-same-length Inv-loop μ-loop
 same-length c = c .before .loop .inv .1 .long
@@ -104,13 +104,13 @@ branch-stair-clearances-spec =
     μ-loop
     loop-holds
     add-loop
-    mul-wide
-    shared-slice-read-wide
-    wide-requires
-    add-wide
-    mul-wide-2
-    shared-slice-read-wide-2
-    wide-requires-2
+    mul-as-index
+    shared-slice-read-as-index
+    as-index-requires
+    add-as-index
+    mul-as-index-2
+    shared-slice-read-as-index-2
+    as-index-requires-2
     clearance-requires
     put-mark-requires
     add-i

@@ -15,7 +15,7 @@ use Rattle.room.specs.Room.{posOf, by, moveAt, neighbourAt, neighbour}
 use Rattle.room.specs.RoomLaws.{pos-in}
 use Rattle.room.specs.MoveLaws.{leads, move-small}
 use Rattle.routing_resources.specs.Marks.{markedBy, isCell}
-use Rattle.routing_resources.specs.MarkLaws.{Turn, first-turn, restOf, turn-on, turn-done}
+use Rattle.routing_resources.specs.MarkLaws.{MarksInTurn, first-turn, restOf, turn-on, turn-done}
 use Rattle.routing_resources.specs.Resources.{directions, isNeighbour}
 use Rattle.routing_resources.proofs.horizontal_neighbors.Statement.{statement}
 use Rattle.routing_resources.proofs.horizontal_neighbors.Tie as tie
@@ -42,7 +42,7 @@ in-threes (suc (suc (suc zero))) rise h = refl
 in-threes (suc (suc (suc (suc k)))) rise h = absurd (omega arith)
 
 abbrev Inv-loop : tie.InvT-loop
-Inv-loop room marks₀ cell rise p k₀ marks k = (k ≤ 4) × Turn 1 (restOf (leadsTo room p) (directions rise)) marks₀ marks k
+Inv-loop room marks₀ cell rise p k₀ marks k = (k ≤ 4) × MarksInTurn 1 (restOf (leadsTo room p) (directions rise)) marks₀ marks k
 
 abbrev μ-loop : tie.MeasureT-loop
 μ-loop room marks₀ cell rise p k₀ marks k = 4 - k

@@ -41,7 +41,7 @@ use Rattle.job_sheet.proofs.Part as Part′
 use Rattle.job_sheet.proofs.Part.Laws as PartLaws
 use Rattle.job_sheet.proofs.Sinks as Sinks′
 use Rattle.job_sheet.proofs.Sinks.Laws as SinksLaws
-use Rattle.sheet_reader.specs.Reader.{layoutFrom, bodyOf, Found}
+use Rattle.sheet_reader.specs.Reader.{layoutFrom, bodyOf, PartsFound}
 use Rattle.sheet_reader.specs.ReaderLaws.{onward-stands, body-read, found-as}
 use Rattle.sheet_reader.specs.declared.Reader.{Reader}
 use Rattle.sheet_reader.proofs.Calling.{none, Promise, Promised, makes-of, Token, bytes, lawful-at}
@@ -181,7 +181,7 @@ module _ {M : Type 1} (𝓤 : URA M) (H : Heap 𝓤) (A : Atoms 𝓤) (W : Given
         returns ! (look ! 80 refl) $ forget ! 4 refl $ forget ! 6 refl $ forget ! 8 refl $ forget ! 10 refl $ forget ! 12 refl $ forget ! 14 refl $ forget ! 16 refl $ forget ! 18 refl $ forget ! 20 refl $ forget ! 22 refl $ forget ! 24 refl $ forget ! 26 refl $ forget ! 28 refl $ forget ! 30 refl $ forget ! 32 refl $ forget ! 34 refl $ forget ! 36 refl $ forget ! 38 refl $ forget ! 40 refl $ forget ! 42 refl $ forget ! 44 refl $ forget ! 46 refl $ forget ! 48 refl $ forget ! 50 refl $ forget ! 52 refl $ forget ! 54 refl $ forget ! 56 refl $ forget ! 58 refl $ forget ! 60 refl $ forget ! 62 refl $ forget ! 64 refl $ forget ! 66 refl $ forget ! 68 refl $ forget ! 70 refl $ forget ! 72 refl $ forget ! 74 refl $ forget ! 76 refl $ forget ! 78 refl $ forget ! 80 refl $
         move ! (80 ∷ 81 ∷ []) $ free1 ! $ move ! (78 ∷ 79 ∷ []) $ free1 ! $ move ! (76 ∷ 77 ∷ []) $ free1 ! $ move ! (74 ∷ 75 ∷ []) $ free1 ! $ move ! (72 ∷ 73 ∷ []) $ free1 ! $ move ! (70 ∷ 71 ∷ []) $ free1 ! $ move ! (68 ∷ 69 ∷ []) $ free1 ! $ move ! (66 ∷ 67 ∷ []) $ free1 ! $ move ! (64 ∷ 65 ∷ []) $ free1 ! $ move ! (62 ∷ 63 ∷ []) $ free1 ! $ move ! (60 ∷ 61 ∷ []) $ free1 ! $ move ! (58 ∷ 59 ∷ []) $ free1 ! $ move ! (56 ∷ 57 ∷ []) $ free1 ! $ move ! (54 ∷ 55 ∷ []) $ free1 ! $ move ! (52 ∷ 53 ∷ []) $ free1 ! $ move ! (50 ∷ 51 ∷ []) $ free1 ! $ move ! (48 ∷ 49 ∷ []) $ free1 ! $ move ! (46 ∷ 47 ∷ []) $ free1 ! $ move ! (44 ∷ 45 ∷ []) $ free1 ! $ move ! (42 ∷ 43 ∷ []) $ free1 ! $ move ! (40 ∷ 41 ∷ []) $ free1 ! $ move ! (38 ∷ 39 ∷ []) $ free1 ! $ move ! (36 ∷ 37 ∷ []) $ free1 ! $ move ! (34 ∷ 35 ∷ []) $ free1 ! $ move ! (32 ∷ 33 ∷ []) $ free1 ! $ move ! (30 ∷ 31 ∷ []) $ free1 ! $ move ! (28 ∷ 29 ∷ []) $ free1 ! $ move ! (26 ∷ 27 ∷ []) $ free1 ! $ move ! (24 ∷ 25 ∷ []) $ free1 ! $ move ! (22 ∷ 23 ∷ []) $ free1 ! $ move ! (20 ∷ 21 ∷ []) $ free1 ! $ move ! (18 ∷ 19 ∷ []) $ free1 ! $ move ! (16 ∷ 17 ∷ []) $ free1 ! $ move ! (14 ∷ 15 ∷ []) $ free1 ! $ move ! (12 ∷ 13 ∷ []) $ free1 ! $ move ! (10 ∷ 11 ∷ []) $ free1 ! $ move ! (8 ∷ 9 ∷ []) $ free1 ! $ move ! (6 ∷ 7 ∷ []) $ free1 ! $ move ! (4 ∷ 5 ∷ []) $ free1 ! $ free0 ! $
         keep ! (0 ∷ 1 ∷ []) $
-        use0 W (raw (fact 𝓤 (Found (now s) r₀))) (factI 𝓤 _ (emp 𝓤) (found-as (now s) r₀ _ (e₀ ∙ ap (λ l. bodyOf l r₁₅ r₁₈ r₂₀) e₂₁) (body-read (now s) r₄ r₆ r₈ r₁₀ r₁₂ r₁₇ r₁₅ r₁₈ r₂₀ (e₄ .is) (e₆ .is) (e₈ .is) (e₁₀ .is) (e₁₂ .is) e₁₅ (e₁₇ .is) e₁₈ e₂₀))) $
+        use0 W (raw (fact 𝓤 (PartsFound (now s) r₀))) (factI 𝓤 _ (emp 𝓤) (found-as (now s) r₀ _ (e₀ ∙ ap (λ l. bodyOf l r₁₅ r₁₈ r₂₀) e₂₁) (body-read (now s) r₄ r₆ r₈ r₁₀ r₁₂ r₁₇ r₁₅ r₁₈ r₂₀ (e₄ .is) (e₆ .is) (e₈ .is) (e₁₀ .is) (e₁₂ .is) e₁₅ (e₁₇ .is) e₁₈ e₂₀))) $
         by ! (ends 𝓤 H A (bytes ∷ []) (plain (λ _. Body′.the-row)) (read-body.clauses 𝓤 H A mem run) κ q (s, tt) (v ∷ [], tt) tt W w₀ r₀ (tt, tt)))))))))))))))))))))))))))))))))))))))))))))))))))))))))))))
 
 pub read-body-spec : {M : Type 1} → stated.statement M

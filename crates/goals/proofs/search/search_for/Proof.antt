@@ -6,7 +6,7 @@ use borrow.Author.Needs.{needs}
 use Rattle.goals.proofs.search.search_for.Statement.{statement}
 use Rattle.room_search.specs.Routing.{graphOf}
 use Rattle.room_search.specs.RunLaws.{told-showable}
-use Rattle.room_search.specs.Turns.{graphIn}
+use Rattle.room_search.specs.Takings.{graphIn}
 use Rattle.best_first.specs.Search.{bestFirst}
 use Rattle.goals.proofs.search.search_for.Tie as tie
 

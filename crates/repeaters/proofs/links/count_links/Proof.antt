@@ -4,13 +4,13 @@ use native.Mathlib.Omega.{arith}
 use mathlib.Core.Path.{_∙_, ap}
 use Rattle.room.specs.RoomLaws.{pos-in}
 use Rattle.repeaters.specs.Links.{insideCount}
-use Rattle.repeaters.specs.LinkLaws.{Counted, counted-none, counted-next, counted-all, inside-one}
+use Rattle.repeaters.specs.LinkLaws.{LinksCounted, counted-none, counted-next, counted-all, inside-one}
 use borrow.Author.Needs.{needs}
 use Rattle.repeaters.proofs.links.count_links.Statement.{statement}
 use Rattle.repeaters.proofs.links.count_links.Tie as tie
 
 abbrev Inv-loop : tie.InvT-loop
-Inv-loop room mask cell p rest₀ count₀ k₀ rest count k = Counted room p mask rest count k
+Inv-loop room mask cell p rest₀ count₀ k₀ rest count k = LinksCounted room p mask rest count k
 
 abbrev μ-loop : tie.MeasureT-loop
 μ-loop room mask cell p rest₀ count₀ k₀ rest count k = 12 - k

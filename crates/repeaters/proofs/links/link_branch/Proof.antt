@@ -22,32 +22,32 @@ loop-holds c = (omega arith, refl, adding-none)
 add-loop : tie.Need-add-loop Inv-loop μ-loop
 add-loop c = search needs
 
-mul-wide : tie.Need-mul-wide Inv-loop μ-loop
-mul-wide c = search needs
+mul-as-index : tie.Need-mul-as-index Inv-loop μ-loop
+mul-as-index c = search needs
 
-shared-slice-read-wide : tie.Need-shared-slice-read-wide Inv-loop μ-loop
-shared-slice-read-wide c = search needs
+shared-slice-read-as-index : tie.Need-shared-slice-read-as-index Inv-loop μ-loop
+shared-slice-read-as-index c = search needs
 
-wide-requires : tie.Need-wide-requires Inv-loop μ-loop
-wide-requires c κs = search needs
+as-index-requires : tie.Need-as-index-requires Inv-loop μ-loop
+as-index-requires c κs = search needs
 
-add-wide : tie.Need-add-wide Inv-loop μ-loop
-add-wide c = search needs
+add-as-index : tie.Need-add-as-index Inv-loop μ-loop
+add-as-index c = search needs
 
-mul-wide-2 : tie.Need-mul-wide-2 Inv-loop μ-loop
-mul-wide-2 c = search needs
+mul-as-index-2 : tie.Need-mul-as-index-2 Inv-loop μ-loop
+mul-as-index-2 c = search needs
 
-shared-slice-read-wide-2 : tie.Need-shared-slice-read-wide-2 Inv-loop μ-loop
-shared-slice-read-wide-2 c = search needs
+shared-slice-read-as-index-2 : tie.Need-shared-slice-read-as-index-2 Inv-loop μ-loop
+shared-slice-read-as-index-2 c = search needs
 
-wide-requires-2 : tie.Need-wide-requires-2 Inv-loop μ-loop
-wide-requires-2 c κs = search needs
+as-index-requires-2 : tie.Need-as-index-requires-2 Inv-loop μ-loop
+as-index-requires-2 c κs = search needs
 
 join-requires : tie.Need-join-requires Inv-loop μ-loop
 join-requires c κs =
     let s = c .before .before .before .before .before .before .before .before .before in
     let loop = c .before .before .before .before .before .before .loop in
-    (s .pre .0, (rw (c .before .before .wide .ensures .0, c .wide2 .ensures .0) (step-at (s .args .room) (s .args .branch .now) (s .pre .1 .0) (loop .i) (c .before .before .before .before .before .loop-test .taken)), adding-masked (loop .inv .2) (s .pre .1 .1)))
+    (s .pre .0, (rw (c .before .before .as-index .ensures .0, c .as-index2 .ensures .0) (step-at (s .args .room) (s .args .branch .now) (s .pre .1 .0) (loop .i) (c .before .before .before .before .before .loop-test .taken)), adding-masked (loop .inv .2) (s .pre .1 .1)))
 
 add-i : tie.Need-add-i Inv-loop μ-loop
 add-i c = search needs
@@ -56,7 +56,7 @@ loop-less : tie.Need-loop-less Inv-loop μ-loop
 loop-less c = search needs
 
 loop-again : tie.Need-loop-again Inv-loop μ-loop
-loop-again c = (omega arith, c .before .before .join .kept .1 .0 ∙ c .before .before .before .before .before .before .before .before .before .loop .inv .1, adding-next (c .before .before .before .before .before .before .before .before .before .loop .inv .2) (isStep (c .before .before .before .before .before .wide .result) (c .before .before .before .wide2 .result)) _ (c .before .before .join .ensures) (one-step _ (c .before .before .before .before .before .before .before .before .before .loop .i) (c .before .before .before .before .before .before .before .before .loop-test .taken) _ _ (c .before .before .before .before .before .wide .ensures .0) (c .before .before .before .wide2 .ensures .0)))
+loop-again c = (omega arith, c .before .before .join .kept .1 .0 ∙ c .before .before .before .before .before .before .before .before .before .loop .inv .1, adding-next (c .before .before .before .before .before .before .before .before .before .loop .inv .2) (isStep (c .before .before .before .before .before .as-index .result) (c .before .before .before .as-index2 .result)) _ (c .before .before .join .ensures) (one-step _ (c .before .before .before .before .before .before .before .before .before .loop .i) (c .before .before .before .before .before .before .before .before .loop-test .taken) _ _ (c .before .before .before .before .before .as-index .ensures .0) (c .before .before .before .as-index2 .ensures .0)))
 
 same-length : tie.Need-same-length Inv-loop μ-loop
 same-length c = c .before .loop .inv .1
@@ -72,13 +72,13 @@ link-branch-spec =
     μ-loop
     loop-holds
     add-loop
-    mul-wide
-    shared-slice-read-wide
-    wide-requires
-    add-wide
-    mul-wide-2
-    shared-slice-read-wide-2
-    wide-requires-2
+    mul-as-index
+    shared-slice-read-as-index
+    as-index-requires
+    add-as-index
+    mul-as-index-2
+    shared-slice-read-as-index-2
+    as-index-requires-2
     join-requires
     add-i
     loop-less

@@ -37,33 +37,33 @@ slice-write-line c = omega (arith, c .before .before .before .pre .1 .0, c .befo
 loop-holds : tie.Need-loop-holds Inv-loop μ-loop
 loop-holds c = rw (c .before .before .before .pre .1 .1 .1 .0) (spreading-outset (c .before .before .before .args .line .now) (c .before .before .before .pre .1 .0) (c .before .before .before .pre .1 .1 .1 .1))
 
-mul-wide : tie.Need-mul-wide Inv-loop μ-loop
-mul-wide c = record { fits = omega (arith, spreading-most (c .before .loop .inv), c .loop-test .taken, c .before .before .before .before .before .pre .0 .few) }
+mul-as-index : tie.Need-mul-as-index Inv-loop μ-loop
+mul-as-index c = record { fits = omega (arith, spreading-most (c .before .loop .inv), c .loop-test .taken, c .before .before .before .before .before .pre .0 .few) }
 
-slice-read-wide : tie.Need-slice-read-wide Inv-loop μ-loop
-slice-read-wide c = omega (arith, spreading-most (c .before .before .loop .inv), c .before .loop-test .taken, c .before .before .loop .inv .held .line-long, c .before .before .loop .inv .long)
+slice-read-as-index : tie.Need-slice-read-as-index Inv-loop μ-loop
+slice-read-as-index c = omega (arith, spreading-most (c .before .before .loop .inv), c .before .loop-test .taken, c .before .before .loop .inv .held .line-long, c .before .before .loop .inv .long)
 
-wide-requires : tie.Need-wide-requires Inv-loop μ-loop
-wide-requires c κs = search needs
+as-index-requires : tie.Need-as-index-requires Inv-loop μ-loop
+as-index-requires c κs = search needs
 
 add-head : tie.Need-add-head Inv-loop μ-loop
 add-head c = record { fits = omega (arith, spreading-most (c .before .before .before .loop .inv), c .before .before .loop-test .taken, c .before .before .before .before .before .before .before .pre .0 .few) }
 
 mul-visit : tie.Need-mul-visit Inv-loop μ-loop
-mul-visit c = record { fits = omega (arith, spreading-in (c .before .before .before .loop .inv) (c .before .before .loop-test .taken) _ (c .wide .ensures .0), c .before .before .before .before .before .before .before .pre .0 .few) }
+mul-visit c = record { fits = omega (arith, spreading-in (c .before .before .before .loop .inv) (c .before .before .loop-test .taken) _ (c .as-index .ensures .0), c .before .before .before .before .before .before .before .pre .0 .few) }
 
 shared-slice-read-visit : tie.Need-shared-slice-read-visit Inv-loop μ-loop
-shared-slice-read-visit c = rw (c .before .before .before .before .before .before .before .before .pre .1 .1 .0) (spreading-in (c .before .before .before .before .loop .inv) (c .before .before .before .loop-test .taken) _ (c .before .wide .ensures .0))
+shared-slice-read-visit c = rw (c .before .before .before .before .before .before .before .before .pre .1 .1 .0) (spreading-in (c .before .before .before .before .loop .inv) (c .before .before .before .loop-test .taken) _ (c .before .as-index .ensures .0))
 
 visit-requires : tie.Need-visit-requires Inv-loop μ-loop
-visit-requires c κs = (c .before .before .before .before .before .before .before .before .before .before .pre .0, (c .before .before .before .before .before .before .loop .inv .long, (c .before .before .before .before .before .before .loop .inv .held, spreading-in (c .before .before .before .before .before .before .loop .inv) (c .before .before .before .before .before .loop-test .taken) _ (c .before .before .before .wide .ensures .0))))
+visit-requires c κs = (c .before .before .before .before .before .before .before .before .before .before .pre .0, (c .before .before .before .before .before .before .loop .inv .long, (c .before .before .before .before .before .before .loop .inv .held, spreading-in (c .before .before .before .before .before .before .loop .inv) (c .before .before .before .before .before .loop-test .taken) _ (c .before .before .before .as-index .ensures .0))))
 
 loop-less : tie.Need-loop-less Inv-loop μ-loop
 loop-less c = omega (arith, spreading-most (c .before .before .before .before .before .before .before .before .before .before .before .loop .inv), c .before .before .before .before .before .before .before .before .before .before .loop-test .taken)
 
 loop-again : tie.Need-loop-again Inv-loop μ-loop
 unfolding linkedCells
-loop-again c = spreading-next (c .before .before .before .before .before .before .before .before .before .before .before .loop .inv) (c .before .before .before .before .before .before .before .before .before .before .loop-test .taken) _ (c .before .before .before .before .before .before .before .before .wide .ensures .0) (c .before .before .before .before .visit .ensures)
+loop-again c = spreading-next (c .before .before .before .before .before .before .before .before .before .before .before .loop .inv) (c .before .before .before .before .before .before .before .before .before .before .loop-test .taken) _ (c .before .before .before .before .before .before .before .before .as-index .ensures .0) (c .before .before .before .before .visit .ensures)
 
 mul-parents-2 : tie.Need-mul-parents-2 Inv-loop μ-loop
 mul-parents-2 c = record { fits = omega (arith, c .before .before .before .before .before .pre .0 .few, c .before .before .before .before .before .pre .1 .0) }
@@ -93,9 +93,9 @@ rooted-parent-spec =
     cast-line
     slice-write-line
     loop-holds
-    mul-wide
-    slice-read-wide
-    wide-requires
+    mul-as-index
+    slice-read-as-index
+    as-index-requires
     add-head
     mul-visit
     shared-slice-read-visit

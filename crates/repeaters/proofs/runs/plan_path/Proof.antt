@@ -2,12 +2,12 @@
 use mathlib.Core.Path.{_∙_}
 use Rattle.repeaters.specs.Links.{fitBy}
 use Rattle.repeaters.specs.Runs.{stepsLeft}
-use Rattle.repeaters.specs.RunLaws.{Running, running-outset, running-next, running-all}
+use Rattle.repeaters.specs.RunLaws.{Striding, running-outset, running-next, running-all}
 use Rattle.repeaters.proofs.runs.plan_path.Statement.{statement}
 use Rattle.repeaters.proofs.runs.plan_path.Tie as tie
 
 abbrev Inv-loop : tie.InvT-loop
-Inv-loop room links forbidden path repeaters₀ limit s₀ repeaters s = Running limit (fitBy room links forbidden path) path repeaters₀ repeaters s
+Inv-loop room links forbidden path repeaters₀ limit s₀ repeaters s = Striding limit (fitBy room links forbidden path) path repeaters₀ repeaters s
 
 abbrev μ-loop : tie.MeasureT-loop
 μ-loop room links forbidden path repeaters₀ limit s₀ repeaters s = stepsLeft path s

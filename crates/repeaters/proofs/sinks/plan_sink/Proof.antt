@@ -2,7 +2,7 @@
 use native.Mathlib.Omega.{arith}
 use mathlib.Core.Path.{sym, _∙_}
 use lib.Seq.{length-take-le}
-use Rattle.repeaters.specs.SinkLaws.{ready}
+use Rattle.repeaters.specs.SinkLaws.{path-ready}
 use borrow.Author.Needs.{needs}
 use Rattle.repeaters.proofs.sinks.plan_sink.Statement.{statement}
 use Rattle.repeaters.proofs.sinks.plan_sink.Tie as tie
@@ -17,7 +17,7 @@ slice-aggregate-plan-path : tie.Need-slice-aggregate-plan-path
 slice-aggregate-plan-path c = sym (length-take-le (c .before .before .before .root-path .result) (c .before .before .before .root-path .last .1 .1 .0) (c .before .before .before .root-path .ensures .room))
 
 plan-path-requires : tie.Need-plan-path-requires
-plan-path-requires c κs = (ready (c .before .before .before .before .before .before .before .before .before .before .before .pre .0) (c .before .before .before .before .before .before .before .before .before .before .before .pre .1 .0) (c .before .before .before .before .root-path .ensures), c .before .before .before .before .before .before .before .before .before .before .before .pre .1 .1 .0)
+plan-path-requires c κs = (path-ready (c .before .before .before .before .before .before .before .before .before .before .before .pre .0) (c .before .before .before .before .before .before .before .before .before .before .before .pre .1 .0) (c .before .before .before .before .root-path .ensures), c .before .before .before .before .before .before .before .before .before .before .before .pre .1 .1 .0)
 
 same-length : tie.Need-same-length
 same-length c = search needs

@@ -3,7 +3,7 @@ use native.Mathlib.Omega.{arith}
 use mathlib.Core.Path.{sym, _∙_}
 use borrow.Author.Tests.{not-true, not-false}
 use lib.Seq.{length-take-le}
-use Rattle.repeaters.specs.SinkLaws.{ready}
+use Rattle.repeaters.specs.SinkLaws.{path-ready}
 use borrow.Author.Needs.{needs}
 use Rattle.repeaters.proofs.sinks.reinforce_sink.Statement.{statement}
 use Rattle.repeaters.proofs.sinks.reinforce_sink.Tie as tie
@@ -21,7 +21,7 @@ slice-aggregate-reinforce-path : tie.Need-slice-aggregate-reinforce-path
 slice-aggregate-reinforce-path c = sym (length-take-le (c .before .before .before .root-path .result) (c .before .before .before .root-path .last .1 .1 .0) (c .before .before .before .root-path .ensures .room))
 
 reinforce-path-requires : tie.Need-reinforce-path-requires
-reinforce-path-requires c κs = (ready (c .before .before .before .before .before .before .before .before .before .before .before .before .before .pre .0) (c .before .before .before .before .before .before .before .before .before .before .before .before .before .pre .1 .0) (c .before .before .before .before .root-path .ensures), c .before .before .before .before .before .before .before .before .before .before .before .before .before .pre .1 .1 .0)
+reinforce-path-requires c κs = (path-ready (c .before .before .before .before .before .before .before .before .before .before .before .before .before .pre .0) (c .before .before .before .before .before .before .before .before .before .before .before .before .before .pre .1 .0) (c .before .before .before .before .root-path .ensures), c .before .before .before .before .before .before .before .before .before .before .before .before .before .pre .1 .1 .0)
 
 same-length : tie.Need-same-length
 same-length c = search needs

@@ -16,17 +16,17 @@ abbrev μ-loop : tie.MeasureT-loop
 loop-holds : tie.Need-loop-holds Inv-loop μ-loop
 loop-holds c = last-none
 
-mul-wide : tie.Need-mul-wide Inv-loop μ-loop
-mul-wide c = search needs
+mul-as-index : tie.Need-mul-as-index Inv-loop μ-loop
+mul-as-index c = search needs
 
-shared-slice-read-wide : tie.Need-shared-slice-read-wide Inv-loop μ-loop
-shared-slice-read-wide c = search needs
+shared-slice-read-as-index : tie.Need-shared-slice-read-as-index Inv-loop μ-loop
+shared-slice-read-as-index c = search needs
 
-wide-requires : tie.Need-wide-requires Inv-loop μ-loop
-wide-requires c κs = search needs
+as-index-requires : tie.Need-as-index-requires Inv-loop μ-loop
+as-index-requires c κs = search needs
 
 shared-slice-read-later : tie.Need-shared-slice-read-later Inv-loop μ-loop
-shared-slice-read-later c = read-below (c .before .before .before .before .before .before .before .pre) _ (c .before .before .before .loop-test .taken) _ (c .before .wide .ensures .0)
+shared-slice-read-later c = read-below (c .before .before .before .before .before .before .before .pre) _ (c .before .before .before .loop-test .taken) _ (c .before .as-index .ensures .0)
 
 later-requires : tie.Need-later-requires Inv-loop μ-loop
 later-requires c κs = search needs
@@ -38,7 +38,7 @@ loop-less : tie.Need-loop-less Inv-loop μ-loop
 loop-less c = search needs
 
 loop-again : tie.Need-loop-again Inv-loop μ-loop
-loop-again c = last-next (c .before .before .before .before .before .loop .inv) (c .before .before .before .before .loop-test .taken) _ (c .before .before .wide .ensures .0) _ (c .later .ensures)
+loop-again c = last-next (c .before .before .before .before .before .loop .inv) (c .before .before .before .before .loop-test .taken) _ (c .before .before .as-index .ensures .0) _ (c .later .ensures)
 
 returns : tie.Need-returns Inv-loop μ-loop
 returns c = last-all (c .before .loop .inv) (c .loop-test .left)
@@ -50,9 +50,9 @@ last-reset-spec =
     Inv-loop
     μ-loop
     loop-holds
-    mul-wide
-    shared-slice-read-wide
-    wide-requires
+    mul-as-index
+    shared-slice-read-as-index
+    as-index-requires
     shared-slice-read-later
     later-requires
     add-i

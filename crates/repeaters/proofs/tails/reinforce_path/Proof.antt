@@ -37,23 +37,23 @@ sub-tail-place c = search needs
 tail-place-requires : tie.Need-tail-place-requires
 tail-place-requires c κs = (c .before .before .before .before .before .before .before .before .before .pre .0, (c .before .before .before .before .before .before .before .before .before .pre .1, (omega arith, omega arith)))
 
-mul-wide : tie.Need-mul-wide
-mul-wide c = record { fits = omega (arith, earliest-in _ _ _ _ (c .before .tail-place .ensures) (c .if3 .taken), c .before .before .before .if2 .left) }
+mul-as-index : tie.Need-mul-as-index
+mul-as-index c = record { fits = omega (arith, earliest-in _ _ _ _ (c .before .tail-place .ensures) (c .if3 .taken), c .before .before .before .if2 .left) }
 
-shared-slice-read-wide : tie.Need-shared-slice-read-wide
-shared-slice-read-wide c = omega (arith, earliest-in _ _ _ _ (c .before .before .tail-place .ensures) (c .before .if3 .taken), c .before .before .before .before .if2 .left)
+shared-slice-read-as-index : tie.Need-shared-slice-read-as-index
+shared-slice-read-as-index c = omega (arith, earliest-in _ _ _ _ (c .before .before .tail-place .ensures) (c .before .if3 .taken), c .before .before .before .before .if2 .left)
 
-wide-requires : tie.Need-wide-requires
-wide-requires c κs = search needs
+as-index-requires : tie.Need-as-index-requires
+as-index-requires c κs = search needs
 
 slice-write-repeaters : tie.Need-slice-write-repeaters
-slice-write-repeaters c = rw (c .before .before .before .before .before .before .before .before .before .before .before .before .before .pre .1) (read-below (c .before .before .before .before .before .before .before .before .before .before .before .before .before .pre .0 .cells) (c .before .before .before .tail-place .result) (omega (arith, earliest-in _ _ _ _ (c .before .before .before .tail-place .ensures) (c .before .before .if3 .taken), c .before .before .before .before .before .if2 .left)) _ (c .wide .ensures .0))
+slice-write-repeaters c = rw (c .before .before .before .before .before .before .before .before .before .before .before .before .before .pre .1) (read-below (c .before .before .before .before .before .before .before .before .before .before .before .before .before .pre .0 .cells) (c .before .before .before .tail-place .result) (omega (arith, earliest-in _ _ _ _ (c .before .before .before .tail-place .ensures) (c .before .before .if3 .taken), c .before .before .before .before .before .if2 .left)) _ (c .as-index .ensures .0))
 
 same-length-3 : tie.Need-same-length-3
 same-length-3 c = search needs
 
 returns-3 : tie.Need-returns-3
-returns-3 c = rw (c .wide .ensures .0) (reinforced-put _ _ _ _ _ (c .before .before .before .before .before .before .before .last-reset .ensures) (c .before .before .before .before .before .if2 .left) _ (c .before .before .before .tail-place .ensures) (c .before .before .if3 .taken))
+returns-3 c = rw (c .as-index .ensures .0) (reinforced-put _ _ _ _ _ (c .before .before .before .before .before .before .before .last-reset .ensures) (c .before .before .before .before .before .if2 .left) _ (c .before .before .before .tail-place .ensures) (c .before .before .if3 .taken))
 
 same-length-4 : tie.Need-same-length-4
 same-length-4 c = search needs
@@ -75,9 +75,9 @@ reinforce-path-spec =
     returns-2
     sub-tail-place
     tail-place-requires
-    mul-wide
-    shared-slice-read-wide
-    wide-requires
+    mul-as-index
+    shared-slice-read-as-index
+    as-index-requires
     slice-write-repeaters
     same-length-3
     returns-3

@@ -2,30 +2,30 @@
 use mathlib.Core.Path.{refl, sym}
 use lib.Seq.{length-take-le}
 use borrow.Author.Tests.{le-leb, lt-leb}
-use Rattle.replay.specs.Verdicts.{fits, too-long}
+use Rattle.replay.specs.Verdicts.{memoryFits, too-long}
 use Rattle.replay.specs.VerdictLaws.{ran-at, fits-in}
 use borrow.Author.Needs.{needs}
 use Rattle.replay.proofs.compare.attempt_lent.Statement.{statement}
 use Rattle.replay.proofs.compare.attempt_lent.Tie as tie
 
 returns : tie.Need-returns
-unfolding fits
+unfolding memoryFits
 returns c = too-long (rw (lt-leb _ _ (c .if1 .taken))) refl
 
 returns-2 : tie.Need-returns-2
-unfolding fits
+unfolding memoryFits
 returns-2 c = too-long (rw (le-leb _ _ (c .before .if1 .left), lt-leb _ _ (c .if2 .taken))) refl
 
 returns-3 : tie.Need-returns-3
-unfolding fits
+unfolding memoryFits
 returns-3 c = too-long (rw (le-leb _ _ (c .before .before .if1 .left), le-leb _ _ (c .before .if2 .left), lt-leb _ _ (c .if3 .taken))) refl
 
 returns-4 : tie.Need-returns-4
-unfolding fits
+unfolding memoryFits
 returns-4 c = too-long (rw (le-leb _ _ (c .before .before .before .if1 .left), le-leb _ _ (c .before .before .if2 .left), le-leb _ _ (c .before .if3 .left), lt-leb _ _ (c .if4 .taken))) refl
 
 returns-5 : tie.Need-returns-5
-unfolding fits
+unfolding memoryFits
 returns-5 c = too-long (rw (le-leb _ _ (c .before .before .before .before .if1 .left), le-leb _ _ (c .before .before .before .if2 .left), le-leb _ _ (c .before .before .if3 .left), le-leb _ _ (c .before .if4 .left), lt-leb _ _ (c .if5 .taken))) refl
 
 slice-relend-prefix-attempt : tie.Need-slice-relend-prefix-attempt

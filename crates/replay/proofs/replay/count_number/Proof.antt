@@ -1,13 +1,13 @@
 -- `count_number` meets its contract: what the records left come to is the whole.
 use Prim.Native.Nat.{_-_}
-use Rattle.replay.specs.Runs.{numbered}
-use Rattle.replay.specs.RunLaws.{Counted, counted-none, counted-next, counted-done}
+use Rattle.replay.specs.Runs.{timesNumbered}
+use Rattle.replay.specs.RunLaws.{NumbersCounted, counted-none, counted-next, counted-done}
 use borrow.Author.Needs.{needs}
 use Rattle.replay.proofs.replay.count_number.Statement.{statement}
 use Rattle.replay.proofs.replay.count_number.Tie as tie
 
 abbrev Inv-loop : tie.InvT-loop
-Inv-loop file number count met₀ at₀ passed₀ met at passed = Counted file number count at₀ passed at met
+Inv-loop file number count met₀ at₀ passed₀ met at passed = NumbersCounted file number count at₀ passed at met
 
 abbrev μ-loop : tie.MeasureT-loop
 μ-loop file number count met₀ at₀ passed₀ met at passed = count - passed
@@ -37,7 +37,7 @@ loop-again : tie.Need-loop-again Inv-loop μ-loop
 loop-again c = counted-next (c .before .before .before .loop .inv) (c .before .before .loop-test .taken) (c .before .stored-at .ensures) (c .one-more .ensures)
 
 returns : tie.Need-returns Inv-loop μ-loop
-unfolding numbered
+unfolding timesNumbered
 returns c = rw (← (c .before .before .before .count-in .ensures), ← (c .before .before .first-place .ensures)) (counted-done (c .before .loop .inv) (c .loop-test .left))
 
 pub count-number-spec : {M : Type 1} → statement M

@@ -6,12 +6,12 @@ use native.Mathlib.Omega.{arith}
 use lib.ListN.{length}
 use Rattle.replay.specs.Runs.{RanWith}
 use borrow.Author.Needs.{needs}
-use Rattle.stored.specs.Runs.{Turns, none, one-more, Halved}
+use Rattle.stored.specs.Runs.{Repeated, none, one-more, Halved}
 use Rattle.replay.proofs.replay.narrow.Statement.{statement}
 use Rattle.replay.proofs.replay.narrow.Tie as tie
 
 abbrev Inv-loop : tie.InvT-loop
-Inv-loop file stored queue₀ gap₀ turns₀ queue gap turns = (turns ≤ 32) × Turns (λ _. Halved (RanWith file (length queue₀) stored)) gap₀ turns gap × (length queue ≡ length queue₀)
+Inv-loop file stored queue₀ gap₀ turns₀ queue gap turns = (turns ≤ 32) × Repeated (λ _. Halved (RanWith file (length queue₀) stored)) gap₀ turns gap × (length queue ≡ length queue₀)
 
 abbrev μ-loop : tie.MeasureT-loop
 μ-loop file stored queue₀ gap₀ turns₀ queue gap turns = 32 - turns

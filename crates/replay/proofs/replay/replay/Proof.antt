@@ -6,12 +6,12 @@ use native.Mathlib.Omega.{arith}
 use lib.ListN.{length}
 use Rattle.replay.specs.Runs.{Next}
 use borrow.Author.Needs.{needs}
-use Rattle.stored.specs.Runs.{Turns, none, one-more}
+use Rattle.stored.specs.Runs.{Repeated, none, one-more}
 use Rattle.replay.proofs.replay.replay.Statement.{statement}
 use Rattle.replay.proofs.replay.replay.Tie as tie
 
 abbrev Inv-loop : tie.InvT-loop
-Inv-loop file queue₀ count stand₀ passed₀ queue stand passed = (passed ≤ count) × Turns (λ _. Next file (length queue₀)) stand₀ passed stand × (length queue ≡ length queue₀)
+Inv-loop file queue₀ count stand₀ passed₀ queue stand passed = (passed ≤ count) × Repeated (λ _. Next file (length queue₀)) stand₀ passed stand × (length queue ≡ length queue₀)
 
 abbrev μ-loop : tie.MeasureT-loop
 μ-loop file queue₀ count stand₀ passed₀ queue stand passed = count - passed

@@ -1,19 +1,19 @@
 -- `has_room` meets its contract, test by test.
 use borrow.Author.Tests.{le-leb, lt-leb}
-use Rattle.replay_sheets.specs.Verdicts.{fits}
+use Rattle.replay_sheets.specs.Verdicts.{memoryFits}
 use Rattle.replay_sheets.proofs.attempt.fits.Statement.{statement}
 use Rattle.replay_sheets.proofs.attempt.fits.Tie as tie
 
 returns : tie.Need-returns
-unfolding fits
+unfolding memoryFits
 returns c = rw (lt-leb _ _ (c .if1 .taken))
 
 returns-2 : tie.Need-returns-2
-unfolding fits
+unfolding memoryFits
 returns-2 c = rw (le-leb _ _ (c .before .before .if1 .left), lt-leb _ _ (c .if2 .taken))
 
 returns-3 : tie.Need-returns-3
-unfolding fits
+unfolding memoryFits
 returns-3 c = rw (le-leb _ _ (c .before .before .before .if1 .left), le-leb _ _ (c .before .if2 .left))
 
 pub fits-spec : {M : Type 1} → statement M

@@ -6,12 +6,12 @@ use native.Mathlib.Omega.{arith}
 use lib.ListN.{length}
 use borrow.Author.Needs.{needs}
 use Rattle.replay_sheets.specs.Runs.{RanWith}
-use Rattle.stored.specs.Runs.{Turns, none, one-more, Halved}
+use Rattle.stored.specs.Runs.{Repeated, none, one-more, Halved}
 use Rattle.replay_sheets.proofs.replay.narrows.Statement.{statement}
 use Rattle.replay_sheets.proofs.replay.narrows.Tie as tie
 
 abbrev Inv-loop : tie.InvT-loop
-Inv-loop sheet asked size told cells covered marks queue₀ gap₀ turns₀ queue gap turns = (length queue ≡ length queue₀) × (turns ≤ 32) × Turns (λ _. Halved (RanWith sheet asked size told cells covered marks (length queue₀))) gap₀ turns gap
+Inv-loop sheet asked size told cells covered marks queue₀ gap₀ turns₀ queue gap turns = (length queue ≡ length queue₀) × (turns ≤ 32) × Repeated (λ _. Halved (RanWith sheet asked size told cells covered marks (length queue₀))) gap₀ turns gap
 
 abbrev μ-loop : tie.MeasureT-loop
 μ-loop sheet asked size told cells covered marks queue₀ gap₀ turns₀ queue gap turns = 32 - turns

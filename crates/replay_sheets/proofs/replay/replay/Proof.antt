@@ -7,12 +7,12 @@ use lib.ListN.{length}
 use Rattle.replay_sheets.specs.ReplayLaws.{next-long}
 use borrow.Author.Needs.{needs}
 use Rattle.replay_sheets.specs.Replays.{Next, noneYet}
-use Rattle.stored.specs.Runs.{Turns, none, one-more}
+use Rattle.stored.specs.Runs.{Repeated, none, one-more}
 use Rattle.replay_sheets.proofs.replay.replay.Statement.{statement}
 use Rattle.replay_sheets.proofs.replay.replay.Tie as tie
 
 abbrev Inv-loop : tie.InvT-loop
-Inv-loop file queue₀ count stand₀ passed₀ queue stand passed = (length queue ≡ length queue₀) × (passed ≤ count) × Turns (λ _. Next file (length queue₀)) (noneYet file) passed stand
+Inv-loop file queue₀ count stand₀ passed₀ queue stand passed = (length queue ≡ length queue₀) × (passed ≤ count) × Repeated (λ _. Next file (length queue₀)) (noneYet file) passed stand
 
 abbrev μ-loop : tie.MeasureT-loop
 μ-loop file queue₀ count stand₀ passed₀ queue stand passed = count - passed

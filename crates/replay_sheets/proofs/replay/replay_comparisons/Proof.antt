@@ -7,12 +7,12 @@ use lib.ListN.{length}
 use Rattle.replay_sheets.specs.ReplayLaws.{comparison-long}
 use borrow.Author.Needs.{needs}
 use Rattle.replay_sheets.specs.Replays.{InComparison}
-use Rattle.stored.specs.Runs.{Turns, none, one-more}
+use Rattle.stored.specs.Runs.{Repeated, none, one-more}
 use Rattle.replay_sheets.proofs.replay.replay_comparisons.Statement.{statement}
 use Rattle.replay_sheets.proofs.replay.replay_comparisons.Tie as tie
 
 abbrev Inv-loop : tie.InvT-loop
-Inv-loop sheet asked told cells covered marks queue₀ now₀ comparison₀ queue now comparison = (length queue ≡ length queue₀) × (comparison ≤ 5) × Turns (λ k. InComparison k sheet asked told cells covered marks (length queue₀)) now₀ comparison now
+Inv-loop sheet asked told cells covered marks queue₀ now₀ comparison₀ queue now comparison = (length queue ≡ length queue₀) × (comparison ≤ 5) × Repeated (λ k. InComparison k sheet asked told cells covered marks (length queue₀)) now₀ comparison now
 
 abbrev μ-loop : tie.MeasureT-loop
 μ-loop sheet asked told cells covered marks queue₀ now₀ comparison₀ queue now comparison = 5 - comparison

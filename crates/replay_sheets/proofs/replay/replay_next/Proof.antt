@@ -3,7 +3,7 @@ use mathlib.Core.Path.{sym, _∙_}
 use Prim.Native.Nat.{ℕ}
 use lib.ListN.{length-replicate}
 use Rattle.stored.specs.Memory.{ownLength}
-use Rattle.replay_sheets.specs.Sheets.{zeros}
+use Rattle.replay_sheets.specs.Sheets.{sixteenZeros}
 use Rattle.replay_sheets.specs.SheetLaws.{sheet-starts, sheet-ends}
 use Rattle.replay_sheets.specs.ReplayLaws.{next-by}
 use borrow.Author.Needs.{needs}
@@ -56,7 +56,7 @@ same-length : tie.Need-same-length
 same-length c = search needs
 
 returns : tie.Need-returns
-unfolding zeros
+unfolding sixteenZeros
 returns c = next-by _ _ (c .before .before .before .before .before .before .before .before .before .before .before .before .before .before .before .before .before .before .sheet-at .ensures) (c .before .before .before .before .before .before .before .before .before .before .before .before .before .before .answer-at .ensures) (c .before .before .before .before .before .before .before .before .asked-at .ensures) (c .before .before .before .before .before .before .before .known-if .ensures) (c .before .before .replay-comparisons .ensures)
 
 pub replay-next-spec : {M : Type 1} → statement M

@@ -3,13 +3,13 @@ use mathlib.Core.Path.{_≡_}
 use Prim.Native.Nat.{_-_, _≤_}
 use native.Mathlib.Omega.{arith}
 use lib.ListN.{length}
-use Rattle.replay_sheets.specs.SheetLaws.{Put, put-none, put-next}
+use Rattle.replay_sheets.specs.SheetLaws.{CellsPut, put-none, put-next}
 use borrow.Author.Needs.{needs}
 use Rattle.replay_sheets.proofs.sheets.put_cells.Statement.{statement}
 use Rattle.replay_sheets.proofs.sheets.put_cells.Tie as tie
 
 abbrev Inv-loop : tie.InvT-loop
-Inv-loop file from count start cells₀ k₀ cells k = (length cells ≡ length cells₀) × (k ≤ count) × Put file from start cells₀ k cells
+Inv-loop file from count start cells₀ k₀ cells k = (length cells ≡ length cells₀) × (k ≤ count) × CellsPut file from start cells₀ k cells
 
 abbrev μ-loop : tie.MeasureT-loop
 μ-loop file from count start cells₀ k₀ cells k = count - k

@@ -24,8 +24,8 @@ returns-2 c = let s = c .before .before .before .before .before .before in let a
 add-serial : tie.Need-add-serial
 add-serial c = search needs
 
-long-requires : tie.Need-long-requires
-long-requires c κs = search needs
+as-long-requires : tie.Need-as-long-requires
+as-long-requires c κs = search needs
 
 estimate-requires : tie.Need-estimate-requires
 estimate-requires c κs = search needs
@@ -76,7 +76,7 @@ same-length-3 : tie.Need-same-length-3
 same-length-3 c = search needs
 
 returns-3 : tie.Need-returns-3
-returns-3 c = let s = c .before .before .before .before .before .before .before .before .before .before .before .before .before in let a = s .args in offer-pushed (a .from) (a .cell) (a .cost) _ (a .known .now) (a .previous .now) (a .queue .now) (a .line) (s .pre .1 .1 .0) (⊎-elim (λ w. inr (w .1 .left)) (λ w. inl (w .left)) (c .before .before .before .before .before .before .before .before .if1 .came)) _ (c .before .before .before .before .before .before .before .if3 .left) (s .pre .1 .0 .2) (omega arith) (c .before .before .push .kept .0) (rw (c .before .before .before .before .before .long .ensures, c .before .before .before .before .estimate .ensures) at (c .before .before .push .ensures))
+returns-3 c = let s = c .before .before .before .before .before .before .before .before .before .before .before .before .before in let a = s .args in offer-pushed (a .from) (a .cell) (a .cost) _ (a .known .now) (a .previous .now) (a .queue .now) (a .line) (s .pre .1 .1 .0) (⊎-elim (λ w. inr (w .1 .left)) (λ w. inl (w .left)) (c .before .before .before .before .before .before .before .before .if1 .came)) _ (c .before .before .before .before .before .before .before .if3 .left) (s .pre .1 .0 .2) (omega arith) (c .before .before .push .kept .0) (rw (c .before .before .before .before .before .as-long .ensures, c .before .before .before .before .estimate .ensures) at (c .before .before .push .ensures))
 
 pub offer-spec : {M : Type 1} → statement M
 offer-spec =
@@ -88,7 +88,7 @@ offer-spec =
     returns
     returns-2
     add-serial
-    long-requires
+    as-long-requires
     estimate-requires
     add-key
     add-known

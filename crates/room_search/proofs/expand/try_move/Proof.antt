@@ -29,7 +29,7 @@ sub-cell : tie.Need-sub-cell
 sub-cell c = let s = c .before .before .before .before .before .before .before .before .before .before .before .before .before in let a = s .args in let p = s .pre .0 in let q = s .pre .1 .0 in let L = landed (a .room) (p .good) (a .from) (a .beside) (a .m) (p .from-placed) q (c .before .before .before .before .before .before .if1 .left) (c .before .before .before .before .if2 .left) in L .enough
 
 shared-slice-read-class : tie.Need-shared-slice-read-class
-shared-slice-read-class c = let s = c .before .before .before .before .before .before .before .before .before .before .before .before .before .before in let a = s .args in let p = s .pre .0 in let q = s .pre .1 .0 in let L = landed (a .room) (p .good) (a .from) (a .beside) (a .m) (p .from-placed) q (c .before .before .before .before .before .before .before .if1 .left) (c .before .before .before .before .before .if2 .left) in omega (arith, L .inside, p .classes-length)
+shared-slice-read-class c = let s = c .before .before .before .before .before .before .before .before .before .before .before .before .before .before in let a = s .args in let p = s .pre .0 in let q = s .pre .1 .0 in let L = landed (a .room) (p .good) (a .from) (a .beside) (a .m) (p .from-placed) q (c .before .before .before .before .before .before .before .if1 .left) (c .before .before .before .before .before .if2 .left) in omega (arith, L .inside, p .classes-long)
 
 returns-3 : tie.Need-returns-3
 returns-3 c = let s = c .before .before .before .before .before .before .before .before .before .before .before .before .before .before .before in let a = s .args in let p = s .pre .0 in let q = s .pre .1 .0 in let L = landed (a .room) (p .good) (a .from) (a .beside) (a .m) (p .from-placed) q (c .before .before .before .before .before .before .before .before .if1 .left) (c .before .before .before .before .before .before .if2 .left) in tried-shut (a .room) (a .config) (a .classes .now) (a .goal) (a .from) (a .cost) (a .known .now) (a .previous .now) (a .queue .now) (a .line) (p .ready) (a .m) _ (L .leads) (c .if3 .taken)
@@ -41,7 +41,7 @@ add-offer : tie.Need-add-offer
 add-offer c = let s = c .before .before .before .before .before .before .before .before .before .before .before .before .before .before .before .before .before .before .before in let a = s .args in let p = s .pre .0 in let q = s .pre .1 .0 in record { fits = omega (arith, c .price .ensures, price-low (a .config) (a .m) (getD (a .classes .now) (a .beside .cell + a .m .y * a .room .deep - a .room .deep) 0), dearest-most (p .fair), p .cost-most) }
 
 offer-requires : tie.Need-offer-requires
-offer-requires c κs = let s = c .before .before .before .before .before .before .before .before .before .before .before .before .before .before .before .before .before .before .before in let a = s .args in let p = s .pre .0 in let q = s .pre .1 .0 in let L = landed (a .room) (p .good) (a .from) (a .beside) (a .m) (p .from-placed) q (c .before .before .before .before .before .before .before .before .before .before .before .before .if1 .left) (c .before .before .before .before .before .before .before .before .before .before .if2 .left) in let low = price-low (a .config) (a .m) (getD (a .classes .now) (a .beside .cell + a .m .y * a .room .deep - a .room .deep) 0) in let most = dearest-most (p .fair) in ((omega (arith, L .inside, p .known-length), p .previous-length ∙ sym (p .known-length), omega (arith, p .known-length, p .good .few)), ((omega (arith, p .from-placed .inside, p .good .few), omega (arith, c .price .ensures, p .cost-most), omega (arith, p .serial-most)), (p .ready, (L .small, placed-small (a .room) (p .good) (a .goal) (p .goal-placed)))))
+offer-requires c κs = let s = c .before .before .before .before .before .before .before .before .before .before .before .before .before .before .before .before .before .before .before in let a = s .args in let p = s .pre .0 in let q = s .pre .1 .0 in let L = landed (a .room) (p .good) (a .from) (a .beside) (a .m) (p .from-placed) q (c .before .before .before .before .before .before .before .before .before .before .before .before .if1 .left) (c .before .before .before .before .before .before .before .before .before .before .if2 .left) in let low = price-low (a .config) (a .m) (getD (a .classes .now) (a .beside .cell + a .m .y * a .room .deep - a .room .deep) 0) in let most = dearest-most (p .fair) in ((omega (arith, L .inside, p .known-long), p .previous-long ∙ sym (p .known-long), omega (arith, p .known-long, p .good .few)), ((omega (arith, p .from-placed .inside, p .good .few), omega (arith, c .price .ensures, p .cost-most), omega (arith, p .serial-most)), (p .ready, (L .small, placed-small (a .room) (p .good) (a .goal) (p .goal-placed)))))
 
 same-length : tie.Need-same-length
 same-length c = c .before .before .before .before .before .before .offer .kept .0

@@ -36,35 +36,35 @@ push-requires c κs = let s = c .before .before .before .before .before .before 
 loop-holds : tie.Need-loop-holds Inv-loop μ-loop
 loop-holds c = let s = c .before .before .before .before .before .before .before .before .before in let F = s .pre in (refl, refl, running-outset F _ _ (c .before .before .push .kept .0) (ap (λ (n : ℕ). n * 4294967296) (c .before .before .before .estimate .ensures)) (c .before .before .push .ensures))
 
-take-turn-requires : tie.Need-take-turn-requires Inv-loop μ-loop
-take-turn-requires c κs = let s = c .before .before .before .before .before .before .before .before .before .before .before .before .before .before .before in let F = s .pre in let A = arena F in let I = c .before .before .before .before .before .loop .inv .2 in (running-takeable A I (c .before .before .before .if1 .taken), running-within A I)
+take-one-requires : tie.Need-take-one-requires Inv-loop μ-loop
+take-one-requires c κs = let s = c .before .before .before .before .before .before .before .before .before .before .before .before .before .before .before in let F = s .pre in let A = arena F in let I = c .before .before .before .before .before .loop .inv .2 in (running-takeable A I (c .before .before .before .if1 .taken), running-within A I)
 
-enum-known-turn : tie.Need-enum-known-turn Inv-loop μ-loop
-enum-known-turn c = search needs
+enum-known-after : tie.Need-enum-known-after Inv-loop μ-loop
+enum-known-after c = search needs
 
 add-expanded : tie.Need-add-expanded Inv-loop μ-loop
 add-expanded c = let s = c .before .before .before .before .before .before .before .before .before .before .before .before .before .before .before .before .before .before .before .before .before .before .before .before .before in let F = s .pre in let A = arena F in let I = c .before .before .before .before .before .before .before .before .before .before .before .before .before .before .before .loop .inv .2 in record { fits = omega (arith, running-within A I, F .fair .limit-most) }
 
 loop-less : tie.Need-loop-less Inv-loop μ-loop
-loop-less c = let s = c .before .before .before .before .before .before .before .before .before .before .before .before .before .before .before .before .before .before .before .before .before .before .before .before .before in let F = s .pre in let A = arena F in let I = c .before .before .before .before .before .before .before .before .before .before .before .before .before .before .before .loop .inv .2 in omega (arith, running-within A (running-on A I (c .before .before .before .before .before .before .before .before .before .take-turn .kept .1 .1 .1 .1 .1 .0) (rw (c .before .turn .given .1) at (c .before .before .before .before .before .before .before .before .before .take-turn .ensures))))
+loop-less c = let s = c .before .before .before .before .before .before .before .before .before .before .before .before .before .before .before .before .before .before .before .before .before .before .before .before .before in let F = s .pre in let A = arena F in let I = c .before .before .before .before .before .before .before .before .before .before .before .before .before .before .before .loop .inv .2 in omega (arith, running-within A (running-on A I (c .before .before .before .before .before .before .before .before .before .take-one .kept .1 .1 .1 .1 .1 .0) (rw (c .before .after .given .1) at (c .before .before .before .before .before .before .before .before .before .take-one .ensures))))
 
 loop-again : tie.Need-loop-again Inv-loop μ-loop
-loop-again c = let s = c .before .before .before .before .before .before .before .before .before .before .before .before .before .before .before .before .before .before .before .before .before .before .before .before .before in let F = s .pre in let A = arena F in let I = c .before .before .before .before .before .before .before .before .before .before .before .before .before .before .before .loop .inv .2 in (c .before .before .before .before .before .before .before .before .before .take-turn .kept .1 .1 .1 .0 ∙ c .before .before .before .before .before .before .before .before .before .before .before .before .before .before .before .loop .inv .0, c .before .before .before .before .before .before .before .before .before .take-turn .kept .1 .1 .1 .1 .0 ∙ c .before .before .before .before .before .before .before .before .before .before .before .before .before .before .before .loop .inv .1, running-on A I (c .before .before .before .before .before .before .before .before .before .take-turn .kept .1 .1 .1 .1 .1 .0) (rw (c .before .turn .given .1) at (c .before .before .before .before .before .before .before .before .before .take-turn .ensures)))
+loop-again c = let s = c .before .before .before .before .before .before .before .before .before .before .before .before .before .before .before .before .before .before .before .before .before .before .before .before .before in let F = s .pre in let A = arena F in let I = c .before .before .before .before .before .before .before .before .before .before .before .before .before .before .before .loop .inv .2 in (c .before .before .before .before .before .before .before .before .before .take-one .kept .1 .1 .1 .0 ∙ c .before .before .before .before .before .before .before .before .before .before .before .before .before .before .before .loop .inv .0, c .before .before .before .before .before .before .before .before .before .take-one .kept .1 .1 .1 .1 .0 ∙ c .before .before .before .before .before .before .before .before .before .before .before .before .before .before .before .loop .inv .1, running-on A I (c .before .before .before .before .before .before .before .before .before .take-one .kept .1 .1 .1 .1 .1 .0) (rw (c .before .after .given .1) at (c .before .before .before .before .before .before .before .before .before .take-one .ensures)))
 
-enum-known-turn-2 : tie.Need-enum-known-turn-2 Inv-loop μ-loop
-enum-known-turn-2 c = search needs
+enum-known-after-2 : tie.Need-enum-known-after-2 Inv-loop μ-loop
+enum-known-after-2 c = search needs
 
 same-length : tie.Need-same-length Inv-loop μ-loop
-same-length c = c .before .before .before .before .before .before .before .before .before .take-turn .kept .1 .1 .1 .0 ∙ c .before .before .before .before .before .before .before .before .before .before .before .before .before .before .before .loop .inv .0 ∙ simp length-set
+same-length c = c .before .before .before .before .before .before .before .before .before .take-one .kept .1 .1 .1 .0 ∙ c .before .before .before .before .before .before .before .before .before .before .before .before .before .before .before .loop .inv .0 ∙ simp length-set
 
 same-length-2 : tie.Need-same-length-2 Inv-loop μ-loop
-same-length-2 c = c .before .before .before .before .before .before .before .before .before .take-turn .kept .1 .1 .1 .1 .0 ∙ c .before .before .before .before .before .before .before .before .before .before .before .before .before .before .before .loop .inv .1
+same-length-2 c = c .before .before .before .before .before .before .before .before .before .take-one .kept .1 .1 .1 .1 .0 ∙ c .before .before .before .before .before .before .before .before .before .before .before .before .before .before .before .loop .inv .1
 
 same-length-3 : tie.Need-same-length-3 Inv-loop μ-loop
 same-length-3 c = search needs
 
 returns : tie.Need-returns Inv-loop μ-loop
-returns c = let s = c .before .before .before .before .before .before .before .before .before .before .before .before .before .before .before .before .before .before .before .before .before .before .before .before .before in let F = s .pre in let A = arena F in let I = c .before .before .before .before .before .before .before .before .before .before .before .before .before .before .before .loop .inv .2 in record { told = rw (c .before .before .before .before .before .before .before .before .before .before .before .before .before .before .before .before .before .before .push .kept .0) at (running-ended A I (rw (c .before .turn2 .given .1) at (c .before .before .before .before .before .before .before .before .before .take-turn .ensures))) }
+returns c = let s = c .before .before .before .before .before .before .before .before .before .before .before .before .before .before .before .before .before .before .before .before .before .before .before .before .before in let F = s .pre in let A = arena F in let I = c .before .before .before .before .before .before .before .before .before .before .before .before .before .before .before .loop .inv .2 in record { told = rw (c .before .before .before .before .before .before .before .before .before .before .before .before .before .before .before .before .before .before .push .kept .0) at (running-ended A I (rw (c .before .after2 .given .1) at (c .before .before .before .before .before .before .before .before .before .take-one .ensures))) }
 
 same-length-4 : tie.Need-same-length-4 Inv-loop μ-loop
 same-length-4 c = c .before .before .loop .inv .0 ∙ simp length-set
@@ -90,12 +90,12 @@ run-spec =
     mul-push
     push-requires
     loop-holds
-    take-turn-requires
-    enum-known-turn
+    take-one-requires
+    enum-known-after
     add-expanded
     loop-less
     loop-again
-    enum-known-turn-2
+    enum-known-after-2
     same-length
     same-length-2
     same-length-3

@@ -3,14 +3,14 @@ use borrow.Author.Needs.{needs}
 use Prim.Native.Nat.{_-_}
 use lib.ListN.{length, drop}
 use Rattle.route.specs.Lines.{numbers}
-use Rattle.route.specs.Putting.{Going}
+use Rattle.route.specs.Putting.{PutSoFar}
 use Rattle.route.specs.PutLaws.{going-begun}
 use Rattle.route.specs.LineLaws.{cell-fits, cells-on, cells-done}
 use Rattle.route.proofs.lines.put_cells.Statement.{statement}
 use Rattle.route.proofs.lines.put_cells.Tie as tie
 
 abbrev Inv-loop : tie.InvT-loop
-Inv-loop out₀ at cells end₀ i₀ out end i = Going out₀ at (numbers cells) (numbers (drop i cells)) out end
+Inv-loop out₀ at cells end₀ i₀ out end i = PutSoFar out₀ at (numbers cells) (numbers (drop i cells)) out end
 
 abbrev μ-loop : tie.MeasureT-loop
 μ-loop out₀ at cells end₀ i₀ out end i = length cells - i
@@ -18,17 +18,17 @@ abbrev μ-loop : tie.MeasureT-loop
 loop-holds : tie.Need-loop-holds Inv-loop μ-loop
 loop-holds c = going-begun
 
-mul-long : tie.Need-mul-long Inv-loop μ-loop
-mul-long c = search needs
+mul-as-long : tie.Need-mul-as-long Inv-loop μ-loop
+mul-as-long c = search needs
 
-shared-slice-read-long : tie.Need-shared-slice-read-long Inv-loop μ-loop
-shared-slice-read-long c = search needs
+shared-slice-read-as-long : tie.Need-shared-slice-read-as-long Inv-loop μ-loop
+shared-slice-read-as-long c = search needs
 
-long-requires : tie.Need-long-requires Inv-loop μ-loop
-long-requires c κs = search needs
+as-long-requires : tie.Need-as-long-requires Inv-loop μ-loop
+as-long-requires c κs = search needs
 
 put-number-requires : tie.Need-put-number-requires Inv-loop μ-loop
-put-number-requires c κs = cell-fits (c .before .before .before .before .before .before .before .args .cells .now) (c .before .before .before .before .loop .i) (c .before .before .before .before .loop .inv) (search needs) (c .long .ensures) (c .before .before .before .before .before .before .before .pre)
+put-number-requires c κs = cell-fits (c .before .before .before .before .before .before .before .args .cells .now) (c .before .before .before .before .loop .i) (c .before .before .before .before .loop .inv) (search needs) (c .as-long .ensures) (c .before .before .before .before .before .before .before .pre)
 
 add-i : tie.Need-add-i Inv-loop μ-loop
 add-i c = search needs
@@ -37,7 +37,7 @@ loop-less : tie.Need-loop-less Inv-loop μ-loop
 loop-less c = search needs
 
 loop-again : tie.Need-loop-again Inv-loop μ-loop
-loop-again c = cells-on (c .before .before .before .before .before .before .before .before .before .before .args .cells .now) (c .before .before .before .before .before .before .before .loop .i) (c .before .before .before .before .before .before .before .loop .inv) (search needs) (c .before .before .before .long .ensures) (c .before .before .put-number .ensures)
+loop-again c = cells-on (c .before .before .before .before .before .before .before .before .before .before .args .cells .now) (c .before .before .before .before .before .before .before .loop .i) (c .before .before .before .before .before .before .before .loop .inv) (search needs) (c .before .before .before .as-long .ensures) (c .before .before .put-number .ensures)
 
 same-length : tie.Need-same-length Inv-loop μ-loop
 same-length c = c .before .loop .inv .put .same
@@ -52,9 +52,9 @@ put-cells-spec =
     Inv-loop
     μ-loop
     loop-holds
-    mul-long
-    shared-slice-read-long
-    long-requires
+    mul-as-long
+    shared-slice-read-as-long
+    as-long-requires
     put-number-requires
     add-i
     loop-less

@@ -4,14 +4,14 @@ use Prim.Native.Nat.{_-_}
 use lib.ListN.{length, drop}
 use Rattle.route.specs.Lines.{numbers}
 use Rattle.route.specs.Marked.{markedFrom, marked}
-use Rattle.route.specs.Putting.{Going}
+use Rattle.route.specs.Putting.{PutSoFar}
 use Rattle.route.specs.PutLaws.{going-begun}
 use Rattle.route.specs.LineLaws.{mark-fits, marks-on, marks-done}
 use Rattle.route.proofs.lines.put_marked.Statement.{statement}
 use Rattle.route.proofs.lines.put_marked.Tie as tie
 
 abbrev Inv-loop : tie.InvT-loop
-Inv-loop out₀ at marks end₀ cell₀ out end cell = Going out₀ at (numbers (marked marks)) (numbers (markedFrom cell (drop cell marks))) out end
+Inv-loop out₀ at marks end₀ cell₀ out end cell = PutSoFar out₀ at (numbers (marked marks)) (numbers (markedFrom cell (drop cell marks))) out end
 
 abbrev μ-loop : tie.MeasureT-loop
 μ-loop out₀ at marks end₀ cell₀ out end cell = length marks - cell

@@ -1,7 +1,7 @@
 -- `astar_route` keeps its promise: refused, an end not routeable, or the defined search.
 use native.Mathlib.Omega.{arith}
 use mathlib.Core.Path.{sym, _∙_}
-use Rattle.routing.specs.PromiseLaws.{roomy, promise-unfit, promise-end, promise-searched}
+use Rattle.routing.specs.PromiseLaws.{admitted, promise-unfit, promise-end, promise-searched}
 use borrow.Author.Needs.{needs}
 use Rattle.routing.proofs.astar.astar_route.Statement.{statement}
 use Rattle.routing.proofs.astar.astar_route.Tie as tie
@@ -19,7 +19,7 @@ enum-told : tie.Need-enum-told
 enum-told c = search needs
 
 bad-end-requires : tie.Need-bad-end-requires
-bad-end-requires c κs = let a = c .before .before .before .before .before .before .before .before .before .args in let p = roomy (sym (c .before .before .judge .ensures) ∙ c .enum-told .given .1) in (omega (arith, p .start-in, p .kinds-length), omega (arith, p .goal-in, p .kinds-length))
+bad-end-requires c κs = let a = c .before .before .before .before .before .before .before .before .before .args in let p = admitted (sym (c .before .before .judge .ensures) ∙ c .enum-told .given .1) in (omega (arith, p .start-in, p .kinds-long), omega (arith, p .goal-in, p .kinds-long))
 
 enum-known-cell : tie.Need-enum-known-cell
 enum-known-cell c = search needs
@@ -49,7 +49,7 @@ enum-told-2 : tie.Need-enum-told-2
 enum-told-2 c = search needs
 
 answer-fit-requires : tie.Need-answer-fit-requires
-answer-fit-requires c κs = let a = c .before .before .before .before .before .before .before .before .before .before .before .before .before .before .before .before .before .args in roomy (sym (c .before .before .before .before .before .before .before .before .before .before .judge .ensures) ∙ c .before .before .before .before .before .before .before .before .enum-told .given .1)
+answer-fit-requires c κs = let a = c .before .before .before .before .before .before .before .before .before .before .before .before .before .before .before .before .before .args in admitted (sym (c .before .before .before .before .before .before .before .before .before .before .judge .ensures) ∙ c .before .before .before .before .before .before .before .before .enum-told .given .1)
 
 same-length-6 : tie.Need-same-length-6
 same-length-6 c = c .before .before .before .before .before .before .before .before .before .before .answer-fit .kept .1 .1 .1 .1 .1 .0

@@ -2,14 +2,14 @@
 use Prim.Native.Nat.{_-_}
 use lib.ListN.{length}
 use Rattle.stored.specs.Memory.{isDue, holds}
-use Rattle.stored.specs.MemoryLaws.{Passed, passed-none, passed-next, passed-failed, passed-all, is-due, not-due}
+use Rattle.stored.specs.MemoryLaws.{PassedSoFar, passed-none, passed-next, passed-failed, passed-all, is-due, not-due}
 use Rattle.stored.specs.Places.{cellsFrom}
 use borrow.Author.Needs.{needs}
 use Rattle.stored.proofs.memory.cells_hold.Statement.{statement}
 use Rattle.stored.proofs.memory.cells_hold.Tie as tie
 
 abbrev Inv-loop : tie.InvT-loop
-Inv-loop kept file at count s cell₀ cell = Passed (isDue kept (cellsFrom file at count)) s cell
+Inv-loop kept file at count s cell₀ cell = PassedSoFar (isDue kept (cellsFrom file at count)) s cell
 
 abbrev μ-loop : tie.MeasureT-loop
 μ-loop kept file at count s cell₀ cell = length s - cell

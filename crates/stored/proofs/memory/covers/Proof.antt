@@ -3,13 +3,13 @@ use Prim.Native.Nat.{_-_}
 use lib.ListN.{length}
 use Rattle.basics.specs.Tests.{test-fails, test-passes}
 use Rattle.stored.specs.Memory.{coversAt, covers}
-use Rattle.stored.specs.MemoryLaws.{Passed, passed-none, passed-next, passed-failed, passed-all}
+use Rattle.stored.specs.MemoryLaws.{PassedSoFar, passed-none, passed-next, passed-failed, passed-all}
 use borrow.Author.Needs.{needs}
 use Rattle.stored.proofs.memory.covers.Statement.{statement}
 use Rattle.stored.proofs.memory.covers.Tie as tie
 
 abbrev Inv-loop : tie.InvT-loop
-Inv-loop expected s i₀ i = Passed (coversAt expected) s i
+Inv-loop expected s i₀ i = PassedSoFar (coversAt expected) s i
 
 abbrev μ-loop : tie.MeasureT-loop
 μ-loop expected s i₀ i = length s - i

@@ -3,13 +3,13 @@ use mathlib.Core.List.{[]}
 use Prim.Native.Nat.{_-_}
 use lib.ListN.{length}
 use Rattle.stored.specs.Memory.{isDue, holds}
-use Rattle.stored.specs.MemoryLaws.{Passed, passed-none, passed-next, passed-failed, passed-all, is-due, not-due}
+use Rattle.stored.specs.MemoryLaws.{PassedSoFar, passed-none, passed-next, passed-failed, passed-all, is-due, not-due}
 use borrow.Author.Needs.{needs}
 use Rattle.stored.proofs.memory.longs_hold.Statement.{statement}
 use Rattle.stored.proofs.memory.longs_hold.Tie as tie
 
 abbrev Inv-loop : tie.InvT-loop
-Inv-loop kept s i₀ i = Passed (isDue kept []) s i
+Inv-loop kept s i₀ i = PassedSoFar (isDue kept []) s i
 
 abbrev μ-loop : tie.MeasureT-loop
 μ-loop kept s i₀ i = length s - i

@@ -2,13 +2,13 @@
 use Prim.Native.Nat.{_-_}
 use lib.ListN.{length}
 use Rattle.stored.specs.Memory.{isDue, holds}
-use Rattle.stored.specs.MemoryLaws.{Passed, passed-none, passed-next, passed-failed, passed-all, is-due, not-due}
+use Rattle.stored.specs.MemoryLaws.{PassedSoFar, passed-none, passed-next, passed-failed, passed-all, is-due, not-due}
 use borrow.Author.Needs.{needs}
 use Rattle.stored.proofs.memory.words_hold.Statement.{statement}
 use Rattle.stored.proofs.memory.words_hold.Tie as tie
 
 abbrev Inv-loop : tie.InvT-loop
-Inv-loop kept expected s word₀ word = Passed (isDue kept expected) s word
+Inv-loop kept expected s word₀ word = PassedSoFar (isDue kept expected) s word
 
 abbrev μ-loop : tie.MeasureT-loop
 μ-loop kept expected s word₀ word = length s - word

@@ -9,26 +9,26 @@ use lib.ListN.{length, getD}
 use Rattle.room.specs.declared.Room.{Room}
 use Rattle.room.specs.declared.RouterConfig.{RouterConfig}
 use Rattle.room.specs.Room.{volume, moves}
-use Rattle.best_first.specs.Search.{Graph, Answer, State, counted}
+use Rattle.best_first.specs.Search.{Graph, Answer, State, oneMoreExpanded}
 use Rattle.best_first.specs.Search as search
 use Rattle.best_first.specs.Entries.{Popped, popped-taking}
 use Rattle.best_first.specs.Statements.{costOf}
 use Rattle.best_first.specs.Loops.{Going, going-bounded, going-goal, going-limit, going-full, going-try, going-on}
-use Rattle.queue.specs.Queue.{Taken}
+use Rattle.queue.specs.Queue.{EntryTaken}
 use Rattle.room_search.specs.declared.Line.{Line}
 use Rattle.room_search.specs.declared.Spot.{Spot}
-use Rattle.room_search.specs.declared.Step.the-variants.{On, Full}
+use Rattle.room_search.specs.declared.MovesTried.the-variants.{On, Full}
 use Rattle.room_search.specs.declared.Outcome.the-variants.{Arrived, LimitPassed, QueueFull}
-use Rattle.room_search.specs.declared.Turn.the-variants.{GoesOn, Ended}
+use Rattle.room_search.specs.declared.AfterTaking.the-variants.{GoesOn, Ended}
 use Rattle.room_search.specs.Routing.{movesBy, graphOf}
 use Rattle.room_search.specs.Held.{entriesIn, held}
 use Rattle.room_search.specs.HeldLaws.{takenEntry, taken-entries}
 use Rattle.room_search.specs.GraphLaws.{dearest, sound}
 use Rattle.room_search.specs.Steps.{placesOf, Placed, Able, Attempt, Stage, Fitting, Tried, setting}
-use Rattle.room_search.specs.Turns.{graphIn, Takeable, Turned}
+use Rattle.room_search.specs.Takings.{graphIn, Takeable, TakingCame}
 
 module _ (R : Room) (C : RouterConfig) (classes known previous queue : List ℕ) (line : Line) (expanded : ℕ) (goal : Spot)
-    (T : Takeable R C classes known previous queue line goal) (cell : ℕ) (queue′ : List ℕ) (c : cell < 2 ^ 64) (K : Taken queue (line .waiting) cell queue′)
+    (T : Takeable R C classes known previous queue line goal) (cell : ℕ) (queue′ : List ℕ) (c : cell < 2 ^ 64) (K : EntryTaken queue (line .waiting) cell queue′)
     (same : length queue′ ≡ length queue) where
   popped : Popped (entriesIn queue (line .waiting)) (takenEntry queue cell) (entriesIn queue′ (line .waiting - 1))
   popped = taken-entries queue (line .waiting) cell queue′ c K
@@ -51,9 +51,9 @@ module _ (R : Room) (C : RouterConfig) (classes known previous queue : List ℕ)
   able from e P = record {
     good = T .good;
     fair = T .fair;
-    classes-length = T .classes-length;
-    known-length = T .known-length;
-    previous-length = T .previous-length;
+    classes-long = T .classes-long;
+    known-long = T .known-long;
+    previous-long = T .previous-long;
     goal-placed = T .goal-placed;
     from-placed = P;
     cost-most = omega (arith, T .costs cell);
@@ -61,9 +61,9 @@ module _ (R : Room) (C : RouterConfig) (classes known previous queue : List ℕ)
     ready = record { heap = K .order; room = omega (arith, T .ready .room, ap (λ (n : ℕ). n / 2) same) };
   }
 
-  pub turn-goal : cell ≡ goal .cell → Turned R C classes known previous queue line expanded goal (Ended (Arrived (record { 0 = expanded }))) known previous queue′
+  pub taking-goal : cell ≡ goal .cell → TakingCame R C classes known previous queue line expanded goal (Ended (Arrived (record { 0 = expanded }))) known previous queue′
   unfolding held graphOf takenEntry
-  turn-goal e = record {
+  taking-goal e = record {
     goes = λ start answer s I. record {
       is = going-goal I popped e;
       linked = going-bounded (sound R C (λ v. getD classes v 0) start (goal .cell) (placesOf queue) s (T .goal-placed .inside)) I .previous-in;
@@ -72,10 +72,10 @@ module _ (R : Room) (C : RouterConfig) (classes known previous queue : List ℕ)
   }
 
   module _ (away : cell ≢ goal .cell) where
-    pub turn-limit : C .limit .0 ≤ expanded
-        → Turned R C classes known previous queue line expanded goal (Ended (LimitPassed (record { 0 = expanded + 1 }))) known previous queue′
+    pub taking-limit : C .limit .0 ≤ expanded
+        → TakingCame R C classes known previous queue line expanded goal (Ended (LimitPassed (record { 0 = expanded + 1 }))) known previous queue′
     unfolding held graphOf takenEntry
-    turn-limit h = record { goes = λ start answer s I. going-limit I popped away h ∙ ap search.limit-passed (sym (add-one expanded)) }
+    taking-limit h = record { goes = λ start answer s I. going-limit I popped away h ∙ ap search.limit-passed (sym (add-one expanded)) }
 
     module _ (more : expanded < C .limit .0) (from : Spot) (here : from .cell ≡ cell) where
       -- the search that tries the moves of the cell taken
@@ -95,7 +95,7 @@ module _ (R : Room) (C : RouterConfig) (classes known previous queue : List ℕ)
           sound = sound R C (λ v. getD classes v 0) start (goal .cell) (placesOf queue) s (T .goal-placed .inside);
           cell = cell;
           cost = costOf now cell;
-          outcome = search.expand G cell (costOf now cell) (G .moves cell) (counted now (entriesIn queue′ (line .waiting - 1)));
+          outcome = search.expand G cell (costOf now cell) (G .moves cell) (oneMoreExpanded now (entriesIn queue′ (line .waiting - 1)));
           expanded = suc expanded;
         }
 
@@ -113,19 +113,19 @@ module _ (R : Room) (C : RouterConfig) (classes known previous queue : List ℕ)
         stage = rw (append-nil, here) (going-try I popped away more (attempt .sound))
 
       module _ {known′ previous′ queue″ : List ℕ} where
-        pub turn-full : Tried (setting R C classes goal queue′ from (getD known cell 0 - 1)) moves known previous queue′ rest Full known′ previous′ queue″
-            → Turned R C classes known previous queue line expanded goal (Ended (QueueFull (record { 0 = expanded + 1 }))) known′ previous′ queue″
+        pub taking-full : Tried (setting R C classes goal queue′ from (getD known cell 0 - 1)) moves known previous queue′ rest Full known′ previous′ queue″
+            → TakingCame R C classes known previous queue line expanded goal (Ended (QueueFull (record { 0 = expanded + 1 }))) known′ previous′ queue″
         unfolding attempt held graphOf takenEntry
-        turn-full U = record {
+        taking-full U = record {
           goes = λ start answer s I.
               going-full I popped away more (U .goes (attempt start answer s I) (fitting start answer s I) [] (stage start answer s I))
               ∙ ap search.queue-full (sym (add-one expanded));
         }
 
-        pub turn-on : (next : Line) → Tried (setting R C classes goal queue′ from (getD known cell 0 - 1)) moves known previous queue′ rest (On next) known′ previous′ queue″
-            → Turned R C classes known previous queue line expanded goal (GoesOn next) known′ previous′ queue″
+        pub taking-on : (next : Line) → Tried (setting R C classes goal queue′ from (getD known cell 0 - 1)) moves known previous queue′ rest (On next) known′ previous′ queue″
+            → TakingCame R C classes known previous queue line expanded goal (GoesOn next) known′ previous′ queue″
         unfolding attempt held graphOf takenEntry movesBy
-        turn-on next U = record {
+        taking-on next U = record {
           goes = λ start answer s I. (
             rw add-one (going-on I popped away more (attempt start answer s I .sound)
                 (U .goes (attempt start answer s I) (fitting start answer s I) [] (stage start answer s I))),

@@ -15,11 +15,11 @@ use Rattle.room_search.specs.declared.Line.{Line}
 use Rattle.room_search.specs.declared.Spot.{Spot}
 use Rattle.room_search.specs.declared.Outcome.{Outcome}
 use Rattle.room_search.specs.declared.Outcome.the-variants.{Arrived, NoRoute, LimitPassed, QueueFull}
-use Rattle.room_search.specs.declared.Turn.{Turn}
-use Rattle.room_search.specs.declared.Turn.the-variants.{GoesOn, Ended}
+use Rattle.room_search.specs.declared.AfterTaking.{AfterTaking}
+use Rattle.room_search.specs.declared.AfterTaking.the-variants.{GoesOn, Ended}
 use Rattle.room_search.specs.Routing.{graphOf}
 use Rattle.room_search.specs.Held.{entriesIn, held}
-use Rattle.room_search.specs.Steps.{maxKnown, placesOf, Ready, Placed}
+use Rattle.room_search.specs.Steps.{maxKnown, placesOf, HeapReady, Placed}
 
 -- the graph of a room whose cells have classes
 abbrev pub graphIn : Room → RouterConfig → List ℕ → ℕ → ℕ → List ℕ → Graph
@@ -29,12 +29,12 @@ graphIn R C classes start goal queue = graphOf R C (λ v. getD classes v 0) star
 pub record Takeable (R : Room) (C : RouterConfig) (classes known previous queue : List ℕ) (line : Line) (goal : Spot) : Type 0 where
   pub good : Good R
   pub fair : GoodConfig C
-  pub classes-length : length classes ≡ volume R
-  pub known-length : length known ≡ volume R
-  pub previous-length : length previous ≡ volume R
+  pub classes-long : length classes ≡ volume R
+  pub known-long : length known ≡ volume R
+  pub previous-long : length previous ≡ volume R
   pub goal-placed : Placed R goal
   pub some : 0 < line .waiting
-  pub ready : Ready queue line
+  pub ready : HeapReady queue line
   pub cells : (e : Entry) → In e (entriesIn queue (line .waiting)) → (e .cell < volume R) × (0 < getD known (e .cell) 0)
   pub costs : (v : ℕ) → getD known v 0 ≤ maxKnown + 1
   pub serial-most : line .serial + 12 < 2 ^ 32
@@ -46,20 +46,20 @@ pub record Arrival (G : Graph) (answer : Answer) (known previous : List ℕ) (ex
   pub reached : 0 < getD known (G .goal) 0
 
 -- what the outcome says of the search's answer
-abbrev pub Told : Graph → Answer → List ℕ → List ℕ → Outcome → Type 0
-Told G answer known previous (Arrived x) = Arrival G answer known previous (x .0)
-Told G answer known previous (NoRoute x) = answer ≡ no-route (x .0)
-Told G answer known previous (LimitPassed x) = answer ≡ limit-passed (x .0)
-Told G answer known previous (QueueFull x) = answer ≡ queue-full (x .0)
+abbrev pub OutcomeTold : Graph → Answer → List ℕ → List ℕ → Outcome → Type 0
+OutcomeTold G answer known previous (Arrived x) = Arrival G answer known previous (x .0)
+OutcomeTold G answer known previous (NoRoute x) = answer ≡ no-route (x .0)
+OutcomeTold G answer known previous (LimitPassed x) = answer ≡ limit-passed (x .0)
+OutcomeTold G answer known previous (QueueFull x) = answer ≡ queue-full (x .0)
 
 -- what a taking has come to
-abbrev pub Went : Graph → ℕ → Answer → ℕ → List ℕ → List ℕ → List ℕ → Turn → Type 0
+abbrev pub Went : Graph → ℕ → Answer → ℕ → List ℕ → List ℕ → List ℕ → AfterTaking → Type 0
 Went G limit answer expanded known previous queue (GoesOn next) =
-    Going G limit answer (held known previous queue next (expanded + 1)) × Ready queue next
-Went G limit answer expanded known previous queue (Ended o) = Told G answer known previous o
+    Going G limit answer (held known previous queue next (expanded + 1)) × HeapReady queue next
+Went G limit answer expanded known previous queue (Ended o) = OutcomeTold G answer known previous o
 
 -- a search whose answer is `answer` goes on
-pub record Turned (R : Room) (C : RouterConfig) (classes known previous queue : List ℕ) (line : Line) (expanded : ℕ) (goal : Spot) (r : Turn)
+pub record TakingCame (R : Room) (C : RouterConfig) (classes known previous queue : List ℕ) (line : Line) (expanded : ℕ) (goal : Spot) (r : AfterTaking)
     (known′ previous′ queue′ : List ℕ) : Type 0 where
   pub goes : (start : ℕ) (answer : Answer) → start < volume R
       → Going (graphIn R C classes start (goal .cell) queue) (C .limit .0) answer (held known previous queue line expanded)
@@ -69,7 +69,7 @@ pub record Turned (R : Room) (C : RouterConfig) (classes known previous queue : 
 pub record Fresh (R : Room) (C : RouterConfig) (classes known previous queue : List ℕ) (start goal : Spot) : Type 0 where
   pub good : Good R
   pub fair : GoodConfig C
-  pub classes-length : length classes ≡ volume R
+  pub classes-long : length classes ≡ volume R
   pub known-zero : known ≡ replicate (volume R) 0
   pub previous-zero : previous ≡ replicate (volume R) 0
   pub start-placed : Placed R start
@@ -92,8 +92,8 @@ pub record Searchable (R : Room) (C : RouterConfig) (classes known previous queu
   pub places-some : 0 < placesOf queue
 
 -- the outcome of a whole search is what the definition says
-pub record Ran (R : Room) (C : RouterConfig) (classes queue : List ℕ) (start goal : Spot) (o : Outcome) (known′ previous′ : List ℕ) : Type 0 where
-  pub told : Told (graphIn R C classes (start .cell) (goal .cell) queue)
+pub record SearchRan (R : Room) (C : RouterConfig) (classes queue : List ℕ) (start goal : Spot) (o : Outcome) (known′ previous′ : List ℕ) : Type 0 where
+  pub told : OutcomeTold (graphIn R C classes (start .cell) (goal .cell) queue)
       (bestFirst (graphIn R C classes (start .cell) (goal .cell) queue) (C .limit .0)) known′ previous′ o
 
 -- what the outcome asks of the slices, so that the path can be written

@@ -1,0 +1,104 @@
+-- `take_one` meets its contract: each return is one outcome of a taking.
+use native.Mathlib.Omega.{arith}
+use mathlib.Core.Path.{refl, _∙_}
+use Rattle.room_search.specs.TakingLaws.{cell-in, cell-known, able, taking-goal, taking-limit, taking-full, taking-on}
+use borrow.Author.Needs.{needs}
+use Rattle.room_search.proofs.search.take_one.Statement.{statement}
+use Rattle.room_search.proofs.search.take_one.Tie as tie
+
+take-requires : tie.Need-take-requires
+take-requires c κs = search needs
+
+same-length : tie.Need-same-length
+same-length c = c .before .before .before .before .take .kept .0
+
+returns : tie.Need-returns
+returns c = let s = c .before .before .before .before .before .before .before .before .before .before in let a = s .args in let p = s .pre .0 in taking-goal (a .room) (a .config) (a .classes .now) (a .known .now) (a .previous .now) (a .queue .now) (a .line) (a .expanded) (a .goal) p _ _ (omega (arith, c .before .before .before .before .take .ok)) (c .before .before .before .before .take .ensures) (c .before .before .before .before .take .kept .0) (c .if1 .taken)
+
+add-t22 : tie.Need-add-t22
+add-t22 c = search needs
+
+same-length-2 : tie.Need-same-length-2
+same-length-2 c = c .before .before .before .before .before .before .take .kept .0
+
+returns-2 : tie.Need-returns-2
+returns-2 c = let s = c .before .before .before .before .before .before .before .before .before .before .before .before in let a = s .args in let p = s .pre .0 in taking-limit (a .room) (a .config) (a .classes .now) (a .known .now) (a .previous .now) (a .queue .now) (a .line) (a .expanded) (a .goal) p _ _ (omega (arith, c .before .before .before .before .before .before .take .ok)) (c .before .before .before .before .before .before .take .ensures) (c .before .before .before .before .before .before .take .kept .0) (c .before .before .if1 .left) (c .if2 .taken)
+
+sub-cost : tie.Need-sub-cost
+sub-cost c = search needs
+
+pos-requires : tie.Need-pos-requires
+pos-requires c κs = search needs
+
+mul-cost : tie.Need-mul-cost
+mul-cost c = let s = c .before .before .before .before .before .before .before .before .before .before .before .before .before in let a = s .args in let p = s .pre .0 in record { fits = omega (arith, cell-in (a .room) (a .config) (a .classes .now) (a .known .now) (a .previous .now) (a .queue .now) (a .line) (a .expanded) (a .goal) p _ _ (omega (arith, c .before .before .before .before .before .before .before .take .ok)) (c .before .before .before .before .before .before .before .take .ensures) (c .before .before .before .before .before .before .before .take .kept .0), p .good .few) }
+
+slice-read-cost : tie.Need-slice-read-cost
+slice-read-cost c = let s = c .before .before .before .before .before .before .before .before .before .before .before .before .before .before in let a = s .args in let p = s .pre .0 in omega (arith, cell-in (a .room) (a .config) (a .classes .now) (a .known .now) (a .previous .now) (a .queue .now) (a .line) (a .expanded) (a .goal) p _ _ (omega (arith, c .before .before .before .before .before .before .before .before .take .ok)) (c .before .before .before .before .before .before .before .before .take .ensures) (c .before .before .before .before .before .before .before .before .take .kept .0), p .known-long)
+
+sub-cost-2 : tie.Need-sub-cost-2
+sub-cost-2 c = let s = c .before .before .before .before .before .before .before .before .before .before .before .before .before .before in let a = s .args in let p = s .pre .0 in cell-known (a .room) (a .config) (a .classes .now) (a .known .now) (a .previous .now) (a .queue .now) (a .line) (a .expanded) (a .goal) p _ _ (omega (arith, c .before .before .before .before .before .before .before .before .take .ok)) (c .before .before .before .before .before .before .before .before .take .ensures) (c .before .before .before .before .before .before .before .before .take .kept .0)
+
+expand-requires : tie.Need-expand-requires
+expand-requires c κs = let s = c .before .before .before .before .before .before .before .before .before .before .before .before .before .before .before .before .before in let a = s .args in let p = s .pre .0 in able (a .room) (a .config) (a .classes .now) (a .known .now) (a .previous .now) (a .queue .now) (a .line) (a .expanded) (a .goal) p _ _ (omega (arith, c .before .before .before .before .before .before .before .before .before .before .before .take .ok)) (c .before .before .before .before .before .before .before .before .before .before .before .take .ensures) (c .before .before .before .before .before .before .before .before .before .before .before .take .kept .0) _ refl (record { inside = cell-in (a .room) (a .config) (a .classes .now) (a .known .now) (a .previous .now) (a .queue .now) (a .line) (a .expanded) (a .goal) p _ _ (omega (arith, c .before .before .before .before .before .before .before .before .before .before .before .take .ok)) (c .before .before .before .before .before .before .before .before .before .before .before .take .ensures) (c .before .before .before .before .before .before .before .before .before .before .before .take .kept .0); is = c .before .before .before .before .pos .ensures })
+
+enum-known-next : tie.Need-enum-known-next
+enum-known-next c = search needs
+
+enum-told : tie.Need-enum-told
+enum-told c = search needs
+
+add-t36 : tie.Need-add-t36
+add-t36 c = search needs
+
+same-length-3 : tie.Need-same-length-3
+same-length-3 c = c .before .before .before .before .before .before .before .before .expand .kept .1 .1 .1 .0
+
+same-length-4 : tie.Need-same-length-4
+same-length-4 c = c .before .before .before .before .before .before .before .before .expand .kept .1 .1 .1 .1 .0
+
+same-length-5 : tie.Need-same-length-5
+same-length-5 c = c .before .before .before .before .before .before .before .before .expand .kept .1 .1 .1 .1 .1 .0 ∙ c .before .before .before .before .before .before .before .before .before .before .before .before .before .before .before .before .before .before .before .before .take .kept .0
+
+returns-3 : tie.Need-returns-3
+returns-3 c = let s = c .before .before .before .before .before .before .before .before .before .before .before .before .before .before .before .before .before .before .before .before .before .before .before .before .before .before in let a = s .args in let p = s .pre .0 in taking-full (a .room) (a .config) (a .classes .now) (a .known .now) (a .previous .now) (a .queue .now) (a .line) (a .expanded) (a .goal) p _ _ (omega (arith, c .before .before .before .before .before .before .before .before .before .before .before .before .before .before .before .before .before .before .before .before .take .ok)) (c .before .before .before .before .before .before .before .before .before .before .before .before .before .before .before .before .before .before .before .before .take .ensures) (c .before .before .before .before .before .before .before .before .before .before .before .before .before .before .before .before .before .before .before .before .take .kept .0) (c .before .before .before .before .before .before .before .before .before .before .before .before .before .before .before .before .if1 .left) (c .before .before .before .before .before .before .before .before .before .before .before .before .before .before .if2 .left) (record { cell = c .before .before .before .before .before .before .before .before .before .before .before .before .before .before .before .before .before .before .before .before .take .result; at = c .before .before .before .before .before .before .before .before .before .before .before .before .before .pos .result }) refl (rw (c .enum-told .given .1) at (c .before .before .before .before .before .before .before .before .expand .ensures))
+
+same-length-6 : tie.Need-same-length-6
+same-length-6 c = c .before .before .before .before .before .before .before .before .before .expand .kept .1 .1 .1 .0
+
+same-length-7 : tie.Need-same-length-7
+same-length-7 c = c .before .before .before .before .before .before .before .before .before .expand .kept .1 .1 .1 .1 .0
+
+same-length-8 : tie.Need-same-length-8
+same-length-8 c = c .before .before .before .before .before .before .before .before .before .expand .kept .1 .1 .1 .1 .1 .0 ∙ c .before .before .before .before .before .before .before .before .before .before .before .before .before .before .before .before .before .before .before .before .before .take .kept .0
+
+returns-4 : tie.Need-returns-4
+returns-4 c = let s = c .before .before .before .before .before .before .before .before .before .before .before .before .before .before .before .before .before .before .before .before .before .before .before .before .before .before .before in let a = s .args in let p = s .pre .0 in taking-on (a .room) (a .config) (a .classes .now) (a .known .now) (a .previous .now) (a .queue .now) (a .line) (a .expanded) (a .goal) p _ _ (omega (arith, c .before .before .before .before .before .before .before .before .before .before .before .before .before .before .before .before .before .before .before .before .before .take .ok)) (c .before .before .before .before .before .before .before .before .before .before .before .before .before .before .before .before .before .before .before .before .before .take .ensures) (c .before .before .before .before .before .before .before .before .before .before .before .before .before .before .before .before .before .before .before .before .before .take .kept .0) (c .before .before .before .before .before .before .before .before .before .before .before .before .before .before .before .before .before .if1 .left) (c .before .before .before .before .before .before .before .before .before .before .before .before .before .before .before .if2 .left) (record { cell = c .before .before .before .before .before .before .before .before .before .before .before .before .before .before .before .before .before .before .before .before .before .take .result; at = c .before .before .before .before .before .before .before .before .before .before .before .before .before .before .pos .result }) refl _ (rw (c .before .next .given .1) at (c .before .before .before .before .before .before .before .before .before .expand .ensures))
+
+pub take-one-spec : {M : Type 1} → statement M
+take-one-spec =
+    tie.close
+    (tie.spec
+    take-requires
+    same-length
+    returns
+    add-t22
+    same-length-2
+    returns-2
+    sub-cost
+    pos-requires
+    mul-cost
+    slice-read-cost
+    sub-cost-2
+    expand-requires
+    enum-known-next
+    enum-told
+    add-t36
+    same-length-3
+    same-length-4
+    same-length-5
+    returns-3
+    same-length-6
+    same-length-7
+    same-length-8
+    returns-4)
