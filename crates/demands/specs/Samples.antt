@@ -158,16 +158,16 @@ tree last marks = of-tree (upTo last 0 ∷ []) marks
 
 -- ---- the rows
 
-pub data Asked : Type 0 where
-  search : Input → Asked
-  job : Contents → Asked
+pub data Question : Type 0 where
+  search : Input → Question
+  job : Contents → Question
 
-abbrev said : Asked → Said
+abbrev said : Question → Said
 said (search I) = of-search (told I)
 said (job J) = saidOf (outcomeOf J)
 
 record Sample : Type 0 where
-  ask : Asked
+  ask : Question
   answer : Said
 
 abbrev rows : List Sample

@@ -16,13 +16,13 @@ use Rattle.room.specs.MoveLaws.{not-stays, one-less-in, move-small}
 use Rattle.room_search.specs.declared.Line.{Line}
 use Rattle.room_search.specs.declared.Spot.{Spot}
 use Rattle.room_search.specs.declared.MovesTried.the-variants.{On, Full}
-use Rattle.room_search.specs.Steps.{HeapReady, Placed, Able, Aside, Tried, setting, column}
+use Rattle.room_search.specs.Steps.{HeapReady, Placed, Able, Aside, MovesCame, setting, column}
 use Rattle.room_search.specs.TryLaws.{tried-out, tried-none, tried-then, tried-full}
 
 module _ (R : Room) (C : RouterConfig) (classes : List ℕ) (goal from : Spot) (cost : ℕ) (known₀ previous₀ queue₀ : List ℕ) (line₀ : Line) where
   -- the moves `done` are tried, and the search goes on
   pub record Along (done : List Move) (known previous queue : List ℕ) (line : Line) : Type 0 where
-    pub tried : Tried (setting R C classes goal queue₀ from cost) done known₀ previous₀ queue₀ line₀ (On line) known previous queue
+    pub tried : MovesCame (setting R C classes goal queue₀ from cost) done known₀ previous₀ queue₀ line₀ (On line) known previous queue
     pub known-kept : length known ≡ length known₀
     pub previous-kept : length previous ≡ length previous₀
     pub queue-kept : length queue ≡ length queue₀
@@ -32,7 +32,7 @@ module _ (R : Room) (C : RouterConfig) (classes : List ℕ) (goal from : Spot) (
 
   module _ {done : List Move} {known previous queue : List ℕ} {line : Line} (I : Along done known previous queue line) (more : List Move)
       {known′ previous′ queue′ : List ℕ} where
-    pub along-next : {l : Line} → Tried (setting R C classes goal queue from cost) more known previous queue line (On l) known′ previous′ queue′
+    pub along-next : {l : Line} → MovesCame (setting R C classes goal queue from cost) more known previous queue line (On l) known′ previous′ queue′
         → length known′ ≡ length known → length previous′ ≡ length previous → length queue′ ≡ length queue
         → Along (done ++ more) known′ previous′ queue′ l
     along-next T a b c = record {
@@ -42,8 +42,8 @@ module _ (R : Room) (C : RouterConfig) (classes : List ℕ) (goal from : Spot) (
       queue-kept = c ∙ I .queue-kept;
     }
 
-    pub along-stop : (rest : List Move) → Tried (setting R C classes goal queue from cost) more known previous queue line Full known′ previous′ queue′
-        → Tried (setting R C classes goal queue₀ from cost) ((done ++ more) ++ rest) known₀ previous₀ queue₀ line₀ Full known′ previous′ queue′
+    pub along-stop : (rest : List Move) → MovesCame (setting R C classes goal queue from cost) more known previous queue line Full known′ previous′ queue′
+        → MovesCame (setting R C classes goal queue₀ from cost) ((done ++ more) ++ rest) known₀ previous₀ queue₀ line₀ Full known′ previous′ queue′
     along-stop rest T = tried-full rest (tried-then more (I .tried) (rw (I .queue-kept) at T))
 
   -- what is asked to try more moves
@@ -87,20 +87,20 @@ column-all m y e = rw e
 module _ (R : Room) (C : RouterConfig) (classes : List ℕ) (goal from : Spot) (cost : ℕ) (known previous queue : List ℕ) (line : Line) (ready : HeapReady queue line)
     (m : Move) where
   all-out : ((y : ℕ) → neighbour R (from .cell) (by (m .x) y (m .z)) ≡ Outside)
-      → Tried (setting R C classes goal queue from cost) (column m) known previous queue line (On line) known previous queue
+      → MovesCame (setting R C classes goal queue from cost) (column m) known previous queue line (On line) known previous queue
   all-out out = tried-then (by (m .x) 1 (m .z) ∷ by (m .x) 2 (m .z) ∷ []) (one 0) (tried-then (by (m .x) 2 (m .z) ∷ []) (one 1) (one 2))
     where
-      one : (y : ℕ) → Tried (setting R C classes goal queue from cost) (by (m .x) y (m .z) ∷ []) known previous queue line (On line) known previous queue
+      one : (y : ℕ) → MovesCame (setting R C classes goal queue from cost) (by (m .x) y (m .z) ∷ []) known previous queue line (On line) known previous queue
       one y = tried-out R C classes goal from cost known previous queue line ready (by (m .x) y (m .z)) (out y)
 
   module _ (P : Placed R from) where
     pub column-out-x : between 1 (from .at .x + m .x) (R .wide) ≡ false
-        → Tried (setting R C classes goal queue from cost) (column m) known previous queue line (On line) known previous queue
+        → MovesCame (setting R C classes goal queue from cost) (column m) known previous queue line (On line) known previous queue
     unfolding stays
     column-out-x e = all-out (λ y. not-stays R (from .cell) (by (m .x) y (m .z)) (rw (← P .is, e)))
 
     pub column-out-z : between 1 (from .at .z + m .z) (R .deep) ≡ false
-        → Tried (setting R C classes goal queue from cost) (column m) known previous queue line (On line) known previous queue
+        → MovesCame (setting R C classes goal queue from cost) (column m) known previous queue line (On line) known previous queue
     unfolding stays
     column-out-z e = all-out (λ y. not-stays R (from .cell) (by (m .x) y (m .z)) (rw (← P .is, e, and-false (between 1 (from .at .y + y) (R .high)))
         (and-false (between 1 (from .at .x + m .x) (R .wide)))))

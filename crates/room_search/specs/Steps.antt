@@ -35,7 +35,7 @@ pub record HeapReady (queue : List ℕ) (line : Line) : Type 0 where
   pub room : line .waiting ≤ placesOf queue
 
 -- a search that is trying the moves of a cell: what all of them come to, and how many cells it has expanded
-pub record Attempt : Type 0 where
+pub record Expansion : Type 0 where
   pub graph : Graph
   pub degree : ℕ
   pub dearest : ℕ
@@ -46,12 +46,12 @@ pub record Attempt : Type 0 where
   pub expanded : ℕ
 
 -- the moves `due` are still to be tried in the state that the slices hold
-abbrev pub Stage : Attempt → List Search.Move → List ℕ → List ℕ → List ℕ → Line → Type 0
+abbrev pub Stage : Expansion → List Search.Move → List ℕ → List ℕ → List ℕ → Line → Type 0
 Stage A due known previous queue line =
     Trying (A .graph) (A .degree) (A .dearest) (A .cell) (A .cost) (A .outcome) due (held known previous queue line (A .expanded))
 
 -- what a function that tries moves answers, where `rest` is left to be tried
-abbrev pub AfterMoves : Attempt → List Search.Move → List ℕ → List ℕ → List ℕ → MovesTried → Type 0
+abbrev pub AfterMoves : Expansion → List Search.Move → List ℕ → List ℕ → List ℕ → MovesTried → Type 0
 AfterMoves A rest known previous queue (On line) = Stage A rest known previous queue line
 AfterMoves A rest known previous queue Full = A .outcome ≡ full
 
@@ -62,7 +62,7 @@ Readied queue most Full = Unit {0}
 -- one move, to cell v at cost c
 pub record Offered (u v c estimate : ℕ) (known previous queue : List ℕ) (line : Line) (r : MovesTried) (known′ previous′ queue′ : List ℕ) : Type 0 where
   pub readied : Readied queue′ (line .serial + 1) r
-  pub goes : (A : Attempt) (m : Search.Move) (ms : List Search.Move) → A .cell ≡ u → m .to ≡ v → A .cost + m .cost ≡ c → A .graph .estimate v ≡ estimate
+  pub goes : (A : Expansion) (m : Search.Move) (ms : List Search.Move) → A .cell ≡ u → m .to ≡ v → A .cost + m .cost ≡ c → A .graph .estimate v ≡ estimate
       → A .graph .places ≡ placesOf queue → Stage A (m ∷ ms) known previous queue line → AfterMoves A ms known′ previous′ queue′ r
 
 -- the position of a spot is that of its cell
@@ -83,16 +83,16 @@ pub record Setting : Type 0 where
 abbrev pub dueOf : Setting → List Move → List Search.Move
 dueOf S ms = movesBy (S .room) (S .config) (λ v. getD (S .classes) v 0) (S .cell) ms
 
-pub record Fitting (S : Setting) (A : Attempt) : Type 0 where
+pub record Fitting (S : Setting) (A : Expansion) : Type 0 where
   pub start : ℕ
   pub graph-is : A .graph ≡ graphOf (S .room) (S .config) (λ v. getD (S .classes) v 0) start (S .goal) (S .places)
   pub cell-is : A .cell ≡ S .cell
   pub cost-is : A .cost ≡ S .cost
 
 -- the moves `tried` of that cell
-pub record Tried (S : Setting) (tried : List Move) (known previous queue : List ℕ) (line : Line) (r : MovesTried) (known′ previous′ queue′ : List ℕ) : Type 0 where
+pub record MovesCame (S : Setting) (tried : List Move) (known previous queue : List ℕ) (line : Line) (r : MovesTried) (known′ previous′ queue′ : List ℕ) : Type 0 where
   pub readied : Readied queue′ (line .serial + length tried) r
-  pub goes : (A : Attempt) → Fitting S A → (ms : List Move) → Stage A (dueOf S (tried ++ ms)) known previous queue line
+  pub goes : (A : Expansion) → Fitting S A → (ms : List Move) → Stage A (dueOf S (tried ++ ms)) known previous queue line
       → AfterMoves A (dueOf S ms) known′ previous′ queue′ r
 
 abbrev pub setting : Room → RouterConfig → List ℕ → Spot → List ℕ → Spot → ℕ → Setting

@@ -24,7 +24,7 @@ use Rattle.room_search.specs.Routing.{movesBy, graphOf}
 use Rattle.room_search.specs.Held.{entriesIn, held}
 use Rattle.room_search.specs.HeldLaws.{takenEntry, taken-entries}
 use Rattle.room_search.specs.GraphLaws.{dearest, sound}
-use Rattle.room_search.specs.Steps.{placesOf, Placed, Able, Attempt, Stage, Fitting, Tried, setting}
+use Rattle.room_search.specs.Steps.{placesOf, Placed, Able, Expansion, Stage, Fitting, MovesCame, setting}
 use Rattle.room_search.specs.Takings.{graphIn, Takeable, TakingCame}
 
 module _ (R : Room) (C : RouterConfig) (classes known previous queue : List ℕ) (line : Line) (expanded : ℕ) (goal : Spot)
@@ -87,8 +87,8 @@ module _ (R : Room) (C : RouterConfig) (classes known previous queue : List ℕ)
         abbrev now : State
         now = held known previous queue line expanded
 
-        attempt : Attempt
-        attempt = record {
+        expansion : Expansion
+        expansion = record {
           graph = G;
           degree = 12;
           dearest = dearest C;
@@ -99,8 +99,8 @@ module _ (R : Room) (C : RouterConfig) (classes known previous queue : List ℕ)
           expanded = suc expanded;
         }
 
-        fitting : Fitting (setting R C classes goal queue′ from (getD known cell 0 - 1)) attempt
-        unfolding attempt held
+        fitting : Fitting (setting R C classes goal queue′ from (getD known cell 0 - 1)) expansion
+        unfolding expansion held
         fitting = record {
           start = start;
           graph-is = ap (λ (p : ℕ). graphOf R C (λ v. getD classes v 0) start (goal .cell) p) (ap (λ (n : ℕ). n / 2) (sym same));
@@ -108,27 +108,27 @@ module _ (R : Room) (C : RouterConfig) (classes known previous queue : List ℕ)
           cost-is = sym (sub-one (getD known cell 0));
         }
 
-        stage : Stage attempt (movesBy R C (λ v. getD classes v 0) (from .cell) (moves ++ [])) known previous queue′ rest
-        unfolding attempt held graphOf takenEntry
-        stage = rw (append-nil, here) (going-try I popped away more (attempt .sound))
+        stage : Stage expansion (movesBy R C (λ v. getD classes v 0) (from .cell) (moves ++ [])) known previous queue′ rest
+        unfolding expansion held graphOf takenEntry
+        stage = rw (append-nil, here) (going-try I popped away more (expansion .sound))
 
       module _ {known′ previous′ queue″ : List ℕ} where
-        pub taking-full : Tried (setting R C classes goal queue′ from (getD known cell 0 - 1)) moves known previous queue′ rest Full known′ previous′ queue″
+        pub taking-full : MovesCame (setting R C classes goal queue′ from (getD known cell 0 - 1)) moves known previous queue′ rest Full known′ previous′ queue″
             → TakingCame R C classes known previous queue line expanded goal (Ended (QueueFull (record { 0 = expanded + 1 }))) known′ previous′ queue″
-        unfolding attempt held graphOf takenEntry
+        unfolding expansion held graphOf takenEntry
         taking-full U = record {
           goes = λ start answer s I.
-              going-full I popped away more (U .goes (attempt start answer s I) (fitting start answer s I) [] (stage start answer s I))
+              going-full I popped away more (U .goes (expansion start answer s I) (fitting start answer s I) [] (stage start answer s I))
               ∙ ap search.queue-full (sym (add-one expanded));
         }
 
-        pub taking-on : (next : Line) → Tried (setting R C classes goal queue′ from (getD known cell 0 - 1)) moves known previous queue′ rest (On next) known′ previous′ queue″
+        pub taking-on : (next : Line) → MovesCame (setting R C classes goal queue′ from (getD known cell 0 - 1)) moves known previous queue′ rest (On next) known′ previous′ queue″
             → TakingCame R C classes known previous queue line expanded goal (GoesOn next) known′ previous′ queue″
-        unfolding attempt held graphOf takenEntry movesBy
+        unfolding expansion held graphOf takenEntry movesBy
         taking-on next U = record {
           goes = λ start answer s I. (
-            rw add-one (going-on I popped away more (attempt start answer s I .sound)
-                (U .goes (attempt start answer s I) (fitting start answer s I) [] (stage start answer s I))),
+            rw add-one (going-on I popped away more (expansion start answer s I .sound)
+                (U .goes (expansion start answer s I) (fitting start answer s I) [] (stage start answer s I))),
             U .readied .0,
           );
         }

@@ -22,7 +22,7 @@ use Rattle.room_search.specs.declared.Spot.{Spot}
 use Rattle.room_search.specs.declared.MovesTried.{MovesTried}
 use Rattle.room_search.specs.declared.MovesTried.the-variants.{On, Full}
 use Rattle.room_search.specs.Routing.{total, priceOf, movesBy, estimateOf, graphOf}
-use Rattle.room_search.specs.Steps.{HeapReady, Readied, Placed, Offered, Setting, setting, dueOf, Tried, Aside}
+use Rattle.room_search.specs.Steps.{HeapReady, Readied, Placed, Offered, Setting, setting, dueOf, MovesCame, Aside}
 
 -- ---- what one move adds to the moves due
 
@@ -118,17 +118,17 @@ module _ (R : Room) (C : RouterConfig) (classes : List ℕ) (goal : Spot) (from 
   abbrev S : Setting
   S = setting R C classes goal queue from cost
 
-  pub tried-out : neighbour R (from .cell) m ≡ Outside → Tried S (m ∷ []) known previous queue line (On line) known previous queue
+  pub tried-out : neighbour R (from .cell) m ≡ Outside → MovesCame S (m ∷ []) known previous queue line (On line) known previous queue
   tried-out e = record { readied = (ready, omega arith); goes = λ A F ms T. rw (moves-out R C (λ v. getD classes v 0) (from .cell) m ms e) at T }
 
   pub tried-shut : (v : ℕ) → neighbour R (from .cell) m ≡ Inside v → getD classes v 0 ≡ 0
-      → Tried S (m ∷ []) known previous queue line (On line) known previous queue
+      → MovesCame S (m ∷ []) known previous queue line (On line) known previous queue
   tried-shut v e z = record { readied = (ready, omega arith); goes = λ A F ms T. rw (moves-shut R C (λ v. getD classes v 0) (from .cell) m ms v e z) at T }
 
   pub tried-offered : (v : ℕ) (p : Pos) → neighbour R (from .cell) m ≡ Inside v → getD classes v 0 ≢ 0 → Placed R goal → p ≡ posOf R v
       → (r : MovesTried) (known′ previous′ queue′ : List ℕ)
       → Offered (from .cell) v (cost + total (priceOf C m (getD classes v 0))) (estimateOf (distanceAt p (goal .at))) known previous queue line r known′ previous′ queue′
-      → Tried S (m ∷ []) known previous queue line r known′ previous′ queue′
+      → MovesCame S (m ∷ []) known previous queue line r known′ previous′ queue′
   unfolding graphOf distance
   tried-offered v p e z P q r known′ previous′ queue′ O = record {
     readied = O .readied;
@@ -147,20 +147,20 @@ readied-more queue a b (On l) h d = (d .0, omega (arith, d .1))
 readied-more queue a b Full h d = tt
 
 module _ {S : Setting} {known previous queue : List ℕ} {line : Line} where
-  pub tried-none : HeapReady queue line → Tried S [] known previous queue line (On line) known previous queue
+  pub tried-none : HeapReady queue line → MovesCame S [] known previous queue line (On line) known previous queue
   tried-none ready = record { readied = (ready, omega arith); goes = λ A F ms T. T }
 
   module _ {a : List Move} {known′ previous′ queue′ : List ℕ} (b : List Move) where
     -- all went on, and then some more were tried
-    pub tried-then : {l : Line} → Tried S a known previous queue line (On l) known′ previous′ queue′ → {r : MovesTried} {known″ previous″ queue″ : List ℕ}
-        → Tried S b known′ previous′ queue′ l r known″ previous″ queue″ → Tried S (a ++ b) known previous queue line r known″ previous″ queue″
+    pub tried-then : {l : Line} → MovesCame S a known previous queue line (On l) known′ previous′ queue′ → {r : MovesTried} {known″ previous″ queue″ : List ℕ}
+        → MovesCame S b known′ previous′ queue′ l r known″ previous″ queue″ → MovesCame S (a ++ b) known previous queue line r known″ previous″ queue″
     tried-then {l} T {r} U = record {
       readied = readied-more _ _ _ r (omega (arith, T .readied .1, length-append a b)) (U .readied);
       goes = λ A F ms D. U .goes A F ms (T .goes A F (b ++ ms) (rw (append-assoc a b ms) at D));
     }
 
     -- the queue was full: what was still to be tried changes nothing
-    pub tried-full : Tried S a known previous queue line Full known′ previous′ queue′ → Tried S (a ++ b) known previous queue line Full known′ previous′ queue′
+    pub tried-full : MovesCame S a known previous queue line Full known′ previous′ queue′ → MovesCame S (a ++ b) known previous queue line Full known′ previous′ queue′
     tried-full T = record { readied = tt; goes = λ A F ms D. T .goes A F (b ++ ms) (rw (append-assoc a b ms) at D) }
 
 -- ---- the price, as the code adds it up

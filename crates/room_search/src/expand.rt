@@ -6,7 +6,7 @@ ghost use mathlib.Core.List.{[], _∷_};
 ghost use Rattle.room.specs.Room.{maxVolume, SmallPos, moves, distanceAt};
 ghost use Rattle.room.specs.Units.{GoodConfig, maxCost};
 ghost use Rattle.room_search.specs.Routing.{total, priceOf, estimateOf};
-ghost use Rattle.room_search.specs.Steps.{maxKnown, HeapReady, Offered, Able, Aside, setting, Tried, column};
+ghost use Rattle.room_search.specs.Steps.{maxKnown, HeapReady, Offered, Able, Aside, setting, MovesCame, column};
 use crate::Line;
 use crate::MovesTried;
 use crate::Spot;
@@ -110,7 +110,7 @@ fn try_move(
     requires { ⌜ Able 1 room config (now classes) goal from cost (now known) (now previous) (now queue) line ⌝ }
     requires { ⌜ Aside room from beside m ⌝ }
     requires { ⌜ m .y ≤ 2 ⌝ }
-    ensures { λ r. ⌜ Tried (setting room config (now (classes .entry)) goal (now (queue .entry)) from cost) (m ∷ []) (now (known .entry)) (now (previous .entry)) (now (queue .entry)) line r (now (known .exit)) (now (previous .exit)) (now (queue .exit)) ⌝ }
+    ensures { λ r. ⌜ MovesCame (setting room config (now (classes .entry)) goal (now (queue .entry)) from cost) (m ∷ []) (now (known .entry)) (now (previous .entry)) (now (queue .entry)) line r (now (known .exit)) (now (previous .exit)) (now (queue .exit)) ⌝ }
 {
     let y = beside.at.y + m.y;
     if y < 1 {
@@ -159,7 +159,7 @@ fn try_beside(
 ) -> MovesTried
     requires { ⌜ Able 3 room config (now classes) goal from cost (now known) (now previous) (now queue) line ⌝ }
     requires { ⌜ Aside room from beside m ⌝ }
-    ensures { λ r. ⌜ Tried (setting room config (now (classes .entry)) goal (now (queue .entry)) from cost) (column m) (now (known .entry)) (now (previous .entry)) (now (queue .entry)) line r (now (known .exit)) (now (previous .exit)) (now (queue .exit)) ⌝ }
+    ensures { λ r. ⌜ MovesCame (setting room config (now (classes .entry)) goal (now (queue .entry)) from cost) (column m) (now (known .entry)) (now (previous .entry)) (now (queue .entry)) line r (now (known .exit)) (now (previous .exit)) (now (queue .exit)) ⌝ }
 {
     let mut now_at = line;
     let mut y: usize = 0;
@@ -207,7 +207,7 @@ fn try_column(
 ) -> MovesTried
     requires { ⌜ Able 3 room config (now classes) goal from cost (now known) (now previous) (now queue) line ⌝ }
     requires { ⌜ (m .x ≤ 2) × (m .z ≤ 2) ⌝ }
-    ensures { λ r. ⌜ Tried (setting room config (now (classes .entry)) goal (now (queue .entry)) from cost) (column m) (now (known .entry)) (now (previous .entry)) (now (queue .entry)) line r (now (known .exit)) (now (previous .exit)) (now (queue .exit)) ⌝ }
+    ensures { λ r. ⌜ MovesCame (setting room config (now (classes .entry)) goal (now (queue .entry)) from cost) (column m) (now (known .entry)) (now (previous .entry)) (now (queue .entry)) line r (now (known .exit)) (now (previous .exit)) (now (queue .exit)) ⌝ }
 {
     let x = from.at.x + m.x;
     if x < 1 {
@@ -262,7 +262,7 @@ pub fn expand(
     goal: Spot,
 ) -> MovesTried
     requires { ⌜ Able 12 room config (now classes) goal from cost (now known) (now previous) (now queue) line ⌝ }
-    ensures { λ r. ⌜ Tried (setting room config (now (classes .entry)) goal (now (queue .entry)) from cost) moves (now (known .entry)) (now (previous .entry)) (now (queue .entry)) line r (now (known .exit)) (now (previous .exit)) (now (queue .exit)) ⌝ }
+    ensures { λ r. ⌜ MovesCame (setting room config (now (classes .entry)) goal (now (queue .entry)) from cost) moves (now (known .entry)) (now (previous .entry)) (now (queue .entry)) line r (now (known .exit)) (now (previous .exit)) (now (queue .exit)) ⌝ }
 {
     let mut now_at = line;
     let mut side: usize = 0;

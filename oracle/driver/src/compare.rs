@@ -25,12 +25,19 @@ const SHOWN: u64 = 10;
 #[derive(Default)]
 pub struct Differences(u64);
 
+impl Draw {
+    /// What a case of this draw is called where it differs.
+    pub fn name(&self, index: u64) -> String {
+        format!("case {index} of seed {}", self.seed)
+    }
+}
+
 impl Differences {
     /// Counts one more, and shows it and its case while they are few.
-    pub fn add(&mut self, draw: &Draw, index: u64, what: &str, case: &str) {
+    pub fn add(&mut self, name: &str, what: &str, case: &str) {
         self.0 += 1;
         if self.0 <= SHOWN {
-            println!("case {index} of seed {}: {what}\n{case}", draw.seed);
+            println!("{name}: {what}\n{case}");
         }
     }
 
@@ -53,7 +60,7 @@ pub fn compare(draw: &Draw) -> bool {
             differs(&case, &expected, &mut flat, index as u8)
         });
         if let Err(what) = found {
-            differences.add(draw, index, &what, &search_lines(&case));
+            differences.add(&draw.name(index), &what, &search_lines(&case));
         }
     }
     let numbers: Vec<String> = (0..)
@@ -88,7 +95,7 @@ pub fn extra(number: u8, salt: u8) -> usize {
 
 /// How an answer differs from the expected one, if it does: through memory of just the lengths of the case, through longer
 /// memory, with too few values, and by the plain Rust. All memory is full of rubbish before.
-fn differs(
+pub fn differs(
     case: &Search,
     expected: &SearchAnswer,
     flat: &mut Flat,

@@ -19,7 +19,7 @@ pub fn compare(draw: &Draw) -> bool {
             differs(&case, &expected, index as u8)
         });
         if let Err(what) = found {
-            differences.add(draw, index, &what, &sheet_lines(&case));
+            differences.add(&draw.name(index), &what, &sheet_lines(&case));
         }
     }
     print!("{}", tally.lines());
@@ -49,7 +49,7 @@ fn expected_answer(draw: &Draw, case: &Sheet) -> Result<TreeAnswer, String> {
 /// How an answer differs from the expected one, if it does: through memory of just the lengths of the case, through longer
 /// memory, with too few values, and with a branch buffer that is just full and one cell short. All memory is full of rubbish
 /// before.
-fn differs(case: &Sheet, expected: &TreeAnswer, salt: u8) -> Result<(), String> {
+pub fn differs(case: &Sheet, expected: &TreeAnswer, salt: u8) -> Result<(), String> {
     let [cells, branch, queue] = lengths(case);
     let memory = |cells, queue, values| tree_memory(cells, branch, queue, values, salt | 1);
     let number = expected.number();

@@ -5,6 +5,7 @@ mod bench;
 mod bench_trees;
 mod clock;
 mod compare;
+mod compare_smallest;
 mod compare_trees;
 mod flat;
 mod proved;
@@ -19,6 +20,7 @@ driver compare searches|sheets --seed N --count N [--profile P] [--against oracl
                 compares random cases; P is tiny, small, middle, large or mixed (the default).
                 oracle (the default): the published Rust and the plain router, which must agree; plain: the latter alone.
                 rich: of the sheets only those that have a tree of two or more sinks with stairs and repeaters
+driver compare smallest compares the smallest inputs of docs/DIFFERENCES.md
 driver bench searches   times the proved search, the published Rust and plain Rust over flat arrays
 driver bench trees      times the proved tree and the published Rust
 driver wraps            shows costs at which the published Rust's sums wrap, and both answers
@@ -76,6 +78,7 @@ fn run(words: &[String]) -> Result<bool, String> {
             draw => Ok(compare::compare(&draw)),
         },
         ["compare", "sheets"] => Ok(compare_trees::compare(&draw(&words[2..])?)),
+        ["compare", "smallest"] => Ok(compare_smallest::compare()),
         ["bench", "searches"] => {
             bench::bench();
             Ok(true)
