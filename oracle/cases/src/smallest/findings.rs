@@ -4,7 +4,7 @@ use super::signs::{
     again, cell_twice, dearer, fills_queue, more_than_cells, one_above_another, overflows_branches,
     repeater_opposed,
 };
-use super::space::{AIR, Jobs, Searches};
+use super::space::{AIR, FACINGS, Jobs, Searches};
 use super::{Fewer, Input, Point, Sign};
 use crate::room::{Config, MOST_NODES, facing, kind, port};
 use crate::samples::{block, default_job, default_search, wire};
@@ -83,14 +83,6 @@ fn searches() -> Vec<Point> {
         },
     ]
 }
-
-const FACINGS: &[(u8, u8)] = &[
-    (port::WIRE, facing::NONE),
-    (port::WIRE, facing::NORTH),
-    (port::WIRE, facing::EAST),
-    (port::WIRE, facing::SOUTH),
-    (port::WIRE, facing::WEST),
-];
 
 const TWO_SINKS: Jobs = Jobs {
     blocks: &[(kind::SOLID, facing::NONE), (kind::LEVER, facing::NONE)],

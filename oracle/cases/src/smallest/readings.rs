@@ -1,6 +1,6 @@
 //! The open points: inputs on which the other reading answers differently.
 
-use super::space::{CLEARANCES, CONDUCTORS, Jobs, RESERVED, TERMINALS};
+use super::space::{CLEARANCES, CONDUCTORS, FACINGS, Jobs, RESERVED, TERMINALS};
 use super::{Fewer, Input, Point, Sign};
 use crate::reading::Other;
 use crate::room::{Config, facing, kind, port};
@@ -28,13 +28,6 @@ fn point(name: &'static str, says: &'static str, other: Other, input: Job, fewer
 }
 
 const PLAIN: &[(u8, u8)] = &[(port::WIRE, facing::NONE)];
-const FACINGS: &[(u8, u8)] = &[
-    (port::WIRE, facing::NONE),
-    (port::WIRE, facing::NORTH),
-    (port::WIRE, facing::EAST),
-    (port::WIRE, facing::SOUTH),
-    (port::WIRE, facing::WEST),
-];
 const USUAL: [u32; 3] = [10, 25, 15];
 
 /// Up to two sinks that face anywhere, at the usual costs and at none.

@@ -1,6 +1,6 @@
 //! What is gone through: all searches, or all jobs, of a given number of cells that a few lists of parts can make up.
 
-use crate::room::{Config, Room, kind};
+use crate::room::{Config, Room, facing, kind, port};
 use crate::samples::{block, default_job, default_search};
 use crate::search::Search;
 use crate::sheet::{Job, Port};
@@ -224,3 +224,12 @@ fn list(job: &mut Job, which: usize) -> &mut Vec<[u8; 3]> {
 
 /// Nothing but Air in a room.
 pub const AIR: &[u8] = &[kind::AIR];
+
+/// A Wire port of any horizontal facing or none.
+pub const FACINGS: &[(u8, u8)] = &[
+    (port::WIRE, facing::NONE),
+    (port::WIRE, facing::NORTH),
+    (port::WIRE, facing::EAST),
+    (port::WIRE, facing::SOUTH),
+    (port::WIRE, facing::WEST),
+];
