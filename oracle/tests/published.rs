@@ -23,7 +23,7 @@ fn the_hex_sheet_is_printed() {
     assert_eq!(tree_answer_lines(&answer), HEX_SHEET_LINES);
 }
 
-/// All but the largest, which takes the published Rust a minute.
+/// All but the largest, which takes the published Rust up to a minute.
 #[test]
 fn the_smallest_inputs_have_one_answer() {
     for point in points().iter().filter(|point| point.input.cells() < 1_000) {

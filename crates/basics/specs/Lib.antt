@@ -5,4 +5,4 @@ pub mod Zeros
 pub mod Padding
 pub mod Promises
 pub mod Copies
-pub mod Walks
+pub mod Folds

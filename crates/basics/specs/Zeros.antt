@@ -26,6 +26,6 @@ drop-zeros (suc n) (suc m) = rw suc-sub-suc (drop-zeros n m)
 pub cleared-to : {l : List ℕ} {m n : ℕ} → m ≡ n → l ≡ replicate m 0 → l ≡ replicate n 0
 cleared-to e c = c ∙ ap (λ k. replicate k 0) e
 
--- so many zeros
+-- a list that is n zeros has length n
 pub zeros-long : {l : List ℕ} {n : ℕ} → l ≡ replicate n 0 → length l ≡ n
 zeros-long {n = n} e = ap length e ∙ length-replicate {A = ℕ} n 0

@@ -9,12 +9,12 @@ use lib.ListN.{length, getD, set, replicate, length-set, length-replicate}
 use lib.Seq.{getD-set-same, getD-set-other}
 use Rattle.basics.specs.Lists.{In}
 use Rattle.basics.specs.Zeros.{zeros}
-use Rattle.best_first.specs.Search.{Graph, Move, Entry, State, Taken, on, push, oneMoreExpanded, outset, expand}
+use Rattle.best_first.specs.Search.{Graph, Move, Entry, State, Taken, on, push, oneMoreExpanded, firstState, expand}
 use Rattle.best_first.specs.Ways.{Sound}
-use Rattle.best_first.specs.Statements.{Taking, stored, costOf, outcome, entered, enteredBy}
-use Rattle.best_first.specs.Lists.{AfterStore, hit, miss, after, in-reach}
+use Rattle.best_first.specs.Statements.{Taking, knownAt, costOf, outcome, entered, enteredBy}
+use Rattle.best_first.specs.ListsAfterSet.{AfterStore, hit, miss, after, in-reach}
 use Rattle.best_first.specs.Equations.{no-cheaper, expand-none, expand-skip, Gain, offered}
-use Rattle.best_first.specs.Links.{Linked, lowered, to-in, not-itself, push-linked, start-alone, outset-linked}
+use Rattle.best_first.specs.Predecessors.{Linked, lowered, to-in, not-itself, push-linked, start-alone, first-linked}
 
 -- an entry of v's known cost waits
 pub record Waits (G : Graph) (known : List ℕ) (waiting : List Entry) (v : ℕ) : Type 0 where
@@ -38,15 +38,15 @@ pub record Base (G : Graph) (closed ages : List ℕ) (u : ℕ) (due : List Move)
   pub linked : Linked G ages (s .known) (s .previous) (s .serial)
   pub closed-long : length closed ≡ G .size
   pub goal-open : getD closed (G .goal) 0 ≡ 0
-  pub closed-known : (v : ℕ) → 0 < getD closed v 0 → 0 < stored s v
+  pub closed-known : (v : ℕ) → 0 < getD closed v 0 → 0 < knownAt s v
   pub loose : (w : ℕ) (m : Move) → 0 < getD closed w 0 → In m (G .moves w) → Loose (s .known) w m ⊎ ((w ≡ u) × In m due)
-  pub waits : (v : ℕ) → 0 < stored s v → getD closed v 0 ≡ 0 → Waits G (s .known) (s .waiting) v
+  pub waits : (v : ℕ) → 0 < knownAt s v → getD closed v 0 ≡ 0 → Waits G (s .known) (s .waiting) v
   pub fair : (e : Entry) → In e (s .waiting) → Fair G (s .known) e
 
 -- while the moves of u, whose cost is d, are tried
 pub record Mid (G : Graph) (closed ages : List ℕ) (u d : ℕ) (due : List Move) (s : State) : Type 0 where
   pub base : Base G closed ages u due s
-  pub now : stored s u ≡ suc d
+  pub now : knownAt s u ≡ suc d
   pub done : 0 < getD closed u 0
   pub lawful : (m : Move) → In m due → In m (G .moves u)
 
@@ -60,7 +60,7 @@ module _ {G : Graph} {closed ages : List ℕ} {u d : ℕ} {m : Move} {ms : List 
   pub due-lawful : In m (G .moves u)
   due-lawful = N .lawful m (inl refl)
 
-  skip-base : (0 < stored s (m .to)) × (stored s (m .to) ≤ suc (d + m .cost)) → Base G closed ages u ms s
+  skip-base : (0 < knownAt s (m .to)) × (knownAt s (m .to) ≤ suc (d + m .cost)) → Base G closed ages u ms s
   skip-base f = record {
     linked = B .linked;
     closed-long = B .closed-long;
@@ -76,16 +76,16 @@ module _ {G : Graph} {closed ages : List ℕ} {u d : ℕ} {m : Move} {ms : List 
       loose w n (inr (e, inl i)) = inl (rw (i, e) (record { there = f .0; cheap = omega (arith, N .now) }))
       loose w n (inr (e, inr i)) = inr (e, i)
 
-  pub skip-mid : (0 < stored s (m .to)) × (stored s (m .to) ≤ suc (d + m .cost)) → Mid G closed ages u d ms s
+  pub skip-mid : (0 < knownAt s (m .to)) × (knownAt s (m .to) ≤ suc (d + m .cost)) → Mid G closed ages u d ms s
   skip-mid f = record { base = skip-base f; now = N .now; done = N .done; lawful = λ n i. N .lawful n (inr i) }
 
   -- ---- a move that does: the cell entered is pushed, and is open
 
-  module _ {degree dearest : ℕ} (S : Sound G degree dearest) (gain : Gain (suc (d + m .cost)) (stored s (m .to))) where
-    u-known : 0 < stored s u
+  module _ {degree dearest : ℕ} (S : Sound G degree dearest) (gain : Gain (suc (d + m .cost)) (knownAt s (m .to))) where
+    u-known : 0 < knownAt s u
     u-known = omega (arith, N .now)
 
-    is-x : suc (d + m .cost) ≡ stored s u + m .cost
+    is-x : suc (d + m .cost) ≡ knownAt s u + m .cost
     is-x = omega (arith, N .now)
 
     w-in : m .to < length (s .known)
@@ -97,7 +97,7 @@ module _ {G : Graph} {closed ages : List ℕ} {u d : ℕ} {m : Move} {ms : List 
     mark : (v : ℕ) → AfterStore closed (m .to) 0 v
     mark v = after closed (m .to) 0 v (omega (arith, w-in, B .linked .known-long, B .closed-long))
 
-    low : (v : ℕ) → 0 < stored s v → (0 < getD (offered s d m) v 0) × (getD (offered s d m) v 0 ≤ stored s v)
+    low : (v : ℕ) → 0 < knownAt s v → (0 < getD (offered s d m) v 0) × (getD (offered s d m) v 0 ≤ knownAt s v)
     low v = lowered (s .known) (m .to) (suc (d + m .cost)) v w-in (omega arith) gain
 
     -- a closed cell is another one, and keeps its cost
@@ -108,7 +108,7 @@ module _ {G : Graph} {closed ages : List ℕ} {u d : ℕ} {m : Move} {ms : List 
         go (hit e q) = absurd (omega arith)
         go (miss n q) = (n, omega arith)
 
-    pub same : (v : ℕ) → v ≢ m .to → getD (offered s d m) v 0 ≡ stored s v
+    pub same : (v : ℕ) → v ≢ m .to → getD (offered s d m) v 0 ≡ knownAt s v
     same v n = getD-set-other (s .known) (m .to) v (suc (d + m .cost)) 0 n
 
     pub now-known : getD (offered s d m) (m .to) 0 ≡ suc (d + m .cost)
@@ -163,18 +163,18 @@ module _ {G : Graph} {closed ages : List ℕ} {u d : ℕ} {m : Move} {ms : List 
 -- ---- moves of u, whose cost is d, that offer no lower cost push nothing
 
 module _ (G : Graph) (u d : ℕ) where
-  expand-loose : (ms : List Move) (s : State) → stored s u ≡ suc d → ((m : Move) → In m ms → Loose (s .known) u m) → expand G u d ms s ≡ on s
+  expand-loose : (ms : List Move) (s : State) → knownAt s u ≡ suc d → ((m : Move) → In m ms → Loose (s .known) u m) → expand G u d ms s ≡ on s
   expand-loose [] s e all = expand-none G u d s
   expand-loose (m ∷ ms) s e all =
       let l = all m (inl refl) in
       expand-skip G u d m ms s (no-cheaper _ _ (l .there) (omega (arith, l .cheap))) ∙ expand-loose ms s e (λ n i. all n (inr i))
 
-  entered-loose : (ms : List Move) (l : List ℕ) (s : State) → stored s u ≡ suc d → ((m : Move) → In m ms → Loose (s .known) u m) → entered G u d ms s l ≡ l
+  entered-loose : (ms : List Move) (l : List ℕ) (s : State) → knownAt s u ≡ suc d → ((m : Move) → In m ms → Loose (s .known) u m) → entered G u d ms s l ≡ l
   unfolding entered
   entered-loose [] l s e all = refl
   entered-loose (m ∷ ms) l s e all =
       let k = all m (inl refl) in
-      rw (no-cheaper (d + m .cost) (stored s (m .to)) (k .there) (omega (arith, k .cheap)), entered) (entered-loose ms l s e (λ n i. all n (inr i)))
+      rw (no-cheaper (d + m .cost) (knownAt s (m .to)) (k .there) (omega (arith, k .cheap)), entered) (entered-loose ms l s e (λ n i. all n (inr i)))
 
 -- ---- a taking
 
@@ -184,11 +184,11 @@ pub all-loose : {G : Graph} {closed ages : List ℕ} {w : ℕ} {s : State} → B
 all-loose B v m c i = elim (B .loose v m c i) [ inl l ↦ l | inr r ↦ absurd (r .1) ]
 
 module _ {G : Graph} {closed ages : List ℕ} {w : ℕ} {s : State} {t : Taken} (B : Base G closed ages w [] s) (k : Taking (s .waiting) t) where
-  pub taken-known : stored s (t .next .cell) ≡ suc (costOf s (t .next .cell))
+  pub taken-known : knownAt s (t .next .cell) ≡ suc (costOf s (t .next .cell))
   taken-known = sym (suc-pred-eq-of-pos (B .fair (t .next) (k .from) .reached))
 
   -- the entry taken of an open cell is that of its known cost: an older one has a higher key
-  pub taken-fresh : getD closed (t .next .cell) 0 ≡ 0 → suc (t .next .key) ≡ stored s (t .next .cell) + G .estimate (t .next .cell)
+  pub taken-fresh : getD closed (t .next .cell) 0 ≡ 0 → suc (t .next .key) ≡ knownAt s (t .next .cell) + G .estimate (t .next .cell)
   taken-fresh o =
       let f = B .fair (t .next) (k .from) in
       let W = B .waits (t .next .cell) (f .reached) o in
@@ -239,7 +239,7 @@ module _ {G : Graph} {closed ages : List ℕ} {w : ℕ} {s : State} {t : Taken} 
       fair = λ e i. B .fair e (k .left-in e i);
     }
       where
-        closed-known : (v : ℕ) → 0 < getD (set closed (t .next .cell) 1) v 0 → AfterStore closed (t .next .cell) 1 v → 0 < stored s v
+        closed-known : (v : ℕ) → 0 < getD (set closed (t .next .cell) 1) v 0 → AfterStore closed (t .next .cell) 1 v → 0 < knownAt s v
         closed-known v c (hit e q) = rw e (B .fair (t .next) (k .from) .reached)
         closed-known v c (miss n q) = B .closed-known v (omega arith)
 
@@ -248,7 +248,7 @@ module _ {G : Graph} {closed ages : List ℕ} {w : ℕ} {s : State} {t : Taken} 
         loose v m c i (hit e q) = inr (e, rw e at i)
         loose v m c i (miss n q) = inl (all-loose B v m (omega arith) i)
 
-        waits : (v : ℕ) → 0 < stored s v → getD (set closed (t .next .cell) 1) v 0 ≡ 0 → AfterStore closed (t .next .cell) 1 v → Waits G (s .known) (t .left) v
+        waits : (v : ℕ) → 0 < knownAt s v → getD (set closed (t .next .cell) 1) v 0 ≡ 0 → AfterStore closed (t .next .cell) 1 v → Waits G (s .known) (t .left) v
         waits v p o (hit e q) = absurd (omega arith)
         waits v p o (miss n q) = left-waits v n (B .waits v p (omega arith))
 
@@ -257,14 +257,14 @@ module _ {G : Graph} {closed ages : List ℕ} {w : ℕ} {s : State} {t : Taken} 
 
 -- ---- the outset: the start waits
 
-pub outset-base : {G : Graph} {degree dearest : ℕ} → Sound G degree dearest → Base G (replicate (G .size) 0) (replicate (G .size) 0) 0 [] (outset G)
-unfolding outset
-outset-base {G} S = record {
-  linked = outset-linked S;
+pub first-base : {G : Graph} {degree dearest : ℕ} → Sound G degree dearest → Base G (replicate (G .size) 0) (replicate (G .size) 0) 0 [] (firstState G)
+unfolding firstState
+first-base {G} S = record {
+  linked = first-linked S;
   closed-long = simp length-replicate;
   goal-open = zeros (G .size) (G .goal);
   closed-known = λ v c. absurd (omega (arith, zeros (G .size) v));
   loose = λ v m c i. absurd (omega (arith, zeros (G .size) v));
   waits = λ v p o. let a = start-alone S v p in record { entry = _; there = inl refl; at = sym (a .0); fresh = omega (arith, a .1, ap (G .estimate) (a .0)) };
-  fair = λ e. elim [ inl p ↦ rw p (record { reached = omega (arith, outset-linked S .start-known); high = omega (arith, outset-linked S .start-known) }) | inr i ↦ absurd i ];
+  fair = λ e. elim [ inl p ↦ rw p (record { reached = omega (arith, first-linked S .start-known); high = omega (arith, first-linked S .start-known) }) | inr i ↦ absurd i ];
 }

@@ -10,15 +10,15 @@ use lib.ListN.{length, getD, set, replicate, length-set}
 use lib.Seq.{getD-set-same}
 use Rattle.basics.specs.Lists.{In}
 use Rattle.basics.specs.Zeros.{zeros}
-use Rattle.best_first.specs.Search.{Graph, Move, Entry, State, Taken, push, oneMoreExpanded, outset}
+use Rattle.best_first.specs.Search.{Graph, Move, Entry, State, Taken, push, oneMoreExpanded, firstState}
 use Rattle.best_first.specs.Ways.{Sound}
-use Rattle.best_first.specs.Statements.{Taking, stored, costOf, Reached, at-outset, then, Bounded}
-use Rattle.best_first.specs.Lists.{AfterStore, hit, miss, after, in-reach, nonzeros, nonzeros-le, nonzeros-none, nonzeros-new, nonzeros-old}
+use Rattle.best_first.specs.Statements.{Taking, knownAt, costOf, Reached, at-first, then, Bounded}
+use Rattle.best_first.specs.ListsAfterSet.{AfterStore, hit, miss, after, in-reach, nonzeros, nonzeros-le, nonzeros-none, nonzeros-new, nonzeros-old}
 use Rattle.best_first.specs.Entries.{same-sym, same-in}
 use Rattle.best_first.specs.Equations.{offered, Gain, no-gain}
 use Rattle.best_first.specs.Reached.{through}
 use Rattle.best_first.specs.Orders.{Alike}
-use Rattle.best_first.specs.Links.{lowered, start-placed, start-alone, outset-linked}
+use Rattle.best_first.specs.Predecessors.{lowered, start-placed, start-alone, first-linked}
 
 -- an entry's cell is known, and its key is in range: a move of the dearest for each known cell but one
 record Fits (G : Graph) (dearest : ℕ) (known : List ℕ) (e : Entry) : Type 0 where
@@ -30,7 +30,7 @@ record Fits (G : Graph) (dearest : ℕ) (known : List ℕ) (e : Entry) : Type 0 
 pub record Sane (G : Graph) (degree dearest : ℕ) (due : List Move) (s : State) : Type 0 where
   pub known-long : length (s .known) ≡ G .size
   pub previous-long : length (s .previous) ≡ G .size
-  low : (v : ℕ) → 0 < stored s v → stored s v + dearest ≤ suc (dearest * nonzeros (s .known))
+  low : (v : ℕ) → 0 < knownAt s v → knownAt s v + dearest ≤ suc (dearest * nonzeros (s .known))
   pub previous-in : (v : ℕ) → getD (s .previous) v 0 ≤ G .size
   fits : (e : Entry) → In e (s .waiting) → Fits G dearest (s .known) e
   pub balance : s .expanded + length (s .waiting) ≡ suc (s .serial)
@@ -50,7 +50,7 @@ alike-sane {G} {degree} {dearest} L A = record {
 -- the moves `due` of u, whose cost is d, are still to be tried
 pub record Still (G : Graph) (degree dearest u d : ℕ) (due : List Move) (s : State) : Type 0 where
   pub sane : Sane G degree dearest due s
-  pub now : stored s u ≡ suc d
+  pub now : knownAt s u ≡ suc d
   pub lawful : (m : Move) → In m due → In m (G .moves u)
 
 pub alike-still : {G : Graph} {degree dearest u d : ℕ} {due : List Move} {s t : State} → Alike s t → Still G degree dearest u d due s → Still G degree dearest u d due t
@@ -61,7 +61,7 @@ module _ {G : Graph} {degree dearest : ℕ} (S : Sound G degree dearest) where
   bounded {due} {s} A = record {
     known-long = A .known-long;
     previous-long = A .previous-long;
-    cost = λ v. cost v (eq-zero-or-pos (stored s v));
+    cost = λ v. cost v (eq-zero-or-pos (knownAt s v));
     previous-in = A .previous-in;
     cell-in = λ e i. A .fits e i .cell-in;
     cell-known = λ e i. A .fits e i .reached;
@@ -75,7 +75,7 @@ module _ {G : Graph} {degree dearest : ℕ} (S : Sound G degree dearest) where
           let k : nonzeros (s .known) ≤ suc (G .size - 1) = omega (arith, nonzeros-le (s .known), A .known-long) in
           omega (arith, mul-le-mul-left dearest k, mul-suc dearest (G .size - 1), mul-comm dearest (G .size - 1))
 
-      cost : (v : ℕ) → (stored s v ≡ 0) ⊎ (0 < stored s v) → stored s v ≤ (G .size - 1) * dearest + 1
+      cost : (v : ℕ) → (knownAt s v ≡ 0) ⊎ (0 < knownAt s v) → knownAt s v ≤ (G .size - 1) * dearest + 1
       cost v (inl e) = omega arith
       cost v (inr p) = omega (arith, A .low v p, most)
 
@@ -97,7 +97,7 @@ module _ {G : Graph} {degree dearest : ℕ} (S : Sound G degree dearest) where
       lawful = λ n i. A .lawful n (inr i);
     }
 
-    module _ (gain : Gain (suc (d + m .cost)) (stored s (m .to))) where
+    module _ (gain : Gain (suc (d + m .cost)) (knownAt s (m .to))) where
       lawful : In m (G .moves u)
       lawful = A .lawful m (inl refl)
 
@@ -115,10 +115,10 @@ module _ {G : Graph} {degree dearest : ℕ} (S : Sound G degree dearest) where
           × (suc (d + m .cost) + dearest ≤ suc (dearest * nonzeros (offered s d m)))
       more = go gain
         where
-          u-low : stored s u + dearest ≤ suc (dearest * nonzeros (s .known))
+          u-low : knownAt s u + dearest ≤ suc (dearest * nonzeros (s .known))
           u-low = A .sane .low u (omega (arith, A .now))
 
-          go : Gain (suc (d + m .cost)) (stored s (m .to))
+          go : Gain (suc (d + m .cost)) (knownAt s (m .to))
               → (nonzeros (s .known) ≤ nonzeros (offered s d m))
               × (suc (d + m .cost) + dearest ≤ suc (dearest * nonzeros (offered s d m)))
           go (inl e) = rw (nonzeros-new (s .known) (m .to) (d + m .cost) to-placed e, mul-suc)
@@ -165,7 +165,7 @@ module _ {G : Graph} {degree dearest : ℕ} (S : Sound G degree dearest) where
 
           -- its own moves never make u cheaper
           now : AfterStore (s .known) (m .to) (suc (d + m .cost)) u → getD (offered s d m) u 0 ≡ suc d
-          now (hit e q) = absurd (no-gain gain (omega (arith, A .now, ap (stored s) e)) (omega (arith, A .now, ap (stored s) e)))
+          now (hit e q) = absurd (no-gain gain (omega (arith, A .now, ap (knownAt s) e)) (omega (arith, A .now, ap (knownAt s) e)))
           now (miss n q) = q ∙ A .now
 
   -- ---- a taking
@@ -186,14 +186,14 @@ module _ {G : Graph} {degree dearest : ℕ} (S : Sound G degree dearest) where
     lawful = λ m i. i;
   }
 
-  outset-sane : Sane G degree dearest [] (outset G)
-  unfolding outset
-  outset-sane = record {
-    known-long = outset-linked S .known-long;
-    previous-long = outset-linked S .previous-long;
+  first-sane : Sane G degree dearest [] (firstState G)
+  unfolding firstState
+  first-sane = record {
+    known-long = first-linked S .known-long;
+    previous-long = first-linked S .previous-long;
     low = λ v p. rw (one, mul-suc) (omega (arith, start-alone S v p));
     previous-in = λ v. omega (arith, zeros (G .size) v);
-    fits = λ e. elim [ inl p ↦ rw p (record { cell-in = S .start-in; reached = omega (arith, outset-linked S .start-known); low = rw (one, mul-suc) (omega arith) }) | inr i ↦ absurd i ];
+    fits = λ e. elim [ inl p ↦ rw p (record { cell-in = S .start-in; reached = omega (arith, first-linked S .start-known); low = rw (one, mul-suc) (omega arith) }) | inr i ↦ absurd i ];
     balance = refl;
     serial = zero-le;
   }
@@ -202,7 +202,7 @@ module _ {G : Graph} {degree dearest : ℕ} (S : Sound G degree dearest) where
       one = nonzeros-new (replicate (G .size) 0) (G .start) 0 (start-placed S) (zeros (G .size) (G .start)) ∙ ap suc (nonzeros-none (G .size))
 
   pub sane : {l : List ℕ} {s : State} → Reached G l s → Sane G degree dearest [] s
-  sane at-outset = outset-sane
+  sane at-first = first-sane
   sane (then {s = s} t R k g e) =
       (rw e at (through G (t .next .cell) (costOf s (t .next .cell)) (λ ms l r. Still G degree dearest (t .next .cell) (costOf s (t .next .cell)) ms r) (λ l. Unit {0})
       (λ m ms l r A f. skip-still A) (λ m ms l r A f p. push-still A f) (λ m ms l r A f p. tt) (G .moves (t .next .cell)) [] (oneMoreExpanded s (t .left)) (take-still (sane R) k))) .sane

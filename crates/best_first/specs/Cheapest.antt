@@ -9,20 +9,20 @@ use native.Mathlib.Nat.{eq-zero-or-pos, add-zero, add-assoc}
 use lib.ListN.{getD}
 use Rattle.best_first.specs.Search.{Graph, State, Taken}
 use Rattle.best_first.specs.Ways.{GraphStep, Way, Consistent}
-use Rattle.best_first.specs.Statements.{Cheapest, Taking, stored, costOf}
+use Rattle.best_first.specs.Statements.{Cheapest, Taking, knownAt, costOf}
 use Rattle.best_first.specs.Base.{Base, all-loose, taken-fresh}
 
 -- x is known at no more than a (costs with 1 added)
 record Here (s : State) (x a : ℕ) : Type 0 where
-  reached : 0 < stored s x
-  cheap : stored s x ≤ a
+  reached : 0 < knownAt s x
+  cheap : knownAt s x ≤ a
 
--- an open cell waits from which x can't be had cheaper than a
+-- an open cell waits whose key is no more than x's would be at cost a; costs stand with 1 added
 record Ahead (G : Graph) (closed : List ℕ) (s : State) (x a : ℕ) : Type 0 where
   cell : ℕ
-  reached : 0 < stored s cell
+  reached : 0 < knownAt s cell
   is-open : getD closed cell 0 ≡ 0
-  near : stored s cell + G .estimate cell ≤ a + G .estimate x
+  near : knownAt s cell + G .estimate cell ≤ a + G .estimate x
 
 module _ {G : Graph} (K : Consistent G) {closed ages : List ℕ} {w : ℕ} {s : State} (B : Base G closed ages w [] s) where
   one-on : (x v c a : ℕ) → GraphStep G x v c → Here s x a ⊎ Ahead G closed s x a → Here s v (a + c) ⊎ Ahead G closed s v (a + c)
@@ -44,7 +44,7 @@ module _ {G : Graph} (K : Consistent G) {closed ages : List ℕ} {w : ℕ} {s : 
       })
       go (inr p) =
           let l = all-loose B x (st .0) p (st .1) in
-          inl (record { reached = rw (st .2) at (l .there); cheap = omega (arith, l .cheap, h .cheap, st .3, ap (stored s) (st .2)) })
+          inl (record { reached = rw (st .2) at (l .there); cheap = omega (arith, l .cheap, h .cheap, st .3, ap (knownAt s) (st .2)) })
 
   all-on : (l : List ℕ) (x t d a : ℕ) → Way G x l t d → Here s x a ⊎ Ahead G closed s x a → Here s t (a + d) ⊎ Ahead G closed s t (a + d)
   all-on [] x t d a W n = rw (W .1, add-zero, ← W .0) n
@@ -54,12 +54,12 @@ module _ {G : Graph} (K : Consistent G) {closed ages : List ℕ} {w : ℕ} {s : 
   cheapest {t} k e l d W =
       go (all-on l (G .start) (G .goal) d 1 W (inl (record { reached = omega (arith, B .linked .start-known); cheap = omega (arith, B .linked .start-known) })))
     where
-      fresh : suc (t .next .key) ≡ stored s (G .goal)
+      fresh : suc (t .next .key) ≡ knownAt s (G .goal)
       fresh =
           let o : getD closed (t .next .cell) 0 ≡ 0 = rw e (B .goal-open) in
-          omega (arith, taken-fresh B k o, ap (λ (n : ℕ). stored s n + G .estimate n) e, K .goal-zero)
+          omega (arith, taken-fresh B k o, ap (λ (n : ℕ). knownAt s n + G .estimate n) e, K .goal-zero)
 
-      go : Here s (G .goal) (1 + d) ⊎ Ahead G closed s (G .goal) (1 + d) → pred (stored s (G .goal)) ≤ d
+      go : Here s (G .goal) (1 + d) ⊎ Ahead G closed s (G .goal) (1 + d) → pred (knownAt s (G .goal)) ≤ d
       go (inl h) = omega (arith, h .cheap)
       go (inr h) =
           let Q = B .waits (h .cell) (h .reached) (h .is-open) in

@@ -8,9 +8,9 @@ use Rattle.best_first.specs.Search.{Graph, Answer}
 use Rattle.best_first.specs.Ways.{Sound, Consistent}
 use Rattle.best_first.specs.Statements.{Honest, Right, expandedOf}
 use Rattle.best_first.specs.Reached.{Ending, empty, arrives, passes, fills}
-use Rattle.best_first.specs.Induction.{holds, bare}
+use Rattle.best_first.specs.Induction.{invariant-holds, bare}
 use Rattle.best_first.specs.NoRoute.{empty-shut, shut-no-way}
-use Rattle.best_first.specs.Tree.{taken-lawful}
+use Rattle.best_first.specs.WayBack.{taken-lawful}
 use Rattle.best_first.specs.Cheapest.{cheapest}
 use Rattle.best_first.specs.Paced.{Frugal}
 
@@ -34,6 +34,6 @@ module _ {G : Graph} {degree dearest : ℕ} (S : Sound G degree dearest) {n : �
 
       go : {a : Answer} {l : List ℕ} → Ending G n a l → Honest G n a → Frugal G (G .size * degree - degree) a → expandedOf a ≤ degree * G .size → Right G degree n a
       go (empty R q) h f few = (h, few)
-      go (arrives t R k e) h f few = (h, cheapest K (holds S (bare G) R .base) k e, few)
+      go (arrives t R k e) h f few = (h, cheapest K (invariant-holds S (bare G) R .base) k e, few)
       go (passes t R k q e) h f few = (h, few)
       go (fills t R k q e) h f few = (omega (arith, f .spare _ refl, most), few)

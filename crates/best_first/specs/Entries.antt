@@ -135,15 +135,15 @@ same-least e xs = record { many = length-least e xs; each = λ a. count-least a 
 
 -- ---- r was taken out of p, and q is left: what a heap does
 
-pub record Popped (p : List Entry) (r : Entry) (q : List Entry) : Type 0 where
+pub record TakenOut (p : List Entry) (r : Entry) (q : List Entry) : Type 0 where
   pub low : (y : Entry) → In y p → Late y r
   pub same : Same p (r ∷ q)
 
-pub popped-same : {p p′ : List Entry} {r : Entry} {q : List Entry} → Same p′ p → Popped p r q → Popped p′ r q
-popped-same S P = record { low = λ y i. P .low y (same-in S y i); same = same-trans S (P .same) }
+pub taken-out-same : {p p′ : List Entry} {r : Entry} {q : List Entry} → Same p′ p → TakenOut p r q → TakenOut p′ r q
+taken-out-same S P = record { low = λ y i. P .low y (same-in S y i); same = same-trans S (P .same) }
 
-pub popped-taking : {p : List Entry} {r : Entry} {q : List Entry} → Popped p r q → Taking p (record { next = r; left = q })
-popped-taking {p} {r} {q} P = record {
+pub taken-out-taking : {p : List Entry} {r : Entry} {q : List Entry} → TakenOut p r q → Taking p (record { next = r; left = q })
+taken-out-taking {p} {r} {q} P = record {
   from = same-in (same-sym (P .same)) r (inl refl);
   low = λ y i. late-key y r (P .low y i);
   left-in = λ y i. same-in (same-sym (P .same)) y (inr i);
@@ -151,12 +151,12 @@ popped-taking {p} {r} {q} P = record {
   len = P .same .many;
 }
 
--- the entry taken is popped from any list of the same entries
-pub least-popped : (e : Entry) (xs p : List Entry) → Same p (e ∷ xs) → Popped p (least e xs .next) (least e xs .left)
-least-popped e xs p S = record { low = λ y i. least-late e xs y (same-in S y i); same = same-trans S (same-least e xs) }
+-- the entry taken is taken out of any list of the same entries
+pub least-taken-out : (e : Entry) (xs p : List Entry) → Same p (e ∷ xs) → TakenOut p (least e xs .next) (least e xs .left)
+least-taken-out e xs p S = record { low = λ y i. least-late e xs y (same-in S y i); same = same-trans S (same-least e xs) }
 
 pub taking : (e : Entry) (xs : List Entry) → Taking (e ∷ xs) (least e xs)
-taking e xs = popped-taking (least-popped e xs (e ∷ xs) (same-refl (e ∷ xs)))
+taking e xs = taken-out-taking (least-taken-out e xs (e ∷ xs) (same-refl (e ∷ xs)))
 
 -- no two entries of one serial
 abbrev pub Distinct : List Entry → Type 0
@@ -169,14 +169,14 @@ same-serial a b (by-key h) (by-serial e k) = omega arith
 same-serial a b (by-serial e h) (by-key k) = omega arith
 same-serial a b (by-serial e h) (by-serial f k) = omega arith
 
--- what is popped is what is taken, and the same are left
-pub popped-next : (e : Entry) (xs : List Entry) (r : Entry) (q : List Entry) → Distinct (e ∷ xs) → Popped (e ∷ xs) r q → least e xs .next ≡ r
-popped-next e xs r q apart P =
+-- what is taken out is what is taken, and the same are left
+pub taken-out-next : (e : Entry) (xs : List Entry) (r : Entry) (q : List Entry) → Distinct (e ∷ xs) → TakenOut (e ∷ xs) r q → least e xs .next ≡ r
+taken-out-next e xs r q apart P =
     let n = least e xs .next in
     let n-in : In n (e ∷ xs) = taking e xs .from in
-    let r-in : In r (e ∷ xs) = popped-taking P .from in
+    let r-in : In r (e ∷ xs) = taken-out-taking P .from in
     apart n r n-in r-in (same-serial n r (P .low n n-in) (least-late e xs r r-in))
 
-pub popped-left : (e : Entry) (xs : List Entry) (r : Entry) (q : List Entry) → Distinct (e ∷ xs) → Popped (e ∷ xs) r q → Same (least e xs .left) q
-popped-left e xs r q apart P =
-    same-rest r (same-trans (same-sym (rw (popped-next e xs r q apart P) at (same-least e xs))) (P .same))
+pub taken-out-left : (e : Entry) (xs : List Entry) (r : Entry) (q : List Entry) → Distinct (e ∷ xs) → TakenOut (e ∷ xs) r q → Same (least e xs .left) q
+taken-out-left e xs r q apart P =
+    same-rest r (same-trans (same-sym (rw (taken-out-next e xs r q apart P) at (same-least e xs))) (P .same))

@@ -1,4 +1,4 @@
--- The equations of the search, one for each branch of its definitions.
+-- The equations of the search, one for each case of its definitions.
 use mathlib.Core.Path.{_≡_, refl}
 use mathlib.Core.Logic.{_⊎_, inl, inr, _≢_}
 use mathlib.Core.Bool.{true, false}
@@ -8,8 +8,8 @@ use native.Mathlib.Omega.{arith}
 use lib.ListN.{length, getD, set}
 use borrow.Author.Tests.{ltb-true, ltb-false, lt-ltb, le-ltb, eq-eqb, ne-eqb}
 use Rattle.basics.specs.Tests.{askSame, never}
-use Rattle.best_first.specs.Search.{Graph, Move, Entry, State, Taken, full, on, offer, expand, push, cheaper, trace, least, Answer, no-route, limit-passed, queue-full, ends, expands, arrived, oneMoreExpanded, takeOne, run}
-use Rattle.best_first.specs.Statements.{Taking, stored, costOf}
+use Rattle.best_first.specs.Search.{Graph, Move, Entry, State, Taken, full, on, offer, expand, push, cheaper, trace, least, Answer, no-route, limit-passed, queue-full, ends, expands, arrived, oneMoreExpanded, takeOne, takeAll}
+use Rattle.best_first.specs.Statements.{Taking, knownAt, costOf}
 use Rattle.best_first.specs.Entries.{taking}
 
 -- the known costs once the move m of a cell of cost d has been taken up
@@ -47,15 +47,15 @@ no-gain (inr h) p q = omega arith
 -- ---- one offer
 
 module _ (G : Graph) (u v c : ℕ) (s : State) where
-  pub offer-skip : cheaper c (stored s v) ≡ false → offer G u v c s ≡ on s
+  pub offer-skip : cheaper c (knownAt s v) ≡ false → offer G u v c s ≡ on s
   unfolding offer
   offer-skip e = rw e
 
-  pub offer-push : cheaper c (stored s v) ≡ true → length (s .waiting) < G .places → offer G u v c s ≡ on (push G u v c s)
+  pub offer-push : cheaper c (knownAt s v) ≡ true → length (s .waiting) < G .places → offer G u v c s ≡ on (push G u v c s)
   unfolding offer
   offer-push e r = rw (e, lt-ltb _ _ r)
 
-  pub offer-full : cheaper c (stored s v) ≡ true → G .places ≤ length (s .waiting) → offer G u v c s ≡ full
+  pub offer-full : cheaper c (knownAt s v) ≡ true → G .places ≤ length (s .waiting) → offer G u v c s ≡ full
   unfolding offer
   offer-full e r = rw (e, le-ltb _ _ r)
 
@@ -74,31 +74,31 @@ module _ (G : Graph) (u d : ℕ) (m : Move) (ms : List Move) (s : State) where
   unfolding expand
   expand-stop e = rw (e, expand)
 
-  pub expand-skip : cheaper (d + m .cost) (stored s (m .to)) ≡ false → expand G u d (m ∷ ms) s ≡ expand G u d ms s
+  pub expand-skip : cheaper (d + m .cost) (knownAt s (m .to)) ≡ false → expand G u d (m ∷ ms) s ≡ expand G u d ms s
   expand-skip e = expand-on s (offer-skip G u _ _ s e)
 
-  pub expand-push : cheaper (d + m .cost) (stored s (m .to)) ≡ true → length (s .waiting) < G .places
+  pub expand-push : cheaper (d + m .cost) (knownAt s (m .to)) ≡ true → length (s .waiting) < G .places
       → expand G u d (m ∷ ms) s ≡ expand G u d ms (push G u (m .to) (d + m .cost) s)
   expand-push e r = expand-on _ (offer-push G u _ _ s e r)
 
-  pub expand-full : cheaper (d + m .cost) (stored s (m .to)) ≡ true → G .places ≤ length (s .waiting) → expand G u d (m ∷ ms) s ≡ full
+  pub expand-full : cheaper (d + m .cost) (knownAt s (m .to)) ≡ true → G .places ≤ length (s .waiting) → expand G u d (m ∷ ms) s ≡ full
   expand-full e r = expand-stop (offer-full G u _ _ s e r)
 
 -- ---- a taking
 
 module _ (G : Graph) (s : State) where
-  pub taking-none : s .waiting ≡ [] → takeOne G s ≡ ends (no-route (s .expanded))
+  pub take-none : s .waiting ≡ [] → takeOne G s ≡ ends (no-route (s .expanded))
   unfolding takeOne
-  taking-none e = rw e
+  take-none e = rw e
 
   module _ (e : Entry) (es : List Entry) (q : s .waiting ≡ e ∷ es) where
-    pub taking-goal : least e es .next .cell ≡ G .goal → takeOne G s ≡ ends (arrived G s)
+    pub take-goal : least e es .next .cell ≡ G .goal → takeOne G s ≡ ends (arrived G s)
     unfolding takeOne
-    taking-goal t = rw (q, eq-eqb _ _ t)
+    take-goal t = rw (q, eq-eqb _ _ t)
 
-    pub taking-on : least e es .next .cell ≢ G .goal → takeOne G s ≡ expands (least e es .next .cell) (oneMoreExpanded s (least e es .left))
+    pub take-on : least e es .next .cell ≢ G .goal → takeOne G s ≡ expands (least e es .next .cell) (oneMoreExpanded s (least e es .left))
     unfolding takeOne
-    taking-on t = rw (q, ne-eqb _ _ t)
+    take-on t = rw (q, ne-eqb _ _ t)
 
 -- nothing waits, or the goal is taken, or a cell is to be expanded
 pub data TakeCases (G : Graph) (s : State) : Type 0 where
@@ -110,33 +110,33 @@ pub take-cases : (G : Graph) (s : State) → TakeCases G s
 take-cases G s = go (s .waiting) refl
   where
     go : (w : List Entry) → s .waiting ≡ w → TakeCases G s
-    go [] q = nothing q (taking-none G s q)
+    go [] q = nothing q (take-none G s q)
     go (e ∷ es) q =
         let k : Taking (s .waiting) (least e es) = rw q (taking e es) in
         askSame (least e es .next .cell) (G .goal)
-        (λ t. goal-taken (least e es) k t (taking-goal G s e es q t))
-        (λ f. goes-on (least e es) k f (taking-on G s e es q f))
+        (λ t. goal-taken (least e es) k t (take-goal G s e es q t))
+        (λ f. goes-on (least e es) k f (take-on G s e es q f))
 
 -- ---- a run
 
 module _ (G : Graph) (s : State) where
-  pub run-ends : (b : ℕ) (a : Answer) → takeOne G s ≡ ends a → run G b s ≡ a
-  unfolding run
-  run-ends zero a e = rw (e, run)
-  run-ends (suc b) a e = rw (e, run)
+  pub take-all-ends : (b : ℕ) (a : Answer) → takeOne G s ≡ ends a → takeAll G b s ≡ a
+  unfolding takeAll
+  take-all-ends zero a e = rw (e, takeAll)
+  take-all-ends (suc b) a e = rw (e, takeAll)
 
   module _ (u : ℕ) (t : State) (e : takeOne G s ≡ expands u t) where
-    pub run-limit : run G zero s ≡ limit-passed (t .expanded)
-    unfolding run
-    run-limit = rw (e, run)
+    pub take-all-limit : takeAll G zero s ≡ limit-passed (t .expanded)
+    unfolding takeAll
+    take-all-limit = rw (e, takeAll)
 
-    pub run-full : (b : ℕ) → expand G u (costOf t u) (G .moves u) t ≡ full → run G (suc b) s ≡ queue-full (t .expanded)
-    unfolding run
-    run-full b r = rw (e, r, run)
+    pub take-all-full : (b : ℕ) → expand G u (costOf t u) (G .moves u) t ≡ full → takeAll G (suc b) s ≡ queue-full (t .expanded)
+    unfolding takeAll
+    take-all-full b r = rw (e, r, takeAll)
 
-    pub run-on : (b : ℕ) (t′ : State) → expand G u (costOf t u) (G .moves u) t ≡ on t′ → run G (suc b) s ≡ run G b t′
-    unfolding run
-    run-on b t′ r = rw (e, r, run)
+    pub take-all-on : (b : ℕ) (t′ : State) → expand G u (costOf t u) (G .moves u) t ≡ on t′ → takeAll G (suc b) s ≡ takeAll G b t′
+    unfolding takeAll
+    take-all-on b t′ r = rw (e, r, takeAll)
 
 -- ---- the path by predecessors
 

@@ -7,13 +7,13 @@ use mathlib.Core.List.{List, [], _∷_}
 use Prim.Native.Nat.{ℕ, suc, _+_, _-_, _≤_, _<_}
 use native.Mathlib.Omega.{arith}
 use lib.ListN.{length}
-use Rattle.best_first.specs.Search.{Graph, Move, Entry, State, Pushed, full, on, expand, push, cheaper, Answer, no-route, limit-passed, queue-full, arrived, oneMoreExpanded, run, outset, bestFirst}
+use Rattle.best_first.specs.Search.{Graph, Move, Entry, State, Pushed, full, on, expand, push, cheaper, Answer, no-route, limit-passed, queue-full, arrived, oneMoreExpanded, takeAll, firstState, bestFirst}
 use Rattle.best_first.specs.Ways.{Sound}
-use Rattle.best_first.specs.Statements.{stored, costOf, Reached, at-outset, then, Bounded, outcome}
-use Rattle.best_first.specs.Entries.{Popped, popped-same, popped-taking}
-use Rattle.best_first.specs.Equations.{cheaper-true, expand-none, expand-skip, expand-push, expand-full, taking-none, run-ends}
+use Rattle.best_first.specs.Statements.{knownAt, costOf, Reached, at-first, then, Bounded, outcome}
+use Rattle.best_first.specs.Entries.{TakenOut, taken-out-same, taken-out-taking}
+use Rattle.best_first.specs.Equations.{cheaper-true, expand-none, expand-skip, expand-push, expand-full, take-none, take-all-ends}
 use Rattle.best_first.specs.Reached.{expanded-stays}
-use Rattle.best_first.specs.Orders.{Apart, Alike, alike-refl, alike-sym, alike-trans, alike-apart, outset-apart, push-apart, Both, expand-both, expanded-apart, run-both, pop-goal, pop-limit, pop-full, pop-on}
+use Rattle.best_first.specs.Orders.{Apart, Alike, alike-refl, alike-sym, alike-trans, alike-apart, first-apart, push-apart, Both, expand-both, expanded-apart, take-all-both, out-goal, out-limit, out-full, out-on}
 use Rattle.best_first.specs.Bounds.{Still, bounded, alike-sane, alike-still, skip-still, push-still, take-still, sane}
 
 -- ---- the moves of u, whose cost is d: the outcome of all is x, and `due` are still to be tried
@@ -21,7 +21,7 @@ use Rattle.best_first.specs.Bounds.{Still, bounded, alike-sane, alike-st
 pub record Trying (G : Graph) (degree dearest u d : ℕ) (x : Pushed) (due : List Move) (s : State) : Type 0 where
   still : Still G degree dearest u d due s
   pub apart : Apart s
-  pub room : length (s .waiting) ≤ G .places
+  pub fits : length (s .waiting) ≤ G .places
   pub rest : Both (expand G u d due s) x
 
 both-join : (a b c : Pushed) → Both a b → Both a c → Both b c
@@ -35,10 +35,10 @@ both-join (on r) (on s) (on t) p q = (alike-apart (p .1) (p .0), alike-trans (al
 module _ {G : Graph} {degree dearest : ℕ} (S : Sound G degree dearest) {u d : ℕ} {x : Pushed} where
   module _ {m : Move} {ms : List Move} {s : State} (T : Trying G degree dearest u d x (m ∷ ms) s) where
     -- the move offers no lower cost
-    pub trying-skip : cheaper (d + m .cost) (stored s (m .to)) ≡ false → Trying G degree dearest u d x ms s
-    trying-skip e = record { still = skip-still S (T .still); apart = T .apart; room = T .room; rest = rw (expand-skip G u d m ms s e) at (T .rest) }
+    pub trying-skip : cheaper (d + m .cost) (knownAt s (m .to)) ≡ false → Trying G degree dearest u d x ms s
+    trying-skip e = record { still = skip-still S (T .still); apart = T .apart; fits = T .fits; rest = rw (expand-skip G u d m ms s e) at (T .rest) }
 
-    module _ (e : cheaper (d + m .cost) (stored s (m .to)) ≡ true) where
+    module _ (e : cheaper (d + m .cost) (knownAt s (m .to)) ≡ true) where
       -- it does, and the entry is pushed, wherever the heap puts it
       pub trying-push : length (s .waiting) < G .places → (t : State) → Alike (push G u (m .to) (d + m .cost) s) t → Trying G degree dearest u d x ms t
       unfolding push
@@ -47,7 +47,7 @@ module _ {G : Graph} {degree dearest : ℕ} (S : Sound G degree dearest) {u d : 
           record {
             still = alike-still L (push-still S (T .still) (cheaper-true _ _ e));
             apart = alike-apart L A;
-            room = omega (arith, L .waiting .many);
+            fits = omega (arith, L .waiting .many);
             rest = both-join (expand G u d ms (push G u (m .to) (d + m .cost) s)) (expand G u d ms t) x (expand-both G u d ms _ t A L)
                 (rw (expand-push G u d m ms s e r) at (T .rest));
           }
@@ -77,21 +77,21 @@ pub record Going (G : Graph) (n : ℕ) (R : Answer) (s : State) : Type 0 where
   reached : Reached G pushed model
   alike : Alike model s
   pub apart : Apart s
-  pub room : length (s .waiting) ≤ G .places
+  pub fits : length (s .waiting) ≤ G .places
   pub within : s .expanded ≤ n
-  pub rest : run G (n - s .expanded) s ≡ R
+  pub rest : takeAll G (n - s .expanded) s ≡ R
 
-pub going-outset : (G : Graph) (n : ℕ) → 0 < G .places → Going G n (bestFirst G n) (outset G)
-unfolding bestFirst outset
-going-outset G n h = record {
+pub going-first : (G : Graph) (n : ℕ) → 0 < G .places → Going G n (bestFirst G n) (firstState G)
+unfolding bestFirst firstState
+going-first G n h = record {
   pushed = [];
-  model = outset G;
-  reached = at-outset;
+  model = firstState G;
+  reached = at-first;
   alike = alike-refl _;
-  apart = outset-apart G;
-  room = h;
+  apart = first-apart G;
+  fits = h;
   within = omega arith;
-  rest = ap (λ (b : ℕ). run G b (outset G)) (omega arith);
+  rest = ap (λ (b : ℕ). takeAll G b (firstState G)) (omega arith);
 }
 
 -- the waiting list may stand in any order
@@ -102,9 +102,9 @@ going-alike {G} {n} {R} {s} {t} I L = record {
   reached = I .reached;
   alike = alike-trans (I .alike) L;
   apart = alike-apart L (I .apart);
-  room = omega (arith, I .room, L .waiting .many);
+  fits = omega (arith, I .fits, L .waiting .many);
   within = omega (arith, I .within, L .expanded);
-  rest = rw (L .expanded) at (sym (run-both G (n - s .expanded) s t (I .apart) L) ∙ I .rest);
+  rest = rw (L .expanded) at (sym (take-all-both G (n - s .expanded) s t (I .apart) L) ∙ I .rest);
 }
 
 pub going-bounded : {G : Graph} {degree dearest n : ℕ} {R : Answer} {s : State} → Sound G degree dearest → Going G n R s → Bounded G degree dearest s
@@ -112,15 +112,15 @@ going-bounded S I = bounded S (alike-sane (I .alike) (sane S (I .reached)))
 
 module _ {G : Graph} {n : ℕ} {R : Answer} {s : State} (I : Going G n R s) where
   pub going-none : s .waiting ≡ [] → R ≡ no-route (s .expanded)
-  going-none e = sym (I .rest) ∙ run-ends G s _ _ (taking-none G s e)
+  going-none e = sym (I .rest) ∙ take-all-ends G s _ _ (take-none G s e)
 
-  module _ {r : Entry} {q : List Entry} (P : Popped (s .waiting) r q) where
+  module _ {r : Entry} {q : List Entry} (P : TakenOut (s .waiting) r q) where
     pub going-goal : r .cell ≡ G .goal → R ≡ arrived G s
-    going-goal e = sym (I .rest) ∙ pop-goal G s r q (I .apart) P _ e
+    going-goal e = sym (I .rest) ∙ out-goal G s r q (I .apart) P _ e
 
     module _ (away : r .cell ≢ G .goal) where
       pub going-limit : n ≤ s .expanded → R ≡ limit-passed (suc (s .expanded))
-      going-limit h = sym (I .rest) ∙ ap (λ (b : ℕ). run G b s) (omega arith) ∙ pop-limit G s r q (I .apart) P away
+      going-limit h = sym (I .rest) ∙ ap (λ (b : ℕ). takeAll G b s) (omega arith) ∙ out-limit G s r q (I .apart) P away
 
       module _ (more : s .expanded < n) where
         left : n - s .expanded ≡ suc (n - suc (s .expanded))
@@ -128,7 +128,7 @@ module _ {G : Graph} {n : ℕ} {R : Answer} {s : State} (I : Going G n R s) wher
 
         -- the moves of the cell taken are tried: the queue is full, or the search goes on
         pub going-full : outcome G s r q ≡ full → R ≡ queue-full (suc (s .expanded))
-        going-full e = sym (I .rest) ∙ ap (λ (b : ℕ). run G b s) left ∙ pop-full G s r q (I .apart) P away _ e
+        going-full e = sym (I .rest) ∙ ap (λ (b : ℕ). takeAll G b s) left ∙ out-full G s r q (I .apart) P away _ e
 
         module _ {degree dearest : ℕ} (S : Sound G degree dearest) where
           pub going-try : Trying G degree dearest (r .cell) (costOf s (r .cell)) (outcome G s r q)
@@ -136,9 +136,9 @@ module _ {G : Graph} {n : ℕ} {R : Answer} {s : State} (I : Going G n R s) wher
           going-try =
               let A = expanded-apart s r q (I .apart) P in
               record {
-                still = take-still S (alike-sane (I .alike) (sane S (I .reached))) (popped-taking P);
+                still = take-still S (alike-sane (I .alike) (sane S (I .reached))) (taken-out-taking P);
                 apart = A;
-                room = omega (arith, P .same .many, I .room);
+                fits = omega (arith, P .same .many, I .fits);
                 rest = expand-both G (r .cell) _ (G .moves (r .cell)) _ _ A (alike-refl _);
               }
 
@@ -151,12 +151,12 @@ module _ {G : Graph} {n : ℕ} {R : Answer} {s : State} (I : Going G n R s) wher
               record {
                 pushed = _;
                 model = D .0;
-                reached = then {r = D .0} (record { next = r; left = q }) (I .reached) (popped-taking (popped-same (I .alike .waiting) P)) away
+                reached = then {r = D .0} (record { next = r; left = q }) (I .reached) (taken-out-taking (taken-out-same (I .alike .waiting) P)) away
                     (rw (I .alike .known, I .alike .previous, I .alike .serial, I .alike .expanded) (D .1));
                 alike = alike-sym (D .2);
                 apart = T .apart;
-                room = T .room;
+                fits = T .fits;
                 within = omega (arith, D .2 .expanded);
-                rest = run-both G _ t (D .0) (T .apart) (D .2) ∙ ap (λ (b : ℕ). run G b (D .0)) (omega (arith, D .2 .expanded))
-                    ∙ sym (pop-on G s r q (I .apart) P away (n - suc (s .expanded)) (D .0) (D .1)) ∙ ap (λ (b : ℕ). run G b s) (sym left) ∙ I .rest;
+                rest = take-all-both G _ t (D .0) (T .apart) (D .2) ∙ ap (λ (b : ℕ). takeAll G b (D .0)) (omega (arith, D .2 .expanded))
+                    ∙ sym (out-on G s r q (I .apart) P away (n - suc (s .expanded)) (D .0) (D .1)) ∙ ap (λ (b : ℕ). takeAll G b s) (sym left) ∙ I .rest;
               }

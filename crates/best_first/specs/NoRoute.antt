@@ -9,9 +9,9 @@ use lib.ListN.{getD}
 use Rattle.basics.specs.Lists.{In}
 use Rattle.best_first.specs.Search.{Graph, Move, State}
 use Rattle.best_first.specs.Ways.{GraphStep, Way, NoWay, Sound}
-use Rattle.best_first.specs.Statements.{stored, Reached, Shut}
+use Rattle.best_first.specs.Statements.{knownAt, Reached, Shut}
 use Rattle.best_first.specs.Base.{Waits, all-loose}
-use Rattle.best_first.specs.Induction.{Holds, holds, bare}
+use Rattle.best_first.specs.Induction.{Holds, invariant-holds, bare}
 
 pub shut-no-way : {G : Graph} {known : List ℕ} → Shut G known → NoWay G
 unfolding GraphStep
@@ -25,22 +25,22 @@ shut-no-way {G} {known} K l d W = absurd (omega (arith, K .lacks-goal, stays l (
 
 module _ {G : Graph} {degree dearest : ℕ} (S : Sound G degree dearest) {pushed : List ℕ} {s : State} (R : Reached G pushed s) where
   H : Holds (bare G) pushed s
-  H = holds S (bare G) R
+  H = invariant-holds S (bare G) R
 
   pub empty-shut : s .waiting ≡ [] → Shut G (s .known)
   empty-shut e = record {
     holds-start = omega (arith, H .base .linked .start-known);
-    lacks-goal = lacks (eq-zero-or-pos (stored s (G .goal)));
+    lacks-goal = lacks (eq-zero-or-pos (knownAt s (G .goal)));
     none-leaves = λ v m p i. leaves v m i p (eq-zero-or-pos (getD (H .closed) v 0));
   }
     where
       none : {v : ℕ} → Waits G (s .known) (s .waiting) v → ⊥
       none W = rw e at (W .there)
 
-      lacks : (stored s (G .goal) ≡ 0) ⊎ (0 < stored s (G .goal)) → stored s (G .goal) ≡ 0
+      lacks : (knownAt s (G .goal) ≡ 0) ⊎ (0 < knownAt s (G .goal)) → knownAt s (G .goal) ≡ 0
       lacks (inl z) = z
       lacks (inr p) = absurd (none (H .base .waits (G .goal) p (H .base .goal-open)))
 
-      leaves : (v : ℕ) (m : Move) → In m (G .moves v) → 0 < stored s v → (getD (H .closed) v 0 ≡ 0) ⊎ (0 < getD (H .closed) v 0) → 0 < stored s (m .to)
+      leaves : (v : ℕ) (m : Move) → In m (G .moves v) → 0 < knownAt s v → (getD (H .closed) v 0 ≡ 0) ⊎ (0 < getD (H .closed) v 0) → 0 < knownAt s (m .to)
       leaves v m i p (inl o) = absurd (none (H .base .waits v p o))
       leaves v m i p (inr c) = all-loose (H .base) v m c i .there

@@ -7,11 +7,11 @@ use native.Mathlib.Omega.{arith}
 use lib.ListN.{length, getD}
 use Rattle.basics.specs.Tests.{ask, askSame, askLess}
 use Rattle.basics.specs.Lists.{In}
-use Rattle.best_first.specs.Search.{Graph, Move, Entry, State, Pushed, full, on, offer, expand, push, cheaper, least, Answer, no-route, limit-passed, queue-full, ends, expands, arrived, oneMoreExpanded, takeOne, run, outset}
-use Rattle.best_first.specs.Statements.{stored, costOf, outcome}
-use Rattle.best_first.specs.Lists.{length-zero}
-use Rattle.best_first.specs.Entries.{Same, same-refl, same-sym, same-trans, same-in, same-cons, Popped, popped-taking, Distinct, popped-next, popped-left, least-popped}
-use Rattle.best_first.specs.Equations.{offer-skip, offer-push, offer-full, expand-on, expand-stop, taking-none, taking-goal, taking-on, run-ends, run-limit, run-full, run-on}
+use Rattle.best_first.specs.Search.{Graph, Move, Entry, State, Pushed, full, on, offer, expand, push, cheaper, least, Answer, no-route, limit-passed, queue-full, ends, expands, arrived, oneMoreExpanded, takeOne, takeAll, firstState}
+use Rattle.best_first.specs.Statements.{knownAt, costOf, outcome}
+use Rattle.best_first.specs.ListsAfterSet.{length-zero}
+use Rattle.best_first.specs.Entries.{Same, same-refl, same-sym, same-trans, same-in, same-cons, TakenOut, taken-out-taking, Distinct, taken-out-next, taken-out-left, least-taken-out}
+use Rattle.best_first.specs.Equations.{offer-skip, offer-push, offer-full, expand-on, expand-stop, take-none, take-goal, take-on, take-all-ends, take-all-limit, take-all-full, take-all-on}
 
 -- no two entries have one serial, and none one above the last given
 pub record Apart (s : State) : Type 0 where
@@ -53,9 +53,9 @@ alike-apart L A = record {
   distinct = λ a b i j. A .distinct a b (same-in (same-sym (L .waiting)) a i) (same-in (same-sym (L .waiting)) b j);
 }
 
-pub outset-apart : (G : Graph) → Apart (outset G)
-unfolding outset
-outset-apart G = record {
+pub first-apart : (G : Graph) → Apart (firstState G)
+unfolding firstState
+first-apart G = record {
   old = λ a. elim [ inl e ↦ omega (arith, ap (λ (x : Entry). x .serial) e) | inr i ↦ absurd i ];
   distinct = λ a b. elim [ inl e ↦ elim [ inl f ↦ λ q. e ∙ sym f | inr j ↦ absurd j ] | inr i ↦ absurd i ];
 }
@@ -91,7 +91,7 @@ Both (on s) (on t) = Apart s × Alike s t
 
 offer-both : (G : Graph) (u v c : ℕ) (s t : State) → Apart s → Alike s t → Both (offer G u v c s) (offer G u v c t)
 offer-both G u v c s t A L =
-    ask (cheaper c (stored s v))
+    ask (cheaper c (knownAt s v))
     (λ y. askLess (length (s .waiting)) (G .places)
     (λ l. rw (offer-push G u v c s y l, offer-push G u v c t (rw (L .known) at y) (rw (L .waiting .many) at l)) (push-apart G u v c s A, push-alike G u v c s t L))
     (λ l. rw (offer-full G u v c s y l, offer-full G u v c t (rw (L .known) at y) (rw (L .waiting .many) at l)) tt))
@@ -115,37 +115,37 @@ expand-both G u d (m ∷ ms) s t A L = go _ _ refl refl (offer-both G u (m .to) 
 expanded-alike : (s t : State) (p q : List Entry) → Alike s t → Same p q → Alike (oneMoreExpanded s p) (oneMoreExpanded t q)
 expanded-alike s t p q L S = record { known = L .known; previous = L .previous; waiting = S; serial = L .serial; expanded = ap suc (L .expanded) }
 
-pub expanded-apart : (s : State) (r : Entry) (q : List Entry) → Apart s → Popped (s .waiting) r q → Apart (oneMoreExpanded s q)
+pub expanded-apart : (s : State) (r : Entry) (q : List Entry) → Apart s → TakenOut (s .waiting) r q → Apart (oneMoreExpanded s q)
 expanded-apart s r q A P = record {
-  old = λ a i. A .old a (popped-taking P .left-in a i);
-  distinct = λ a b i j. A .distinct a b (popped-taking P .left-in a i) (popped-taking P .left-in b j);
+  old = λ a i. A .old a (taken-out-taking P .left-in a i);
+  distinct = λ a b i j. A .distinct a b (taken-out-taking P .left-in a i) (taken-out-taking P .left-in b j);
 }
 
--- the entry popped is the one that the definition takes, and the same are left
-module _ (G : Graph) (s : State) (r : Entry) (q : List Entry) (A : Apart s) (P : Popped (s .waiting) r q) where
-  taking-popped-goal : r .cell ≡ G .goal → takeOne G s ≡ ends (arrived G s)
-  taking-popped-goal e = go (s .waiting) refl
+-- the entry taken out is the one that the definition takes, and the same are left
+module _ (G : Graph) (s : State) (r : Entry) (q : List Entry) (A : Apart s) (P : TakenOut (s .waiting) r q) where
+  taking-goal-out : r .cell ≡ G .goal → takeOne G s ≡ ends (arrived G s)
+  taking-goal-out e = go (s .waiting) refl
     where
       go : (w : List Entry) → s .waiting ≡ w → takeOne G s ≡ ends (arrived G s)
       go [] f = absurd (omega (arith, P .same .many, ap length f))
-      go (x ∷ xs) f = taking-goal G s x xs f (ap (λ (y : Entry). y .cell) (popped-next x xs r q (rw f at (A .distinct)) (rw f at P)) ∙ e)
+      go (x ∷ xs) f = take-goal G s x xs f (ap (λ (y : Entry). y .cell) (taken-out-next x xs r q (rw f at (A .distinct)) (rw f at P)) ∙ e)
 
   record Left : Type 0 where
     left : List Entry
     goes : takeOne G s ≡ expands (r .cell) (oneMoreExpanded s left)
     same : Same left q
 
-  taking-popped-on : r .cell ≢ G .goal → Left
-  taking-popped-on n = go (s .waiting) refl
+  taking-on-out : r .cell ≢ G .goal → Left
+  taking-on-out n = go (s .waiting) refl
     where
       go : (w : List Entry) → s .waiting ≡ w → Left
       go [] f = absurd (omega (arith, P .same .many, ap length f))
       go (x ∷ xs) f =
-          let e : least x xs .next ≡ r = popped-next x xs r q (rw f at (A .distinct)) (rw f at P) in
+          let e : least x xs .next ≡ r = taken-out-next x xs r q (rw f at (A .distinct)) (rw f at P) in
           record {
             left = least x xs .left;
-            goes = rw e at (taking-on G s x xs f (λ g. n (sym (ap (λ (y : Entry). y .cell) e) ∙ g)));
-            same = popped-left x xs r q (rw f at (A .distinct)) (rw f at P);
+            goes = rw e at (take-on G s x xs f (λ g. n (sym (ap (λ (y : Entry). y .cell) e) ∙ g)));
+            same = taken-out-left x xs r q (rw f at (A .distinct)) (rw f at P);
           }
 
 data TakingBoth (G : Graph) (s t : State) : Type 0 where
@@ -156,15 +156,15 @@ taking-both : (G : Graph) (s t : State) → Apart s → Alike s t → TakingBoth
 taking-both G s t A L = go (t .waiting) refl
   where
     go : (w : List Entry) → t .waiting ≡ w → TakingBoth G s t
-    go [] f = both-end _ (taking-none G s (length-zero (s .waiting) (L .waiting .many ∙ ap length f))) (taking-none G t f ∙ ap (λ (x : ℕ). ends (no-route x)) (sym (L .expanded)))
+    go [] f = both-end _ (take-none G s (length-zero (s .waiting) (L .waiting .many ∙ ap length f))) (take-none G t f ∙ ap (λ (x : ℕ). ends (no-route x)) (sym (L .expanded)))
     go (x ∷ xs) f =
         askSame (least x xs .next .cell) (G .goal)
-        (λ y. both-end _ (taking-popped-goal G s _ _ A P y) (taking-goal G t x xs f y ∙ ap ends (sym same-answer)))
-        (λ n. let k = taking-popped-on G s _ _ A P n in
-        both-go _ _ _ (k .goes) (taking-on G t x xs f n) (left-apart k) (expanded-alike s t _ _ L (k .same)))
+        (λ y. both-end _ (taking-goal-out G s _ _ A P y) (take-goal G t x xs f y ∙ ap ends (sym same-answer)))
+        (λ n. let k = taking-on-out G s _ _ A P n in
+        both-go _ _ _ (k .goes) (take-on G t x xs f n) (left-apart k) (expanded-alike s t _ _ L (k .same)))
       where
-        P : Popped (s .waiting) (least x xs .next) (least x xs .left)
-        P = least-popped x xs (s .waiting) (rw f at (L .waiting))
+        P : TakenOut (s .waiting) (least x xs .next) (least x xs .left)
+        P = least-taken-out x xs (s .waiting) (rw f at (L .waiting))
 
         same-answer : arrived G s ≡ arrived G t
         same-answer = cc (L .previous, L .known, L .expanded)
@@ -175,58 +175,58 @@ taking-both G s t A L = go (t .waiting) refl
 
 -- ---- the run
 
-pub run-both : (G : Graph) (b : ℕ) (s t : State) → Apart s → Alike s t → run G b s ≡ run G b t
-run-both G zero s t A L = go (taking-both G s t A L)
+pub take-all-both : (G : Graph) (b : ℕ) (s t : State) → Apart s → Alike s t → takeAll G b s ≡ takeAll G b t
+take-all-both G zero s t A L = go (taking-both G s t A L)
   where
-    go : TakingBoth G s t → run G zero s ≡ run G zero t
-    go (both-end a p q) = run-ends G s zero a p ∙ sym (run-ends G t zero a q)
-    go (both-go u s′ t′ p q A′ L′) = run-limit G s u s′ p ∙ ap limit-passed (L′ .expanded) ∙ sym (run-limit G t u t′ q)
-run-both G (suc b) s t A L = go (taking-both G s t A L) (λ x y X Y. run-both G b x y X Y)
+    go : TakingBoth G s t → takeAll G zero s ≡ takeAll G zero t
+    go (both-end a p q) = take-all-ends G s zero a p ∙ sym (take-all-ends G t zero a q)
+    go (both-go u s′ t′ p q A′ L′) = take-all-limit G s u s′ p ∙ ap limit-passed (L′ .expanded) ∙ sym (take-all-limit G t u t′ q)
+take-all-both G (suc b) s t A L = go (taking-both G s t A L) (λ x y X Y. take-all-both G b x y X Y)
   where
-    go : TakingBoth G s t → ((x y : State) → Apart x → Alike x y → run G b x ≡ run G b y) → run G (suc b) s ≡ run G (suc b) t
-    go (both-end a p q) ih = run-ends G s (suc b) a p ∙ sym (run-ends G t (suc b) a q)
+    go : TakingBoth G s t → ((x y : State) → Apart x → Alike x y → takeAll G b x ≡ takeAll G b y) → takeAll G (suc b) s ≡ takeAll G (suc b) t
+    go (both-end a p q) ih = take-all-ends G s (suc b) a p ∙ sym (take-all-ends G t (suc b) a q)
     go (both-go u s′ t′ p q A′ L′) ih = on-both _ _ refl refl (expand-both G u (costOf s′ u) (G .moves u) s′ t′ A′ L′)
       where
         own : (y : Pushed) → expand G u (costOf s′ u) (G .moves u) t′ ≡ y → expand G u (costOf t′ u) (G .moves u) t′ ≡ y
         own y f = ap (λ (g : List ℕ). expand G u (pred (getD g u 0)) (G .moves u) t′) (sym (L′ .known)) ∙ f
 
         on-both : (x y : Pushed) → expand G u (costOf s′ u) (G .moves u) s′ ≡ x → expand G u (costOf s′ u) (G .moves u) t′ ≡ y
-            → Both x y → run G (suc b) s ≡ run G (suc b) t
-        on-both full full e f z = run-full G s u s′ p b e ∙ ap queue-full (L′ .expanded) ∙ sym (run-full G t u t′ q b (own full f))
+            → Both x y → takeAll G (suc b) s ≡ takeAll G (suc b) t
+        on-both full full e f z = take-all-full G s u s′ p b e ∙ ap queue-full (L′ .expanded) ∙ sym (take-all-full G t u t′ q b (own full f))
         on-both full (on t″) e f z = absurd z
         on-both (on s″) full e f z = absurd z
-        on-both (on s″) (on t″) e f z = run-on G s u s′ p b s″ e ∙ ih s″ t″ (z .0) (z .1) ∙ sym (run-on G t u t′ q b t″ (own (on t″) f))
+        on-both (on s″) (on t″) e f z = take-all-on G s u s′ p b s″ e ∙ ih s″ t″ (z .0) (z .1) ∙ sym (take-all-on G t u t′ q b t″ (own (on t″) f))
 
 -- ---- what a run says of an entry popped
 
-module _ (G : Graph) (s : State) (r : Entry) (q : List Entry) (A : Apart s) (P : Popped (s .waiting) r q) where
-  pub pop-goal : (b : ℕ) → r .cell ≡ G .goal → run G b s ≡ arrived G s
-  pop-goal b e = run-ends G s b _ (taking-popped-goal G s r q A P e)
+module _ (G : Graph) (s : State) (r : Entry) (q : List Entry) (A : Apart s) (P : TakenOut (s .waiting) r q) where
+  pub out-goal : (b : ℕ) → r .cell ≡ G .goal → takeAll G b s ≡ arrived G s
+  out-goal b e = take-all-ends G s b _ (taking-goal-out G s r q A P e)
 
   module _ (away : r .cell ≢ G .goal) where
     K : Left G s r q A P
-    K = taking-popped-on G s r q A P away
+    K = taking-on-out G s r q A P away
 
-    pub pop-limit : run G zero s ≡ limit-passed (suc (s .expanded))
-    pop-limit = run-limit G s _ _ (K .goes)
+    pub out-limit : takeAll G zero s ≡ limit-passed (suc (s .expanded))
+    out-limit = take-all-limit G s _ _ (K .goes)
 
     both : Both (outcome G s r q)
         (outcome G s r (K .left))
     both = expand-both G (r .cell) _ (G .moves (r .cell)) _ _ (expanded-apart s r q A P) (expanded-alike s s _ _ (alike-refl s) (same-sym (K .same)))
 
     module _ (b : ℕ) where
-      pub pop-full : outcome G s r q ≡ full → run G (suc b) s ≡ queue-full (suc (s .expanded))
-      pop-full e = go _ refl (rw e at both)
+      pub out-full : outcome G s r q ≡ full → takeAll G (suc b) s ≡ queue-full (suc (s .expanded))
+      out-full e = go _ refl (rw e at both)
         where
           go : (x : Pushed) → outcome G s r (K .left) ≡ x
-              → Both full x → run G (suc b) s ≡ queue-full (suc (s .expanded))
-          go full f z = run-full G s _ _ (K .goes) b f
+              → Both full x → takeAll G (suc b) s ≡ queue-full (suc (s .expanded))
+          go full f z = take-all-full G s _ _ (K .goes) b f
           go (on t) f z = absurd z
 
-      pub pop-on : (t : State) → outcome G s r q ≡ on t → run G (suc b) s ≡ run G b t
-      pop-on t e = go _ refl (rw e at both)
+      pub out-on : (t : State) → outcome G s r q ≡ on t → takeAll G (suc b) s ≡ takeAll G b t
+      out-on t e = go _ refl (rw e at both)
         where
           go : (x : Pushed) → outcome G s r (K .left) ≡ x
-              → Both (on t) x → run G (suc b) s ≡ run G b t
+              → Both (on t) x → takeAll G (suc b) s ≡ takeAll G b t
           go full f z = absurd z
-          go (on t′) f z = run-on G s _ _ (K .goes) b t′ f ∙ sym (run-both G b t t′ (z .0) (z .1))
+          go (on t′) f z = take-all-on G s _ _ (K .goes) b t′ f ∙ sym (take-all-both G b t t′ (z .0) (z .1))

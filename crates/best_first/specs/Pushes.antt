@@ -7,7 +7,7 @@ use lib.ListN.{length, getD, set}
 use Rattle.best_first.specs.Search.{Graph, State, Taken, bestFirst}
 use Rattle.best_first.specs.Ways.{Sound, Consistent}
 use Rattle.best_first.specs.Statements.{Taking}
-use Rattle.best_first.specs.Lists.{AfterStore, hit, miss, after}
+use Rattle.best_first.specs.ListsAfterSet.{AfterStore, hit, miss, after}
 use Rattle.best_first.specs.Sums.{sumBelow, sum-le, sum-same, sum-more, single, single-most, Single, there, elsewhere, at-single}
 use Rattle.best_first.specs.Base.{Base, due-lawful, taken-in, mark-taken}
 use Rattle.best_first.specs.Paced.{Measure, Frugal, frugal}

@@ -116,17 +116,17 @@ unfoldable pub takeOne : Graph → State → AfterTake
 takeOne G s = elim (s .waiting) [ [] ↦ ends (no-route (s .expanded)) | e ∷ es ↦ takes G s (least e es) ]
 
 -- b more cells may be expanded; one more than that passes the node limit, before its moves
-unfoldable pub run : Graph → ℕ → State → Answer
-run G zero s = elim (takeOne G s) [ ends a ↦ a | expands u t ↦ limit-passed (t .expanded) ]
-run G (suc b) s =
+unfoldable pub takeAll : Graph → ℕ → State → Answer
+takeAll G zero s = elim (takeOne G s) [ ends a ↦ a | expands u t ↦ limit-passed (t .expanded) ]
+takeAll G (suc b) s =
     elim (takeOne G s) [
       | ends a ↦ a
-      | expands u t ↦ elim (expand G u (pred (getD (t .known) u 0)) (G .moves u) t) [ full ↦ queue-full (t .expanded) | on r ↦ run G b r ]
+      | expands u t ↦ elim (expand G u (pred (getD (t .known) u 0)) (G .moves u) t) [ full ↦ queue-full (t .expanded) | on r ↦ takeAll G b r ]
     ]
 
 -- the start is known at cost 0 and waits
-unfoldable pub outset : Graph → State
-outset G = record {
+unfoldable pub firstState : Graph → State
+firstState G = record {
   known = set (replicate (G .size) 0) (G .start) 1;
   previous = replicate (G .size) 0;
   waiting = record { key = G .estimate (G .start); serial = 0; cell = G .start } ∷ [];
@@ -136,4 +136,4 @@ outset G = record {
 
 -- the search at a node limit
 unfoldable pub bestFirst : Graph → ℕ → Answer
-bestFirst G limit = run G limit (outset G)
+bestFirst G limit = takeAll G limit (firstState G)

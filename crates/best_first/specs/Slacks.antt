@@ -14,10 +14,10 @@ use Rattle.basics.specs.Lists.{In}
 use Rattle.basics.specs.Counts.{times, times-most}
 use Rattle.best_first.specs.Search.{Graph, Move, Entry, State, push, oneMoreExpanded, bestFirst}
 use Rattle.best_first.specs.Ways.{Sound, Consistent}
-use Rattle.best_first.specs.Statements.{stored, pushes, slack, Slacks}
+use Rattle.best_first.specs.Statements.{knownAt, pushes, slack, Slacks}
 use Rattle.best_first.specs.Sums.{sumBelow, sum-same, sum-more, single, single-most, Single, there, elsewhere, at-single}
 use Rattle.best_first.specs.Equations.{Gain, offered}
-use Rattle.best_first.specs.Links.{not-start}
+use Rattle.best_first.specs.Predecessors.{not-start}
 use Rattle.best_first.specs.Base.{Mid, due-lawful, same, now-known}
 use Rattle.best_first.specs.Paced.{Measure, pushes-hold, Frugal, frugal}
 
@@ -54,14 +54,15 @@ module _ {G : Graph} {k : ℕ} (Z : Slacks G k) where
   slot-order u v m n i e h =
       omega (arith, lesser-lt (slack G u m) (slack G v n) (Z .values (m .to)) h (Z .among u m i), ap (λ (w : ℕ). lesser (slack G v n) (Z .values w)) e)
 
--- the last push into v: by a move of so much slack that v, at its known cost, is not above the last key taken by more; lower slots are left
+-- the last push into v: by `move` out of `by`, whose key was no more than the last key taken (`near`); the pushes into v so far and the slot of that
+-- move make k at most (`used`)
 record Last (G : Graph) (k : ℕ) (Z : Slacks G k) (top : ℕ) (pushed : List ℕ) (s : State) (v : ℕ) : Type 0 where
   by : ℕ
   move : Move
   lawful : In move (G .moves by)
   leads-to : move .to ≡ v
-  reached : 0 < stored s v
-  near : stored s v + G .estimate by ≤ suc top + move .cost
+  reached : 0 < knownAt s v
+  near : knownAt s v + G .estimate by ≤ suc top + move .cost
   used : times (eqb v) pushed + slot Z by move ≤ k
 
 pub record Slotted (G : Graph) (k : ℕ) (Z : Slacks G k) (top : ℕ) (pushed : List ℕ) (s : State) : Type 0 where
@@ -72,7 +73,7 @@ pub record Slotted (G : Graph) (k : ℕ) (Z : Slacks G k) (top : ℕ) (pushed : 
 -- ---- one push
 
 module _ {G : Graph} {degree dearest : ℕ} (S : Sound G degree dearest) (K : Consistent G) (k : ℕ) (Z : Slacks G k) {closed ages pushed : List ℕ} {u d top : ℕ} {m : Move} {ms : List Move}
-    {s : State} (M : Mid G closed ages u d (m ∷ ms) s) (now : top ≡ d + G .estimate u) (A : Slotted G k Z top pushed s) (gain : Gain (suc (d + m .cost)) (stored s (m .to))) where
+    {s : State} (M : Mid G closed ages u d (m ∷ ms) s) (now : top ≡ d + G .estimate u) (A : Slotted G k Z top pushed s) (gain : Gain (suc (d + m .cost)) (knownAt s (m .to))) where
   here : times (eqb (m .to)) (m .to ∷ pushed) ≡ suc (times (eqb (m .to)) pushed)
   unfolding times
   here = rw (eq-eqb (m .to) (m .to) refl) (omega arith)
@@ -120,7 +121,7 @@ module _ {G : Graph} {degree dearest : ℕ} (S : Sound G degree dearest) (K : Co
           → (times (eqb v) (m .to ∷ pushed) ≡ 0) ⊎ Last G k Z top (m .to ∷ pushed) (push G u (m .to) (d + m .cost) s) v
       last v n (inl z) = inl (away v n ∙ z)
       last v n (inr L) =
-          let q : getD (offered s d m) v 0 ≡ stored s v = same M S gain v n in
+          let q : getD (offered s d m) v 0 ≡ knownAt s v = same M S gain v n in
           inr (record {
             by = L .by;
             move = L .move;

@@ -7,7 +7,7 @@ use Prim.Native.Nat.{ℕ, zero, suc, pred, _+_, _-_, _*_, _≤_, _<_}
 use lib.ListN.{length, getD}
 use lib.Dec.{ltb}
 use Rattle.basics.specs.Lists.{In}
-use Rattle.best_first.specs.Search.{Graph, Move, Entry, State, Taken, Pushed, full, on, push, cheaper, expand, oneMoreExpanded, ends, expands, takeOne, outset, Answer, route, no-route, limit-passed, queue-full}
+use Rattle.best_first.specs.Search.{Graph, Move, Entry, State, Taken, Pushed, full, on, push, cheaper, expand, oneMoreExpanded, ends, expands, takeOne, firstState, Answer, route, no-route, limit-passed, queue-full}
 use Rattle.best_first.specs.Ways.{Way, NoWay}
 
 -- ---- what is said of an answer
@@ -50,12 +50,12 @@ expandedOf (queue-full x) = x
 -- ---- the states of a search
 
 -- what is noted of v: its known cost + 1, or 0 where it is unknown
-abbrev pub stored : State → ℕ → ℕ
-stored s v = getD (s .known) v 0
+abbrev pub knownAt : State → ℕ → ℕ
+knownAt s v = getD (s .known) v 0
 
 -- the cost at which a known cell is expanded
 abbrev pub costOf : State → ℕ → ℕ
-costOf s u = pred (stored s u)
+costOf s u = pred (knownAt s u)
 
 -- an entry of the least key is taken out of a waiting list. This holds of every order in which the list may stand, and says nothing of ties
 pub record Taking (waiting : List Entry) (t : Taken) : Type 0 where
@@ -73,7 +73,7 @@ outcome G s r q = expand G (r .cell) (costOf s (r .cell)) (G .moves (r .cell)) (
 unfoldable pub entered : Graph → ℕ → ℕ → List Move → State → List ℕ → List ℕ
 entered G u d [] s l = l
 entered G u d (m ∷ ms) s l =
-    elim (cheaper (d + m .cost) (stored s (m .to))) [
+    elim (cheaper (d + m .cost) (knownAt s (m .to))) [
       | false ↦ entered G u d ms s l
       | true ↦ elim (ltb (length (s .waiting)) (G .places)) [
         | true ↦ entered G u d ms (push G u (m .to) (d + m .cost) s) (m .to ∷ l)
@@ -88,7 +88,7 @@ enteredBy G s r q l = entered G (r .cell) (costOf s (r .cell)) (G .moves (r .cel
 -- a state between two takings, with the cells pushed so far, the latest first. Any entry of the least key may be taken, and those left may stand in
 -- any order: more states than the search reaches, among them those of a search whose queue is a heap
 pub data Reached (G : Graph) : List ℕ → State → Type 0 where
-  at-outset : Reached G [] (outset G)
+  at-first : Reached G [] (firstState G)
   then : {l : List ℕ} {s r : State} (t : Taken) → Reached G l s → Taking (s .waiting) t → t .next .cell ≢ G .goal → outcome G s (t .next) (t .left) ≡ on r
       → Reached G (enteredBy G s (t .next) (t .left) l) r
 
@@ -96,10 +96,10 @@ pub data Reached (G : Graph) : List ℕ → State → Type 0 where
 pub record Bounded (G : Graph) (degree dearest : ℕ) (s : State) : Type 0 where
   pub known-long : length (s .known) ≡ G .size
   pub previous-long : length (s .previous) ≡ G .size
-  pub cost : (v : ℕ) → stored s v ≤ (G .size - 1) * dearest + 1
+  pub cost : (v : ℕ) → knownAt s v ≤ (G .size - 1) * dearest + 1
   pub previous-in : (v : ℕ) → getD (s .previous) v 0 ≤ G .size
   pub cell-in : (e : Entry) → In e (s .waiting) → e .cell < G .size
-  pub cell-known : (e : Entry) → In e (s .waiting) → 0 < stored s (e .cell)
+  pub cell-known : (e : Entry) → In e (s .waiting) → 0 < knownAt s (e .cell)
   pub key : (e : Entry) → In e (s .waiting) → e .key ≤ (G .size - 1) * dearest + G .estimate (e .cell)
   pub balance : s .expanded + length (s .waiting) ≡ suc (s .serial)
   pub serial : s .serial ≤ degree * s .expanded
@@ -126,7 +126,7 @@ pushedBy G (suc b) s l =
 
 -- the cells that the search pushes at a node limit
 abbrev pub pushes : Graph → ℕ → List ℕ
-pushes G limit = pushedBy G limit (outset G) []
+pushes G limit = pushedBy G limit (firstState G) []
 
 -- by how much a move out of u raises cost and estimate together
 unfoldable pub slack : Graph → ℕ → Move → ℕ

@@ -11,11 +11,11 @@ use lib.Dec.{eqb}
 use Rattle.basics.specs.Counts.{times}
 use Rattle.best_first.specs.Search.{Graph, State, Taken, on, oneMoreExpanded, Answer, route, no-route, limit-passed, queue-full, bestFirst}
 use Rattle.best_first.specs.Ways.{NoWay, Sound, Consistent}
-use Rattle.best_first.specs.Statements.{stored, Taking, outcome, Reached, Honest, Right, Decided, by-route, by-no-route, expandedOf, Bounded, pushes, Slacks}
+use Rattle.best_first.specs.Statements.{knownAt, Taking, outcome, Reached, Honest, Right, Decided, by-route, by-no-route, expandedOf, Bounded, pushes, Slacks}
 use Rattle.best_first.specs.Reached.{ending}
 use Rattle.best_first.specs.Bounds.{bounded, sane}
 use Rattle.best_first.specs.Base.{taken-fresh, again-outcome}
-use Rattle.best_first.specs.Induction.{holds, bare}
+use Rattle.best_first.specs.Induction.{invariant-holds, bare}
 use Rattle.best_first.specs.Demand.{honest-by, right-by}
 use Rattle.best_first.specs.Pushes.{all-frugal}
 use Rattle.best_first.specs.Slacks.{slot-cell, slots-hold, slot-frugal}
@@ -33,9 +33,9 @@ module _ {G : Graph} {degree dearest : ℕ} (S : Sound G degree dearest) where
 
   -- an old entry, one of another cost than its cell has now, pushes nothing when it is taken
   pub old-entry : {pushed : List ℕ} {s : State} {t : Taken} → Reached G pushed s → Taking (s .waiting) t
-      → suc (t .next .key) ≢ stored s (t .next .cell) + G .estimate (t .next .cell) → outcome G s (t .next) (t .left) ≡ on (oneMoreExpanded s (t .left))
+      → suc (t .next .key) ≢ knownAt s (t .next .cell) + G .estimate (t .next .cell) → outcome G s (t .next) (t .left) ≡ on (oneMoreExpanded s (t .left))
   old-entry {t = t} R k old =
-      let H = holds S (bare G) R in
+      let H = invariant-holds S (bare G) R in
       elim (eq-zero-or-pos (getD (H .closed) (t .next .cell) 0)) [ inl o ↦ absurd (old (taken-fresh (H .base) k o)) | inr c ↦ again-outcome (H .base) k c ]
 
   -- ---- with a consistent estimate

@@ -15,10 +15,10 @@ use Rattle.basics.specs.Counts.{bit, bit-small}
 use Rattle.best_first.specs.Search.{Graph, Move, trace}
 use Rattle.best_first.specs.Ways.{GraphStep, Way}
 use Rattle.best_first.specs.Statements.{Lawful}
-use Rattle.best_first.specs.Lists.{in-reach}
+use Rattle.best_first.specs.ListsAfterSet.{in-reach}
 use Rattle.best_first.specs.Sums.{sumBelow, sum-le, sum-same, sum-more, single, Single, there, elsewhere, at-single}
 use Rattle.best_first.specs.Equations.{trace-start, trace-back}
-use Rattle.best_first.specs.Links.{Linked, Link, Origin}
+use Rattle.best_first.specs.Predecessors.{Linked, Link, Origin}
 
 -- a is x, or before x on the way back
 pub data Up (previous : List ℕ) (a : ℕ) : ℕ → Type 0 where
@@ -61,7 +61,7 @@ module _ {G : Graph} {ages known previous : List ℕ} {serial : ℕ} (L : Linked
   below-size v h = omega (arith, below-more v (suc (weight v)) h (omega arith), sum-le (G .size) (λ x. bit (ltb (weight x) (suc (weight v)))) (λ x. 1) (λ x _. bit-small (ltb (weight x) (suc (weight v)))), sum-same (G .size) 1)
 
   module _
-      (tight : (a : ℕ) → Up previous a (G .goal) → a ≢ G .goal → (m : Move) → In m (G .moves a) → getD known (m .to) 0 ≤ getD known a 0 + m .cost) where
+      (loose : (a : ℕ) → Up previous a (G .goal) → a ≢ G .goal → (m : Move) → In m (G .moves a) → getD known (m .to) 0 ≤ getD known a 0 + m .cost) where
     trail : (n v : ℕ) (rest : List ℕ) (r : ℕ) → below (weight v) < n → weight v ≤ weight (G .goal) → 0 < getD known v 0 → Up previous v (G .goal)
         → Way G v rest (G .goal) r → getD known v 0 + r ≡ getD known (G .goal) 0 → Lawful G (trace n previous v rest) (pred (getD known (G .goal) 0))
     trail zero v rest r f h p up W q = absurd (omega arith)
@@ -82,7 +82,7 @@ module _ {G : Graph} {ages known previous : List ℕ} {serial : ℕ} (L : Linked
             let low : weight (k .by) < weight v = link-falls k in
             let by-in : k .by < G .size = omega (arith, in-reach known (k .by) (k .reached), L .known-long) in
             let by-up : Up previous (k .by) (G .goal) = up-more (k .by) up (k .noted) in
-            let exact = tight (k .by) by-up (λ e. omega (arith, ap weight e)) (k .move) (k .lawful) in
+            let exact = loose (k .by) by-up (λ e. omega (arith, ap weight e)) (k .move) (k .lawful) in
             let T = ih (k .by) (v ∷ rest) (k .move .cost + r) (omega (arith, below-more (k .by) (weight v) by-in low)) (omega arith) (k .reached) by-up
             (k .move .cost, r, unfold GraphStep in (k .move, k .lawful, k .leads-to, refl), W, refl)
             (omega (arith, k .adds, exact, ap (λ (x : ℕ). getD known x 0) (k .leads-to))) in

@@ -11,7 +11,7 @@ ghost use Rattle.room_search.specs.Routing.{kindAt, anEnd};
 ghost use Rattle.blocked_world.specs.BlockedWorld.{seenKind, seenKinds, classSeen, Says, WorldFits, renewed, refreshed};
 
 // Whether a cell is the start or the goal of a search.
-pub fn is_end(start: usize, goal: usize, cell: usize) -> bool
+pub fn an_end(start: usize, goal: usize, cell: usize) -> bool
     ensures { λ r. ⌜ r ≡ anEnd start goal cell ⌝ }
 {
     if cell == start {
@@ -32,7 +32,7 @@ fn seen_kind(kinds: &[u8], blocked: &[u8], start: usize, goal: usize, cell: usiz
     if blocked[cell] != routing_resources::MARKED {
         return kind;
     }
-    if is_end(start, goal, cell) {
+    if an_end(start, goal, cell) {
         return kind;
     }
     room::SOLID
@@ -72,7 +72,7 @@ fn class_seen(
 {
     let below = seen_beneath(room, kinds, blocked, start, goal, cell);
     let kind = seen_kind(kinds, blocked, start, goal, cell);
-    room_search::class_for(is_end(start, goal, cell), kind, below)
+    room_search::class_for(an_end(start, goal, cell), kind, below)
 }
 
 // Writes one cell's class anew.

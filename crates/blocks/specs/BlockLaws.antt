@@ -99,8 +99,8 @@ module _ {X : Type 0} (f : Block → X) (none : X) (R : Room) (bs : List Block) 
 -- ---- blocks whose positions are in the room
 
 module _ (R : Room) (bs : List Block) (within : (i : ℕ) → i < length bs → Within R (getD bs i noBlock .at)) where
-  pub cells-in : (i : ℕ) → i < length bs → recordCell R bs i < volume R
-  cells-in i h = cell-in R (getD bs i noBlock .at) (within i h)
+  pub record-cells-in : (i : ℕ) → i < length bs → recordCell R bs i < volume R
+  record-cells-in i h = cell-in R (getD bs i noBlock .at) (within i h)
 
 module _ {sheet : List ℕ} {R : Room} {p : Part} {bs : List Block} (L : BlockList sheet R p bs) where
   -- the list as the contract of `place_blocks` asks for it, and what that contract says of the list

@@ -23,7 +23,7 @@ pub enum Placement {
 }
 
 // The lesser of two numbers of which 0 stands for none.
-fn lesser(a: usize, b: usize) -> usize
+fn lesser_kept(a: usize, b: usize) -> usize
     ensures { λ r. ⌜ r ≡ lesserKept a b ⌝ }
 {
     if a == 0 {
@@ -59,8 +59,8 @@ fn place_block(block: Block, room: Room, kinds: &mut [u8], nodes: &mut [u32], fo
     let known = as_index(nodes[cell]);
     let node = block.node as usize + 1;
     kinds[cell] = block.kind;
-    nodes[cell] = lesser(known, node) as u32;
-    lesser(found, repeat_number(known, node, cell))
+    nodes[cell] = lesser_kept(known, node) as u32;
+    lesser_kept(found, repeat_number(known, node, cell))
 }
 
 // Adds all blocks of a list, and returns the least repeat.

@@ -15,12 +15,12 @@ use Rattle.best_first.specs.Search.{Answer, route, no-route, limit-passed, queu
 use Rattle.room_search.specs.Routing.{Task, routeable, searched}
 use Rattle.routing_resources.specs.Marks.{isMarked, markedBy}
 use Rattle.geometry.specs.Geometry.{conflictOf}
-use Rattle.ends.specs.Ends.{NetIn}
-use Rattle.goals.specs.Goals.{Site, Trial, found, failed, full, trialOf, searchedFor, atConflict, afterSearch, attempts, cheaperRoute, triedGoal, bestBelow, routeToTree, taskSeen, endsGoal, maxAttempts}
+use Rattle.ends.specs.Ends.{NetInside}
+use Rattle.goals.specs.Goals.{Site, Trial, found, failed, full, trialOf, searchedFor, atConflict, afterSearch, attempts, cheaperRoute, triedGoal, bestBelow, routeToTree, siteTask, endsGoal, maxAttempts}
 use Rattle.branches.specs.Branches.{branchOf}
 use Rattle.multinet.specs.Tree.{Plot, Tree, Growth, grown, stopped, tapAt, siteAt, sinkNow, fitsIn, afterSink, growSink, growOn, growFrom, growthOf}
 use Rattle.multinet.specs.GrowingLaws.{sink-now}
-use Rattle.demands.specs.Statements.{Ready, Priced}
+use Rattle.demands.specs.Statements.{Posed, Priced}
 use Rattle.demands.specs.Theorems as one-search
 
 -- ---- one search
@@ -41,7 +41,7 @@ search-not-full T G start-in goal-in D wide x e =
     go s g (no-route y) w q = never (cc)
     go s g (limit-passed y) w q = never (cc)
     go s g (queue-full y) w q =
-        let ready : Ready T = record { good = G; start-in = start-in; goal-in = goal-in; start-free = s; goal-free = g } in
+        let ready : Posed T = record { good = G; start-in = start-in; goal-in = goal-in; start-free = s; goal-free = g } in
         one-search.never-full ready D wide y w
 
 -- ---- all goals of a sink
@@ -50,7 +50,7 @@ module _ (S : Site) (G : Good (S .room)) (start : ℕ) (start-in : start < volum
   attempts-not-full : (goal : ℕ) → goal < volume (S .room) → (n : ℕ) (blocked : List ℕ) (x : ℕ) → attempts n S start goal blocked ≢ full x
   unfolding attempts afterSearch atConflict
   attempts-not-full goal h zero blocked x e = never (cc)
-  attempts-not-full goal h (suc n) blocked x e = after (searchedFor (taskSeen S blocked start goal)) refl e (attempts-not-full goal h n)
+  attempts-not-full goal h (suc n) blocked x e = after (searchedFor (siteTask S blocked start goal)) refl e (attempts-not-full goal h n)
     where
       at : (p : List ℕ) (c : ℕ) (place : Neighbour) → atConflict blocked start goal (attempts n S start goal) (found p c) place ≡ full x
           → ((blocked′ : List ℕ) (y : ℕ) → attempts n S start goal blocked′ ≢ full y) → ⊥
@@ -58,11 +58,11 @@ module _ (S : Site) (G : Good (S .room)) (start : ℕ) (start-in : start < volum
       at p c (Inside v) q later =
           ask (endsGoal blocked start goal v) (λ t. never (cc (rw t at q))) (λ no. later (markedBy (eqb v) blocked) x (rw no at q))
 
-      after : (trial : Trial) → searchedFor (taskSeen S blocked start goal) ≡ trial → afterSearch S blocked start goal (attempts n S start goal) trial ≡ full x
+      after : (trial : Trial) → searchedFor (siteTask S blocked start goal) ≡ trial → afterSearch S blocked start goal (attempts n S start goal) trial ≡ full x
           → ((blocked′ : List ℕ) (y : ℕ) → attempts n S start goal blocked′ ≢ full y) → ⊥
       after (found p c) w q later = at p c (conflictOf (S .room) (S .kinds) (S .joinable) p) q later
       after failed w q later = never (cc)
-      after (full y) w q later = search-not-full (taskSeen S blocked start goal) G start-in h D wide y w
+      after (full y) w q later = search-not-full (siteTask S blocked start goal) G start-in h D wide y w
 
   tried-not-full : (blocked : List ℕ) (goal : ℕ) → goal < volume (S .room) → (x : ℕ) → triedGoal S start blocked goal ≢ full x
   unfolding triedGoal
@@ -89,7 +89,7 @@ module _ (S : Site) (G : Good (S .room)) (start : ℕ) (start-in : start < volum
 
 -- ---- the tree
 
-module _ (P : Plot) (G : Good (P .room)) (N : NetIn (P .room) (P .source) (P .taps)) (D : Priced (P .config)) (wide : 5 * (volume (P .room) - 1) ≤ P .places) where
+module _ (P : Plot) (G : Good (P .room)) (N : NetInside (P .room) (P .source) (P .taps)) (D : Priced (P .config)) (wide : 5 * (volume (P .room) - 1) ≤ P .places) where
   sink-not-full : (k : ℕ) → k < P .taps .count → (T : Tree) (x : ℕ) → growSink P k T ≢ stopped 13 x
   unfolding growSink afterSink
   sink-not-full k h T x e = go _ refl e

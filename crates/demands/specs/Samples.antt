@@ -7,7 +7,7 @@ use Rattle.room.specs.declared.Room.{Room}
 use Rattle.room.specs.declared.RouterConfig.{RouterConfig}
 use Rattle.room.specs.Room.{volume, at, posOf, cellOf, moves, between, sidesGood, stays, neighbour, beneath, above, distance, firstBelow}
 use Rattle.room.specs.Units.{air, solid, redstoneWire, lever, facingMove, ahead, usualConfig, configGood}
-use Rattle.best_first.specs.Search.{sooner, least, push, offer, expand, trace, takeOne, run, outset, bestFirst}
+use Rattle.best_first.specs.Search.{sooner, least, push, offer, expand, trace, takeOne, takeAll, firstState, bestFirst}
 use Rattle.room_search.specs.Routing.{routeableKind, routeable, bearing, classFor, priceOf, movesBy, graphOf, searched}
 use Rattle.routing.specs.Answers.{Input, buffersGood, endsInside, judged, fitAnswer, answerOf, numberOf, detailOf, routeCost, routeExpanded, cellsFor}
 use Rattle.routing_resources.specs.Marks.{withByte}
@@ -27,11 +27,11 @@ use Rattle.turns.specs.Turns.{far, goesBefore, turnOf, sinkAt}
 use Rattle.goals.specs.Goals.{searchedFor, atConflict, afterSearch, attempts, cheaperRoute, triedGoal, bestBelow, routeToTree}
 use Rattle.branches.specs.Branches.{branchOf, allButLast}
 use Rattle.repeaters.specs.Repeaters as repeaters
-use Rattle.multinet.specs.Tree.{planted, withBranch, afterSink, growSink, growFrom, growthOf, isEnd, repeatersOf}
+use Rattle.multinet.specs.Tree.{planted, withBranch, afterSink, growSink, growFrom, growthOf, isNetEnd, repeatersOf}
 use Rattle.net_tree.specs.declared.Lengths.{Lengths}
 use Rattle.net_tree.specs.Answers as trees
 use Rattle.net_tree.specs.Answers.{TreeOutcome, jobOutcome}
-use Rattle.basics.specs.Walks.{along}
+use Rattle.basics.specs.Folds.{along}
 
 -- ---- what is answered
 
@@ -43,8 +43,8 @@ pub record SearchSaid : Type 0 where
   pub cost : ℕ
   pub expanded : ℕ
 
-abbrev told : Input → SearchSaid
-told I = record {
+abbrev searchSaid : Input → SearchSaid
+searchSaid I = record {
   number = numberOf (answerOf I);
   detail = detailOf (answerOf I);
   path = cellsFor (answerOf I) I;
@@ -52,7 +52,7 @@ told I = record {
   expanded = routeExpanded (answerOf I);
 }
 
--- of a job: its branches in sheet order and its repeaters' marks; or a number with its detail
+-- what is answered: by a search, as above; of a job, its branches in sheet order and its repeaters' marks, or a number with its detail
 pub data Said : Type 0 where
   of-search : SearchSaid → Said
   of-tree : (branches : List (List ℕ)) (repeaters : List ℕ) → Said
@@ -61,8 +61,8 @@ pub data Said : Type 0 where
 abbrev refusal : ℕ → ℕ → Said
 refusal number detail = of-search record { number = number; detail = detail; path = []; cost = 0; expanded = 0 }
 
-abbrev routed : List ℕ → ℕ → ℕ → Said
-routed path cost expanded = of-search record { number = 0; detail = 0; path = path; cost = cost; expanded = expanded }
+abbrev routeSaid : List ℕ → ℕ → ℕ → Said
+routeSaid path cost expanded = of-search record { number = 0; detail = 0; path = path; cost = cost; expanded = expanded }
 
 -- ---- the inputs
 
@@ -138,8 +138,8 @@ abbrev endsFor : Contents → Ends
 endsFor J = endings.endsOf (J .room) (J .source) (J .sinks)
 
 -- what comes of a job whose blocks are each in a cell of its own
-abbrev outcomeOf : Contents → TreeOutcome
-outcomeOf J =
+abbrev jobSaid : Contents → TreeOutcome
+jobSaid J =
     let kinds = kindsOf (J .room) (J .blocks) in
     let nodes = nodesOf (J .room) (J .blocks) in
     jobOutcome J (lengths (volume (J .room))) (record { placement = Placement.Placed; ends = endsFor J }) kinds
@@ -163,8 +163,8 @@ pub data Question : Type 0 where
   job : Contents → Question
 
 abbrev said : Question → Said
-said (search I) = of-search (told I)
-said (job J) = saidOf (outcomeOf J)
+said (search I) = of-search (searchSaid I)
+said (job J) = saidOf (jobSaid J)
 
 record Sample : Type 0 where
   ask : Question
@@ -173,29 +173,29 @@ record Sample : Type 0 where
 abbrev rows : List Sample
 rows =
     -- a
-    record { ask = search (asked (room 1 1 1) usualConfig (air ∷ []) 0 0); answer = routed (0 ∷ []) 0 0 }
+    record { ask = search (asked (room 1 1 1) usualConfig (air ∷ []) 0 0); answer = routeSaid (0 ∷ []) 0 0 }
     -- b
-    ∷ record { ask = search (line usualConfig (replicate 3 air)); answer = routed (0 ∷ 1 ∷ 2 ∷ []) 20 2 }
+    ∷ record { ask = search (line usualConfig (replicate 3 air)); answer = routeSaid (0 ∷ 1 ∷ 2 ∷ []) 20 2 }
     -- c
     ∷ record { ask = search (line (config 1 15) (replicate 3 air)); answer = refusal 12 2 }
-    ∷ record { ask = search (line (config 2 15) (replicate 3 air)); answer = routed (0 ∷ 1 ∷ 2 ∷ []) 20 2 }
+    ∷ record { ask = search (line (config 2 15) (replicate 3 air)); answer = routeSaid (0 ∷ 1 ∷ 2 ∷ []) 20 2 }
     -- d
     ∷ record { ask = search (line usualConfig (air ∷ solid ∷ air ∷ [])); answer = refusal 11 1 }
     ∷ record { ask = search (line usualConfig (air ∷ redstoneWire ∷ air ∷ [])); answer = refusal 11 1 }
     -- e
-    ∷ record { ask = search (line usualConfig (air ∷ air ∷ redstoneWire ∷ [])); answer = routed (0 ∷ 1 ∷ 2 ∷ []) 20 2 }
+    ∷ record { ask = search (line usualConfig (air ∷ air ∷ redstoneWire ∷ [])); answer = routeSaid (0 ∷ 1 ∷ 2 ∷ []) 20 2 }
     ∷ record { ask = search (line usualConfig (air ∷ air ∷ lever ∷ [])); answer = refusal 10 2 }
     -- f
-    ∷ record { ask = search (asked (room 3 2 1) usualConfig (set (replicate 6 air) 2 solid) 0 4); answer = routed (0 ∷ 3 ∷ 4 ∷ []) 50 2 }
+    ∷ record { ask = search (asked (room 3 2 1) usualConfig (set (replicate 6 air) 2 solid) 0 4); answer = routeSaid (0 ∷ 3 ∷ 4 ∷ []) 50 2 }
     -- g
-    ∷ record { ask = search (stairs usualConfig (replicate 6 air)); answer = routed (1 ∷ 3 ∷ 5 ∷ []) 50 4 }
+    ∷ record { ask = search (stairs usualConfig (replicate 6 air)); answer = routeSaid (1 ∷ 3 ∷ 5 ∷ []) 50 4 }
     -- h
-    ∷ record { ask = search (stairs (config 30000 40) (replicate 6 air)); answer = routed (1 ∷ 2 ∷ 5 ∷ []) 90 5 }
+    ∷ record { ask = search (stairs (config 30000 40) (replicate 6 air)); answer = routeSaid (1 ∷ 2 ∷ 5 ∷ []) 90 5 }
     -- i
     ∷ record { ask = search (stairs usualConfig (set (replicate 6 air) 2 lever)); answer = refusal 11 1 }
     -- j
-    ∷ record { ask = search (square (12 * 9)); answer = routed (4 ∷ 1 ∷ 0 ∷ []) 20 3 }
-    ∷ record { ask = search (square 5); answer = routed (4 ∷ 1 ∷ 0 ∷ []) 20 3 }
+    ∷ record { ask = search (square (12 * 9)); answer = routeSaid (4 ∷ 1 ∷ 0 ∷ []) 20 3 }
+    ∷ record { ask = search (square 5); answer = routeSaid (4 ∷ 1 ∷ 0 ∷ []) 20 3 }
     ∷ record { ask = search (square 4); answer = refusal 13 2 }
     -- k, "20x1x1, Wire source at 0, one Wire sink, facing 0"
     ∷ record { ask = job (row 20 [] (wireAt 8)); answer = tree 8 (replicate 20 0) }
@@ -211,5 +211,5 @@ rows =
     ∷ []
 
 pub samples : map (λ s. said (s .ask)) rows ≡ map (λ s. s .answer) rows
-unfolding answerOf judged sidesGood configGood buffersGood endsInside fitAnswer routeable searched graphOf movesBy priceOf classFor bearing routeableKind posOf cellOf moves between stays neighbour beneath distance sooner least push offer expand trace takeOne run outset bestFirst growthOf growFrom growSink afterSink withBranch planted isEnd repeatersOf far goesBefore turnOf sinkAt routeToTree bestBelow triedGoal cheaperRoute attempts afterSearch atConflict searchedFor countsAsSolid seenKinds standsIn conductor upperOfPair firstBelow firstPair atClearance stairConflict conflictAmong withByte clearanceOf isClearance branchOf allButLast above repeaters.isStep repeaters.besideOn repeaters.neighbouring repeaters.cellsPassing repeaters.treeNeighbours repeaters.meet repeaters.spread repeaters.parentsFrom repeaters.facingBy repeaters.straight repeaters.fits repeaters.latest repeaters.earliest repeaters.withRepeater repeaters.resume repeaters.candidate repeaters.step repeaters.steps repeaters.run repeaters.reinforced along repeaters.planned repeaters.repeaterMarks jobOutcome ofBlock tabulated endings.sourceEnd endings.sinkEnd endings.firstDue endings.tapOf endings.faultOf endings.endsOf terminalOf approachOf realizedOf outset-of.powers outset-of.solidOf outset-of.sourceKeepout outset-of.blockedBy outset-of.atOrBeneath outset-of.ownCell outset-of.blockedAtOutset facingMove ahead isNeighbour inKeepout directions
+unfolding answerOf judged sidesGood configGood buffersGood endsInside fitAnswer routeable searched graphOf movesBy priceOf classFor bearing routeableKind posOf cellOf moves between stays neighbour beneath distance sooner least push offer expand trace takeOne takeAll firstState bestFirst growthOf growFrom growSink afterSink withBranch planted isNetEnd repeatersOf far goesBefore turnOf sinkAt routeToTree bestBelow triedGoal cheaperRoute attempts afterSearch atConflict searchedFor countsAsSolid seenKinds standsIn conductor upperOfPair firstBelow firstPair atClearance stairConflict conflictAmong withByte clearanceOf isClearance branchOf allButLast above repeaters.isStep repeaters.besideOn repeaters.neighbouring repeaters.cellsPassing repeaters.treeNeighbours repeaters.meet repeaters.spread repeaters.parentsFrom repeaters.facingBy repeaters.straight repeaters.fits repeaters.latest repeaters.earliest repeaters.withRepeater repeaters.resume repeaters.candidate repeaters.stride repeaters.strides repeaters.run repeaters.reinforced along repeaters.planned repeaters.repeaterMarks jobOutcome ofBlock tabulated endings.sourceEnd endings.sinkEnd endings.firstDue endings.tapOf endings.faultOf endings.endsOf terminalOf approachOf realizedOf outset-of.powers outset-of.solidOf outset-of.blockKeepout outset-of.blockedBy outset-of.atOrBeneath outset-of.ownCell outset-of.blockedAtOutset facingMove ahead isNeighbour inKeepout directions
 samples = refl

@@ -16,7 +16,7 @@ use Rattle.routing.specs.Answers.{Input, taskOf, answerOf, numberOf, routeCost,
 -- ---- of which tasks
 
 -- the room is good and both ends are cells of it that are fit for wire
-pub record Ready (T : Task) : Type 0 where
+pub record Posed (T : Task) : Type 0 where
   pub good : Good (T .room)
   pub start-in : T .start < volume (T .room)
   pub goal-in : T .goal < volume (T .room)

@@ -11,7 +11,7 @@ use Rattle.room.specs.Room.{volume}
 use Rattle.basics.specs.Counts.{times}
 use Rattle.best_first.specs.Search.{State, Taken, on, oneMoreExpanded, Answer, route, no-route, limit-passed, queue-full}
 use Rattle.best_first.specs.Ways.{GraphStep, Way, Sound, Consistent}
-use Rattle.best_first.specs.Statements.{Honest, Right, Decided, expandedOf, stored, Taking, outcome, Reached, pushes, Slacks}
+use Rattle.best_first.specs.Statements.{Honest, Right, Decided, expandedOf, knownAt, Taking, outcome, Reached, pushes, Slacks}
 use Rattle.best_first.specs.Theorems as any-graph
 use Rattle.routing.specs.declared.Judgement.the-variants.{Fit}
 use Rattle.room_search.specs.Routing.{Task, routeable, entering, graphOf, graph, searched}
@@ -19,12 +19,12 @@ use Rattle.room_search.specs.GraphLaws.{dearest, sound, consistent}
 use Rattle.demands.specs.Lawful.{LawfulStep, stepCost, LawfulWay, wayCost}
 use Rattle.routing.specs.Answers.{Input, taskOf, judged, answered, fitAnswer, answerOf, routeCost, cellsFor}
 use Rattle.routing.specs.PromiseLaws.{admitted}
-use Rattle.demands.specs.Statements.{Ready, Priced, Ample, Lawful, Cheapest, NoLawfulWay, Meaning}
+use Rattle.demands.specs.Statements.{Posed, Priced, Ample, Lawful, Cheapest, NoLawfulWay, Meaning}
 use Rattle.demands.specs.Numbers.{number-route, number-no-route, number-settled, same-expanded}
 use Rattle.demands.specs.Bridge.{step-lawful, lawful-step, way-lawful, lawful-way}
 use Rattle.demands.specs.Slackness.{slacks}
 
-module _ {T : Task} (P : Ready T) where
+module _ {T : Task} (P : Posed T) where
   -- ---- the graph that is searched is the room's
 
   -- a move of the graph is a lawful step, and its cost is that of the step
@@ -66,15 +66,15 @@ module _ {T : Task} (P : Ready T) where
   pub limit-passed-by-one : {x : ℕ} → searched T ≡ limit-passed x → x ≡ T .config .limit .0 + 1
   limit-passed-by-one e = honest e
 
-  -- no known cost is above the cells less one times the dearer step with a new support (`stored` is the known cost + 1, and 0 where there is none)
+  -- no known cost is above the cells less one times the dearer step with a new support (`knownAt` is the known cost + 1, and 0 where there is none)
   pub known-most : {pushed : List ℕ} {s : State} → Reached (graph T) pushed s → (v : ℕ)
-      → stored s v ≤ (volume (T .room) - 1) * (max (T .config .horizontal .0) (T .config .stair .0) + T .config .support .0) + 1
+      → knownAt s v ≤ (volume (T .room) - 1) * (max (T .config .horizontal .0) (T .config .stair .0) + T .config .support .0) + 1
   unfolding graphOf dearest
   known-most r v = any-graph.in-range graph-sound r .cost v
 
   -- an old entry, one of another cost than its cell has now, pushes nothing when it is taken
   pub old-entry : {pushed : List ℕ} {s : State} {t : Taken} → Reached (graph T) pushed s → Taking (s .waiting) t
-      → suc (t .next .key) ≢ stored s (t .next .cell) + graph T .estimate (t .next .cell) → outcome (graph T) s (t .next) (t .left) ≡ on (oneMoreExpanded s (t .left))
+      → suc (t .next .key) ≢ knownAt s (t .next .cell) + graph T .estimate (t .next .cell) → outcome (graph T) s (t .next) (t .left) ≡ on (oneMoreExpanded s (t .left))
   old-entry = any-graph.old-entry graph-sound
 
   -- ---- where a flat step costs at least 10 and a stair at least 20
@@ -133,7 +133,7 @@ module _ {T : Task} (P : Ready T) where
 -- ---- the public search, for an input that no number from 2 to 10 refuses
 
 module _ (I : Input) (fit : judged I ≡ Fit) (start-free : routeable (taskOf I) (I .start) ≡ true) (goal-free : routeable (taskOf I) (I .goal) ≡ true) where
-  ready : Ready (taskOf I)
+  ready : Posed (taskOf I)
   ready =
       let r = admitted {R = I .room} {C = I .config} {kinds = I .kinds} {start = I .start} {goal = I .goal} {L = I .lengths} fit in
       record { good = r .good; start-in = r .start-in; goal-in = r .goal-in; start-free = start-free; goal-free = goal-free }

@@ -9,15 +9,15 @@ use lib.ListN.{length, getD}
 use Rattle.room.specs.declared.Neighbour.the-variants.{Inside}
 use Rattle.room_search.specs.Routing.{Task}
 use Rattle.geometry.specs.Geometry.{conflictOf}
-use Rattle.goals.specs.Goals.{Site, found, failed, full, searchedFor, taskSeen, endsGoal}
-use Rattle.goals.specs.Routes.{Conflicts, Joins}
+use Rattle.goals.specs.Goals.{Site, found, failed, full, searchedFor, siteTask, endsGoal}
+use Rattle.goals.specs.Routes.{Conflicts, RouteJoins}
 use Rattle.branches.specs.Branches.{branchOf}
 use Rattle.multinet.specs.Tree.{Plot, Tree, grown, tapAt, siteAt, planted, growFrom}
 use Rattle.multinet.specs.Growing.{turnIn}
 use Rattle.net_tree.specs.declared.Lengths.{Lengths}
 use Rattle.net_tree.specs.declared.Answer.{Answer}
 use Rattle.net_tree.specs.Answers.{Lent, lengthsOf, plotFor, routed, answerOf, lentAfter}
-use Rattle.net_tree.specs.Trees.{TreeOf}
+use Rattle.net_tree.specs.SheetTrees.{TreeOf}
 use Rattle.demands.specs.Statements.{Priced, Ample, Lawful, Cheapest, NoLawfulWay}
 
 -- what one search for a goal says: a lawful route, at those costs a cheapest one; or, with that limit and queue, truly that there is none
@@ -27,19 +27,19 @@ pub record SearchMeans (T : Task) : Type 0 where
   pub failed-true : Priced (T .config) → Ample T → searchedFor T ≡ failed → NoLawfulWay T
   pub never-full : Priced (T .config) → Ample T → (x : ℕ) → searchedFor T ≢ full x
 
--- what a sink's route is: the one that `Joins` tells of, found by a search for the first goal with a cheapest route; that search has this meaning too
+-- what a sink's route is: the one that `RouteJoins` tells of, found by a search for the first goal with a cheapest route; that search has this meaning too
 pub record RouteMeans (S : Site) (start : ℕ) (blocked path : List ℕ) (cost : ℕ) : Type 0 where
-  pub joins : Joins S blocked start path cost
-  pub lawful : Lawful (taskSeen S (joins .reaches .blocked-last) start (joins .goal)) path cost
-  pub cheapest : Priced (S .config) → Cheapest (taskSeen S (joins .reaches .blocked-last) start (joins .goal)) cost
+  pub joins : RouteJoins S blocked start path cost
+  pub lawful : Lawful (siteTask S (joins .reaches .blocked-last) start (joins .goal)) path cost
+  pub cheapest : Priced (S .config) → Cheapest (siteTask S (joins .reaches .blocked-last) start (joins .goal)) cost
 
 -- why so many attempts found a goal no route: after some conflicts were blocked there is no lawful way; or the next route has a conflict that can't
 -- be blocked, at the start, the goal or a cell blocked already; or the attempts are over
 pub data GoalEnds (S : Site) (start goal : ℕ) : ℕ → List ℕ → Type 0 where
-  no-way : {attempts : ℕ} {blocked : List ℕ} (n : ℕ) (later : List ℕ) → Conflicts S start goal n blocked later → NoLawfulWay (taskSeen S later start goal)
+  no-way : {attempts : ℕ} {blocked : List ℕ} (n : ℕ) (later : List ℕ) → Conflicts S start goal n blocked later → NoLawfulWay (siteTask S later start goal)
       → GoalEnds S start goal attempts blocked
   conflict-stays : {attempts : ℕ} {blocked : List ℕ} (n : ℕ) (later path : List ℕ) (cost v : ℕ) → Conflicts S start goal n blocked later
-      → searchedFor (taskSeen S later start goal) ≡ found path cost → conflictOf (S .room) (S .kinds) (S .joinable) path ≡ Inside v
+      → searchedFor (siteTask S later start goal) ≡ found path cost → conflictOf (S .room) (S .kinds) (S .joinable) path ≡ Inside v
       → endsGoal later start goal v ≡ true → GoalEnds S start goal attempts blocked
   attempts-over : {attempts : ℕ} {blocked : List ℕ} (later : List ℕ) → Conflicts S start goal attempts blocked later → GoalEnds S start goal attempts blocked
 

@@ -1,4 +1,4 @@
 pub mod Export
 pub mod ExportLaws
 pub mod TreeExport
-pub mod TreeLaws
+pub mod TreeExportLaws

@@ -1,8 +1,8 @@
 // One net's router, exported for other languages: numbers pass as themselves, a slice as a pointer and then a length. Here is
 // the search; the tree is in tree.rt.
-mod tree;
+mod tree_export;
 
-pub use tree::dustroute_tree;
+pub use tree_export::dustroute_tree;
 ghost use mathlib.Core.Path.{_≡_};
 ghost use mathlib.Core.List.{[], _∷_, _++_};
 ghost use Prim.Native.Nat.{_-_, _≤_};

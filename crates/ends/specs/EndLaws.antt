@@ -27,7 +27,7 @@ use Rattle.ends.specs.declared.Taps.{Taps}
 use Rattle.ends.specs.declared.Fault.{Fault}
 use Rattle.ends.specs.declared.Fault.the-variants.{Good, NoFacing, Outside}
 use Rattle.ends.specs.declared.Ends.{Ends}
-use Rattle.ends.specs.Ends.{sinksIn, sourceEnd, sinkEnd, dueFor, firstDue, endsAt, noTap, tapOf, tapsOf, tapFrom, withoutApproach, terminalIn, faultBy, faultOf, endsOf, tapsIn, SinksWithin, TapsIn, NetIn}
+use Rattle.ends.specs.Ends.{sinksIn, sourceEnd, sinkEnd, dueFor, firstDue, endsAt, noTap, tapOf, tapsOf, tapFrom, withoutApproach, terminalIn, faultBy, faultOf, endsOf, tapsIn, SinksWithin, TapsInside, NetInside}
 
 module _ {R : Room} {k : Sinks} (S : SinksWithin R k) where
   pub sinks-long : length (sinksIn k) ≡ k .count
@@ -140,7 +140,7 @@ ends-is R e es p q r = λ i. record { fault = p i; source = q i; taps = r i }
 -- ---- a net whose ends no number refuses
 
 -- the taps in use are as many as are counted
-pub taps-long : {R : Room} {k : Taps} → TapsIn R k → length (tapsIn k) ≡ k .count
+pub taps-long : {R : Room} {k : Taps} → TapsInside R k → length (tapsIn k) ≡ k .count
 taps-long {k = k} T = length-take-le (k .count) (k .taps) (omega (arith, T .few, T .whole))
 
 pub tap-is : (k : Taps) (i : ℕ) → i < k .count → getD (k .taps) i noTap ≡ getD (tapsIn k) i noTap
@@ -205,7 +205,7 @@ module _ {R : Room} (source : Endpoint) {k : Sinks} (w : Within R (source .at)) 
       none-due number 0 (endsAt R source l) e (suc i) (omega (arith, m)) Realized.Outside
       (ap dueFor (mapped-at (sinkEnd R) l i noEndpoint Realized.Outside b ∙ ap (sinkEnd R) a) ∙ q)
 
-  pub net-in : NetIn R (terminalIn (sourceEnd R source)) (tapsOf R (sinksIn k))
+  pub net-in : NetInside R (terminalIn (sourceEnd R source)) (tapsOf R (sinksIn k))
   unfolding faultOf
   net-in =
       let l = sinksIn k in

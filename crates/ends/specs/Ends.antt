@@ -22,7 +22,7 @@ use Rattle.ends.specs.declared.Ends.{Ends}
 use Rattle.ends.specs.declared.Fault.{Fault}
 use Rattle.ends.specs.declared.Fault.the-variants.{Good, NoFacing, Outside}
 
--- the sinks that travel as one value
+-- the sinks in use, of those that travel as one value
 abbrev pub sinksIn : Sinks → List Endpoint
 sinksIn k = take (k .count) (k .ends)
 
@@ -55,10 +55,11 @@ firstDue number place (r ∷ rs) = either (eqb (dueFor r) number) (suc place) (f
 abbrev pub endsAt : Room → Endpoint → List Endpoint → List Realized
 endsAt R source sinks = sourceEnd R source ∷ map (sinkEnd R) sinks
 
--- where an end meets the wire, and what its port is
+-- what stands in a place of `Taps` that no sink takes
 abbrev pub noTap : Tap
 noTap = record { terminal = 0; approach = 0; wire = false }
 
+-- where an end meets the wire, and what its port is
 abbrev pub tapFrom : Bool → Realized → Tap
 tapFrom isWire (Realized.At t a) = record { terminal = t; approach = a; wire = isWire }
 tapFrom isWire Realized.NoFacing = noTap
@@ -105,13 +106,13 @@ pub record SinksWithin (R : Room) (k : Sinks) : Type 0 where
   pub within : (i : ℕ) → i < k .count → Within R (getD (k .ends) i noEndpoint .at)
 
 -- sinks that no number refuses: their terminals and approaches are in the room
-pub record TapsIn (R : Room) (k : Taps) : Type 0 where
+pub record TapsInside (R : Room) (k : Taps) : Type 0 where
   pub few : k .count ≤ maxSinks
   pub whole : length (k .taps) ≡ maxSinks
   pub terminal-in : (i : ℕ) → i < k .count → getD (k .taps) i noTap .terminal < volume R
   pub approach-in : (i : ℕ) → i < k .count → getD (k .taps) i noTap .approach < volume R
 
 -- a net whose ends no number refuses: its source, too, is in the room
-pub record NetIn (R : Room) (source : ℕ) (k : Taps) : Type 0 where
+pub record NetInside (R : Room) (source : ℕ) (k : Taps) : Type 0 where
   pub source-in : source < volume R
-  pub taps-in : TapsIn R k
+  pub taps-in : TapsInside R k

@@ -13,7 +13,7 @@ use Rattle.room.specs.declared.Neighbour.{Neighbour}
 use Rattle.room.specs.declared.Neighbour.the-variants.{Inside, Outside}
 use Rattle.room.specs.Room.{volume, holdsAt, beneath, above}
 use Rattle.geometry.specs.Geometry.{ifPassed}
-use Rattle.basics.specs.Walks.{along}
+use Rattle.basics.specs.Folds.{along}
 
 -- the byte `old` at a cell is made `new`; any other byte there stays
 abbrev pub replacedAt : ℕ → ℕ → ℕ → List ℕ → List ℕ
@@ -23,8 +23,8 @@ abbrev pub replaced : ℕ → ℕ → List ℕ → List ℕ → List ℕ
 replaced old new = along (replacedAt old new)
 
 -- a cell is a conductor where its byte is not 0
-abbrev pub laid : List ℕ → ℕ → Bool
-laid bytes v = not (eqb (getD bytes v 0) 0)
+abbrev pub conductsBy : List ℕ → ℕ → Bool
+conductsBy bytes v = not (eqb (getD bytes v 0) 0)
 
 -- of the pairs that a conductor stands in, the upper cell of the lower one
 unfoldable pub pairWith : Room → (ℕ → Bool) → ℕ → Neighbour

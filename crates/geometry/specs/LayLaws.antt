@@ -17,8 +17,8 @@ use Rattle.room.specs.Room.{volume, beneath}
 use Rattle.routing_resources.specs.Marks.{isMarked, Marks, CellsBelow, AllCells}
 use Rattle.routing_resources.specs.MarkLaws.{read-below}
 use Rattle.geometry.specs.Geometry.{standsIn, conductor, upperOfPair, NoPair}
-use Rattle.geometry.specs.Along.{replacedAt, replaced, laid, OnPath}
-use Rattle.basics.specs.Walks.{along, Walk}
+use Rattle.geometry.specs.Along.{replacedAt, replaced, conductsBy, OnPath}
+use Rattle.basics.specs.Folds.{along, Folding}
 
 -- ---- the path's cells
 
@@ -85,7 +85,7 @@ module _ (old new : ℕ) where
       ∙ twice (eqb c v) (standsIn cs v) (getD bytes v 0)
 
   -- in the midst of a walk
-  module _ {path start bytes : List ℕ} {i : ℕ} (walk : Walk (replacedAt old new) path start bytes i) where
+  module _ {path start bytes : List ℕ} {i : ℕ} (walk : Folding (replacedAt old new) path start bytes i) where
     pub walk-length : length bytes ≡ length start
     walk-length = sym (replaced-length (drop i path) bytes) ∙ ap length (walk .left) ∙ replaced-length path start
 
@@ -122,17 +122,17 @@ module _ (joinable path : List ℕ) (marks : Marks joinable) where
           ∙ put-back-byte (standsIn path v) (getD joinable v 0) (marks .small v h)
 
   -- the bytes with the path laid say which cells are conductors
-  laid-conductors : (R : Room) → length joinable ≡ volume R → AllCells R path → laid (replaced 0 2 path joinable) ≡ conductor joinable path
+  laid-conductors : (R : Room) → length joinable ≡ volume R → AllCells R path → conductsBy (replaced 0 2 path joinable) ≡ conductor joinable path
   unfolding conductor
   laid-conductors R long all = fun-ext (λ v. askLess v (length joinable) (within v) (beyond v))
     where
-      within : (v : ℕ) → v < length joinable → laid (replaced 0 2 path joinable) v ≡ isMarked joinable v || standsIn path v
+      within : (v : ℕ) → v < length joinable → conductsBy (replaced 0 2 path joinable) v ≡ isMarked joinable v || standsIn path v
       within v h = rw (replaced-at 0 2 path joinable v h) (laid-byte (standsIn path v) (getD joinable v 0) (marks .small v h))
 
       off : (v : ℕ) → length joinable ≤ v → standsIn path v ≡ false
       off v h = ask (standsIn path v) (λ t. absurd (omega (arith, cells-in R path all v (stands-in path v t), long))) (λ f. f)
 
-      beyond : (v : ℕ) → length joinable ≤ v → laid (replaced 0 2 path joinable) v ≡ isMarked joinable v || standsIn path v
+      beyond : (v : ℕ) → length joinable ≤ v → conductsBy (replaced 0 2 path joinable) v ≡ isMarked joinable v || standsIn path v
       beyond v h =
           let a = List·getD-eq-default (replaced 0 2 path joinable) 0 {n = v} (rw (replaced-length 0 2 path joinable) h) in
           let b = List·getD-eq-default joinable 0 {n = v} h in
@@ -156,10 +156,10 @@ module _ (R : Room) (joinable path bytes : List ℕ) (long : length joinable ≡
   pub laid-length : length bytes ≡ volume R
   laid-length = ap length e ∙ replaced-length 0 2 path joinable ∙ long
 
-  pub laid-is : laid bytes ≡ conductor joinable path
-  laid-is = ap laid e ∙ laid-conductors joinable path marks R long all
+  pub laid-is : conductsBy bytes ≡ conductor joinable path
+  laid-is = ap conductsBy e ∙ laid-conductors joinable path marks R long all
 
-  pub laid-on-path : NoPair R (isMarked joinable) → OnPath R (laid bytes) path
+  pub laid-on-path : NoPair R (isMarked joinable) → OnPath R (conductsBy bytes) path
   laid-on-path alone = rw laid-is (on-path R joinable path alone)
 
   pub taken-up : (after : List ℕ) → after ≡ replaced 2 0 path bytes → after ≡ joinable

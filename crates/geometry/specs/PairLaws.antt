@@ -19,7 +19,7 @@ use Rattle.geometry.specs.Along.{pairWith, lesserPlace, leastUpper, OnPa
 use Rattle.room.specs.AboveLaws.{above-beneath, beneath-above, beneath-lt}
 use Rattle.room.specs.RoomLaws.{inside-passed}
 use Rattle.room.specs.PlaceLaws.{out-failed, first-none, first-is}
-use Rattle.basics.specs.Walks.{along}
+use Rattle.basics.specs.Folds.{along}
 
 -- ---- a conductor's pairs
 

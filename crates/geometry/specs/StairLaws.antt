@@ -5,7 +5,7 @@ use mathlib.Core.List.{List}
 use Prim.Native.Nat.{ℕ, _+_, _≤_, _<_}
 use native.Mathlib.Omega.{arith}
 use lib.ListN.{length, getD, drop}
-use Rattle.basics.specs.Walks.{ByPairs, pairs-next, pairs-end}
+use Rattle.basics.specs.Folds.{ByPairs, pairs-next, pairs-end}
 use Rattle.basics.specs.Tests.{ask, never}
 use Rattle.basics.specs.Lists.{in-at}
 use Rattle.room.specs.declared.Room.{Room}

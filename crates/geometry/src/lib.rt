@@ -10,7 +10,7 @@ ghost use Rattle.room.specs.Room.{Good, volume};
 ghost use Rattle.routing_resources.specs.Marks.{isMarked, Marks, CellsBelow, AllCells};
 ghost use Rattle.routing_resources.specs.Resources.{clearanceOf};
 ghost use Rattle.geometry.specs.Geometry.{standsIn, NoPair, firstPair, ifPassed, atClearance, stairConflict, conflictAmong, conflictOf};
-ghost use Rattle.geometry.specs.Along.{replaced, laid, pairWith, lesserPlace, OnPath, nowhere};
+ghost use Rattle.geometry.specs.Along.{replaced, conductsBy, pairWith, lesserPlace, OnPath, nowhere};
 
 // The byte of a cell of the path that is not joinable.
 const ON_PATH: u8 = 2;
@@ -33,7 +33,7 @@ fn replace(bytes: &mut [u8], path: &[u32], old: u8, new: u8)
 // The cell at a place where it is a conductor.
 fn conductor_at(bytes: &[u8], place: Neighbour) -> Neighbour
     requires { ⌜ ((v : ℕ) → place ≡ Neighbour.Inside v → v < length (now bytes)) ⌝ }
-    ensures { λ r. ⌜ r ≡ ifPassed (laid (now (bytes .entry))) place ⌝ }
+    ensures { λ r. ⌜ r ≡ ifPassed (conductsBy (now (bytes .entry))) place ⌝ }
 {
     let Neighbour::Inside(cell) = place else {
         return Neighbour::Outside;
@@ -49,7 +49,7 @@ fn pair_with(room: Room, bytes: &[u8], cell: usize) -> Neighbour
     requires { ⌜ Good room ⌝ }
     requires { ⌜ length (now bytes) ≡ volume room ⌝ }
     requires { ⌜ cell < volume room ⌝ }
-    ensures { λ r. ⌜ r ≡ pairWith room (laid (now (bytes .entry))) cell ⌝ }
+    ensures { λ r. ⌜ r ≡ pairWith room (conductsBy (now (bytes .entry))) cell ⌝ }
 {
     let below = conductor_at(bytes, room.beneath(cell));
     if let Neighbour::Inside(_) = below {
@@ -73,8 +73,8 @@ fn first_pair(room: Room, bytes: &[u8], path: &[u32]) -> Neighbour
     requires { ⌜ Good room ⌝ }
     requires { ⌜ length (now bytes) ≡ volume room ⌝ }
     requires { ⌜ AllCells room (now path) ⌝ }
-    requires { ⌜ OnPath room (laid (now bytes)) (now path) ⌝ }
-    ensures { λ r. ⌜ r ≡ firstPair room (laid (now (bytes .entry))) ⌝ }
+    requires { ⌜ OnPath room (conductsBy (now bytes)) (now path) ⌝ }
+    ensures { λ r. ⌜ r ≡ firstPair room (conductsBy (now (bytes .entry))) ⌝ }
 {
     let none = bytes.len();
     let mut least = none;
@@ -95,7 +95,7 @@ fn stair_at(room: Room, kinds: &[u8], bytes: &[u8], from: usize, second: usize) 
     requires { ⌜ Good room ⌝ }
     requires { ⌜ (length (now kinds) ≡ volume room) × (length (now bytes) ≡ volume room) ⌝ }
     requires { ⌜ (from < volume room) × (second < volume room) ⌝ }
-    ensures { λ r. ⌜ r ≡ atClearance room (now (kinds .entry)) nowhere (laid (now (bytes .entry))) second (clearanceOf room from second) ⌝ }
+    ensures { λ r. ⌜ r ≡ atClearance room (now (kinds .entry)) nowhere (conductsBy (now (bytes .entry))) second (clearanceOf room from second) ⌝ }
 {
     let Neighbour::Inside(free) = routing_resources::clearance(room, from, second) else {
         return Neighbour::Outside;
@@ -111,9 +111,9 @@ fn stair_conflict(room: Room, kinds: &[u8], bytes: &[u8], path: &[u32]) -> Neigh
     requires { ⌜ Good room ⌝ }
     requires { ⌜ (length (now kinds) ≡ volume room) × (length (now bytes) ≡ volume room) ⌝ }
     requires { ⌜ AllCells room (now path) ⌝ }
-    requires { ⌜ OnPath room (laid (now bytes)) (now path) ⌝ }
-    requires { ⌜ NoPair room (laid (now bytes)) ⌝ }
-    ensures { λ r. ⌜ r ≡ stairConflict room (now (kinds .entry)) (standsIn (now (path .entry))) (laid (now (bytes .entry))) (now (path .entry)) ⌝ }
+    requires { ⌜ OnPath room (conductsBy (now bytes)) (now path) ⌝ }
+    requires { ⌜ NoPair room (conductsBy (now bytes)) ⌝ }
+    ensures { λ r. ⌜ r ≡ stairConflict room (now (kinds .entry)) (standsIn (now (path .entry))) (conductsBy (now (bytes .entry))) (now (path .entry)) ⌝ }
 {
     let mut i: usize = 0;
     while i + 1 < path.len() {
@@ -131,8 +131,8 @@ fn first_conflict(room: Room, kinds: &[u8], bytes: &[u8], path: &[u32]) -> Neigh
     requires { ⌜ Good room ⌝ }
     requires { ⌜ (length (now kinds) ≡ volume room) × (length (now bytes) ≡ volume room) ⌝ }
     requires { ⌜ AllCells room (now path) ⌝ }
-    requires { ⌜ OnPath room (laid (now bytes)) (now path) ⌝ }
-    ensures { λ r. ⌜ r ≡ conflictAmong room (now (kinds .entry)) (laid (now (bytes .entry))) (now (path .entry)) ⌝ }
+    requires { ⌜ OnPath room (conductsBy (now bytes)) (now path) ⌝ }
+    ensures { λ r. ⌜ r ≡ conflictAmong room (now (kinds .entry)) (conductsBy (now (bytes .entry))) (now (path .entry)) ⌝ }
 {
     let pair = first_pair(room, bytes, path);
     if let Neighbour::Inside(_) = pair {

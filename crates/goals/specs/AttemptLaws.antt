@@ -18,7 +18,7 @@ use Rattle.room.specs.declared.Neighbour.{Neighbour}
 use Rattle.room.specs.declared.Neighbour.the-variants.{Inside, Outside}
 use Rattle.room.specs.Room.{Good, volume}
 use Rattle.room_search.specs.Routing.{anEnd}
-use Rattle.room_search.specs.Steps.{placesOf}
+use Rattle.room_search.specs.TriedMoves.{placesOf}
 use Rattle.routing_resources.specs.Marks.{isMarked, withByte, markedBy, unmarkedBy, AllCells, Marks}
 use Rattle.routing_resources.specs.MarkLaws.{with-length, with-at, marks-with}
 use Rattle.geometry.specs.Geometry.{conflictOf}
@@ -28,11 +28,11 @@ use Rattle.blocked_world.specs.RefreshLaws.{mark-put, refreshed-says}
 use Rattle.goals.specs.declared.Tried.{Tried}
 use Rattle.goals.specs.declared.Tried.the-variants.{Found, Failed, Full}
 use Rattle.goals.specs.declared.Attempt.the-variants.{Ended, Conflict}
-use Rattle.goals.specs.Goals.{Site, Trial, found, searchedFor, atConflict, afterSearch, attemptThen, attempts, endsGoal, taskSeen}
+use Rattle.goals.specs.Goals.{Site, Trial, found, searchedFor, atConflict, afterSearch, attemptThen, attempts, endsGoal, siteTask}
 use Rattle.goals.specs.Trials.{Tells, siteOf, Attemptable, Repeats, Attempted}
 use Rattle.goals.specs.PathLaws.{found-by, found-cells, conflict-in}
 use Rattle.room_search.specs.Takings.{Searchable}
-use Rattle.goals.specs.SearchLaws.{tells-failed}
+use Rattle.goals.specs.SearchForLaws.{tells-failed}
 
 -- an answer that is no route
 abbrev pub Routeless : Tried → Type 0
@@ -49,7 +49,7 @@ module _ {S : Site} {blocked classes known previous path : List ℕ} {start goal
   pub able-searchable : {queue : List ℕ} → S .places ≡ placesOf queue → Searchable (S .room) (S .config) classes known previous queue start goal
   able-searchable p = record {
     good = A .grounds .good;
-    fair = A .grounds .fair;
+    config-good = A .grounds .config-good;
     classes-long = A .says .long;
     known-long = A .memory .known-long;
     previous-long = A .memory .previous-long;
@@ -62,7 +62,7 @@ module _ {S : Site} {blocked classes known previous path : List ℕ} {start goal
 
 module _ (S : Site) (blocked : List ℕ) (start goal : ℕ) where
   abbrev searchNow : Trial
-  searchNow = searchedFor (taskSeen S blocked start goal)
+  searchNow = searchedFor (siteTask S blocked start goal)
 
   -- there is no route
   pub ended-search : (r : Tried) (cells : List ℕ) → Routeless r → Tells searchNow r cells → Attempted S blocked start goal cells (Ended r)
@@ -170,11 +170,11 @@ module _ {S : Site} {blocked classes known previous path : List ℕ} {start goal
     able-next says = record {
       grounds = record {
         good = A .grounds .good;
-        fair = A .grounds .fair;
+        config-good = A .grounds .config-good;
         kinds-long = A .grounds .kinds-long;
         joinable-long = A .grounds .joinable-long;
         joinable-marks = A .grounds .joinable-marks;
-        alone = A .grounds .alone;
+        no-pair = A .grounds .no-pair;
         blocked-long = able-marked .blocked-long;
         blocked-marks = rw b (marks-with 1 (omega arith) (eqb v) blocked (A .grounds .blocked-marks));
         start-in = A .grounds .start-in;

@@ -22,7 +22,7 @@ use Rattle.goals.specs.declared.Tried.the-variants.{Found, Failed, Full}
 use Rattle.goals.specs.Goals.{Site, full, maxAttempts, attempts, beats, cheaperRoute, triedGoal, bestBelow, routeToTree}
 use Rattle.goals.specs.Trials.{told, Tells, siteOf, Attemptable, GoesOn, KeepsCheaper}
 use Rattle.goals.specs.AttemptLaws.{site-same, able-kept}
-use Rattle.goals.specs.SearchLaws.{tells-failed}
+use Rattle.goals.specs.SearchForLaws.{tells-failed}
 
 -- ---- a goal's class bytes
 

@@ -63,13 +63,13 @@ afterSearch S blocked start goal again failed = failed
 afterSearch S blocked start goal again (full x) = full x
 
 -- the search from start to goal, as it sees the room
-abbrev pub taskSeen : Site → List ℕ → ℕ → ℕ → Task
-taskSeen S blocked start goal = seenTask (S .room) (S .config) (S .kinds) blocked start goal (S .places)
+abbrev pub siteTask : Site → List ℕ → ℕ → ℕ → Task
+siteTask S blocked start goal = seenTask (S .room) (S .config) (S .kinds) blocked start goal (S .places)
 
 -- one attempt, with what the attempts after it come to
 abbrev pub attemptThen : Site → List ℕ → ℕ → ℕ → (List ℕ → Trial) → Trial
 attemptThen S blocked start goal again =
-    afterSearch S blocked start goal again (searchedFor (taskSeen S blocked start goal))
+    afterSearch S blocked start goal again (searchedFor (siteTask S blocked start goal))
 
 -- so many attempts for one goal, from these blocked cells on
 unfoldable pub attempts : ℕ → Site → ℕ → ℕ → List ℕ → Trial

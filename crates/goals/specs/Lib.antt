@@ -1,7 +1,7 @@
 pub mod Goals
 pub mod Trials
 pub mod Routes
-pub mod SearchLaws
+pub mod SearchForLaws
 pub mod PathLaws
 pub mod AttemptLaws
 pub mod GoalLaws

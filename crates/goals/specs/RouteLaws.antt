@@ -20,8 +20,8 @@ use Rattle.room_search.specs.Routing.{Task, graphOf, graph}
 use Rattle.room_search.specs.GraphLaws.{step-by}
 use Rattle.routing_resources.specs.Marks.{isMarked, markedBy, AllCells}
 use Rattle.geometry.specs.Geometry.{conflictOf}
-use Rattle.goals.specs.Goals.{Site, Trial, found, failed, full, searchedFor, atConflict, afterSearch, maxAttempts, attempts, cheaperRoute, triedGoal, bestBelow, routeToTree, taskSeen, endsGoal}
-use Rattle.goals.specs.Routes.{as-blocked, one-more, Reaches, Joins}
+use Rattle.goals.specs.Goals.{Site, Trial, found, failed, full, searchedFor, atConflict, afterSearch, maxAttempts, attempts, cheaperRoute, triedGoal, bestBelow, routeToTree, siteTask, endsGoal}
+use Rattle.goals.specs.Routes.{as-blocked, one-more, Reaches, RouteJoins}
 use Rattle.goals.specs.PathLaws.{FoundBy, found-by, found-lawful, found-cells, found-short}
 
 same-path : (p q : List ℕ) (c d : ℕ) → found p c ≡ found q d → (p ≡ q) × (c ≡ d)
@@ -33,9 +33,9 @@ module _ (S : Site) (start goal : ℕ) where
   attempts-reach : (n : ℕ) (blocked path : List ℕ) (cost : ℕ) → attempts n S start goal blocked ≡ found path cost → Reaches S n blocked start goal path cost
   unfolding attempts afterSearch atConflict
   attempts-reach zero blocked path cost e = never (cc)
-  attempts-reach (suc n) blocked path cost e = after (searchedFor (taskSeen S blocked start goal)) refl e (attempts-reach n)
+  attempts-reach (suc n) blocked path cost e = after (searchedFor (siteTask S blocked start goal)) refl e (attempts-reach n)
     where
-      at : (p : List ℕ) (c : ℕ) → searchedFor (taskSeen S blocked start goal) ≡ found p c
+      at : (p : List ℕ) (c : ℕ) → searchedFor (siteTask S blocked start goal) ≡ found p c
           → (place : Neighbour) → conflictOf (S .room) (S .kinds) (S .joinable) p ≡ place
           → atConflict blocked start goal (attempts n S start goal) (found p c) place ≡ found path cost
           → ((blocked′ path′ : List ℕ) (cost′ : ℕ) → attempts n S start goal blocked′ ≡ found path′ cost′ → Reaches S n blocked′ start goal path′ cost′)
@@ -59,7 +59,7 @@ module _ (S : Site) (start goal : ℕ) where
             free = r .free;
           }
 
-      after : (trial : Trial) → searchedFor (taskSeen S blocked start goal) ≡ trial
+      after : (trial : Trial) → searchedFor (siteTask S blocked start goal) ≡ trial
           → afterSearch S blocked start goal (attempts n S start goal) trial ≡ found path cost
           → ((blocked′ path′ : List ℕ) (cost′ : ℕ) → attempts n S start goal blocked′ ≡ found path′ cost′ → Reaches S n blocked′ start goal path′ cost′)
           → Reaches S (suc n) blocked start goal path cost
@@ -137,11 +137,11 @@ module _ (S : Site) (start : ℕ) (blocked : List ℕ) where
       go (found p c) u failed t q earlier = still-kept n (earlier path cost (u ∙ q)) (λ l d r. never (cc (sym t ∙ r)))
       go (found p c) u (full x) t q earlier = never (cc)
 
-  pub tree-joins : (path : List ℕ) (cost : ℕ) → routeToTree S start blocked ≡ found path cost → Joins S blocked start path cost
+  pub tree-joins : (path : List ℕ) (cost : ℕ) → routeToTree S start blocked ≡ found path cost → RouteJoins S blocked start path cost
   unfolding routeToTree triedGoal
   tree-joins path cost e = go (below-kept (volume (S .room)) path cost e)
     where
-      go : Kept (volume (S .room)) path cost → Joins S blocked start path cost
+      go : Kept (volume (S .room)) path cost → RouteJoins S blocked start path cost
       go K =
           ask (isMarked (S .joinable) (K .goal))
           (λ t. record {
@@ -155,9 +155,9 @@ module _ (S : Site) (start : ℕ) (blocked : List ℕ) where
           (λ f. never (cc (rw f at (K .its-route))))
 
 -- so the path begins with the start, is a way of the search's moves to the goal, has at most V cells, and these are cells of the room
-module _ {S : Site} {blocked : List ℕ} {start : ℕ} {path : List ℕ} {cost : ℕ} (start-in : start < volume (S .room)) (J : Joins S blocked start path cost) where
+module _ {S : Site} {blocked : List ℕ} {start : ℕ} {path : List ℕ} {cost : ℕ} (start-in : start < volume (S .room)) (J : RouteJoins S blocked start path cost) where
   abbrev T : Task
-  T = taskSeen S (J .reaches .blocked-last) start (J .goal)
+  T = siteTask S (J .reaches .blocked-last) start (J .goal)
 
   by-search : FoundBy T path cost
   by-search = found-by T path cost (J .reaches .found-so)
@@ -182,7 +182,7 @@ way-step G (v ∷ l) u t d w (suc i) h = way-step G l v t (w .1) (w .3) i (omega
 step-made : (T : Task) (u v c : ℕ) → u < volume (T .room) → Ways.GraphStep (graph T) u v c → Step (T .room) u v
 step-made T u v c h s = let m = step-by T u v c s in record { from-in = h; move = m .by; listed = m .listed; leads = m .leads-in }
 
-module _ {S : Site} {blocked : List ℕ} {start : ℕ} {path : List ℕ} {cost : ℕ} (start-in : start < volume (S .room)) (J : Joins S blocked start path cost) where
+module _ {S : Site} {blocked : List ℕ} {start : ℕ} {path : List ℕ} {cost : ℕ} (start-in : start < volume (S .room)) (J : RouteJoins S blocked start path cost) where
   abbrev rest : List ℕ
   rest = joins-lawful start-in J .rest
 

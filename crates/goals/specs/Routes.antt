@@ -9,12 +9,12 @@ use Rattle.room.specs.declared.Neighbour.the-variants.{Inside, Outside}
 use Rattle.room.specs.Room.{volume}
 use Rattle.routing_resources.specs.Marks.{isMarked, markedBy}
 use Rattle.geometry.specs.Geometry.{conflictOf}
-use Rattle.goals.specs.Goals.{Site, found, searchedFor, taskSeen, endsGoal, maxAttempts, triedGoal}
+use Rattle.goals.specs.Goals.{Site, found, searchedFor, siteTask, endsGoal, maxAttempts, triedGoal}
 
 -- so many searches found a route with a conflict that does not end the goal and was then blocked, one after another
 pub data Conflicts (S : Site) (start goal : ℕ) : ℕ → List ℕ → List ℕ → Type 0 where
   as-blocked : {blocked : List ℕ} → Conflicts S start goal 0 blocked blocked
-  one-more : {n : ℕ} {blocked later path : List ℕ} {cost v : ℕ} → searchedFor (taskSeen S blocked start goal) ≡ found path cost
+  one-more : {n : ℕ} {blocked later path : List ℕ} {cost v : ℕ} → searchedFor (siteTask S blocked start goal) ≡ found path cost
       → conflictOf (S .room) (S .kinds) (S .joinable) path ≡ Inside v
       → endsGoal blocked start goal v ≡ false
       → Conflicts S start goal n (markedBy (eqb v) blocked) later
@@ -26,11 +26,11 @@ pub record Reaches (S : Site) (attempts : ℕ) (blocked : List ℕ) (start goal 
   pub few : conflicts < attempts
   pub blocked-last : List ℕ
   pub after : Conflicts S start goal conflicts blocked blocked-last
-  pub found-so : searchedFor (taskSeen S blocked-last start goal) ≡ found path cost
+  pub found-so : searchedFor (siteTask S blocked-last start goal) ≡ found path cost
   pub free : conflictOf (S .room) (S .kinds) (S .joinable) path ≡ Outside
 
 -- one sink's route: its goal is a joinable cell, no goal has a cheaper route, and none before it in number order one as cheap
-pub record Joins (S : Site) (blocked : List ℕ) (start : ℕ) (path : List ℕ) (cost : ℕ) : Type 0 where
+pub record RouteJoins (S : Site) (blocked : List ℕ) (start : ℕ) (path : List ℕ) (cost : ℕ) : Type 0 where
   pub goal : ℕ
   pub goal-in : goal < volume (S .room)
   pub joinable : isMarked (S .joinable) goal ≡ true

@@ -12,7 +12,7 @@ use Rattle.room.specs.Units.{GoodConfig, air}
 use Rattle.best_first.specs.Search.{Graph, Answer}
 use Rattle.room_search.specs.declared.Outcome.{Outcome}
 use Rattle.room_search.specs.Routing.{routeableKind}
-use Rattle.room_search.specs.Steps.{placesOf}
+use Rattle.room_search.specs.TriedMoves.{placesOf}
 use Rattle.room_search.specs.Takings.{OutcomeTold}
 use Rattle.routing_resources.specs.Marks.{isMarked, markedBy, Marks}
 use Rattle.geometry.specs.Geometry.{NoPair}
@@ -23,7 +23,7 @@ use Rattle.goals.specs.declared.Attempt.{Attempt}
 use Rattle.goals.specs.declared.Attempt.the-variants.{Ended, Conflict}
 use Rattle.goals.specs.Goals.{Site, Trial, found, failed, full, trialOf, searchedFor, attemptThen, cheaperRoute}
 
--- what an answer says, with the buffer that has the path's cells in front
+-- what an answer says, with the buffer that has the path's cells at its front
 abbrev pub told : Tried → List ℕ → Trial
 told (Found n cost) cells = found (take n cells) (cost .0)
 told Failed cells = failed
@@ -41,7 +41,7 @@ pub record Tells (trial : Trial) (r : Tried) (cells : List ℕ) : Type 0 where
 
 -- ---- one search
 
--- both ends may hold wire; an end is never blocked for its own search
+-- both ends are routeable; an end is never blocked for its own search
 abbrev pub bothRouteable : List ℕ → ℕ → ℕ → Bool
 bothRouteable kinds start goal = routeableKind true (getD kinds start air) && routeableKind true (getD kinds goal air)
 
@@ -62,18 +62,18 @@ siteOf R C kinds joinable queue = record { room = R; config = C; kinds = kinds; 
 -- what a sink's goals ask of the room and the marks. Joinable cells among themselves make no pair
 pub record Grounds (S : Site) (blocked : List ℕ) (start : ℕ) : Type 0 where
   pub good : Good (S .room)
-  pub fair : GoodConfig (S .config)
+  pub config-good : GoodConfig (S .config)
   pub kinds-long : length (S .kinds) ≡ volume (S .room)
   pub joinable-long : length (S .joinable) ≡ volume (S .room)
   pub joinable-marks : Marks (S .joinable)
-  pub alone : NoPair (S .room) (isMarked (S .joinable))
+  pub no-pair : NoPair (S .room) (isMarked (S .joinable))
   pub blocked-long : length blocked ≡ volume (S .room)
   pub blocked-marks : Marks blocked
   pub start-in : start < volume (S .room)
   pub places-some : 0 < S .places
 
 -- work memory of exactly V cells
-pub record Memory (R : Room) (known previous path : List ℕ) : Type 0 where
+pub record WorkMemory (R : Room) (known previous path : List ℕ) : Type 0 where
   pub known-long : length known ≡ volume R
   pub previous-long : length previous ≡ volume R
   pub path-long : length path ≡ volume R
@@ -81,7 +81,7 @@ pub record Memory (R : Room) (known previous path : List ℕ) : Type 0 where
 -- what a goal's attempts ask: the class bytes say what is seen from the start to this goal. Between goals the start stands for the goal too
 pub record Attemptable (S : Site) (blocked classes known previous path : List ℕ) (start goal : ℕ) : Type 0 where
   pub grounds : Grounds S blocked start
-  pub memory : Memory (S .room) known previous path
+  pub memory : WorkMemory (S .room) known previous path
   pub goal-in : goal < volume (S .room)
   pub says : Says (S .room) (S .kinds) blocked start goal classes
 

@@ -11,7 +11,7 @@ ghost use Rattle.goals.specs.Goals.{attempts, endsGoal};
 ghost use Rattle.goals.specs.Trials.{Tells, siteOf, Attemptable, Attempted};
 use crate::Attempt;
 use crate::Tried;
-use crate::search::search_for;
+use crate::one_search::search_for;
 use room::Neighbour;
 use room::Room;
 use room::RouterConfig;
@@ -21,7 +21,7 @@ fn ends_goal(blocked: &[u8], start: usize, goal: usize, cell: usize) -> bool
     requires { ⌜ cell < length (now blocked) ⌝ }
     ensures { λ r. ⌜ r ≡ endsGoal (now (blocked .entry)) start goal cell ⌝ }
 {
-    if blocked_world::is_end(start, goal, cell) {
+    if blocked_world::an_end(start, goal, cell) {
         return true;
     }
     blocked[cell] == routing_resources::MARKED

@@ -2,12 +2,12 @@
 // goal." The class bytes are changed in place and put back.
 mod attempts; // attempts.rt: the attempts for one goal
 mod cheapest; // cheapest.rt: the first strictly cheapest route is kept
-mod search; // search.rt: the search for one goal
-mod tree; // tree.rt: one goal after another
+mod one_search; // one_search.rt: the search for one goal
+mod goal_by_goal; // goal_by_goal.rt: one goal after another
 
-pub use tree::route_to_tree;
+pub use goal_by_goal::route_to_tree;
 
-// What a goal comes to: a route, whose path stands in front of a lent buffer; nothing; or a push found the queue full.
+// What a goal comes to: a route, whose path stands at the front of a lent buffer; nothing; or a push found the queue full.
 pub enum Tried {
     Found { length: usize, cost: room::Cost },
     Failed,

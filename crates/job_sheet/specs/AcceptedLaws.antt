@@ -116,7 +116,7 @@ module _ (J : Contents) (N : NoFault J) (I : PartsIn (bytesOf J) (layoutOf J)) w
     room-is = refl;
     room-good = good (J .room) (N .sides);
     config-is = refl;
-    config-fair = good-config (J .config) (N .config);
+    config-good = good-config (J .config) (N .config);
     blocks = block-list;
     conductors = position-list (layoutOf J .conductors) (J .conductors) (I .conductors) (conductors-back J) refl (N .conductors);
     clearances = position-list (layoutOf J .clearances) (J .clearances) (I .clearances) (clearances-back J) refl (N .clearances);

@@ -175,7 +175,7 @@ module _ (J : Contents) where
 -- ---- what a sheet says has its bytes
 
 -- the parts come one after another
-record Ordered (L : Layout) : Type 0 where
+record PlacesOrdered (L : Layout) : Type 0 where
   pub blocks-from : L .blocks .from ≡ listsPlace + 2
   pub conductors-from : L .conductors .from ≡ behind blockSize (L .blocks) + 2
   pub clearances-from : L .clearances .from ≡ behind positionSize (L .conductors) + 2
@@ -185,7 +185,7 @@ record Ordered (L : Layout) : Type 0 where
   pub source-one : L .source .count ≡ 1
   pub sinks-from : L .sinks .from ≡ L .source .from + endpointSize + 1
 
-ordered : (s : List ℕ) → Ordered (layoutIn s)
+ordered : (s : List ℕ) → PlacesOrdered (layoutIn s)
 unfolding layoutIn listAt sinksAt
 ordered s = record {
   blocks-from = refl;

@@ -3,7 +3,7 @@
 use mathlib.Core.Path.{_≡_}
 use mathlib.Core.Bool.{Bool, _&&_}
 use mathlib.Core.List.{List, [], _∷_}
-use Prim.Native.Nat.{ℕ, suc, zero, _+_, _*_, _≤_, _<_}
+use Prim.Native.Nat.{ℕ, suc, zero, _+_, _*_, _^_, _≤_, _<_}
 use lib.Dec.{leb, eqb}
 use lib.ListN.{length, getD, drop}
 use Rattle.room.specs.declared.Room.{Room}
@@ -140,6 +140,7 @@ shaped s =
     let sinks = layoutIn s .sinks in
     shapeHolds (length s) (getD s 0 0) (fourIn (drop 1 s) 0) (sinks .count) (eqb (behind endpointSize sinks) (length s))
 
+-- none of the reasons for number 1, one by one
 pub record Shaped (s : List ℕ) : Type 0 where
   pub short : length s ≤ maxBytes
   pub of-version : getD s 0 0 ≡ version
@@ -147,9 +148,10 @@ pub record Shaped (s : List ℕ) : Type 0 where
   pub few-sinks : layoutIn s .sinks .count ≤ maxSinks
   pub whole : behind endpointSize (layoutIn s .sinks) ≡ length s
 
+-- the layout of a sheet; its sinks' place and count are small enough for the sums behind them
 pub record LaidOut (s : List ℕ) (L : Layout) : Type 0 where
   pub is : L ≡ layoutIn s
-  pub sinks-near : L .sinks .from < 4294967296
+  pub sinks-near : L .sinks .from < 2 ^ 32
   pub sinks-most : L .sinks .count < 256
 
 -- the list whose count stands at a place, and what that count can be

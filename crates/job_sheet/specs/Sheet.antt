@@ -24,7 +24,7 @@ use Rattle.job_sheet.specs.declared.Judgement.the-variants.{Good, Sheet,
 
 -- ---- the version of a sheet and its limits
 
--- what a sheet of a later version has otherwise; it says the rest alike
+-- the version byte of a sheet and its two limits
 pub record Limits : Type 0 where
   pub version : ℕ
   pub maxBytes : ℕ
@@ -197,10 +197,11 @@ numberOf Code = 5
 
 -- ---- what the reading answers
 
--- "The sixteen sinks with their count travel as one value": those of the sheet, then places that hold nothing
+-- what stands in a place of `Sinks` that no sink takes
 abbrev pub noEndpoint : Endpoint
 noEndpoint = record { at = at 0 0 0; port = 0; facing = 0 }
 
+-- "The sixteen sinks with their count travel as one value": those of the sheet, then places that hold nothing
 abbrev pub sinksOf : List Endpoint → Sinks
 sinksOf es = record { count = length es; ends = es ++ replicate (maxSinks - length es) noEndpoint }
 

@@ -13,8 +13,8 @@ abbrev pub touches : ℕ → Bool
 touches number = either (eqb number 0) true (ltb 6 number)
 
 -- all zero, to its very end
-abbrev pub Emptied : List ℕ → List ℕ → Type 0
-Emptied before after = after ≡ replicate (length before) 0
+abbrev pub Cleared : List ℕ → List ℕ → Type 0
+Cleared before after = after ≡ replicate (length before) 0
 
 -- the answer, and zeros behind it
 abbrev pub filled : List ℕ → List ℕ → List ℕ

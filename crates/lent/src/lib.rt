@@ -1,6 +1,6 @@
 // Lent memory: whether a number touches it; cleared to its very end, at each width in use.
 ghost use mathlib.Core.Path.{_≡_};
-ghost use Rattle.lent.specs.Lent.{touches, Emptied};
+ghost use Rattle.lent.specs.Lent.{touches, Cleared};
 
 // "Numbers 1 to 6 touch nothing"; a success has number 0.
 pub fn touches(number: u32) -> bool
@@ -13,7 +13,7 @@ pub fn touches(number: u32) -> bool
 }
 
 pub fn clear_bytes(s: &mut [u8])
-    ensures { λ _. ⌜ Emptied (now (s .entry)) (now (s .exit)) ⌝ }
+    ensures { λ _. ⌜ Cleared (now (s .entry)) (now (s .exit)) ⌝ }
 {
     let n = s.len();
     let mut byte: usize = 0;
@@ -24,7 +24,7 @@ pub fn clear_bytes(s: &mut [u8])
 }
 
 pub fn clear_words(s: &mut [u32])
-    ensures { λ _. ⌜ Emptied (now (s .entry)) (now (s .exit)) ⌝ }
+    ensures { λ _. ⌜ Cleared (now (s .entry)) (now (s .exit)) ⌝ }
 {
     let n = s.len();
     let mut word: usize = 0;
@@ -35,7 +35,7 @@ pub fn clear_words(s: &mut [u32])
 }
 
 pub fn clear_longs(s: &mut [u64])
-    ensures { λ _. ⌜ Emptied (now (s .entry)) (now (s .exit)) ⌝ }
+    ensures { λ _. ⌜ Cleared (now (s .entry)) (now (s .exit)) ⌝ }
 {
     let n = s.len();
     let mut long: usize = 0;

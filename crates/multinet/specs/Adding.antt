@@ -14,13 +14,13 @@ use Rattle.branches.specs.declared.BranchLengths.{BranchLengths}
 use Rattle.branches.specs.Branches.{branchOf, allButLast, inserted, sum, Short, lengthsIn, longestBranch}
 use Rattle.multinet.specs.declared.Turned.{Turned}
 use Rattle.multinet.specs.declared.Turned.the-variants.{Grown, Stopped}
-use Rattle.multinet.specs.declared.Stop.the-variants.{NoRoom}
+use Rattle.multinet.specs.declared.Stop.the-variants.{BufferFull}
 
 -- a path of the room, a place for its branch, and marks of the room's cells
 pub record Addable (R : Room) (at used len : ℕ) (tap : Tap) (path branches joinable blocked : List ℕ) : Type 0 where
   pub good : Good R
   pub at-within : at ≤ used
-  pub room-left : used + length (branchOf tap path) ≤ length branches
+  pub fits : used + length (branchOf tap path) ≤ length branches
   pub some : 1 ≤ length path
   pub short : length path ≤ maxVolume
   pub path-in : AllCells R path
@@ -59,7 +59,7 @@ pub record BranchPlaceable (R : Room) (k : ℕ) (L : BranchLengths) (tap : Tap) 
 
 -- number 15 is due, or the branch is placed
 pub data BranchPlaced (R : Room) (k : ℕ) (L : BranchLengths) (tap : Tap) (path branches joinable blocked : List ℕ) (r : Turned) (branches′ joinable′ blocked′ : List ℕ) : Type 0 where
-  no-room : length branches < usedBy L + length (branchOf tap path) → r ≡ Stopped (NoRoom (k + 1)) → BranchPlaced R k L tap path branches joinable blocked r branches′ joinable′ blocked′
+  buffer-full : length branches < usedBy L + length (branchOf tap path) → r ≡ Stopped (BufferFull (k + 1)) → BranchPlaced R k L tap path branches joinable blocked r branches′ joinable′ blocked′
   placed : usedBy L + length (branchOf tap path) ≤ length branches → r ≡ Grown k (length (branchOf tap path))
       → BranchAdded R (beforeSink L k) (usedBy L) tap path branches joinable blocked branches′ joinable′ blocked′
       → BranchPlaced R k L tap path branches joinable blocked r branches′ joinable′ blocked′

@@ -13,9 +13,9 @@ use Rattle.ends.specs.declared.Tap.{Tap}
 use Rattle.branches.specs.declared.BranchLengths.{BranchLengths}
 use Rattle.branches.specs.Branches.{branchOf, allButLast, inserted}
 use Rattle.branches.specs.BranchLaws.{branch-some, branch-below, but-last-below, branch-at, but-last-at}
-use Rattle.multinet.specs.Adding.{Addable, BranchAdded, beforeSink, usedBy, BranchPlaceable, BranchPlaced, no-room, placed}
+use Rattle.multinet.specs.Adding.{Addable, BranchAdded, beforeSink, usedBy, BranchPlaceable, BranchPlaced, buffer-full, placed}
 use Rattle.multinet.specs.declared.Turned.the-variants.{Grown, Stopped}
-use Rattle.multinet.specs.declared.Stop.the-variants.{NoRoom}
+use Rattle.multinet.specs.declared.Stop.the-variants.{BufferFull}
 
 module _ {R : Room} {at used len : ℕ} {tap : Tap} {path branches joinable blocked : List ℕ} (A : Addable R at used len tap path branches joinable blocked) where
   abbrev branch : List ℕ
@@ -27,12 +27,12 @@ module _ {R : Room} {at used len : ℕ} {tap : Tap} {path branches joinable bloc
   pub branch-there : (buffer : List ℕ) → buffer ≡ inserted at used branch branches → take (at + (len - 1) + 1 - at) (drop at buffer) ≡ branch
   branch-there buffer e =
       let n : at + (len - 1) + 1 - at ≡ length branch = omega (arith, A .len-is, branch-has) in
-      rw (n, e) (branch-at branch branches at used (omega (arith, A .at-within, A .room-left)))
+      rw (n, e) (branch-at branch branches at used (omega (arith, A .at-within, A .fits)))
 
   pub but-last-there : (buffer : List ℕ) → buffer ≡ inserted at used branch branches → take (at + (len - 1) - at) (drop at buffer) ≡ allButLast branch
   but-last-there buffer e =
       let n : at + (len - 1) - at ≡ length branch - 1 = omega (arith, A .len-is, branch-has) in
-      rw (n, e) (but-last-at branch branches at used (omega (arith, A .at-within, A .room-left)))
+      rw (n, e) (but-last-at branch branches at used (omega (arith, A .at-within, A .fits)))
 
   pub branch-in : AllCells R branch
   branch-in = branch-below tap path (A .path-in) (A .terminal-in)
@@ -41,7 +41,7 @@ module _ {R : Room} {at used len : ℕ} {tap : Tap} {path branches joinable bloc
   but-last-in-room e = but-last-below branch (rw e branch-in)
 
   pub end-within : {n : ℕ} → n ≡ length branches → at + (len - 1) + 1 ≤ n
-  end-within e = omega (arith, e, A .room-left, A .at-within, A .len-is, branch-has)
+  end-within e = omega (arith, e, A .fits, A .at-within, A .len-is, branch-has)
 
   pub branch-added : {buffer part whole joinable′ blocked′ : List ℕ} → buffer ≡ inserted at used branch branches
       → part ≡ allButLast branch
@@ -53,10 +53,10 @@ module _ {R : Room} {at used len : ℕ} {tap : Tap} {path branches joinable bloc
 
 -- ---- where the lengths are known
 
-pub no-room-left : {R : Room} {k : ℕ} {L : BranchLengths} {tap : Tap} {path branches joinable blocked branches′ joinable′ blocked′ : List ℕ}
+pub no-space-left : {R : Room} {k : ℕ} {L : BranchLengths} {tap : Tap} {path branches joinable blocked branches′ joinable′ blocked′ : List ℕ}
     {used len : ℕ} → used ≡ usedBy L → len ≡ length (branchOf tap path) → length branches < used + len
-    → BranchPlaced R k L tap path branches joinable blocked (Stopped (NoRoom (k + 1))) branches′ joinable′ blocked′
-no-room-left u l n = no-room (rw (u, l) at n) refl
+    → BranchPlaced R k L tap path branches joinable blocked (Stopped (BufferFull (k + 1))) branches′ joinable′ blocked′
+no-space-left u l n = buffer-full (rw (u, l) at n) refl
 
 module _ {R : Room} {k : ℕ} {L : BranchLengths} {tap : Tap} {path branches joinable blocked : List ℕ} (A : BranchPlaceable R k L tap path joinable blocked)
     {at used len : ℕ} (a : at ≡ beforeSink L k) (u : used ≡ usedBy L) (l : len ≡ length (branchOf tap path)) (fits : used + len ≤ length branches) where
@@ -64,7 +64,7 @@ module _ {R : Room} {k : ℕ} {L : BranchLengths} {tap : Tap} {path branches joi
   addable = record {
     good = A .good;
     at-within = rw (a, u) (A .at-within);
-    room-left = rw l at fits;
+    fits = rw l at fits;
     some = A .some;
     short = A .short;
     path-in = A .path-in;

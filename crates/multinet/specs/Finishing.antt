@@ -8,18 +8,18 @@ use Rattle.room.specs.Room.{Good, volume}
 use Rattle.routing_resources.specs.Marks.{markedBy, noMarks, AllCells}
 use Rattle.job_sheet.specs.Sheet.{joined, maxSinks}
 use Rattle.ends.specs.declared.Taps.{Taps}
-use Rattle.ends.specs.Ends.{tapsIn, NetIn}
+use Rattle.ends.specs.Ends.{tapsIn, NetInside}
 use Rattle.geometry.specs.Geometry.{standsIn}
 use Rattle.branches.specs.declared.BranchLengths.{BranchLengths}
 use Rattle.branches.specs.Branches.{SheetOrder, LengthsOf, Short}
 use Rattle.repeaters.specs.Repeaters.{repeaterMarks}
-use Rattle.multinet.specs.Tree.{endMarks, sourceMarks}
-use Rattle.repeaters.specs.Joins.{Steps}
+use Rattle.multinet.specs.Tree.{netEndMarks, sourceMarks}
+use Rattle.repeaters.specs.Masks.{Steps}
 
 -- the net's ends are in a room that has these marks, one a cell
 pub record EndsIn (source : ℕ) (taps : Taps) (marks : List ℕ) : Type 0 where
   pub room : Room
-  pub net : NetIn room source taps
+  pub net : NetInside room source taps
   pub long : length marks ≡ volume room
 
 -- the buffer has these branches in sheet order
@@ -31,7 +31,7 @@ pub record BufferHolds (L : BranchLengths) (branches : List ℕ) (bs : List (Lis
 -- a grown tree, cleared marks, and work memory of exactly V cells
 pub record Finishable (R : Room) (source : ℕ) (taps : Taps) (L : BranchLengths) (branches occupied repeaters forbidden links parents line : List ℕ) : Type 0 where
   pub good : Good R
-  pub net : NetIn R source taps
+  pub net : NetInside R source taps
   pub bs : List (List ℕ)
   pub holds : BufferHolds L branches bs
   pub few : L .count ≤ maxSinks
@@ -48,4 +48,4 @@ pub record Finishable (R : Room) (source : ℕ) (taps : Taps) (L : BranchLengths
 -- what the branches occupy, and their repeaters
 pub record Finished (R : Room) (source : ℕ) (taps : Taps) (L : BranchLengths) (branches occupied repeaters : List ℕ) : Type 0 where
   pub occupied-are : (bs : List (List ℕ)) → BufferHolds L branches bs → occupied ≡ markedBy (standsIn (joined bs)) (sourceMarks R source)
-  pub repeaters-are : (bs : List (List ℕ)) → BufferHolds L branches bs → repeaters ≡ repeaterMarks R source (tapsIn taps) bs (endMarks R source taps)
+  pub repeaters-are : (bs : List (List ℕ)) → BufferHolds L branches bs → repeaters ≡ repeaterMarks R source (tapsIn taps) bs (netEndMarks R source taps)

@@ -20,16 +20,16 @@ use Rattle.branches.specs.declared.BranchLengths.{BranchLengths}
 use Rattle.branches.specs.Branches.{lengthsIn, cutInto, branchesOf}
 use Rattle.branches.specs.BranchLaws.{below-append, lengths-sum, cut-joined}
 use Rattle.repeaters.specs.Repeaters.{repeaterMarks}
-use Rattle.repeaters.specs.Joins.{Steps, AllSteps}
+use Rattle.repeaters.specs.Masks.{Steps, AllSteps}
 use Rattle.repeaters.specs.Sinks.{Placeable}
-use Rattle.multinet.specs.Tree.{endAt, isEnd}
+use Rattle.multinet.specs.Tree.{tapHolds, isNetEnd}
 use Rattle.multinet.specs.Finishing.{EndsIn, BufferHolds, Finishable, Finished}
 use Rattle.multinet.specs.Adding.{usedBy}
 
 -- ---- the ends
 
 pub end-marked : {marks marks′ marks″ : List ℕ} (m : List ℕ) (t : Tap) → marks ≡ m → marks′ ≡ markedBy (eqb (t .terminal)) marks → marks″ ≡ markedBy (eqb (t .approach)) marks′
-    → marks″ ≡ markedBy (λ v. endAt v t) m
+    → marks″ ≡ markedBy (λ v. tapHolds v t) m
 end-marked m t e a b = b ∙ rw (a, e) (with-or 1 (eqb (t .terminal)) (eqb (t .approach)) m)
 
 module _ {source : ℕ} {taps : Taps} {marks : List ℕ} (E : EndsIn source taps marks) where
@@ -39,10 +39,10 @@ module _ {source : ℕ} {taps : Taps} {marks : List ℕ} (E : EndsIn source taps
   pub tap-there : (i : ℕ) → i < taps .count → (getD (taps .taps) i noTap .terminal < length marks) × (getD (taps .taps) i noTap .approach < length marks)
   tap-there i h = (rw (E .long) (E .net .taps-in .terminal-in i h), rw (E .long) (E .net .taps-in .approach-in i h))
 
-  pub ends-marked : {marks′ marks″ : List ℕ} → marks′ ≡ markedBy (eqb source) marks → marks″ ≡ markedBy (λ v. any (endAt v) (tapsIn taps)) marks′
-      → marks″ ≡ markedBy (isEnd source taps) marks
-  unfolding isEnd
-  ends-marked a b = b ∙ rw a (with-or 1 (eqb source) (λ v. any (endAt v) (tapsIn taps)) marks)
+  pub ends-marked : {marks′ marks″ : List ℕ} → marks′ ≡ markedBy (eqb source) marks → marks″ ≡ markedBy (λ v. any (tapHolds v) (tapsIn taps)) marks′
+      → marks″ ≡ markedBy (isNetEnd source taps) marks
+  unfolding isNetEnd
+  ends-marked a b = b ∙ rw a (with-or 1 (eqb source) (λ v. any (tapHolds v) (tapsIn taps)) marks)
 
 -- ---- the branches
 
@@ -90,7 +90,7 @@ module _ {R : Room} {source : ℕ} {taps : Taps} {L : BranchLengths} {branches o
   pub ends-in : EndsIn source taps forbidden
   ends-in = record { room = R; net = F .net; long = none-long forbidden (F .forbidden-clear) }
 
-  pub placeable : {forbidden′ : List ℕ} → forbidden′ ≡ markedBy (isEnd source taps) forbidden → Placeable R source taps L branches forbidden′ repeaters links parents line
+  pub placeable : {forbidden′ : List ℕ} → forbidden′ ≡ markedBy (isNetEnd source taps) forbidden → Placeable R source taps L branches forbidden′ repeaters links parents line
   placeable f = record {
     good = F .good;
     source-in = F .net .source-in;
@@ -99,7 +99,7 @@ module _ {R : Room} {source : ℕ} {taps : Taps} {L : BranchLengths} {branches o
       branched = record { whole = F .lengths-short .whole; few = F .few; within = used-fits refl };
       steps = rw (branches-back (F .holds)) (all-steps R (F .bs) (λ i h. F .steps i (omega (arith, F .holds .count-is))));
     };
-    forbidden-long = rw f (with-length 1 (isEnd source taps) forbidden ∙ none-long forbidden (F .forbidden-clear));
+    forbidden-long = rw f (with-length 1 (isNetEnd source taps) forbidden ∙ none-long forbidden (F .forbidden-clear));
     unmarked = F .repeaters-clear;
     links-long = F .links-long;
     parents-long = F .parents-long;
@@ -109,7 +109,7 @@ module _ {R : Room} {source : ℕ} {taps : Taps} {L : BranchLengths} {branches o
   pub finished : {used : ℕ} {occupied′ occupied″ forbidden′ repeaters′ : List ℕ} → used ≡ usedBy L
       → occupied′ ≡ markedBy (eqb source) occupied
       → occupied″ ≡ markedBy (standsIn (take used branches)) occupied′
-      → forbidden′ ≡ markedBy (isEnd source taps) forbidden
+      → forbidden′ ≡ markedBy (isNetEnd source taps) forbidden
       → repeaters′ ≡ repeaterMarks R source (tapsIn taps) (branchesOf L branches) forbidden′
       → Finished R source taps L branches occupied″ repeaters′
   finished u a b f r = record {

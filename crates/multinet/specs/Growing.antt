@@ -11,12 +11,12 @@ use Rattle.room.specs.Units.{GoodConfig}
 use Rattle.routing_resources.specs.Marks.{markedBy, isMarked, AllCells, Marks}
 use Rattle.job_sheet.specs.Sheet.{joined, maxSinks}
 use Rattle.ends.specs.declared.Tap.{Tap}
-use Rattle.ends.specs.Ends.{NetIn}
+use Rattle.ends.specs.Ends.{NetInside}
 use Rattle.geometry.specs.Geometry.{standsIn, conflictOf, NoPair}
 use Rattle.turns.specs.Turns.{far, turnOf}
 use Rattle.goals.specs.Goals.{Site}
 use Rattle.branches.specs.Branches.{SheetOrder, LengthsOf, longestBranch}
-use Rattle.repeaters.specs.Joins.{Steps}
+use Rattle.repeaters.specs.Masks.{Steps}
 use Rattle.multinet.specs.Tree.{Plot, Tree, tapAt, growFrom, growthOf, sourceMarks}
 
 -- a sink's terminal is its approach, or one step from it
@@ -26,10 +26,10 @@ Near R t = (t .terminal ≡ t .approach) ⊎ Step R (t .approach) (t .terminal)
 -- a plot that no number up to 9 refuses
 pub record SoundPlot (P : Plot) : Type 0 where
   pub good : Good (P .room)
-  pub fair : GoodConfig (P .config)
+  pub config-good : GoodConfig (P .config)
   pub kinds-long : length (P .kinds) ≡ volume (P .room)
   pub places-some : 0 < P .places
-  pub net : NetIn (P .room) (P .source) (P .taps)
+  pub net : NetInside (P .room) (P .source) (P .taps)
   pub near : (k : ℕ) → k < P .taps .count → Near (P .room) (tapAt P k)
 
 -- what is known of a route that was found
@@ -52,7 +52,7 @@ pub record Sprouted (P : Plot) (turn : ℕ) (T : Tree) : Type 0 where
   pub occupied-is : T .occupied ≡ markedBy (standsIn (joined (T .branches))) (sourceMarks (P .room) (P .source))
   pub joinable-long : length (T .joinable) ≡ volume (P .room)
   pub joinable-marks : Marks (T .joinable)
-  pub alone : NoPair (P .room) (isMarked (T .joinable))
+  pub no-pair : NoPair (P .room) (isMarked (T .joinable))
   pub blocked-long : length (T .blocked) ≡ volume (P .room)
   pub blocked-marks : Marks (T .blocked)
   pub count-is : length (T .branches) ≡ P .taps .count

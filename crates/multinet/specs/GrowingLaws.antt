@@ -24,7 +24,7 @@ use Rattle.turns.specs.TurnLaws.{its-turn, turn-had}
 use Rattle.goals.specs.Goals.{Site, Trial, found, failed, full, routeToTree}
 use Rattle.branches.specs.Branches.{branchOf, allButLast, inserted, longestBranch}
 use Rattle.branches.specs.BranchLaws.{branch-short, branch-below, but-last-in, joined-none, joined-set, order-kept, behind-kept, inserted-long, lengths-set}
-use Rattle.repeaters.specs.Joins.{Steps}
+use Rattle.repeaters.specs.Masks.{Steps}
 use Rattle.multinet.specs.Tree.{Plot, Tree, grown, stopped, tapAt, siteAt, sinkNow, withBranch, afterSink, growSink, growOn, growFrom, growthOf}
 use Rattle.multinet.specs.StepLaws.{branch-steps}
 use Rattle.multinet.specs.Growing.{SoundPlot, RouteKnown, turnIn, branchIn, Sprouted, Growing}
@@ -46,10 +46,10 @@ module _ (P : Plot) (outset : List ℕ) {turn : ℕ} (h : turn < P .taps .count)
   unfolding growFrom
   one-turn = let e : P .taps .count - turn ≡ suc (P .taps .count - (turn + 1)) = omega arith in rw e at same
 
-  pub turn-stops : (number detail : ℕ) → growSink P (sinkNow P turn) T ≡ stopped number detail → growthOf P outset ≡ stopped number detail
+  turn-stops : (number detail : ℕ) → growSink P (sinkNow P turn) T ≡ stopped number detail → growthOf P outset ≡ stopped number detail
   turn-stops number detail e = sym one-turn ∙ rw e
 
-  pub turn-grows : (T′ : Tree) → growSink P (sinkNow P turn) T ≡ grown T′ → growFrom (P .taps .count - (turn + 1)) P (turn + 1) T′ ≡ growthOf P outset
+  turn-grows : (T′ : Tree) → growSink P (sinkNow P turn) T ≡ grown T′ → growFrom (P .taps .count - (turn + 1)) P (turn + 1) T′ ≡ growthOf P outset
   turn-grows T′ e = rw e at one-turn
 
 -- ---- the cells of the branches
@@ -66,7 +66,7 @@ stands-joined bs k b h e v =
     rw (joined-set bs k h b, joined-none bs k h e, stands-append (joined (take k bs)) (b ++ joined (drop (suc k) bs)) v, stands-append b (joined (drop (suc k) bs)) v, stands-append (joined (take k bs)) (joined (drop (suc k) bs)) v)
     (ap (λ c. standsIn (joined (take k bs)) v || c) (or-comm (standsIn b v) (standsIn (joined (drop (suc k) bs)) v)) ∙ sym (or-assoc (standsIn (joined (take k bs)) v) (standsIn (joined (drop (suc k) bs)) v) (standsIn b v)))
 
--- the cells that become joinable are the path's
+-- members of lists put together and reversed
 in-append : (xs ys : List ℕ) (v : ℕ) → In v (xs ++ ys) → In v xs ⊎ In v ys
 in-append [] ys v i = inr i
 in-append (x ∷ xs) ys v (inl e) = inl (inl e)
@@ -91,9 +91,10 @@ but-last-snoc [] t = refl
 but-last-snoc (x ∷ []) t = refl
 but-last-snoc (x ∷ (y ∷ xs)) t = ap (λ l. x ∷ l) (but-last-snoc (y ∷ xs) t)
 
-joined-to-path : (tap : Tap) (path : List ℕ) (v : ℕ) → standsIn (allButLast (branchOf tap path)) v ≡ true → standsIn path v ≡ true
+-- the cells that become joinable are the path's
+joinable-on-path : (tap : Tap) (path : List ℕ) (v : ℕ) → standsIn (allButLast (branchOf tap path)) v ≡ true → standsIn path v ≡ true
 unfolding branchOf
-joined-to-path tap path v e =
+joinable-on-path tap path v e =
     ask (eqb (tap .terminal) (tap .approach))
     (λ t. in-stands path v (in-reverse path v (but-last-in (reverse path) v (rw (append-nil (reverse path)) at (stands-in (allButLast (reverse path ++ [])) v (rw t at e))))))
     (λ f. in-stands path v (in-reverse path v (rw (but-last-snoc (reverse path) (tap .terminal)) at (stands-in (allButLast (reverse path ++ (tap .terminal ∷ []))) v (rw f at e)))))
@@ -133,7 +134,7 @@ module _ {P : Plot} {turn : ℕ} {T : Tree} (S : Sprouted P turn T) where
         occupied-is = ap (markedBy (standsIn branch)) (S .occupied-is) ∙ with-or 1 _ _ _ ∙ with-same 1 _ _ _ (λ v h. sym (stands-joined (T .branches) k branch (sink-in-tree k e t) (sink-empty k e t) v));
         joinable-long = with-length 1 _ (T .joinable) ∙ S .joinable-long;
         joinable-marks = marks-with 1 (omega arith) _ (T .joinable) (S .joinable-marks);
-        alone = alone′;
+        no-pair = alone′;
         blocked-long = with-length 1 _ (T .blocked) ∙ S .blocked-long;
         blocked-marks = marks-with 1 (omega arith) _ (T .blocked) (S .blocked-marks);
         count-is = length-set (T .branches) k branch ∙ S .count-is;
@@ -144,8 +145,8 @@ module _ {P : Plot} {turn : ℕ} {T : Tree} (S : Sprouted P turn T) where
         steps = each-one (λ j b. j < P .taps .count → Steps (P .room) b) (λ h. goes) (λ j d h. S .steps j h);
       }
 
-pub way-some : {S : Site} {start : ℕ} {path : List ℕ} → RouteKnown S start path → 1 ≤ length path
-way-some w = rw (w .begins) (omega arith)
+pub route-some : {S : Site} {start : ℕ} {path : List ℕ} → RouteKnown S start path → 1 ≤ length path
+route-some w = rw (w .begins) (omega arith)
 
 -- ---- one turn, as the slices hold the tree
 
@@ -171,9 +172,9 @@ module _ {P : Plot} {outset start-buffer : List ℕ} {turn : ℕ} {joinable bloc
       abbrev branch : List ℕ
       branch = branchOf (tapAt P k) path
 
-      pub sink-no-room : P .buffer < length (joined (now-tree .branches)) + length branch → growthOf P outset ≡ stopped 15 (k + 1)
+      pub sink-buffer-full : P .buffer < length (joined (now-tree .branches)) + length branch → growthOf P outset ≡ stopped 15 (k + 1)
       unfolding afterSink
-      sink-no-room n = turn-stops P outset h now-tree (G .same) 15 (k + 1) (comes ∙ rw (f, lt-leb _ _ n))
+      sink-buffer-full n = turn-stops P outset h now-tree (G .same) 15 (k + 1) (comes ∙ rw (f, lt-leb _ _ n))
 
       module _ (w : RouteKnown (siteAt P (now-tree .joinable)) (tapAt P k .approach) path) (fits : length (joined (now-tree .branches)) + length branch ≤ P .buffer) where
         in-tree : k < length (now-tree .branches)
@@ -201,17 +202,17 @@ module _ {P : Plot} {outset start-buffer : List ℕ} {turn : ℕ} {joinable bloc
             let s = sink-now P turn k e h in
             let goes : Steps (P .room) branch = rw (w .begins) (branch-steps (S .good) (tapAt P k) (w .rest) (S .near k (s .0)) (rw (w .begins) at (w .steps))) in
             let short = branch-short (tapAt P k) path in
-            let room-left : length (joined (now-tree .branches)) + length branch ≤ length buffer = omega (arith, fits, G .buffer-long) in
+            let left-over : length (joined (now-tree .branches)) + length branch ≤ length buffer = omega (arith, fits, G .buffer-long) in
             record {
               tree = withBranch (P .room) k branch now-tree;
               joinable-is = j ∙ ap (markedBy (standsIn (allButLast branch))) (G .joinable-is);
               blocked-is = b ∙ ap (markedBy (isClearance (P .room) branch)) (G .blocked-is);
               same = turn-grows P outset h now-tree (G .same) (withBranch (P .room) k branch now-tree) (comes ∙ rw (f, le-leb _ _ fits));
               sprouted = sprouted-next (G .sprouted) k e h branch (branch-below (tapAt P k) path (w .cells-in) (S .net .taps-in .terminal-in k (s .0))) goes
-                  (no-pair-after (P .room) (P .kinds) (now-tree .joinable) path (w .free) (standsIn (allButLast branch)) (joined-to-path (tapAt P k) path));
-              in-order = rw (u, ← joined-more) (order-kept (now-tree .branches) k in-tree empty (G .in-order) branch room-left);
-              behind = rw (u, ← joined-more) (behind-kept (now-tree .branches) k in-tree empty (G .in-order) branch room-left ∙ later (G .behind));
-              buffer-long = rw u (inserted-long (now-tree .branches) k in-tree empty (G .in-order) branch room-left) ∙ G .buffer-long;
+                  (no-pair-after (P .room) (P .kinds) (now-tree .joinable) path (w .free) (standsIn (allButLast branch)) (joinable-on-path (tapAt P k) path));
+              in-order = rw (u, ← joined-more) (order-kept (now-tree .branches) k in-tree empty (G .in-order) branch left-over);
+              behind = rw (u, ← joined-more) (behind-kept (now-tree .branches) k in-tree empty (G .in-order) branch left-over ∙ later (G .behind));
+              buffer-long = rw u (inserted-long (now-tree .branches) k in-tree empty (G .in-order) branch left-over) ∙ G .buffer-long;
               lengths-are = rw l (lengths-set (G .lengths-are) k in-tree branch);
               each-long = rw l (length-set each k (length branch)) ∙ G .each-long;
               each-short = λ i g. rw l (short-still i g (omega (arith, short, w .short, S .good .few)));

@@ -6,8 +6,8 @@ pub mod StepLaws
 pub mod NearLaws
 pub mod GrowthLaws
 pub mod GrowingLaws
-pub mod Sinks
-pub mod SinkLaws
+pub mod SinkTurns
+pub mod SinkTurnLaws
 pub mod TreeLaws
 pub mod Finishing
 pub mod FinishingLaws

@@ -19,7 +19,7 @@ use Rattle.job_sheet.specs.declared.Sinks.{Sinks}
 use Rattle.ends.specs.Ends.{sinksIn, sinkEnd, noTap, tapFrom, tapOf, tapsOf, SinksWithin}
 use Rattle.ends.specs.EndLaws.{tap-at}
 use Rattle.multinet.specs.Growing.{Near}
-use Rattle.repeaters.specs.JoinLaws.{step-back}
+use Rattle.repeaters.specs.MaskLaws.{step-back}
 use Rattle.room.specs.RoomLaws.{same-cell}
 
 module _ {R : Room} (G : Good R) where

@@ -13,8 +13,8 @@ use Rattle.room.specs.declared.Room.{Room}
 use Rattle.room.specs.Room.{Good, Step}
 use Rattle.ends.specs.declared.Tap.{Tap}
 use Rattle.branches.specs.Branches.{branchOf}
-use Rattle.repeaters.specs.Joins.{Steps}
-use Rattle.repeaters.specs.JoinLaws.{step-back}
+use Rattle.repeaters.specs.Masks.{Steps}
+use Rattle.repeaters.specs.MaskLaws.{step-back}
 use Rattle.multinet.specs.Growing.{Near}
 
 pub steps-by-place : (R : Room) (l : List ℕ) → ((i : ℕ) → i + 1 < length l → Step R (getD l i 0) (getD l (i + 1) 0)) → Steps R l

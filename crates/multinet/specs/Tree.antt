@@ -108,16 +108,17 @@ unfoldable pub growthOf : Plot → List ℕ → Growth
 growthOf P blocked = growFrom (P .taps .count) P 0 (planted P blocked)
 
 -- no repeater stands on "a terminal or approach of this net"
-abbrev pub endAt : ℕ → Tap → Bool
-endAt v t = eqb (t .terminal) v || eqb (t .approach) v
+abbrev pub tapHolds : ℕ → Tap → Bool
+tapHolds v t = eqb (t .terminal) v || eqb (t .approach) v
 
--- a source has no approach
-unfoldable pub isEnd : ℕ → Taps → ℕ → Bool
-isEnd source taps v = eqb source v || any (endAt v) (tapsIn taps)
+-- the source's terminal, for a source has no approach, and each sink's terminal and approach
+unfoldable pub isNetEnd : ℕ → Taps → ℕ → Bool
+isNetEnd source taps v = eqb source v || any (tapHolds v) (tapsIn taps)
 
-abbrev pub endMarks : Room → ℕ → Taps → List ℕ
-endMarks R source taps = markedBy (isEnd source taps) (noMarks (volume R))
+-- their marks
+abbrev pub netEndMarks : Room → ℕ → Taps → List ℕ
+netEndMarks R source taps = markedBy (isNetEnd source taps) (noMarks (volume R))
 
 -- marks of the repeaters of a grown tree
 unfoldable pub repeatersOf : Plot → Tree → List ℕ
-repeatersOf P T = repeaterMarks (P .room) (P .source) (tapsIn (P .taps)) (T .branches) (endMarks (P .room) (P .source) (P .taps))
+repeatersOf P T = repeaterMarks (P .room) (P .source) (tapsIn (P .taps)) (T .branches) (netEndMarks (P .room) (P .source) (P .taps))

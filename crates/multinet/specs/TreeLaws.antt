@@ -15,7 +15,7 @@ use Rattle.routing_resources.specs.MarkLaws.{with-length, with-none, marked-aft
 use Rattle.job_sheet.specs.Sheet.{joined, maxSinks}
 use Rattle.geometry.specs.Geometry.{standsIn}
 use Rattle.geometry.specs.GeometryLaws.{no-pair-one}
-use Rattle.goals.specs.Trials.{Memory}
+use Rattle.goals.specs.Trials.{WorkMemory}
 use Rattle.branches.specs.declared.BranchLengths.{BranchLengths}
 use Rattle.branches.specs.Branches.{noLengths}
 use Rattle.branches.specs.BranchLaws.{order-first, lengths-first, joined-nothing}
@@ -25,7 +25,7 @@ use Rattle.multinet.specs.declared.Stop.{Stop}
 use Rattle.multinet.specs.declared.GrowthEnd.the-variants.{Whole, Early}
 use Rattle.multinet.specs.Tree.{Plot, planted, growFrom, growthOf, sourceMarks}
 use Rattle.multinet.specs.Growing.{SoundPlot, Sprouted, Growing}
-use Rattle.multinet.specs.Sinks.{Turnable, Came, TurnCame, withLength, Plantable, Turning, GrowthTold}
+use Rattle.multinet.specs.SinkTurns.{Turnable, Came, TurnCame, withLength, Plantable, Turning, GrowthTold}
 
 -- ---- the outset
 
@@ -52,7 +52,7 @@ module _ {P : Plot} (S : SoundPlot P) (blocked : List ℕ) where
     occupied-is = sym (with-none 1 _ (sourceMarks (P .room) (P .source)) (λ v h. rw (joined-nothing (P .taps .count)) (stands-none v)));
     joinable-long = with-length 1 (eqb (P .source)) (noMarks (volume (P .room))) ∙ length-replicate {A = ℕ} (volume (P .room)) 0;
     joinable-marks = marks-with 1 (omega arith) (eqb (P .source)) (noMarks (volume (P .room))) (marks-none (volume (P .room)));
-    alone = no-pair-one (P .room) (S .good) (isMarked (sourceMarks (P .room) (P .source))) (P .source) only-source;
+    no-pair = no-pair-one (P .room) (S .good) (isMarked (sourceMarks (P .room) (P .source))) (P .source) only-source;
     blocked-long = long;
     blocked-marks = marks;
     count-is = length-replicate {A = List ℕ} (P .taps .count) [];
@@ -87,7 +87,7 @@ module _ {P : Plot} {joinable blocked classes known previous path best : List �
 -- ---- turn by turn
 
 module _ {P : Plot} {outset start-buffer : List ℕ} {turn : ℕ} {L : BranchLengths} {joinable blocked branches : List ℕ} (T : Turning P outset start-buffer turn L joinable blocked branches) where
-  pub turnable : SoundPlot P → turn < P .taps .count → {classes known previous path best : List ℕ} → Memory (P .room) known previous path
+  pub turnable : SoundPlot P → turn < P .taps .count → {classes known previous path best : List ℕ} → WorkMemory (P .room) known previous path
       → length classes ≡ volume (P .room) → length best ≡ volume (P .room)
       → Turnable P turn L joinable blocked classes known previous path best branches
   turnable S h m c b = record {
@@ -112,9 +112,9 @@ module _ {P : Plot} {outset start-buffer : List ℕ} {turn : ℕ} {L : BranchLen
     pub turn-ends : {stop : Stop} → turned ≡ Stopped stop → GrowthTold P outset start-buffer (record { end = Early stop; lengths = L }) joinable′ blocked′ branches′
     turn-ends e = record { told = rw e at came-now }
 
-    pub turn-on : turn < P .taps .count → {k n : ℕ} → turned ≡ Grown k n → {L′ : BranchLengths} → L′ ≡ withLength L k n
+    pub turn-goes-on : turn < P .taps .count → {k n : ℕ} → turned ≡ Grown k n → {L′ : BranchLengths} → L′ ≡ withLength L k n
         → Turning P outset start-buffer (turn + 1) L′ joinable′ blocked′ branches′
-    turn-on h e r = rw r (record { growing = (rw e at came-now) .1; count-is = T .count-is; so-far = omega arith })
+    turn-goes-on h e r = rw r (record { growing = (rw e at came-now) .1; count-is = T .count-is; so-far = omega arith })
 
   pub all-grown : P .taps .count ≤ turn → GrowthTold P outset start-buffer (record { end = Whole; lengths = L }) joinable blocked branches
   all-grown h = let e : turn ≡ P .taps .count = omega (arith, T .so-far) in record { told = (T .count-is, rw e at (T .growing)) }

@@ -45,7 +45,7 @@ pub fn place_branch(
     let used = branches::joined_length(lengths, lengths.count);
     let len = branches::branch_length(path.len(), tap);
     if branches.len() < used + len {
-        return Turned::Stopped(Stop::NoRoom(sink + 1));
+        return Turned::Stopped(Stop::BufferFull(sink + 1));
     }
     let at = branches::joined_length(lengths, sink);
     add_branch(room, at, used, len, tap, path, branches, joinable, blocked);

@@ -7,27 +7,27 @@ ghost use mathlib.Core.Path.{_≡_};
 ghost use Prim.Native.Nat.{_<_};
 ghost use lib.ListN.{length};
 ghost use Rattle.routing_resources.specs.Marks.{markedBy};
-ghost use Rattle.multinet.specs.Tree.{endAt, isEnd};
+ghost use Rattle.multinet.specs.Tree.{tapHolds, isNetEnd};
 ghost use Rattle.multinet.specs.Finishing.{EndsIn, Finishable, Finished};
 
-// A sink's terminal and approach.
-fn mark_end(marks: &mut [u8], tap: Tap)
+// Marks a sink's terminal and approach.
+fn mark_tap(marks: &mut [u8], tap: Tap)
     requires { ⌜ (tap .terminal < length (now marks)) × (tap .approach < length (now marks)) ⌝ }
-    ensures { λ _. ⌜ now (marks .exit) ≡ markedBy (λ v. endAt v tap) (now (marks .entry)) ⌝ }
+    ensures { λ _. ⌜ now (marks .exit) ≡ markedBy (λ v. tapHolds v tap) (now (marks .entry)) ⌝ }
 {
     routing_resources::mark(marks, tap.terminal);
     routing_resources::mark(marks, tap.approach);
 }
 
-// The net's terminals and approaches, where no repeater may stand.
-fn mark_ends(source: usize, taps: Taps, marks: &mut [u8])
+// Marks the net's terminals and approaches, where no repeater may stand.
+fn mark_net_ends(source: usize, taps: Taps, marks: &mut [u8])
     requires { ⌜ EndsIn source taps (now marks) ⌝ }
-    ensures { λ _. ⌜ now (marks .exit) ≡ markedBy (isEnd source taps) (now (marks .entry)) ⌝ }
+    ensures { λ _. ⌜ now (marks .exit) ≡ markedBy (isNetEnd source taps) (now (marks .entry)) ⌝ }
 {
     routing_resources::mark(marks, source);
     let mut i: usize = 0;
     while i < taps.count {
-        mark_end(marks, taps.taps[i]);
+        mark_tap(marks, taps.taps[i]);
         i += 1;
     }
 }
@@ -52,7 +52,7 @@ pub fn finish_tree(
     let used = branches::joined_length(lengths, lengths.count);
     routing_resources::mark(occupied, source);
     branches::mark_cells(occupied, &branches[..used]);
-    mark_ends(source, taps, forbidden);
+    mark_net_ends(source, taps, forbidden);
     repeaters::place_repeaters(
         room,
         source,

@@ -14,7 +14,7 @@ ghost use Prim.Native.Nat.{_<_};
 ghost use Rattle.job_sheet.specs.Sheet.{maxSinks};
 ghost use Rattle.goals.specs.Goals.{routeToTree};
 ghost use Rattle.goals.specs.Trials.{Tells, siteOf};
-ghost use Rattle.multinet.specs.Sinks.{Findable, plotOf, Turnable, TurnCame, withLength, Plantable, GrowthTold};
+ghost use Rattle.multinet.specs.SinkTurns.{Findable, plotOf, Turnable, TurnCame, withLength, Plantable, GrowthTold};
 
 // The cheapest route from a sink's approach to the tree, if there is one. Its path goes to the front of `best`.
 fn find_route(

@@ -11,7 +11,7 @@ pub use growing::grow_tree;
 pub enum Stop {
     QueueFull(room::Nodes),
     NoGoal(usize),
-    NoRoom(usize),
+    BufferFull(usize),
 }
 
 // What a sink's turn comes to: it has a branch of so many cells, or a number is due.

@@ -10,7 +10,7 @@ use Rattle.multinet.specs.declared.GrowthEnd.the-variants.{Whole, Early}
 use Rattle.multinet.specs.declared.GrownBranches.{GrownBranches}
 use Rattle.room.specs.declared.Room.{Room}
 use Rattle.room.specs.Room.{volume}
-use Rattle.room_search.specs.Steps.{placesOf}
+use Rattle.room_search.specs.TriedMoves.{placesOf}
 use Rattle.routing_resources.specs.Marks.{noMarks, Marks}
 use Rattle.job_sheet.specs.declared.Job.{Job}
 use Rattle.job_sheet.specs.Accepted.{Accepted}
@@ -18,7 +18,7 @@ use Rattle.job_sheet.specs.Sheet.{Contents, Means, joined}
 use Rattle.ends.specs.declared.Taps.{Taps}
 use Rattle.outset.specs.declared.Outset.{Outset}
 use Rattle.outset.specs.SetOut.{OutsetOf}
-use Rattle.goals.specs.Trials.{Memory}
+use Rattle.goals.specs.Trials.{WorkMemory}
 use Rattle.branches.specs.declared.BranchLengths.{BranchLengths}
 use Rattle.branches.specs.Branches.{markedCount}
 use Rattle.multinet.specs.Tree.{Plot, growthOf}
@@ -28,7 +28,7 @@ use Rattle.net_tree.specs.declared.Answer.{Answer}
 use Rattle.net_tree.specs.declared.Ended.{Ended}
 use Rattle.net_tree.specs.declared.Ended.the-variants.{Routed, Refused}
 use Rattle.net_tree.specs.Answers.{Lent, lengthsOf, buffersGood, TreeOutcome, routed, refused, outcomeOf, jobOutcome, answerOf}
-use Rattle.multinet.specs.Sinks.{stopNumber, stopDetail}
+use Rattle.multinet.specs.SinkTurns.{stopNumber, stopDetail}
 
 -- what the outputs hold: the answer and zeros behind it; after a number, whatever it was that they held when it was due
 abbrev pub OutputsHold : TreeOutcome → (branches branches′ occupied′ repeaters′ : List ℕ) → Type 0
@@ -69,7 +69,7 @@ pub record Growable (P : Plot) (B : Lent) : Type 0 where
   pub blocked-marks : Marks (B .blocked)
   pub classes-long : length (B .classes) ≡ volume (P .room)
   pub joinable-long : length (B .joinable) ≡ volume (P .room)
-  pub memory : Memory (P .room) (B .known) (B .previous) (B .path)
+  pub memory : WorkMemory (P .room) (B .known) (B .previous) (B .path)
   pub best-long : length (B .best) ≡ volume (P .room)
 
 -- the tree that grows there

@@ -28,11 +28,11 @@ pub record LongEnough (n : ℕ) (L : Lengths) : Type 0 where
   pub repeaters-room : n ≤ L .repeaters
   pub kinds-room : n ≤ L .kinds
   pub blocked-room : n ≤ L .blocked
-  pub classes-room : n ≤ L .classes
+  pub classes-enough : n ≤ L .classes
   pub joinable-room : n ≤ L .joinable
-  pub known-room : n ≤ L .known
-  pub previous-room : n ≤ L .previous
-  pub path-room : n ≤ L .path
+  pub known-enough : n ≤ L .known
+  pub previous-enough : n ≤ L .previous
+  pub path-enough : n ≤ L .path
   pub best-room : n ≤ L .best
   pub places-some : 0 < L .queue / 2
 
@@ -51,11 +51,11 @@ long-enough R L e =
       repeaters-room = fit _ (inr (inl refl));
       kinds-room = fit _ (inr (inr (inl refl)));
       blocked-room = fit _ (inr (inr (inr (inl refl))));
-      classes-room = fit _ (inr (inr (inr (inr (inl refl)))));
+      classes-enough = fit _ (inr (inr (inr (inr (inl refl)))));
       joinable-room = fit _ (inr (inr (inr (inr (inr (inl refl))))));
-      known-room = fit _ (inr (inr (inr (inr (inr (inr (inl refl)))))));
-      previous-room = fit _ (inr (inr (inr (inr (inr (inr (inr (inl refl))))))));
-      path-room = fit _ (inr (inr (inr (inr (inr (inr (inr (inr (inl refl)))))))));
+      known-enough = fit _ (inr (inr (inr (inr (inr (inr (inl refl)))))));
+      previous-enough = fit _ (inr (inr (inr (inr (inr (inr (inr (inl refl))))))));
+      path-enough = fit _ (inr (inr (inr (inr (inr (inr (inr (inr (inl refl)))))))));
       best-room = fit _ (inr (inr (inr (inr (inr (inr (inr (inr (inr (inl refl))))))))));
       places-some = leb-true 1 (L .queue / 2) (and-right all (leb 1 (L .queue / 2)) e);
     }
@@ -77,11 +77,11 @@ module _ {sheet : List ℕ} {job : Job} {B : Lent} (A : Lendable sheet job B) wh
     repeaters-clear = rw e (clear-front (enough .repeaters-room) (C .repeaters-clear));
     kinds-long = rw e (length-take-le _ (B .kinds) (enough .kinds-room));
     blocked-long = rw e (length-take-le _ (B .blocked) (enough .blocked-room));
-    classes-long = rw e (length-take-le _ (B .classes) (enough .classes-room));
+    classes-long = rw e (length-take-le _ (B .classes) (enough .classes-enough));
     joinable-long = rw e (length-take-le _ (B .joinable) (enough .joinable-room));
-    known-long = rw e (length-take-le _ (B .known) (enough .known-room));
-    previous-long = rw e (length-take-le _ (B .previous) (enough .previous-room));
-    path-long = rw e (length-take-le _ (B .path) (enough .path-room));
+    known-long = rw e (length-take-le _ (B .known) (enough .known-enough));
+    previous-long = rw e (length-take-le _ (B .previous) (enough .previous-enough));
+    path-long = rw e (length-take-le _ (B .path) (enough .path-enough));
     best-long = rw e (length-take-le _ (B .best) (enough .best-room));
     places-some = enough .places-some;
   }

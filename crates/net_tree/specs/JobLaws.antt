@@ -27,7 +27,7 @@ use Rattle.outset.specs.SetOutLaws.{ready-placed, same-ends, sinks-in, good-roo
 use Rattle.multinet.specs.Tree.{Plot, growthOf}
 use Rattle.multinet.specs.Growing.{Near, SoundPlot}
 use Rattle.multinet.specs.NearLaws.{taps-near}
-use Rattle.multinet.specs.Sinks.{plotOf}
+use Rattle.multinet.specs.SinkTurns.{plotOf}
 use Rattle.net_tree.specs.declared.Lengths.{Lengths}
 use Rattle.net_tree.specs.declared.Answer.{Answer}
 use Rattle.net_tree.specs.Answers.{Lent, lent, lengthsOf, buffersGood, refused, plotFor, outcomeOf, jobOutcome, answerOf}
@@ -109,7 +109,7 @@ module _ {sheet : List ℕ} {job : Job} (A : Accepted sheet job) {O : Outset} {k
     }
 
     job-sound : 0 < L .queue / 2 → SoundPlot jobPlot
-    job-sound h = record { good = good-room A; fair = use-of .config-fair; kinds-long = kinds-long; places-some = h; net = good-ends A (O .placement) ends-are r; near = near }
+    job-sound h = record { good = good-room A; config-good = use-of .config-good; kinds-long = kinds-long; places-some = h; net = good-ends A (O .placement) ends-are r; near = near }
 
     told-outcome : jobOutcome told L O kinds blocked ≡ outcomeOf jobPlot (growthOf jobPlot blocked)
     unfolding jobOutcome

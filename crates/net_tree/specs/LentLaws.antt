@@ -8,7 +8,7 @@ use lib.ListN.{length, drop, replicate, length-append, length-drop}
 use borrow.Author.Tests.{lt-ltb, ne-eqb}
 use Rattle.basics.specs.Tests.{never}
 use Rattle.basics.specs.Zeros.{drop-zeros, zeros-long, cleared-to}
-use Rattle.lent.specs.Lent.{touches, filled, outputAfter, workAfter, Emptied}
+use Rattle.lent.specs.Lent.{touches, filled, outputAfter, workAfter, Cleared}
 use Rattle.room.specs.Room.{volume}
 use Rattle.job_sheet.specs.declared.Job.{Job}
 use Rattle.job_sheet.specs.declared.Reading.{Reading}
@@ -28,7 +28,7 @@ high : {number : ℕ} → 6 < number → touches number ≡ true
 high {number} h = rw (ne-eqb number 0 (omega arith), lt-ltb 6 number h)
 
 module _ {sheet : List ℕ} {job : Job} {B : Lent} (A : Lendable sheet job B) {branches occupied repeaters : List ℕ}
-    (eb : Emptied (B .branches) branches) (eo : Emptied (B .occupied) occupied) (er : Emptied (B .repeaters) repeaters) where
+    (eb : Cleared (B .branches) branches) (eo : Cleared (B .occupied) occupied) (er : Cleared (B .repeaters) repeaters) where
   abbrev clean : Lent
   clean = lent branches occupied repeaters (B .kinds) (B .blocked) (B .classes) (B .joinable) (B .known) (B .previous) (B .path) (B .best) (B .queue)
 
@@ -78,7 +78,7 @@ module _ {sheet : List ℕ} {job : Job} {B : Lent} (A : Lendable sheet job B) {b
     touched (refused number detail) w = high w
 
     -- marks in front of a cleared buffer
-    marks-behind : (before : List ℕ) {zeros : List ℕ} (marks : List ℕ) {after : List ℕ} → Emptied before zeros → volume (job .room) ≤ length before
+    marks-behind : (before : List ℕ) {zeros : List ℕ} (marks : List ℕ) {after : List ℕ} → Cleared before zeros → volume (job .room) ≤ length before
         → after ≡ marks ++ drop (volume (job .room)) zeros → length after ≡ length zeros → after ≡ filled marks before
     marks-behind before {zeros = zeros} marks e h a k =
         let n = volume (job .room) in
@@ -87,7 +87,7 @@ module _ {sheet : List ℕ} {job : Job} {B : Lent} (A : Lendable sheet job B) {b
         a ∙ ap (λ l. marks ++ l) (ap (drop n) e ∙ drop-zeros n (length before) ∙ ap (λ x. replicate (length before - x) 0) (sym m))
 
     -- a refusal leaves zeros
-    refused-after : {number : ℕ} → 6 < number → (buffer mid : List ℕ) {zeros : List ℕ} → length mid ≡ length zeros → Emptied buffer zeros
+    refused-after : {number : ℕ} → 6 < number → (buffer mid : List ℕ) {zeros : List ℕ} → length mid ≡ length zeros → Cleared buffer zeros
         → replicate (length mid) 0 ≡ outputAfter number [] buffer
     refused-after {number = number} h buffer mid k e =
         let z : length buffer - 0 ≡ length mid = omega (arith, k, zeros-long {n = length buffer} e) in
@@ -116,7 +116,7 @@ module _ {sheet : List ℕ} {job : Job} {B : Lent} (A : Lendable sheet job B) {b
         repeaters-are = sr ∙ ap (λ x. settledBy (x .ended) repeaters′) a ∙ refused-after w (B .repeaters) repeaters′ kr er;
       }
 
-      work-after : (buffer mid : List ℕ) {final : List ℕ} → length mid ≡ length buffer → Emptied mid final → final ≡ workAfter (numberFor job-outcome) buffer
+      work-after : (buffer mid : List ℕ) {final : List ℕ} → length mid ≡ length buffer → Cleared mid final → final ≡ workAfter (numberFor job-outcome) buffer
       work-after buffer mid k e = e ∙ rw (touched job-outcome (F .is-routed .outputs)) (ap (λ n. replicate n 0) k)
 
       -- work memory that keeps its lengths, and is cleared
@@ -130,15 +130,15 @@ module _ {sheet : List ℕ} {job : Job} {B : Lent} (A : Lendable sheet job B) {b
           → length path ≡ length (B .path)
           → length best ≡ length (B .best)
           → length queue ≡ length (B .queue)
-          → Emptied kinds kinds′
-          → Emptied blocked blocked′
-          → Emptied classes classes′
-          → Emptied joinable joinable′
-          → Emptied known known′
-          → Emptied previous previous′
-          → Emptied path path′
-          → Emptied best best′
-          → Emptied queue queue′
+          → Cleared kinds kinds′
+          → Cleared blocked blocked′
+          → Cleared classes classes′
+          → Cleared joinable joinable′
+          → Cleared known known′
+          → Cleared previous previous′
+          → Cleared path path′
+          → Cleared best best′
+          → Cleared queue queue′
           → Promise sheet B r (lent branches″ occupied″ repeaters″ kinds′ blocked′ classes′ joinable′ known′ previous′ path′ best′ queue′)
       promised kinds blocked classes joinable known previous path best queue lki lbl lcl ljo lkn lpr lpa lbe lqu eki ebl ecl ejo ekn epr epa ebe equ =
           let O = outputs job-outcome (F .is-routed .answer) (F .is-routed .outputs) in

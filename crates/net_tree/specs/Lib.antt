@@ -1,9 +1,9 @@
 pub mod Answers
 pub mod Entry
-pub mod Trees
-pub mod GrowthLaws
+pub mod SheetTrees
+pub mod GrowJobLaws
 pub mod EntryLaws
 pub mod JobLaws
-pub mod TreeLaws
+pub mod SheetTreeLaws
 pub mod LentLaws
 pub mod PromiseLaws

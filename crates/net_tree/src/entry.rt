@@ -7,7 +7,7 @@ use crate::job::route_job;
 use job_sheet::Job;
 use room::Room;
 ghost use mathlib.Core.Path.{_≡_};
-ghost use Rattle.lent.specs.Lent.{Emptied};
+ghost use Rattle.lent.specs.Lent.{Cleared};
 ghost use Rattle.net_tree.specs.Answers.{buffersGood, Promise, lent};
 ghost use Rattle.net_tree.specs.Entry.{settledBy, Lendable, OutputsClear, FrontRouted};
 ghost use Rattle.room.specs.Room.{Good};
@@ -42,7 +42,7 @@ fn lent_enough(room: Room, lent: Lengths) -> bool
 
 // The outputs are cleared, to their very end.
 fn clear_outputs(branches: &mut [u32], occupied: &mut [u8], repeaters: &mut [u8])
-    ensures { λ _. ⌜ Emptied (now (branches .entry)) (now (branches .exit)) × Emptied (now (occupied .entry)) (now (occupied .exit)) × Emptied (now (repeaters .entry)) (now (repeaters .exit)) ⌝ }
+    ensures { λ _. ⌜ Cleared (now (branches .entry)) (now (branches .exit)) × Cleared (now (occupied .entry)) (now (occupied .exit)) × Cleared (now (repeaters .entry)) (now (repeaters .exit)) ⌝ }
 {
     lent::clear_words(branches);
     lent::clear_bytes(occupied);
@@ -61,7 +61,7 @@ fn clear_work(
     best: &mut [u32],
     queue: &mut [u64],
 )
-    ensures { λ _. ⌜ Emptied (now (kinds .entry)) (now (kinds .exit)) × Emptied (now (blocked .entry)) (now (blocked .exit)) × Emptied (now (classes .entry)) (now (classes .exit)) × Emptied (now (joinable .entry)) (now (joinable .exit)) × Emptied (now (known .entry)) (now (known .exit)) × Emptied (now (previous .entry)) (now (previous .exit)) × Emptied (now (path .entry)) (now (path .exit)) × Emptied (now (best .entry)) (now (best .exit)) × Emptied (now (queue .entry)) (now (queue .exit)) ⌝ }
+    ensures { λ _. ⌜ Cleared (now (kinds .entry)) (now (kinds .exit)) × Cleared (now (blocked .entry)) (now (blocked .exit)) × Cleared (now (classes .entry)) (now (classes .exit)) × Cleared (now (joinable .entry)) (now (joinable .exit)) × Cleared (now (known .entry)) (now (known .exit)) × Cleared (now (previous .entry)) (now (previous .exit)) × Cleared (now (path .entry)) (now (path .exit)) × Cleared (now (best .entry)) (now (best .exit)) × Cleared (now (queue .entry)) (now (queue .exit)) ⌝ }
 {
     lent::clear_bytes(kinds);
     lent::clear_bytes(blocked);
@@ -90,7 +90,8 @@ fn settle(ended: Ended, branches: &mut [u32], occupied: &mut [u8], repeaters: &m
     }
 }
 
-// The tree of an accepted job: the first V numbers of each buffer are lent on.
+// The tree of an accepted job: the first V numbers of each buffer are lent on, the branch buffer and the
+// queue whole.
 fn route_front(
     sheet: &[u8],
     job: Job,

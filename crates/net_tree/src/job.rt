@@ -15,7 +15,7 @@ ghost use lib.Dec.{eqb};
 ghost use lib.ListN.{length};
 ghost use Rattle.routing_resources.specs.Marks.{markedBy, noMarks};
 ghost use Rattle.net_tree.specs.Answers.{answerOf, refused, lent};
-ghost use Rattle.multinet.specs.Sinks.{plotOf};
+ghost use Rattle.multinet.specs.SinkTurns.{plotOf};
 ghost use Rattle.net_tree.specs.Entry.{Harvestable, Harvested, refusedBy, Gatherable, Gathered, Growable, TreeGrown, Routable, JobRouted};
 
 // A refusal carries no branches.
@@ -86,7 +86,7 @@ fn refusal_of(stop: Stop) -> Answer
     match stop {
         Stop::QueueFull(expanded) => refuse(13, expanded.0 as usize),
         Stop::NoGoal(approach) => refuse(14, approach),
-        Stop::NoRoom(place) => refuse(15, place),
+        Stop::BufferFull(place) => refuse(15, place),
     }
 }
 

@@ -8,7 +8,7 @@ use lib.Dec.{eqb}
 use lib.ListN.{length, getD}
 use Rattle.basics.specs.Tests.{either}
 use Rattle.basics.specs.Lists.{any}
-use Rattle.ends.specs.Ends.{tapsIn, NetIn}
+use Rattle.ends.specs.Ends.{tapsIn, NetInside}
 use Rattle.room.specs.declared.Room.{Room}
 use Rattle.room.specs.declared.Pos.{Pos}
 use Rattle.room.specs.declared.Neighbour.{Neighbour}
@@ -47,8 +47,8 @@ abbrev pub outputKeepout : Room → List ℕ → List ℕ → ℕ → Neighbour 
 outputKeepout R kinds nodes node place v = holdsAt (λ output. solidOf kinds nodes node output && inKeepout R output v) place
 
 -- v is in the keepout that a block asks for
-unfoldable pub sourceKeepout : Room → List ℕ → List ℕ → ℕ → Block → Bool
-sourceKeepout R kinds nodes v b =
+unfoldable pub blockKeepout : Room → List ℕ → List ℕ → ℕ → Block → Bool
+blockKeepout R kinds nodes v b =
     either (powers (b .kind)) (inKeepout R (cellOf R (b .at)) v)
     (either (eqb (b .kind) repeater) (outputKeepout R kinds nodes (b .node) (ahead R (cellOf R (b .at)) (b .facing)) v) false)
 
@@ -59,7 +59,7 @@ blockedBy kinds nodes J v =
     any (nearConductor R v) (J .conductors)
     || (any (standsAt R v) (J .clearances)
     || (any (standsAt R v) (J .terminals)
-    || (any (standsAt R v) (J .reserved) || any (sourceKeepout R kinds nodes v) (J .blocks))))
+    || (any (standsAt R v) (J .reserved) || any (blockKeepout R kinds nodes v) (J .blocks))))
 
 -- a cell, and the one right beneath it
 unfoldable pub atOrBeneath : Room → ℕ → ℕ → Bool
@@ -102,8 +102,9 @@ pub record OutsetReady (sheet : List ℕ) (job : Job) (source : ℕ) (k : Taps) 
   pub contents : Contents
   pub usable : Usable sheet job contents
   pub sized : Sized (job .room) kinds nodes marks
-  pub net : NetIn (job .room) source k
+  pub net : NetInside (job .room) source k
   pub clear : marks ≡ noMarks (volume (job .room))
 
+-- the marks are those of the outset, for whatever contents the job is usable as
 pub record OutsetMarked (sheet : List ℕ) (job : Job) (source : ℕ) (k : Taps) (kinds nodes marks : List ℕ) : Type 0 where
   pub is : (J : Contents) → Usable sheet job J → marks ≡ blockedAtOutset kinds nodes J source k

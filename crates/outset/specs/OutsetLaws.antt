@@ -20,7 +20,7 @@ use Rattle.job_sheet.specs.Places.{positionsIn, blocksIn}
 use Rattle.ends.specs.declared.Tap.{Tap}
 use Rattle.ends.specs.declared.Taps.{Taps}
 use Rattle.ends.specs.Ends.{tapsIn}
-use Rattle.outset.specs.Outset.{standsAt, nearConductor, blockedBy, powers, solidOf, outputKeepout, sourceKeepout, atOrBeneath, tapCell, ownCell, blockedAtOutset, OutsetReady, OutsetMarked}
+use Rattle.outset.specs.Outset.{standsAt, nearConductor, blockedBy, powers, solidOf, outputKeepout, blockKeepout, atOrBeneath, tapCell, ownCell, blockedAtOutset, OutsetReady, OutsetMarked}
 
 -- ---- the keepout that a block asks for
 
@@ -38,21 +38,21 @@ module _ (R : Room) (kinds nodes marks : List ℕ) where
     output-none e = sym (with-none 1 _ marks (λ v h. rw e refl))
 
   module _ (b : Block) where
-    pub source-powers : {cell : ℕ} {marks′ : List ℕ} → cell ≡ cellOf R (b .at) → powers (b .kind) ≡ true → marks′ ≡ markedBy (inKeepout R cell) marks
-        → marks′ ≡ markedBy (λ v. sourceKeepout R kinds nodes v b) marks
-    unfolding sourceKeepout
-    source-powers e p m = m ∙ with-same 1 _ _ marks (λ v h. rw (e, p) refl)
+    pub block-powers : {cell : ℕ} {marks′ : List ℕ} → cell ≡ cellOf R (b .at) → powers (b .kind) ≡ true → marks′ ≡ markedBy (inKeepout R cell) marks
+        → marks′ ≡ markedBy (λ v. blockKeepout R kinds nodes v b) marks
+    unfolding blockKeepout
+    block-powers e p m = m ∙ with-same 1 _ _ marks (λ v h. rw (e, p) refl)
 
     module _ (n : powers (b .kind) ≡ false) where
-      pub source-output : {cell : ℕ} {marks′ : List ℕ} → cell ≡ cellOf R (b .at) → eqb (b .kind) repeater ≡ true → {output : Neighbour} → output ≡ ahead R cell (b .facing)
+      pub block-output : {cell : ℕ} {marks′ : List ℕ} → cell ≡ cellOf R (b .at) → eqb (b .kind) repeater ≡ true → {output : Neighbour} → output ≡ ahead R cell (b .facing)
           → marks′ ≡ markedBy (outputKeepout R kinds nodes (b .node) output) marks
-          → marks′ ≡ markedBy (λ v. sourceKeepout R kinds nodes v b) marks
-      unfolding sourceKeepout
-      source-output e r o m = m ∙ with-same 1 _ _ marks (λ v h. rw (o, e, n, r) refl)
+          → marks′ ≡ markedBy (λ v. blockKeepout R kinds nodes v b) marks
+      unfolding blockKeepout
+      block-output e r o m = m ∙ with-same 1 _ _ marks (λ v h. rw (o, e, n, r) refl)
 
-      pub source-none : eqb (b .kind) repeater ≡ false → marks ≡ markedBy (λ v. sourceKeepout R kinds nodes v b) marks
-      unfolding sourceKeepout
-      source-none r = sym (with-none 1 _ marks (λ v h. rw (n, r) refl))
+      pub block-none : eqb (b .kind) repeater ≡ false → marks ≡ markedBy (λ v. blockKeepout R kinds nodes v b) marks
+      unfolding blockKeepout
+      block-none r = sym (with-none 1 _ marks (λ v h. rw (n, r) refl))
 
 -- ---- what is taken out
 
@@ -74,7 +74,7 @@ module _ (R : Room) (marks : List ℕ) {marks′ marks″ : List ℕ} where
 -- what is said of a sheet's contents, by its parts
 said-by : (kinds nodes : List ℕ) (source : ℕ) (k : Taps) (J : Contents) (R : Room) (cs ls ts rs : List Pos) (bs : List Block)
     → R ≡ J .room → cs ≡ J .conductors → ls ≡ J .clearances → ts ≡ J .terminals → rs ≡ J .reserved → bs ≡ J .blocks
-    → markedBy (λ v. (any (nearConductor R v) cs || (any (standsAt R v) ls || (any (standsAt R v) ts || (any (standsAt R v) rs || any (sourceKeepout R kinds nodes v) bs))))
+    → markedBy (λ v. (any (nearConductor R v) cs || (any (standsAt R v) ls || (any (standsAt R v) ts || (any (standsAt R v) rs || any (blockKeepout R kinds nodes v) bs))))
     && not (ownCell R source k v)) (noMarks (volume R))
     ≡ blockedAtOutset kinds nodes J source k
 unfolding blockedAtOutset blockedBy
@@ -111,7 +111,7 @@ module _ {sheet : List ℕ} {job : Job} {source : ℕ} {k : Taps} {kinds nodes m
       → m₂ ≡ markedBy (λ v. any (standsAt (job .room) v) (positionsIn sheet (job .clearances))) m₁
       → m₃ ≡ markedBy (λ v. any (standsAt (job .room) v) (positionsIn sheet (job .terminals))) m₂
       → m₄ ≡ markedBy (λ v. any (standsAt (job .room) v) (positionsIn sheet (job .reserved))) m₃
-      → m₅ ≡ markedBy (λ v. any (sourceKeepout (job .room) kinds nodes v) (blocksIn sheet (job .blocks))) m₄
+      → m₅ ≡ markedBy (λ v. any (blockKeepout (job .room) kinds nodes v) (blocksIn sheet (job .blocks))) m₄
       → m₆ ≡ unmarkedBy (ownCell (job .room) source k) m₅
       → OutsetMarked sheet job source k kinds nodes m₆
   outset-marked e₁ e₂ e₃ e₄ e₅ e₆ = record {

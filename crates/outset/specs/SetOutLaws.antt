@@ -23,7 +23,7 @@ use Rattle.blocks.specs.BlockLaws as blocks
 use Rattle.blocks.specs.BlockLaws.{tabulated-long, own-list, blocks-laid-for}
 use Rattle.ends.specs.declared.Ends.{Ends}
 use Rattle.ends.specs.declared.Fault.{Fault}
-use Rattle.ends.specs.Ends.{sinksIn, endsOf, SinksWithin, NetIn}
+use Rattle.ends.specs.Ends.{sinksIn, endsOf, SinksWithin, NetInside}
 use Rattle.ends.specs.EndLaws.{net-in}
 use Rattle.outset.specs.declared.Outset.{Outset}
 use Rattle.outset.specs.Outset.{blockedAtOutset, OutsetReady, OutsetMarked}
@@ -77,7 +77,7 @@ module _ {sheet : List ℕ} {job : Job} (A : Accepted sheet job) where
 
   -- where no number is due, the net's cells are in the room
   pub good-ends : (p : Placement) {e : Ends} → e ≡ endsOf (job .room) (job .source) (sinksIn (job .sinks)) → readyBy p (e .fault) ≡ true
-      → NetIn (job .room) (e .source) (e .taps)
+      → NetInside (job .room) (e .source) (e .taps)
   unfolding endsOf
   good-ends p {e} ends-are r =
       let good : endsOf (job .room) (job .source) (sinksIn (job .sinks)) .fault ≡ Fault.Good = ap (λ x. x .fault) (sym ends-are) ∙ ready-good p (e .fault) r in

@@ -1,5 +1,5 @@
 // The cells that are blocked at the outset of a tree, as marks: one byte a cell in a lent slice.
-mod setting; // setting.rt: the whole outset, from an accepted sheet
+mod setting_out; // setting_out.rt: the whole outset, from an accepted sheet
 
 use blocks::Placement;
 use ends::Ends;
@@ -10,10 +10,10 @@ use job_sheet::Job;
 use job_sheet::Part;
 use room::Neighbour;
 use room::Room;
-pub use setting::detail_by;
-pub use setting::number_by;
-pub use setting::ready_by;
-pub use setting::set_out;
+pub use setting_out::detail_by;
+pub use setting_out::number_by;
+pub use setting_out::ready_by;
+pub use setting_out::set_out;
 ghost use mathlib.Core.Path.{_≡_};
 ghost use mathlib.Core.Bool.{_||_};
 ghost use Prim.Native.Nat.{_<_};
@@ -25,10 +25,10 @@ ghost use Rattle.room.specs.Room.{Good, Within, volume};
 ghost use Rattle.routing_resources.specs.Marks.{markedBy, unmarkedBy};
 ghost use Rattle.job_sheet.specs.Accepted.{BlockList};
 ghost use Rattle.job_sheet.specs.Places.{positionsIn, blocksIn};
-ghost use Rattle.outset.specs.Outset.{standsAt, nearConductor, powers, solidOf, outputKeepout, sourceKeepout, atOrBeneath, tapCell, ownCell, PositionsListed, Sized, OutputKnown, OutsetReady, OutsetMarked};
-ghost use Rattle.ends.specs.Ends.{NetIn};
+ghost use Rattle.outset.specs.Outset.{standsAt, nearConductor, powers, solidOf, outputKeepout, blockKeepout, atOrBeneath, tapCell, ownCell, PositionsListed, Sized, OutputKnown, OutsetReady, OutsetMarked};
+ghost use Rattle.ends.specs.Ends.{NetInside};
 
-// A tree set out: where the blocks stand, and the ends.
+// What setting a tree out comes to: whether each block has a cell of its own, and the net's ends.
 pub struct Outset {
     pub placement: Placement,
     pub ends: Ends,
@@ -118,7 +118,7 @@ fn output_keepout(
 fn block_keepout(room: Room, block: Block, kinds: &[u8], nodes: &[u32], marks: &mut [u8])
     requires { ⌜ Sized room (now kinds) (now nodes) (now marks) ⌝ }
     requires { ⌜ Within room (block .at) ⌝ }
-    ensures { λ _. ⌜ now (marks .exit) ≡ markedBy (λ v. sourceKeepout room (now (kinds .entry)) (now (nodes .entry)) v block) (now (marks .entry)) ⌝ }
+    ensures { λ _. ⌜ now (marks .exit) ≡ markedBy (λ v. blockKeepout room (now (kinds .entry)) (now (nodes .entry)) v block) (now (marks .entry)) ⌝ }
 {
     let cell = room.cell(block.at);
     if powers(block.kind) {
@@ -148,7 +148,7 @@ fn cell_source_keepout(
 )
     requires { ⌜ Sized room (now kinds) (now nodes) (now marks) ⌝ }
     requires { ⌜ BlockList (now sheet) room part (blocksIn (now sheet) part) ⌝ }
-    ensures { λ _. ⌜ now (marks .exit) ≡ markedBy (λ v. any (sourceKeepout room (now (kinds .entry)) (now (nodes .entry)) v) (blocksIn (now (sheet .entry)) part)) (now (marks .entry)) ⌝ }
+    ensures { λ _. ⌜ now (marks .exit) ≡ markedBy (λ v. any (blockKeepout room (now (kinds .entry)) (now (nodes .entry)) v) (blocksIn (now (sheet .entry)) part)) (now (marks .entry)) ⌝ }
 {
     let mut i: usize = 0;
     while i < part.count {
@@ -182,7 +182,7 @@ fn take_out_tap(room: Room, marks: &mut [u8], tap: Tap)
 // Takes out the net's own terminals and approaches, and the cells right beneath them.
 fn take_out_ends(room: Room, source: usize, taps: Taps, marks: &mut [u8])
     requires { ⌜ Good room ⌝ }
-    requires { ⌜ NetIn room source taps ⌝ }
+    requires { ⌜ NetInside room source taps ⌝ }
     requires { ⌜ length (now marks) ≡ volume room ⌝ }
     ensures { λ _. ⌜ now (marks .exit) ≡ unmarkedBy (ownCell room source taps) (now (marks .entry)) ⌝ }
 {

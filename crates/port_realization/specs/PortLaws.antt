@@ -12,7 +12,7 @@ use Rattle.room.specs.Units.{wire, facingHorizontal, ahead}
 use Rattle.room.specs.MoveLaws.{ahead-in}
 use Rattle.port_realization.specs.declared.Terminal.{Terminal}
 use Rattle.port_realization.specs.declared.Realized.{Realized}
-use Rattle.port_realization.specs.Ports.{terminalAt, terminalOf, approachOf, approached, withApproach, realizedOf}
+use Rattle.port_realization.specs.Ports.{terminalAt, terminalOf, approachOf, approached, realizedAs, realizedOf}
 
 pub terminal-in : (R : Room) (p : Pos) → Within R p → (port facing cell : ℕ) → terminalOf R p port facing ≡ Terminal.At cell → cell < volume R
 unfolding terminalOf
@@ -59,7 +59,7 @@ sink-inside R p w port facing terminal approach e = go _ refl e
         record { approach-is = c; terminal-below = h; approach-below = approach-in R terminal facing approach h c }
     met t o Neighbour.Outside n q = never (cc)
 
-    go : (t : Terminal) → terminalOf R p port facing ≡ t → withApproach R facing t ≡ Realized.At terminal approach → SinkInside R facing terminal approach
+    go : (t : Terminal) → terminalOf R p port facing ≡ t → realizedAs R facing t ≡ Realized.At terminal approach → SinkInside R facing terminal approach
     go (Terminal.At t) o q = met t o _ refl q
     go Terminal.NoFacing o q = never (cc)
     go Terminal.Outside o q = never (cc)

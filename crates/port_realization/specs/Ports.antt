@@ -32,10 +32,10 @@ approached terminal (Neighbour.Inside approach) = Realized.At terminal approach
 approached terminal Neighbour.Outside = Realized.Outside
 
 -- a sink's terminal and approach. A source has its terminal alone
-abbrev pub withApproach : Room → ℕ → Terminal → Realized
-withApproach R facing (Terminal.At terminal) = approached terminal (approachOf R terminal facing)
-withApproach R facing Terminal.NoFacing = Realized.NoFacing
-withApproach R facing Terminal.Outside = Realized.Outside
+abbrev pub realizedAs : Room → ℕ → Terminal → Realized
+realizedAs R facing (Terminal.At terminal) = approached terminal (approachOf R terminal facing)
+realizedAs R facing Terminal.NoFacing = Realized.NoFacing
+realizedAs R facing Terminal.Outside = Realized.Outside
 
 unfoldable pub realizedOf : Room → Pos → ℕ → ℕ → Realized
-realizedOf R p port facing = withApproach R facing (terminalOf R p port facing)
+realizedOf R p port facing = realizedAs R facing (terminalOf R p port facing)

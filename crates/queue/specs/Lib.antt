@@ -2,4 +2,4 @@ pub mod Queue
 pub mod BagLaws
 pub mod HeapLaws
 pub mod LeastLaws
-pub mod PlaceLaws
+pub mod PutAtLaws

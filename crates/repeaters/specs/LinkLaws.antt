@@ -14,7 +14,7 @@ use Rattle.room.specs.declared.Neighbour.{Neighbour}
 use Rattle.room.specs.Room.{volume, posOf, by, moves, neighbourAt, neighbour}
 use Rattle.room.specs.MoveLaws.{leads, small}
 use Rattle.repeaters.specs.Links.{orderedMoves, orderedMove, linkedPlace, consPlace, insideCount, cellsBy}
-use Rattle.repeaters.specs.JoinLaws.{ordered-in}
+use Rattle.repeaters.specs.MaskLaws.{ordered-in}
 
 pub ordered-small : (k : ℕ) → k < 12 → (orderedMove k .x ≤ 2) × (orderedMove k .y ≤ 2) × (orderedMove k .z ≤ 2)
 ordered-small k h = let s = small (orderedMove k) (ordered-in k h) in (s .x-small, s .y-small, s .z-small)
@@ -47,19 +47,19 @@ pub record LinksCounted (R : Room) (p : Pos) (mask rest count k : ℕ) : Type 0 
   pub same : count + length (cellsLeft R p rest k) ≡ length (cellsBy R p mask orderedMoves)
 
 module _ {R : Room} {p : Pos} {mask : ℕ} where
-  pub counted-none : LinksCounted R p mask mask 0 0
-  counted-none = record { within = omega arith; few = omega arith; same = omega arith }
+  pub links-none : LinksCounted R p mask mask 0 0
+  links-none = record { within = omega arith; few = omega arith; same = omega arith }
 
   module _ {rest count k : ℕ} (I : LinksCounted R p mask rest count k) where
-    pub counted-next : k < 12 → (n : ℕ) → n ≡ insideCount (linkedPlace R p rest (orderedMove k)) → LinksCounted R p mask (rest / 2) (count + n) (k + 1)
-    counted-next h n e = record {
+    pub links-next : k < 12 → (n : ℕ) → n ≡ insideCount (linkedPlace R p rest (orderedMove k)) → LinksCounted R p mask (rest / 2) (count + n) (k + 1)
+    links-next h n e = record {
       within = omega arith;
       few = omega (arith, I .few, e, inside-one (linkedPlace R p rest (orderedMove k)));
       same = omega (arith, I .same, e, ap length (cells-more R p rest k h), cons-length (linkedPlace R p rest (orderedMove k)) (cellsLeft R p (rest / 2) (k + 1)));
     }
 
-    pub counted-all : 12 ≤ k → count ≡ length (cellsBy R p mask orderedMoves)
-    counted-all h = omega (arith, I .same, ap length (cells-none R p rest k (I .within) h))
+    pub links-all : 12 ≤ k → count ≡ length (cellsBy R p mask orderedMoves)
+    links-all h = omega (arith, I .same, ap length (cells-none R p rest k (I .within) h))
 
 -- a linked place is a cell of the room
 pub linked-in : (R : Room) (n : ℕ) (p : Pos) (mask k : ℕ) → p ≡ posOf R n → (place : Neighbour) → place ≡ linkedPlace R p mask (orderedMove k)

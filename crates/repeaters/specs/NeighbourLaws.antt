@@ -21,8 +21,8 @@ use Rattle.room.specs.RoomLaws.{Before, order, cell-pos}
 use Rattle.room.specs.MoveLaws.{Moved, leads}
 use Rattle.repeaters.specs.Repeaters.{cellsPassing, treeNeighbours, isStep, besideOn, neighbouring}
 use Rattle.repeaters.specs.Links.{orderedMoves, orderedMove, consPlace, cellsBy, linkedCells}
-use Rattle.repeaters.specs.Joins.{Steps, AllSteps, maskOf, isLink, stepIndex, Masks, Joined}
-use Rattle.repeaters.specs.JoinLaws.{mask-low, mask-rest, masks-same, masks-none, step-back, step-in, step-ordered}
+use Rattle.repeaters.specs.Masks.{Steps, AllSteps, maskOf, isLink, stepIndex, Masks, NowLinked}
+use Rattle.repeaters.specs.MaskLaws.{mask-low, mask-rest, masks-same, masks-none, step-back, step-in, step-ordered}
 
 -- ---- two ascending lists with the same members are one
 
@@ -261,5 +261,5 @@ module _ {R : Room} (G : Good R) where
 
 -- cells joined from none on are those of the branches
 pub tree-joined : {R : Room} → Good R → (branches : List (List ℕ)) → AllSteps R branches → {start links : List ℕ} → start ≡ replicate (volume R) 0
-    → Joined R (neighbouring branches) start links → linkedCells R links ≡ treeNeighbours branches (volume R)
+    → NowLinked R (neighbouring branches) start links → linkedCells R links ≡ treeNeighbours branches (volume R)
 tree-joined {R} G branches S e J = linked-neighbours G branches S _ (masks-same (λ u v. or-false (neighbouring branches u v)) (J .goes (λ u v. false) (rw e (masks-none R))))

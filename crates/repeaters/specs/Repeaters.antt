@@ -14,7 +14,7 @@ use Rattle.room.specs.Units.{noFacing, north, east, south, west}
 use Rattle.best_first.specs.Search.{trace}
 use Rattle.routing_resources.specs.Marks.{noMarks, isMarked}
 use Rattle.ends.specs.declared.Tap.{Tap}
-use Rattle.basics.specs.Walks.{along}
+use Rattle.basics.specs.Folds.{along}
 
 -- ---- the tree
 
@@ -47,7 +47,7 @@ treeNeighbours branches n u = cellsPassing (neighbouring branches u) n 0
 
 -- ---- "the path from the source (breadth first, neighbours in number order)"
 
--- the parent u of each cell reached, as u + 1, with 0 for a cell that is not reached; and the cells that wait for their turn
+-- the parent u of each cell reached, as u + 1, with 0 for a cell that is not reached; and the cells that wait to be visited
 pub record Wave : Type 0 where
   pub parents : List ℕ
   pub waiting : List ℕ
@@ -63,7 +63,7 @@ meet u v w = either (eqb (getD (w .parents) v 0) 0) (wave (set (w .parents) v (u
 abbrev pub meetAll : ℕ → List ℕ → Wave → Wave
 meetAll u = along (meet u)
 
--- the cells have their turns, at most n of them, in the order in which they were reached
+-- the cells are visited, at most n of them, in the order in which they were reached
 unfoldable pub spread : ℕ → (ℕ → List ℕ) → Wave → List ℕ
 spread zero next w = w .parents
 spread (suc n) next w = elim (w .waiting) [ [] ↦ w .parents | u ∷ rest ↦ spread n next (meetAll u (next u) (wave (w .parents) rest)) ]
@@ -151,19 +151,19 @@ resume path w c = either (eqb c 0) (walk (w .marks) (w .reset) (w .place + 1)) (
 
 module _ (limit : ℕ) (fit : ℕ → Bool) (path : List ℕ) where
   -- "A repeater met is a reset"; "at a cell more than 12 steps past the last reset" one is due
-  unfoldable pub step : RunWalk → RunWalk
-  step w =
+  unfoldable pub stride : RunWalk → RunWalk
+  stride w =
       either (repeaterAt path (w .marks) (w .place)) (walk (w .marks) (w .place) (w .place + 1))
       (either (ltb (w .reset + limit) (w .place)) (resume path w (candidate fit (w .reset) (w .place + 1))) (walk (w .marks) (w .reset) (w .place + 1)))
 
   -- at most n steps, while the walk is on the path: the repeaters that it then leaves
-  unfoldable pub steps : ℕ → RunWalk → List ℕ
-  steps zero w = w .marks
-  steps (suc n) w = elim (ltb (w .place) (length path)) [ true ↦ steps n (step w) | false ↦ w .marks ]
+  unfoldable pub strides : ℕ → RunWalk → List ℕ
+  strides zero w = w .marks
+  strides (suc n) w = elim (ltb (w .place) (length path)) [ true ↦ strides n (stride w) | false ↦ w .marks ]
 
   -- each step goes on or moves the reset on: so many are enough. "At first the source" is the reset
   unfoldable pub run : List ℕ → List ℕ
-  run marks = steps ((length path + 1) * (length path + 1)) (walk marks 0 1)
+  run marks = strides ((length path + 1) * (length path + 1)) (walk marks 0 1)
 
 -- ---- the tails
 

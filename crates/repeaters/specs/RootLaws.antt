@@ -10,20 +10,20 @@ use lib.ListN.{length, getD, take, drop, set, replicate, length-set, length-repl
 use lib.Seq.{slice, slice-cons, slice-empty, take-suc-set, drop-append-le, getD-set-same, getD-set-other, length-take-le, take-at}
 use borrow.Author.Tests.{eq-eqb, ne-eqb}
 use Rattle.basics.specs.Tests.{askSame}
-use Rattle.basics.specs.Walks.{along}
+use Rattle.basics.specs.Folds.{along}
 use Rattle.basics.specs.Zeros.{zeros}
 use Rattle.room.specs.declared.Room.{Room}
 use Rattle.room.specs.declared.Pos.{Pos}
 use Rattle.room.specs.declared.Neighbour.{Neighbour}
 use Rattle.room.specs.Room.{volume}
-use Rattle.best_first.specs.Lists.{nonzeros, nonzeros-le, nonzeros-none, nonzeros-new}
+use Rattle.best_first.specs.ListsAfterSet.{nonzeros, nonzeros-le, nonzeros-none, nonzeros-new}
 use Rattle.best_first.specs.Search.{trace}
 use Rattle.best_first.specs.Equations.{trace-start, trace-back}
 use Rattle.trace.specs.Traces.{PreviousInside}
 use Rattle.repeaters.specs.Repeaters.{Wave, wave, meet, meetAll, spread, firstParents, parentsFrom, rootPath}
 use Rattle.repeaters.specs.Links.{orderedMoves, orderedMove, linkedPlace, consPlace, cellsBy, linkedCells}
 use Rattle.repeaters.specs.LinkLaws.{cellsLeft, cells-more, cells-none}
-use Rattle.repeaters.specs.Roots.{Held, Met, Rooted, Traced}
+use Rattle.repeaters.specs.Roots.{LineHeld, Met, Rooted, Traced}
 use Rattle.routing_resources.specs.Marks.{AllCells}
 
 -- ---- counting the cells reached
@@ -32,7 +32,7 @@ use Rattle.routing_resources.specs.Marks.{AllCells}
 nonzeros-less : (ps : List ℕ) (v : ℕ) → v < length ps → getD ps v 0 ≡ 0 → nonzeros ps < length ps
 nonzeros-less ps v h e = omega (arith, nonzeros-new ps v 0 h e, nonzeros-le (set ps v 1), length-set ps v 1)
 
--- ---- the equations of the definition, branch by branch
+-- ---- the equations of the definition, case by case
 
 module _ (u v : ℕ) (parents waiting : List ℕ) where
   meet-before : getD parents v 0 ≢ 0 → wave parents waiting ≡ meetAll u (v ∷ []) (wave parents waiting)
@@ -43,10 +43,10 @@ module _ (u v : ℕ) (parents waiting : List ℕ) where
   unfolding along meet
   meet-now e = rw (eq-eqb (getD parents v 0) 0 e)
 
-spread-turn : (n : ℕ) (next : ℕ → List ℕ) (parents : List ℕ) (u : ℕ) (waiting : List ℕ)
+spread-visit : (n : ℕ) (next : ℕ → List ℕ) (parents : List ℕ) (u : ℕ) (waiting : List ℕ)
     → spread (suc n) next (wave parents (u ∷ waiting)) ≡ spread n next (meetAll u (next u) (wave parents waiting))
 unfolding spread
-spread-turn n next parents u waiting = refl
+spread-visit n next parents u waiting = refl
 
 spread-done : (n : ℕ) (next : ℕ → List ℕ) (parents : List ℕ) → spread n next (wave parents []) ≡ parents
 unfolding spread
@@ -59,7 +59,7 @@ waiting-more : (line : List ℕ) (head tail v : ℕ) → tail < length line → 
 waiting-more line head tail v h k =
     rw (add-one, take-suc-set line tail v h) (drop-append-le head (take tail line) (v ∷ []) (rw (length-take-le tail line (omega arith)) k))
 
-module _ {parents line : List ℕ} {tail : ℕ} (H : Held parents line tail) where
+module _ {parents line : List ℕ} {tail : ℕ} (H : LineHeld parents line tail) where
   pub held-most : tail ≤ length parents
   held-most = omega (arith, H .counted, nonzeros-le parents)
 
@@ -67,8 +67,8 @@ module _ {parents line : List ℕ} {tail : ℕ} (H : Held parents line tail) whe
   met-before from v n = record { held = H; long = refl; on = omega arith; goes = λ head h. meet-before from v parents (slice head tail line) n }
 
   module _ (from v : ℕ) (from-in : from < length parents) (v-in : v < length parents) (new : getD parents v 0 ≡ 0) where
-    pub line-room : tail < length line
-    line-room = omega (arith, H .counted, H .line-long, nonzeros-less parents v v-in new)
+    pub line-fits : tail < length line
+    line-fits = omega (arith, H .counted, H .line-long, nonzeros-less parents v v-in new)
 
     pub met-now : Met from (v ∷ []) parents line tail (set parents v (from + 1)) (set line tail v) (tail + 1)
     met-now = record {
@@ -80,13 +80,13 @@ module _ {parents line : List ℕ} {tail : ℕ} (H : Held parents line tail) whe
       };
       long = length-set parents v (from + 1);
       on = omega arith;
-      goes = λ head h. rw (waiting-more line head tail v line-room h) (meet-now from v parents (slice head tail line) new);
+      goes = λ head h. rw (waiting-more line head tail v line-fits h) (meet-now from v parents (slice head tail line) new);
     }
       where
         in-line : (i : ℕ) → i < tail + 1 → getD (set line tail v) i 0 < length parents
         in-line i h =
             askSame i tail
-            (λ q. rw (q, getD-set-same line tail v 0 line-room) v-in)
+            (λ q. rw (q, getD-set-same line tail v 0 line-fits) v-in)
             (λ d. rw (getD-set-other line tail i v 0 d) (H .cells i (omega (arith, d))))
 
         parent : (w : ℕ) → getD (set parents v (from + 1)) w 0 ≤ length parents
@@ -108,7 +108,7 @@ meet-more from Neighbour.Outside vs w = refl
 
 pub record Visiting (R : Room) (p : Pos) (from mask : ℕ) (parents₀ line₀ : List ℕ) (tail₀ : ℕ) (parents line : List ℕ) (tail rest k : ℕ) : Type 0 where
   pub within : k ≤ 12
-  pub held : Held parents line tail
+  pub held : LineHeld parents line tail
   pub long : length parents ≡ length parents₀
   pub on : tail₀ ≤ tail
   pub goes : (head : ℕ) → head ≤ tail₀
@@ -116,7 +116,7 @@ pub record Visiting (R : Room) (p : Pos) (from mask : ℕ) (parents₀ line₀ :
       ≡ meetAll from (cellsBy R p mask orderedMoves) (wave parents₀ (slice head tail₀ line₀))
 
 module _ {R : Room} {p : Pos} {from mask : ℕ} {parents₀ line₀ : List ℕ} {tail₀ : ℕ} where
-  pub visiting-none : Held parents₀ line₀ tail₀ → Visiting R p from mask parents₀ line₀ tail₀ parents₀ line₀ tail₀ mask 0
+  pub visiting-none : LineHeld parents₀ line₀ tail₀ → Visiting R p from mask parents₀ line₀ tail₀ parents₀ line₀ tail₀ mask 0
   visiting-none H = record { within = omega arith; held = H; long = refl; on = omega arith; goes = λ head h. refl }
 
   module _ {parents line : List ℕ} {tail rest k : ℕ} (I : Visiting R p from mask parents₀ line₀ tail₀ parents line tail rest k) where
@@ -149,7 +149,7 @@ module _ {R : Room} {p : Pos} {from mask : ℕ} {parents₀ line₀ : List ℕ} 
 -- ---- the loop over the cells that wait
 
 pub record Spreading (R : Room) (source : ℕ) (links parents line : List ℕ) (head tail : ℕ) : Type 0 where
-  pub held : Held parents line tail
+  pub held : LineHeld parents line tail
   pub long : length parents ≡ volume R
   pub within : head ≤ tail
   pub same : spread (volume R - head) (linkedCells R links) (wave parents (slice head tail line))
@@ -205,7 +205,7 @@ module _ {R : Room} {source : ℕ} {links : List ℕ} where
       within = omega (arith, M .on);
       same =
           ap (spread (volume R - (head + 1)) (linkedCells R links)) (M .goes (head + 1) (omega arith))
-          ∙ sym (spread-turn (volume R - (head + 1)) (linkedCells R links) parents cell (slice (head + 1) tail line))
+          ∙ sym (spread-visit (volume R - (head + 1)) (linkedCells R links) parents cell (slice (head + 1) tail line))
           ∙ rw (← left, ← first) (I .same);
     }
       where
@@ -249,7 +249,7 @@ pub traced : (parents line : List ℕ) {line′ : List ℕ} (cell : ℕ) {count 
     → length line′ ≡ length line → line′ ≡ rootPath parents cell ++ drop count line → Traced parents cell line′ count
 traced parents line cell {count} e h k f = record {
   is = ap (take count) f ∙ take-at (rootPath parents cell) (drop count line) count (sym e);
-  room = omega arith;
+  fits = omega arith;
 }
 
 -- each cell of the path is one of the room, and so it has a first cell

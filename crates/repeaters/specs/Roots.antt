@@ -1,5 +1,5 @@
 -- The breadth-first search as the code holds it: the cells reached stand in a line, in the order in which they were reached; those from `head` to `tail`
--- wait for their turn.
+-- wait to be visited.
 use mathlib.Core.Path.{_≡_}
 use mathlib.Core.List.{List}
 use Prim.Native.Nat.{ℕ, _≤_, _<_}
@@ -7,25 +7,26 @@ use lib.ListN.{length, getD, take}
 use lib.Seq.{slice}
 use Rattle.room.specs.declared.Room.{Room}
 use Rattle.room.specs.Room.{volume}
-use Rattle.best_first.specs.Lists.{nonzeros}
+use Rattle.best_first.specs.ListsAfterSet.{nonzeros}
 use Rattle.trace.specs.Traces.{PreviousInside}
 use Rattle.repeaters.specs.Repeaters.{wave, meetAll, parentsFrom, rootPath}
 use Rattle.repeaters.specs.Links.{linkedCells}
 
 -- each cell reached, one whose parent is not 0, stands in the line once, so that the line has room for all
-pub record Held (parents line : List ℕ) (tail : ℕ) : Type 0 where
+pub record LineHeld (parents line : List ℕ) (tail : ℕ) : Type 0 where
   pub line-long : length line ≡ length parents
   pub counted : nonzeros parents ≡ tail
   pub cells : (i : ℕ) → i < tail → getD line i 0 < length parents
   pub linked : PreviousInside parents
 
--- these cells were met from one cell, whichever wait for their turn
+-- these cells were met from one cell, whichever wait to be visited
 pub record Met (from : ℕ) (cells : List ℕ) (parents line : List ℕ) (tail : ℕ) (parents′ line′ : List ℕ) (tail′ : ℕ) : Type 0 where
-  pub held : Held parents′ line′ tail′
+  pub held : LineHeld parents′ line′ tail′
   pub long : length parents′ ≡ length parents
   pub on : tail ≤ tail′
   pub goes : (head : ℕ) → head ≤ tail → wave parents′ (slice head tail′ line′) ≡ meetAll from cells (wave parents (slice head tail line))
 
+-- the parents are those of the definition
 pub record Rooted (R : Room) (source : ℕ) (links parents : List ℕ) : Type 0 where
   pub is : parents ≡ parentsFrom (linkedCells R links) (volume R) source
   pub linked : PreviousInside parents
@@ -34,4 +35,4 @@ pub record Rooted (R : Room) (source : ℕ) (links parents : List ℕ) : Type 0 
 -- the path stands at the front of the line
 pub record Traced (parents : List ℕ) (cell : ℕ) (line : List ℕ) (count : ℕ) : Type 0 where
   pub is : take count line ≡ rootPath parents cell
-  pub room : count ≤ length line
+  pub fits : count ≤ length line

@@ -14,12 +14,12 @@ use Rattle.repeaters.specs.Repeaters.{treeNeighbours, parentsFrom, runOf
 use Rattle.repeaters.specs.Links.{linkedCells, PathReady}
 use Rattle.repeaters.specs.Roots.{Traced}
 use Rattle.repeaters.specs.RootLaws.{path-cells}
-use Rattle.repeaters.specs.Sinks.{Grown}
-use Rattle.basics.specs.Walks.{along, Walk, walk-first, walk-next, walk-last}
+use Rattle.repeaters.specs.Sinks.{TreeReady}
+use Rattle.basics.specs.Folds.{along, Folding, fold-first, fold-next, fold-last}
 use Rattle.ends.specs.EndLaws.{tap-is}
 
 -- a path of a grown tree is ready for the tests of its places
-pub path-ready : {R : Room} {links parents forbidden : List ℕ} → Grown R links parents forbidden → {cell : ℕ} {line : List ℕ} {count : ℕ} → cell < volume R
+pub path-ready : {R : Room} {links parents forbidden : List ℕ} → TreeReady R links parents forbidden → {cell : ℕ} {line : List ℕ} {count : ℕ} → cell < volume R
     → Traced parents cell line count → PathReady R links forbidden (take count line)
 path-ready {R} {links} {parents} G {cell} h T = record {
   good = G .good;
@@ -31,22 +31,22 @@ path-ready {R} {links} {parents} G {cell} h T = record {
 -- the walk over the sinks in use, whose marks keep their length
 pub record Sown (put : Tap → List ℕ → List ℕ) (T : Taps) (start marks : List ℕ) (k : ℕ) : Type 0 where
   pub long : length marks ≡ length start
-  pub walk : Walk put (tapsIn T) start marks k
+  pub walk : Folding put (tapsIn T) start marks k
 
 module _ {put : Tap → List ℕ → List ℕ} {T : Taps} {start : List ℕ} where
   pub sown-none : Sown put T start start 0
-  sown-none = record { long = refl; walk = walk-first put (tapsIn T) start }
+  sown-none = record { long = refl; walk = fold-first put (tapsIn T) start }
 
   module _ {marks : List ℕ} {k : ℕ} (I : Sown put T start marks k) where
     pub sown-next : T .count ≤ length (T .taps) → k < T .count → (tap : Tap) → tap ≡ getD (T .taps) k noTap → {marks′ : List ℕ} → length marks′ ≡ length marks
         → marks′ ≡ put tap marks → Sown put T start marks′ (k + 1)
     sown-next f h tap t e g = record {
       long = e ∙ I .long;
-      walk = walk-next put (tapsIn T) (I .walk) noTap (rw (length-take-le (T .count) (T .taps) f) h) _ (g ∙ ap (λ (x : Tap). put x marks) (t ∙ tap-is T k h));
+      walk = fold-next put (tapsIn T) (I .walk) noTap (rw (length-take-le (T .count) (T .taps) f) h) _ (g ∙ ap (λ (x : Tap). put x marks) (t ∙ tap-is T k h));
     }
 
     pub sown-all : T .count ≤ length (T .taps) → T .count ≤ k → marks ≡ along put (tapsIn T) start
-    sown-all f h = walk-last put (tapsIn T) (I .walk) (rw (length-take-le (T .count) (T .taps) f) h)
+    sown-all f h = fold-last put (tapsIn T) (I .walk) (rw (length-take-le (T .count) (T .taps) f) h)
 
 module _ (R : Room) (source : ℕ) (taps : List Tap) (branches : List (List ℕ)) (forbidden links parents : List ℕ) where
   pub placed : linkedCells R links ≡ treeNeighbours branches (volume R) → parents ≡ parentsFrom (linkedCells R links) (volume R) source

@@ -8,12 +8,12 @@ use Rattle.room.specs.Room.{Good, volume}
 use Rattle.trace.specs.Traces.{PreviousInside}
 use Rattle.routing_resources.specs.Marks.{noMarks}
 use Rattle.ends.specs.declared.Taps.{Taps}
-use Rattle.ends.specs.Ends.{TapsIn}
+use Rattle.ends.specs.Ends.{TapsInside}
 use Rattle.branches.specs.declared.BranchLengths.{BranchLengths}
-use Rattle.repeaters.specs.Joins.{Laid}
+use Rattle.repeaters.specs.Masks.{BranchesReady}
 
 -- the tree with its parents, in lent memory
-pub record Grown (R : Room) (links parents forbidden : List ℕ) : Type 0 where
+pub record TreeReady (R : Room) (links parents forbidden : List ℕ) : Type 0 where
   pub good : Good R
   pub links-long : length links ≡ volume R
   pub parents-long : length parents ≡ volume R
@@ -24,8 +24,8 @@ pub record Grown (R : Room) (links parents forbidden : List ℕ) : Type 0 where
 pub record Placeable (R : Room) (source : ℕ) (T : Taps) (L : BranchLengths) (cells forbidden repeaters links parents line : List ℕ) : Type 0 where
   pub good : Good R
   pub source-in : source < volume R
-  pub taps-in : TapsIn R T
-  pub laid : Laid R L cells
+  pub taps-in : TapsInside R T
+  pub laid : BranchesReady R L cells
   pub forbidden-long : length forbidden ≡ volume R
   pub unmarked : repeaters ≡ noMarks (volume R)
   pub links-long : length links ≡ volume R

@@ -1,4 +1,4 @@
--- Laws of the tails: the loops for the last repeater and the earliest place, and the branches of what is put there.
+-- Laws of the tails: the loops for the last repeater and the earliest place, and the cases of what is put there.
 use mathlib.Core.Path.{_≡_, refl, sym, ap, _∙_}
 use mathlib.Core.Logic.{_⊎_, inl, inr, ⊎-elim}
 use mathlib.Core.Bool.{Bool, true, false}
@@ -11,7 +11,7 @@ use borrow.Author.Tests.{lt-ltb, le-ltb, eq-eqb, ne-eqb}
 use Rattle.basics.specs.Tests.{either, ask, passed}
 use Rattle.room.specs.declared.Room.{Room}
 use Rattle.repeaters.specs.Repeaters.{pathCell, fits, latest, earliest, repeaterAt, withRepeater, end, lastReset, tailFit, tailPlace, reinforced}
-use Rattle.repeaters.specs.RunLaws.{latest-is, latest-next}
+use Rattle.repeaters.specs.StrideLaws.{latest-is, latest-next}
 
 -- a place that fits has a cell before it and one behind it
 module _ (R : Room) (next : ℕ → List ℕ) (forbidden path : List ℕ) (i : ℕ) (e : fits R next forbidden path i ≡ true) where

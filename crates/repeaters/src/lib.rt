@@ -1,9 +1,9 @@
 // Where the repeaters of a net's tree stand.
+mod candidates;
 mod links;
-mod places;
 mod roots;
-mod runs;
 mod sinks;
+mod strides;
 mod tails;
 
 use branches::BranchLengths;

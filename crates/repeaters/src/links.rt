@@ -14,7 +14,7 @@ ghost use Rattle.room.specs.Room.{Good, Within, volume, posOf, Step};
 ghost use Rattle.repeaters.specs.Links.{orderedMoves, orderedMove, linkedPlace, insideCount, cellsBy, linkedCells};
 ghost use Rattle.branches.specs.Branches.{branchesOf};
 ghost use Rattle.repeaters.specs.Repeaters.{isStep, besideOn, treeNeighbours};
-ghost use Rattle.repeaters.specs.Joins.{Steps, Laid, Masked, Joined, moveIndex, stepIndex};
+ghost use Rattle.repeaters.specs.Masks.{Steps, BranchesReady, Masked, NowLinked, moveIndex, stepIndex};
 
 // The places of the moves among Room::MOVES, in the number order of the cells that they lead to.
 const NUMBER_ORDER: [usize; 12] = [3, 4, 5, 9, 6, 10, 7, 11, 8, 0, 1, 2];
@@ -72,7 +72,7 @@ pub fn count_links(room: Room, mask: u32, cell: usize) -> usize
 // The values of the twelve bits.
 const BITS: [u32; 12] = [1, 2, 4, 8, 16, 32, 64, 128, 256, 512, 1024, 2048];
 
-fn bit(k: usize) -> u32
+fn bit_value(k: usize) -> u32
     requires { ⌜ k < 12 ⌝ }
     ensures { λ r. ⌜ r ≡ 2 ^ k ⌝ }
 {
@@ -113,9 +113,9 @@ fn link(room: Room, links: &mut [u32], a: usize, b: usize)
     requires { ⌜ Good room ⌝ }
     requires { ⌜ Step room a b ⌝ }
     requires { ⌜ Masked room (now links) ⌝ }
-    ensures { λ _. ⌜ Joined room (λ u v. eqb a u && eqb b v) (now (links .entry)) (now (links .exit)) ⌝ }
+    ensures { λ _. ⌜ NowLinked room (λ u v. eqb a u && eqb b v) (now (links .entry)) (now (links .exit)) ⌝ }
 {
-    let value = bit(step_index(room, a, b));
+    let value = bit_value(step_index(room, a, b));
     let mask = links[a];
     if mask / value % 2 == 0 {
         links[a] = mask + value;
@@ -123,11 +123,11 @@ fn link(room: Room, links: &mut [u32], a: usize, b: usize)
 }
 
 // Joins two cells that are one step apart, both ways round.
-fn join(room: Room, links: &mut [u32], a: usize, b: usize)
+fn link_both(room: Room, links: &mut [u32], a: usize, b: usize)
     requires { ⌜ Good room ⌝ }
     requires { ⌜ Step room a b ⌝ }
     requires { ⌜ Masked room (now links) ⌝ }
-    ensures { λ _. ⌜ Joined room (isStep a b) (now (links .entry)) (now (links .exit)) ⌝ }
+    ensures { λ _. ⌜ NowLinked room (isStep a b) (now (links .entry)) (now (links .exit)) ⌝ }
 {
     link(room, links, b, a);
     link(room, links, a, b);
@@ -138,11 +138,11 @@ fn link_branch(room: Room, branch: &[u32], links: &mut [u32])
     requires { ⌜ Good room ⌝ }
     requires { ⌜ Steps room (now branch) ⌝ }
     requires { ⌜ Masked room (now links) ⌝ }
-    ensures { λ _. ⌜ Joined room (besideOn (now (branch .entry))) (now (links .entry)) (now (links .exit)) ⌝ }
+    ensures { λ _. ⌜ NowLinked room (besideOn (now (branch .entry))) (now (links .entry)) (now (links .exit)) ⌝ }
 {
     let mut i: usize = 0;
     while i + 1 < branch.len() {
-        join(room, links, as_index(branch[i]), as_index(branch[i + 1]));
+        link_both(room, links, as_index(branch[i]), as_index(branch[i + 1]));
         i += 1;
     }
 }
@@ -150,7 +150,7 @@ fn link_branch(room: Room, branch: &[u32], links: &mut [u32])
 // The tree neighbours of each cell, over all branches, which stand one behind the other.
 pub fn tree_adjacency(room: Room, branches: &[u32], lengths: BranchLengths, links: &mut [u32])
     requires { ⌜ Good room ⌝ }
-    requires { ⌜ Laid room lengths (now branches) ⌝ }
+    requires { ⌜ BranchesReady room lengths (now branches) ⌝ }
     requires { ⌜ now links ≡ replicate (volume room) 0 ⌝ }
     ensures { λ _. ⌜ linkedCells room (now (links .exit)) ≡ treeNeighbours (branchesOf lengths (now (branches .entry))) (volume room) ⌝ }
 {

@@ -11,11 +11,11 @@ ghost use lib.ListN.{length, replicate};
 ghost use Rattle.room.specs.Room.{Good, maxVolume, volume, posOf};
 ghost use Rattle.trace.specs.Traces.{PreviousInside};
 ghost use Rattle.repeaters.specs.Links.{orderedMoves, consPlace, cellsBy};
-ghost use Rattle.repeaters.specs.Roots.{Held, Met, Rooted, Traced};
+ghost use Rattle.repeaters.specs.Roots.{LineHeld, Met, Rooted, Traced};
 
 // A cell met from another is reached, unless it was before, and waits at the line's end. Gives the line's end.
 fn meet(parents: &mut [u32], line: &mut [u32], tail: usize, from: usize, cell: usize) -> usize
-    requires { ⌜ Held (now parents) (now line) tail ⌝ }
+    requires { ⌜ LineHeld (now parents) (now line) tail ⌝ }
     requires { ⌜ length (now parents) ≤ maxVolume ⌝ }
     requires { ⌜ from < length (now parents) ⌝ }
     requires { ⌜ cell < length (now parents) ⌝ }
@@ -37,7 +37,7 @@ fn meet_place(
     from: usize,
     place: Neighbour,
 ) -> usize
-    requires { ⌜ Held (now parents) (now line) tail ⌝ }
+    requires { ⌜ LineHeld (now parents) (now line) tail ⌝ }
     requires { ⌜ length (now parents) ≤ maxVolume ⌝ }
     requires { ⌜ from < length (now parents) ⌝ }
     requires { ⌜ ((v : ℕ) → place ≡ Neighbour.Inside v → v < length (now parents)) ⌝ }
@@ -60,7 +60,7 @@ fn visit(
 ) -> usize
     requires { ⌜ Good room ⌝ }
     requires { ⌜ length (now parents) ≡ volume room ⌝ }
-    requires { ⌜ Held (now parents) (now line) tail ⌝ }
+    requires { ⌜ LineHeld (now parents) (now line) tail ⌝ }
     requires { ⌜ from < volume room ⌝ }
     ensures { λ r. ⌜ Met from (cellsBy room (posOf room from) mask orderedMoves) (now (parents .entry)) (now (line .entry)) tail (now (parents .exit)) (now (line .exit)) r ⌝ }
 {
@@ -77,7 +77,7 @@ fn visit(
     end
 }
 
-// The parent of each cell that the tree joins to the source, which itself has none.
+// The parent of each cell that the tree links to the source, which itself has none.
 pub fn rooted_parent(
     room: Room,
     source: usize,

@@ -1,6 +1,6 @@
 // Repeaters "sink by sink on the path from the source", in sheet order: the runs of all sinks, and then the tails.
 use crate::roots::root_path;
-use crate::runs::plan_path;
+use crate::strides::plan_path;
 use crate::tails::reinforce_path;
 use ends::Tap;
 use ends::Taps;
@@ -8,12 +8,12 @@ use room::Room;
 ghost use mathlib.Core.Path.{_≡_};
 ghost use Prim.Native.Nat.{_<_};
 ghost use lib.ListN.{length};
-ghost use Rattle.ends.specs.Ends.{tapsIn, TapsIn};
+ghost use Rattle.ends.specs.Ends.{tapsIn, TapsInside};
 ghost use Rattle.room.specs.Room.{volume};
 ghost use Rattle.repeaters.specs.Repeaters.{runOf, tailOf};
 ghost use Rattle.repeaters.specs.Links.{linkedCells};
-ghost use Rattle.repeaters.specs.Sinks.{Grown};
-ghost use Rattle.basics.specs.Walks.{along};
+ghost use Rattle.repeaters.specs.Sinks.{TreeReady};
+ghost use Rattle.basics.specs.Folds.{along};
 
 // "At a cell more than 12 steps past the last reset".
 const MAX_RUN: usize = 12;
@@ -31,7 +31,7 @@ fn plan_sink(
     repeaters: &mut [u8],
     line: &mut [u32],
 )
-    requires { ⌜ Grown room (now links) (now parents) (now forbidden) ⌝ }
+    requires { ⌜ TreeReady room (now links) (now parents) (now forbidden) ⌝ }
     requires { ⌜ tap .terminal < volume room ⌝ }
     requires { ⌜ length (now repeaters) ≡ volume room ⌝ }
     requires { ⌜ length (now line) ≡ volume room ⌝ }
@@ -51,8 +51,8 @@ pub fn plan_repeaters(
     repeaters: &mut [u8],
     line: &mut [u32],
 )
-    requires { ⌜ Grown room (now links) (now parents) (now forbidden) ⌝ }
-    requires { ⌜ TapsIn room taps ⌝ }
+    requires { ⌜ TreeReady room (now links) (now parents) (now forbidden) ⌝ }
+    requires { ⌜ TapsInside room taps ⌝ }
     requires { ⌜ length (now repeaters) ≡ volume room ⌝ }
     requires { ⌜ length (now line) ≡ volume room ⌝ }
     ensures { λ _. ⌜ now (repeaters .exit) ≡ along (runOf room (linkedCells room (now (links .entry))) (now (parents .entry)) (now (forbidden .entry))) (tapsIn taps) (now (repeaters .entry)) ⌝ }
@@ -76,7 +76,7 @@ fn reinforce_sink(
     repeaters: &mut [u8],
     line: &mut [u32],
 )
-    requires { ⌜ Grown room (now links) (now parents) (now forbidden) ⌝ }
+    requires { ⌜ TreeReady room (now links) (now parents) (now forbidden) ⌝ }
     requires { ⌜ tap .terminal < volume room ⌝ }
     requires { ⌜ length (now repeaters) ≡ volume room ⌝ }
     requires { ⌜ length (now line) ≡ volume room ⌝ }
@@ -99,8 +99,8 @@ pub fn reinforce_wire_sink_tails(
     repeaters: &mut [u8],
     line: &mut [u32],
 )
-    requires { ⌜ Grown room (now links) (now parents) (now forbidden) ⌝ }
-    requires { ⌜ TapsIn room taps ⌝ }
+    requires { ⌜ TreeReady room (now links) (now parents) (now forbidden) ⌝ }
+    requires { ⌜ TapsInside room taps ⌝ }
     requires { ⌜ length (now repeaters) ≡ volume room ⌝ }
     requires { ⌜ length (now line) ≡ volume room ⌝ }
     ensures { λ _. ⌜ now (repeaters .exit) ≡ along (tailOf room (linkedCells room (now (links .entry))) (now (parents .entry)) (now (forbidden .entry))) (tapsIn taps) (now (repeaters .entry)) ⌝ }

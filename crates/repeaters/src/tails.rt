@@ -1,7 +1,7 @@
 // Repeaters near the ends of Wire sinks: "with over 8 steps after its last repeater (or the source): the earliest such cell
 // among the last 8 before the end, not the first cell, with no repeater next to it on the path".
-use crate::places::may_stand;
-use crate::runs::later;
+use crate::candidates::may_stand;
+use crate::strides::later;
 use room::Room;
 use room::as_index;
 use routing_resources::MARKED;

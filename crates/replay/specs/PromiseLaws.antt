@@ -10,13 +10,13 @@ use Rattle.routing.specs.Answers.{input}
 use Rattle.routing.specs.PromiseLaws.{Result, coincide as one-result}
 use Rattle.stored.specs.declared.runs.Verdict.{Verdict}
 use Rattle.stored.specs.Runs.{isSame, sumOf}
-use Rattle.stored.specs.RunLaws.{turns-one, narrowed-one}
+use Rattle.stored.specs.RunLaws.{rounds-one, narrowed-one}
 use Rattle.stored.specs.MemoryLaws.{rubbish-one}
 use Rattle.replay.specs.declared.compare.LentLengths.{LentLengths}
 use Rattle.replay.specs.declared.searches.Stored.{Stored}
 use Rattle.replay.specs.declared.replay.Stand.{Stand}
 use Rattle.replay.specs.Verdicts.{LentMemory, memory, AllRubbish, lengthsOfMemory, verdictOf, Judged, Ran, too-long, judged}
-use Rattle.replay.specs.Runs.{lentLengths, storedLengths, longerLengths, tally, SameTwice, RanWith, ReplayedOne, differs, twice-alone, narrowed, oneFurther, Next, stopped, replayed, Replayed}
+use Rattle.replay.specs.Runs.{lentLengths, storedLengths, longerLengths, tally, SameTwice, RanWith, ReplayedOne, differs, twice-alone, narrowed, oneFurther, Next, past-difference, replayed, Replayed}
 
 -- ---- a run
 
@@ -82,13 +82,13 @@ module _ (file : List ℕ) (longs : ℕ) where
       e ∙ ap (λ k. tally k (G .agreed)) q ∙ ap (λ K. tally (sumOf 2 (K .runs)) (K .agreed)) g ∙ ap (λ k. tally k (H .agreed)) (sym r) ∙ sym f
 
   next-one : (O : Stand) → Determines (Next file longs O)
-  next-one O x y (stopped a e) (stopped b f) = e ∙ sym f
-  next-one O x y (stopped a e) (replayed b S s T t f) = never (cc (sym a ∙ b))
-  next-one O x y (replayed a S s T t e) (stopped b f) = never (cc (sym b ∙ a))
+  next-one O x y (past-difference a e) (past-difference b f) = e ∙ sym f
+  next-one O x y (past-difference a e) (replayed b S s T t f) = never (cc (sym a ∙ b))
+  next-one O x y (replayed a S s T t e) (past-difference b f) = never (cc (sym b ∙ a))
   next-one O x y (replayed a S s T t e) (replayed b S′ s′ T′ t′ f) =
       let same-stored : S ≡ S′ = s ∙ sym s′ in
       let same-tally : T ≡ T′ = one-one S′ T T′ (rw same-stored at t) t′ in
       e ∙ ap (λ X. oneFurther O (X .next) T) same-stored ∙ ap (oneFurther O (S′ .next)) same-tally ∙ sym f
 
   pub coincide : Determines (Replayed file longs)
-  coincide x y P Q = turns-one (λ k. next-one) _ x y (P .searches) (Q .searches)
+  coincide x y P Q = rounds-one (λ k. next-one) _ x y (P .searches) (Q .searches)

@@ -49,15 +49,15 @@ pub record NumbersCounted (file : List ℕ) (number count start passed at met : 
   pub rest : numberedFrom file number (count - passed) at met ≡ numberedFrom file number count start 0
 
 module _ {file : List ℕ} {number count start : ℕ} where
-  pub counted-none : NumbersCounted file number count start 0 start 0
-  counted-none = let z : count - 0 ≡ count = omega arith in record { rest = rw z }
+  pub numbered-none : NumbersCounted file number count start 0 start 0
+  numbered-none = let z : count - 0 ≡ count = omega arith in record { rest = rw z }
 
   module _ {passed at met : ℕ} (C : NumbersCounted file number count start passed at met) where
-    pub counted-next : {S : Stored} {met′ : ℕ} → passed < count → S ≡ storedAt file at → met′ ≡ oneMore met (S .told .number) number
+    pub numbered-next : {S : Stored} {met′ : ℕ} → passed < count → S ≡ storedAt file at → met′ ≡ oneMore met (S .told .number) number
         → NumbersCounted file number count start (passed + 1) (S .next) met′
-    counted-next h s m =
+    numbered-next h s m =
         let e : count - passed ≡ suc (count - (passed + 1)) = omega arith in
         record { rest = rw (m, s) (rw e at (C .rest)) }
 
-    pub counted-done : count ≤ passed → met ≡ numberedFrom file number count start 0
-    counted-done h = let e : count - passed ≡ 0 = omega arith in rw e at (C .rest)
+    pub numbered-done : count ≤ passed → met ≡ numberedFrom file number count start 0
+    numbered-done h = let e : count - passed ≡ 0 = omega arith in rw e at (C .rest)

@@ -6,7 +6,7 @@ use mathlib.Core.List.{List}
 use Prim.Native.Nat.{ℕ, zero, suc, _*_}
 use lib.Dec.{eqb, ltb}
 use Rattle.basics.specs.Tests.{either}
-use Rattle.stored.specs.Places.{countIn, firstPlace}
+use Rattle.stored.specs.FilePlaces.{countIn, firstPlace}
 use Rattle.stored.specs.Runs.{Repeated, isSame, longerBy, cellsMore, queueMore, sumOf, Narrowed}
 use Rattle.replay.specs.declared.searches.Stored.{Stored}
 use Rattle.stored.specs.declared.runs.Verdict.{Verdict}
@@ -70,7 +70,7 @@ oneFurther O next T =
     (record { at = O .at; searches = O .searches; runs = O .runs; agreed = false })
 
 pub data Next (file : List ℕ) (longs : ℕ) (O r : Stand) : Type 0 where
-  stopped : O .agreed ≡ false → r ≡ O → Next file longs O r
+  past-difference : O .agreed ≡ false → r ≡ O → Next file longs O r
   replayed : O .agreed ≡ true → (S : Stored) → S ≡ storedAt file (O .at) → (T : Tally) → ReplayedOne file longs S T
       → r ≡ oneFurther O (S .next) T → Next file longs O r
 

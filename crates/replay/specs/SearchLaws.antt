@@ -9,7 +9,7 @@ use Rattle.room.specs.declared.Room.{Room}
 use Rattle.room.specs.declared.RouterConfig.{RouterConfig}
 use Rattle.replay.specs.declared.searches.Told.{Told}
 use Rattle.replay.specs.declared.searches.Stored.{Stored}
-use Rattle.stored.specs.Places.{past, byteBehind, wordBehind}
+use Rattle.stored.specs.FilePlaces.{past, byteBehind, wordBehind}
 use Rattle.replay.specs.Searches.{roomAt, configAt, toldAt, endOf, answerPlace, storedAt, bytesHeld}
 
 module _ (file : List ℕ) (at bytes : ℕ) where

@@ -6,7 +6,7 @@ use lib.ListN.{length, take, drop}
 use Rattle.basics.specs.Tests.{either}
 use Rattle.room.specs.declared.Room.{Room}
 use Rattle.room.specs.declared.RouterConfig.{RouterConfig}
-use Rattle.stored.specs.Places.{past, byteBehind, wordBehind, cellsFrom}
+use Rattle.stored.specs.FilePlaces.{past, byteBehind, wordBehind, cellsFrom}
 use Rattle.replay.specs.declared.searches.Told.{Told}
 use Rattle.replay.specs.declared.searches.Stored.{Stored}
 

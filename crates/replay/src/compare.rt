@@ -22,7 +22,7 @@ ghost use mathlib.Core.Path.{_≡_};
 ghost use lib.ListN.{length};
 ghost use Rattle.stored.specs.Memory.{fourHold};
 ghost use Rattle.routing.specs.Answers.{lengthsOf};
-ghost use Rattle.stored.specs.Places.{cellsFrom};
+ghost use Rattle.stored.specs.FilePlaces.{cellsFrom};
 ghost use Rattle.replay.specs.Searches.{cellsIn};
 ghost use Rattle.replay.specs.Verdicts.{sameRoute, sameWay, sameAnswer, earlyEnough, fullEarly, memory, memoryHolds};
 ghost use Rattle.replay.specs.Verdicts.{verdictOf, AllRubbish, Judged, Ran, RanIn};
@@ -67,7 +67,8 @@ fn same_answer(answer: Answer, told: Told) -> bool
     same_way(answer, told)
 }
 
-// A queue may be found full at any of the cells that the stored search expanded: one of the two numbers is 0.
+// A queue may be found full at any of the cells that the stored search expanded. A refusal tells how many as its detail, a
+// route as its expanded count, and the other of the two is 0.
 fn early_enough(answer: Answer, told: Told) -> bool
     ensures { λ r. ⌜ r ≡ earlyEnough answer told ⌝ }
 {
@@ -103,7 +104,7 @@ fn work_holds(kept: bool, known: &[u32], previous: &[u32], classes: &[u8], queue
     longs_hold(kept, queue)
 }
 
-// "7 to 15 leave every lent writable buffer zero. A success writes the answer, zeros behind it, and zeroes work memory."
+// "Numbers 1 to 6 touch nothing; 7 to 15 leave every lent writable buffer zero. A success writes the answer, zeros behind it, and zeroes work memory."
 fn memory_holds(
     kept: bool,
     file: &[u8],
@@ -165,7 +166,7 @@ fn spoil(
 }
 
 // The search, and its answer and memory held to what is stored.
-fn attempt(
+fn run_judged(
     stored: Stored,
     kinds: &[u8],
     file: &[u8],
@@ -195,7 +196,7 @@ fn attempt(
 }
 
 // The search in the front of each buffer, at these lengths. Lengths that a buffer doesn't have would be no search.
-fn attempt_lent(
+fn run_lent(
     stored: Stored,
     lent: LentLengths,
     kinds: &[u8],
@@ -225,7 +226,7 @@ fn attempt_lent(
     if queue.len() < longs {
         return Verdict::Other;
     }
-    attempt(
+    run_judged(
         stored,
         kinds,
         file,
@@ -246,7 +247,7 @@ pub fn run_stored(file: &[u8], stored: Stored, lent: LentLengths, queue: &mut [u
     let mut previous = [0u32; OWN_LENGTH];
     let mut classes = [0u8; OWN_LENGTH];
     let kinds = part(file, stored.kinds, stored.count);
-    attempt_lent(
+    run_lent(
         stored,
         lent,
         kinds,

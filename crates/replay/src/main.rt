@@ -59,7 +59,7 @@ fn print_outcome(file: &[u8], ended: bool, stand: Stand) {
     print_agreed(file, stand);
 }
 
-// Room for the file, which has 659,266 bytes.
+// A buffer for the file, which has 659,266 bytes.
 fn file_buffer() -> [u8; 1000000]
     ensures { λ r. ⌜ 1000000 ≡ length r ⌝ }
 {

@@ -4,8 +4,8 @@ use crate::compare::run_stored;
 use crate::searches::LETTERS;
 use crate::searches::Stored;
 use crate::searches::stored_at;
-use stored::places::count_in;
-use stored::places::first_place;
+use stored::file_places::count_in;
+use stored::file_places::first_place;
 use stored::runs::Gap;
 use stored::runs::add;
 use stored::runs::cells_more;
@@ -82,7 +82,7 @@ fn narrow_once(file: &[u8], stored: Stored, gap: Gap, queue: &mut [u64]) -> Gap
 }
 
 // Looks for the least queue that gives the stored answer: with one place less the queue is full. A count of places has 32
-// bits, so that 32 turns close the gap.
+// bits, so that 32 rounds close the gap.
 fn narrow(file: &[u8], stored: Stored, queue: &mut [u64]) -> Gap
     ensures { λ r. ⌜ Narrowed (RanWith (now (file .entry)) (length (now (queue .entry))) stored) (stored .places) r ⌝ }
 {
@@ -92,10 +92,10 @@ fn narrow(file: &[u8], stored: Stored, queue: &mut [u64]) -> Gap
         runs: 0,
         agreed: true,
     };
-    let mut turns: u32 = 0;
-    while turns < 32 {
+    let mut rounds: u32 = 0;
+    while rounds < 32 {
         gap = narrow_once(file, stored, gap, queue);
-        turns += 1;
+        rounds += 1;
     }
     gap
 }

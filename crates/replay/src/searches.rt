@@ -5,10 +5,10 @@ use room::Cost;
 use room::Nodes;
 use room::Room;
 use room::RouterConfig;
-use stored::places::byte_behind;
-use stored::places::past;
-use stored::places::size_behind;
-use stored::places::word_behind;
+use stored::file_places::byte_behind;
+use stored::file_places::past;
+use stored::file_places::size_behind;
+use stored::file_places::word_behind;
 use stored::runs::twice;
 
 // The letters that the file begins with: DRS1.

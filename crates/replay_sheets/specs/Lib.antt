@@ -1,5 +1,5 @@
-pub mod CountLaws
-pub mod Counts
+pub mod TallyLaws
+pub mod Tallies
 pub mod ReplayLaws
 pub mod Replays
 pub mod RunLaws

@@ -12,20 +12,20 @@ use Rattle.net_tree.specs.declared.Lengths.{Lengths}
 use Rattle.net_tree.specs.Answers.{Lent, lent, lengthsOf}
 use Rattle.net_tree.specs.PromiseLaws.{Result, coincide as one-result, read-good}
 use Rattle.stored.specs.declared.runs.Verdict.{Verdict}
-use Rattle.stored.specs.RunLaws.{turns-one, narrowed-one}
+use Rattle.stored.specs.RunLaws.{rounds-one, narrowed-one}
 use Rattle.stored.specs.MemoryLaws.{rubbish-one}
 use Rattle.job_sheet.specs.Sheet.{jobOf}
-use Rattle.replay_sheets.specs.declared.attempt.LentLengths.{LentLengths}
-use Rattle.replay_sheets.specs.declared.counts.Tally.{Tally}
+use Rattle.replay_sheets.specs.declared.running.LentLengths.{LentLengths}
+use Rattle.replay_sheets.specs.declared.tallies.Tally.{Tally}
 use Rattle.replay_sheets.specs.declared.judging.Shortage.{Shortage}
 use Rattle.replay_sheets.specs.declared.replay.Size.{Size}
 use Rattle.replay_sheets.specs.declared.replay.Stand.{Stand}
 use Rattle.replay_sheets.specs.declared.sheets.Asked.{Asked}
 use Rattle.replay_sheets.specs.declared.sheets.Told.{Told}
-use Rattle.replay_sheets.specs.Counts.{compared}
+use Rattle.replay_sheets.specs.Tallies.{counted}
 use Rattle.replay_sheets.specs.Verdicts.{AllRubbish, verdictOf, Judged, Ran, too-long, judged}
-use Rattle.replay_sheets.specs.Runs.{SizeOf, refused, accepted, lentLengths, lengthsFor, agreesIn, RanWith, Narrows, AgreesIn, least-queue, one-run}
-use Rattle.replay_sheets.specs.Replays.{InComparison, not-due, is-due, InComparisons, Next, Replayed}
+use Rattle.replay_sheets.specs.Runs.{SizeOf, refused, accepted, lentLengths, lengthsFor, agreedBy, RanWith, Narrows, AgreesIn, least-queue, one-run}
+use Rattle.replay_sheets.specs.Replays.{InComparison, left-out, compared-in, InComparisons, Next, Replayed}
 
 -- ---- a run
 
@@ -96,16 +96,16 @@ module _ (sheet : List ℕ) (A : Asked) (S : Told) (cells covered marks : List �
       let same-size = size-one sheet (A .lent) Z Z′ z z′ in
       let same-lengths : L ≡ L′ = l ∙ ap (λ Y. lengthsFor comparison A (Y .cells) S) same-size ∙ sym l′ in
       let same-verdict = ran-one sheet S _ cells covered marks L′ longs v v′ (rw same-lengths at r) r′ in
-      e ∙ ap (agreesIn comparison) same-verdict ∙ sym f
+      e ∙ ap (agreedBy comparison) same-verdict ∙ sym f
 
   comparison-one : (comparison : ℕ) (t : Tally) → Determines (InComparison comparison sheet A S cells covered marks longs t)
-  comparison-one comparison t x y (not-due a e) (not-due b f) = e ∙ sym f
-  comparison-one comparison t x y (not-due a e) (is-due b agreed g f) = never (cc (sym a ∙ b))
-  comparison-one comparison t x y (is-due a agreed g e) (not-due b f) = never (cc (sym b ∙ a))
-  comparison-one comparison t x y (is-due a agreed g e) (is-due b agreed′ g′ f) = e ∙ ap (compared t comparison) (agrees-one comparison agreed agreed′ g g′) ∙ sym f
+  comparison-one comparison t x y (left-out a e) (left-out b f) = e ∙ sym f
+  comparison-one comparison t x y (left-out a e) (compared-in b agreed g f) = never (cc (sym a ∙ b))
+  comparison-one comparison t x y (compared-in a agreed g e) (left-out b f) = never (cc (sym b ∙ a))
+  comparison-one comparison t x y (compared-in a agreed g e) (compared-in b agreed′ g′ f) = e ∙ ap (counted t comparison) (agrees-one comparison agreed agreed′ g g′) ∙ sym f
 
   comparisons-one : (t : Tally) → Determines (InComparisons sheet A S cells covered marks longs t)
-  comparisons-one t = turns-one comparison-one 5
+  comparisons-one t = rounds-one comparison-one 5
 
 -- ---- the file
 
@@ -117,4 +117,4 @@ module _ (F : List ℕ) (longs : ℕ) where
       λ i. record { at = at i; tally = tally i }
 
   pub coincide : Determines (Replayed F longs)
-  coincide = turns-one (λ k. next-one) _
+  coincide = rounds-one (λ k. next-one) _

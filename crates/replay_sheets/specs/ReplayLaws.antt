@@ -3,17 +3,17 @@ use mathlib.Core.Path.{_≡_}
 use mathlib.Core.List.{List}
 use Prim.Native.Nat.{ℕ, _-_}
 use lib.ListN.{take, drop}
-use Rattle.replay_sheets.specs.declared.counts.Tally.{Tally}
+use Rattle.replay_sheets.specs.declared.tallies.Tally.{Tally}
 use Rattle.replay_sheets.specs.declared.replay.Stand.{Stand}
 use Rattle.replay_sheets.specs.declared.sheets.Asked.{Asked}
 use Rattle.replay_sheets.specs.declared.sheets.SheetPart.{SheetPart}
 use Rattle.replay_sheets.specs.declared.sheets.Told.{Told}
-use Rattle.replay_sheets.specs.Sheets.{askedAt, sheetAt, left, answerAt, sixteenZeros, knownIf}
+use Rattle.replay_sheets.specs.Sheets.{askedAt, sheetAt, left, answerAt, ownZeros, toldIf}
 use Rattle.replay_sheets.specs.Replays.{InComparison, InComparisons, Next}
 
 -- a record, from its parts
 pub next-by : (F : List ℕ) {longs : ℕ} (s : Stand) {P : SheetPart} {known S : Told} {A : Asked} {end : ℕ} {cells covered marks : List ℕ} {t : Tally} → P ≡ sheetAt F (s .at)
-    → left known end cells covered marks ≡ answerAt F (P .end) sixteenZeros sixteenZeros sixteenZeros → A ≡ askedAt F (s .at) → S ≡ knownIf (P .whole) known
+    → left known end cells covered marks ≡ answerAt F (P .end) ownZeros ownZeros ownZeros → A ≡ askedAt F (s .at) → S ≡ toldIf (P .whole) known
     → InComparisons (take (P .end - P .from) (drop (P .from) F)) A S cells covered marks longs (s .tally) t → Next F longs s (record { at = end; tally = t })
 next-by F s p a b k K = record {
   passed = rw (← p, ← a);

@@ -7,24 +7,24 @@ use Prim.Native.Nat.{ℕ}
 use lib.Dec.{eqb}
 use Rattle.basics.specs.Tests.{either}
 use Rattle.stored.specs.Runs.{Repeated}
-use Rattle.stored.specs.Places.{countIn, firstPlace}
-use Rattle.replay_sheets.specs.declared.counts.Tally.{Tally}
+use Rattle.stored.specs.FilePlaces.{countIn, firstPlace}
+use Rattle.replay_sheets.specs.declared.tallies.Tally.{Tally}
 use Rattle.replay_sheets.specs.declared.replay.Stand.{Stand}
 use Rattle.replay_sheets.specs.declared.sheets.Asked.{Asked}
 use Rattle.replay_sheets.specs.declared.sheets.Told.{Told}
-use Rattle.replay_sheets.specs.Counts.{nothingYet, met, compared}
+use Rattle.replay_sheets.specs.Tallies.{nothingYet, oneSheetMore, counted}
 use Rattle.replay_sheets.specs.Runs.{dueIn, AgreesIn}
 use Rattle.replay_sheets.specs.Sheets.{letters, askedAt, sheetOf, answerLeft, toldOf}
 
 -- a sheet in one comparison, if it is due
 pub data InComparison (comparison : ℕ) (sheet : List ℕ) (A : Asked) (S : Told) (cells covered marks : List ℕ) (longs : ℕ) (t r : Tally) : Type 0 where
-  not-due : dueIn comparison S ≡ false → r ≡ t → InComparison comparison sheet A S cells covered marks longs t r
-  is-due : dueIn comparison S ≡ true → (agreed : Bool) → AgreesIn comparison sheet A S cells covered marks longs agreed → r ≡ compared t comparison agreed
+  left-out : dueIn comparison S ≡ false → r ≡ t → InComparison comparison sheet A S cells covered marks longs t r
+  compared-in : dueIn comparison S ≡ true → (agreed : Bool) → AgreesIn comparison sheet A S cells covered marks longs agreed → r ≡ counted t comparison agreed
       → InComparison comparison sheet A S cells covered marks longs t r
 
 -- one sheet more, in each of the five
 abbrev pub InComparisons : List ℕ → Asked → Told → (cells covered marks : List ℕ) → ℕ → Tally → Tally → Type 0
-InComparisons sheet A S cells covered marks longs t r = Repeated (λ comparison. InComparison comparison sheet A S cells covered marks longs) (met t (S .number)) 5 r
+InComparisons sheet A S cells covered marks longs t r = Repeated (λ comparison. InComparison comparison sheet A S cells covered marks longs) (oneSheetMore t (S .number)) 5 r
 
 -- the record that stands there, and where the next one does
 pub record Next (F : List ℕ) (longs : ℕ) (s r : Stand) : Type 0 where

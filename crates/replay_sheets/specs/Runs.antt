@@ -15,7 +15,7 @@ use Rattle.replay_sheets.specs.declared.sheets.Asked.{Asked}
 use Rattle.replay_sheets.specs.declared.sheets.Told.{Told}
 use Rattle.stored.specs.declared.runs.Verdict.{Verdict}
 use Rattle.stored.specs.declared.runs.Verdict.the-variants.{Same, Full, Other}
-use Rattle.replay_sheets.specs.declared.attempt.LentLengths.{LentLengths}
+use Rattle.replay_sheets.specs.declared.running.LentLengths.{LentLengths}
 use Rattle.stored.specs.declared.runs.Gap.{Gap}
 use Rattle.replay_sheets.specs.declared.replay.Size.{Size}
 use Rattle.replay_sheets.specs.Verdicts.{Ran}
@@ -73,8 +73,8 @@ isFull Full = true
 isFull Other = false
 
 -- a branch buffer one cell short is found so; all others give what is stored
-unfoldable pub agreesIn : ℕ → Verdict → Bool
-agreesIn comparison v = either (eqb comparison branchShort) (isFull v) (isSame v)
+unfoldable pub agreedBy : ℕ → Verdict → Bool
+agreedBy comparison v = either (eqb comparison branchShort) (isFull v) (isSame v)
 
 -- every sheet at exact and at longer buffers; a tree with a branch in the others
 unfoldable pub dueIn : ℕ → Told → Bool
@@ -99,4 +99,4 @@ pub data AgreesIn (comparison : ℕ) (sheet : List ℕ) (A : Asked) (S : Told) (
       → AgreesIn comparison sheet A S cells covered marks longs r
   one-run : (comparison ≡ leastQueue → ⊥) → (Z : Size) → SizeOf sheet (A .lent) Z → (N : LentLengths) → N ≡ lengthsFor comparison A (Z .cells) S
       → (v : Verdict) → Ran sheet N S (record { number = 15; most = S .lengths .count }) cells covered marks longs v
-      → r ≡ agreesIn comparison v → AgreesIn comparison sheet A S cells covered marks longs r
+      → r ≡ agreedBy comparison v → AgreesIn comparison sheet A S cells covered marks longs r

@@ -5,8 +5,8 @@ use Prim.Native.Nat.{ℕ, _+_, _*_, _≤_, min}
 use native.Mathlib.Numerals.{add-one}
 use lib.ListN.{length, set, replicate}
 use borrow.Author.Tests.{eq-eqb, ne-eqb}
-use Rattle.stored.specs.Places.{past, byteAt, cellAt, wordAt, byteBehind, wordBehind}
-use Rattle.stored.specs.PlaceLaws.{past-within, past-behind}
+use Rattle.stored.specs.FilePlaces.{past, byteAt, cellAt, wordAt, byteBehind, wordBehind}
+use Rattle.stored.specs.FilePlaceLaws.{past-within, past-behind}
 use Rattle.replay_sheets.specs.declared.sheets.Asked.{Asked}
 use Rattle.replay_sheets.specs.declared.sheets.SheetPart.{SheetPart}
 use Rattle.replay_sheets.specs.declared.sheets.Told.{Told}
@@ -39,19 +39,19 @@ module _ (F : List ℕ) where
 
 -- ---- cells behind one another: the first k are marked, or put
 
-pub record Marked (F : List ℕ) (from : ℕ) (marks₀ : List ℕ) (k : ℕ) (marks : List ℕ) : Type 0 where
+pub record CellsMarked (F : List ℕ) (from : ℕ) (marks₀ : List ℕ) (k : ℕ) (marks : List ℕ) : Type 0 where
   pub marks-are : marks ≡ marksOf F from k marks₀
 
 pub record CellsPut (F : List ℕ) (from start : ℕ) (cells₀ : List ℕ) (k : ℕ) (cells : List ℕ) : Type 0 where
   pub cells-are : cells ≡ cellsPut F from start k cells₀
 
 module _ {F : List ℕ} {from : ℕ} where
-  pub marked-none : {marks : List ℕ} → Marked F from marks 0 marks
+  pub marked-none : {marks : List ℕ} → CellsMarked F from marks 0 marks
   unfolding marksOf
   marked-none = record { marks-are = refl }
 
-  pub marked-next : {k p x : ℕ} {marks₀ marks marks′ : List ℕ} → Marked F from marks₀ k marks → p ≡ past F from (k * 2) → x ≡ cellAt F p
-      → marks′ ≡ set marks x 1 → Marked F from marks₀ (k + 1) marks′
+  pub marked-next : {k p x : ℕ} {marks₀ marks marks′ : List ℕ} → CellsMarked F from marks₀ k marks → p ≡ past F from (k * 2) → x ≡ cellAt F p
+      → marks′ ≡ set marks x 1 → CellsMarked F from marks₀ (k + 1) marks′
   unfolding marksOf
   marked-next M place cell e = let m = M .marks-are in record { marks-are = rw add-one (cc) }
 

@@ -10,7 +10,7 @@ use Rattle.basics.specs.Tests.{either}
 use Rattle.branches.specs.declared.BranchLengths.{BranchLengths}
 use Rattle.branches.specs.Branches.{branchLengths}
 use Rattle.stored.specs.Memory.{ownLength}
-use Rattle.stored.specs.Places.{past, byteAt, cellAt, wordAt, byteBehind, wordBehind}
+use Rattle.stored.specs.FilePlaces.{past, byteAt, cellAt, wordAt, byteBehind, wordBehind}
 use Rattle.replay_sheets.specs.declared.sheets.Asked.{Asked}
 use Rattle.replay_sheets.specs.declared.sheets.SheetPart.{SheetPart}
 use Rattle.replay_sheets.specs.declared.sheets.Told.{Told}
@@ -139,15 +139,15 @@ answerAt F at cells covered marks =
 abbrev pub sheetOf : List ℕ → ℕ → List ℕ
 sheetOf F at = take (sheetAt F at .end - sheetAt F at .from) (drop (sheetAt F at .from) F)
 
-unfoldable pub sixteenZeros : List ℕ
-sixteenZeros = replicate ownLength 0
+unfoldable pub ownZeros : List ℕ
+ownZeros = replicate ownLength 0
 
 abbrev pub answerLeft : List ℕ → ℕ → Left
-answerLeft F at = answerAt F (sheetAt F at .end) sixteenZeros sixteenZeros sixteenZeros
+answerLeft F at = answerAt F (sheetAt F at .end) ownZeros ownZeros ownZeros
 
 -- no answer has the number 16: it stands for the number where the file ends within the sheet
-abbrev pub knownIf : Bool → Told → Told
-knownIf whole told = either whole told (refusalOf 16 0)
+abbrev pub toldIf : Bool → Told → Told
+toldIf whole told = either whole told (refusalOf 16 0)
 
 abbrev pub toldOf : List ℕ → ℕ → Told
-toldOf F at = knownIf (sheetAt F at .whole) (answerLeft F at .told)
+toldOf F at = toldIf (sheetAt F at .whole) (answerLeft F at .told)

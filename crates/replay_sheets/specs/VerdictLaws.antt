@@ -17,7 +17,7 @@ use Rattle.stored.specs.Memory.{ownLength, Rubbish}
 use Rattle.replay_sheets.specs.declared.sheets.Told.{Told}
 use Rattle.replay_sheets.specs.declared.judging.Shortage.{Shortage}
 use Rattle.stored.specs.declared.runs.Verdict.{Verdict}
-use Rattle.replay_sheets.specs.declared.attempt.LentLengths.{LentLengths}
+use Rattle.replay_sheets.specs.declared.running.LentLengths.{LentLengths}
 use Rattle.replay_sheets.specs.Verdicts.{sameBelow, AllRubbish, Judged, OwnRubbish, memoryFits, lengthsBy, Ran, judged}
 
 -- ---- the same numbers at the first places

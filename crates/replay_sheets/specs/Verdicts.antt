@@ -20,7 +20,7 @@ use Rattle.replay_sheets.specs.declared.sheets.Told.{Told}
 use Rattle.replay_sheets.specs.declared.judging.Shortage.{Shortage}
 use Rattle.stored.specs.declared.runs.Verdict.{Verdict}
 use Rattle.stored.specs.declared.runs.Verdict.the-variants.{Other}
-use Rattle.replay_sheets.specs.declared.attempt.LentLengths.{LentLengths}
+use Rattle.replay_sheets.specs.declared.running.LentLengths.{LentLengths}
 use Rattle.stored.specs.Memory.{ownLength, Rubbish, holds, fourHold, covers}
 
 -- ---- the answer

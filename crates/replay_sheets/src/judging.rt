@@ -89,7 +89,7 @@ fn same_answer(answer: Answer, told: Told) -> bool
     same_lengths(lengths, expected)
 }
 
-fn short_refusal(number: u32, detail: usize, shortage: Shortage) -> bool
+fn shortage_told(number: u32, detail: usize, shortage: Shortage) -> bool
     ensures { λ r. ⌜ r ≡ shortageTold number detail shortage ⌝ }
 {
     if number != shortage.number {
@@ -109,7 +109,7 @@ fn short_end(ended: Ended, shortage: Shortage) -> bool
             occupied: _,
             repeaters: _,
         } => false,
-        Ended::Refused { number, detail } => short_refusal(number, detail, shortage),
+        Ended::Refused { number, detail } => shortage_told(number, detail, shortage),
     }
 }
 

@@ -1,17 +1,17 @@
 // Runs every sheet of the stored answers through `route_net_tree` and compares number, detail, branches, occupied cells, repeaters
 // and all lent memory, at several lengths of the buffers.
-mod attempt;
-mod counts;
 mod judging;
 mod replay;
+mod running;
 mod sheets;
+mod tallies;
 
-use crate::counts::Tally;
 use crate::replay::BRANCH_FULL;
 use crate::replay::BRANCH_SHORT;
 use crate::replay::EXACT;
 use crate::replay::LONGER;
 use crate::replay::QUEUE;
+use crate::tallies::Tally;
 use libc::STDOUT_FILENO;
 ghost use mathlib.Core.Path.{_≡_};
 ghost use Prim.Native.Nat.{_<_};

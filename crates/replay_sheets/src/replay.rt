@@ -1,21 +1,21 @@
 // Every stored sheet is run several times, and each run is held to the stored answer.
-use crate::attempt::LentLengths;
-use crate::attempt::run;
-use crate::counts::Tally;
-use crate::counts::counted;
-use crate::counts::nothing_yet;
-use crate::counts::one_sheet_more;
 use crate::judging::Shortage;
+use crate::running::LentLengths;
+use crate::running::run_sheet;
 use crate::sheets::Asked;
 use crate::sheets::LETTERS;
 use crate::sheets::Told;
 use crate::sheets::answer_at;
 use crate::sheets::asked_at;
-use crate::sheets::known_if;
 use crate::sheets::sheet_at;
+use crate::sheets::told_if;
+use crate::tallies::Tally;
+use crate::tallies::counted;
+use crate::tallies::nothing_yet;
+use crate::tallies::one_sheet_more;
+use stored::file_places::count_in;
+use stored::file_places::first_place;
 use stored::memory::OWN_LENGTH;
-use stored::places::count_in;
-use stored::places::first_place;
 use stored::runs::Gap;
 use stored::runs::Verdict;
 use stored::runs::cells_more;
@@ -30,7 +30,7 @@ ghost use mathlib.Core.Path.{_≡_};
 ghost use Prim.Native.Nat.{_-_, min};
 ghost use lib.ListN.{length};
 ghost use Rattle.stored.specs.Runs.{Halved};
-ghost use Rattle.replay_sheets.specs.Runs.{SizeOf, branchMore, longerLengths, branchBuffer, lengthsFor, isFull, agreesIn, dueIn, RanWith, Narrows, AgreesIn};
+ghost use Rattle.replay_sheets.specs.Runs.{SizeOf, branchMore, longerLengths, branchBuffer, lengthsFor, isFull, agreedBy, dueIn, RanWith, Narrows, AgreesIn};
 ghost use Rattle.replay_sheets.specs.Replays.{InComparison, InComparisons, Next, Replayed};
 
 // The kinds of comparison: buffers of exactly V cells, longer ones, a branch buffer exactly full, one that is one cell short, and
@@ -70,12 +70,12 @@ fn size_of(sheet: &[u8], lent: usize) -> Size
     }
     let job = reading.job;
     Size {
-        cells: lesser(lent, job.room.volume()),
+        cells: smaller(lent, job.room.volume()),
         limit: job.config.limit.0 as usize,
     }
 }
 
-fn lesser(a: usize, b: usize) -> usize
+fn smaller(a: usize, b: usize) -> usize
     ensures { λ r. ⌜ r ≡ min a b ⌝ }
 {
     if a < b { a } else { b }
@@ -108,7 +108,7 @@ fn one_less(count: usize) -> usize
     if count == 0 { 0 } else { count - 1 }
 }
 
-fn branch_of(comparison: usize, branch: usize, total: usize) -> usize
+fn branch_buffer(comparison: usize, branch: usize, total: usize) -> usize
     ensures { λ r. ⌜ r ≡ branchBuffer comparison branch total ⌝ }
 {
     if comparison == BRANCH_FULL {
@@ -121,7 +121,7 @@ fn branch_of(comparison: usize, branch: usize, total: usize) -> usize
 }
 
 // The lengths of a comparison, whose buffers of a number a cell have so many unless they are longer ones.
-fn lengths_of(comparison: usize, asked: Asked, cells: usize, told: Told) -> LentLengths
+fn lengths_for(comparison: usize, asked: Asked, cells: usize, told: Told) -> LentLengths
     ensures { λ r. ⌜ r ≡ lengthsFor comparison asked cells told ⌝ }
 {
     if comparison == LONGER {
@@ -129,13 +129,13 @@ fn lengths_of(comparison: usize, asked: Asked, cells: usize, told: Told) -> Lent
     }
     LentLengths {
         cells,
-        branch: branch_of(comparison, asked.branch, told.total),
+        branch: branch_buffer(comparison, asked.branch, told.total),
         queue: twice(asked.places),
     }
 }
 
 // Every sheet in the first two kinds; a tree with a branch in the others.
-fn is_due(comparison: usize, told: Told) -> bool
+fn due_in(comparison: usize, told: Told) -> bool
     ensures { λ r. ⌜ r ≡ dueIn comparison told ⌝ }
 {
     if comparison <= LONGER {
@@ -157,8 +157,8 @@ fn is_full(verdict: Verdict) -> bool
     }
 }
 
-fn agrees(comparison: usize, verdict: Verdict) -> bool
-    ensures { λ r. ⌜ r ≡ agreesIn comparison verdict ⌝ }
+fn agreed_by(comparison: usize, verdict: Verdict) -> bool
+    ensures { λ r. ⌜ r ≡ agreedBy comparison verdict ⌝ }
 {
     if comparison == BRANCH_SHORT {
         return is_full(verdict);
@@ -193,7 +193,7 @@ fn narrow_once(
         number: 13,
         most: size.limit,
     };
-    let verdict = run(sheet, told, lent, shortage, cells, covered, marks, queue);
+    let verdict = run_sheet(sheet, told, lent, shortage, cells, covered, marks, queue);
     narrowed(gap, places, verdict)
 }
 
@@ -216,10 +216,10 @@ fn narrows(
         runs: 0,
         agreed: true,
     };
-    let mut turns: u32 = 0;
-    while turns < 32 {
+    let mut rounds: u32 = 0;
+    while rounds < 32 {
         gap = narrow_once(sheet, gap, asked, size, told, cells, covered, marks, queue);
-        turns += 1;
+        rounds += 1;
     }
     gap.agreed
 }
@@ -240,13 +240,13 @@ fn agrees_in(
     if comparison == QUEUE {
         return narrows(sheet, asked, size, told, cells, covered, marks, queue);
     }
-    let lent = lengths_of(comparison, asked, size.cells, told);
+    let lent = lengths_for(comparison, asked, size.cells, told);
     let shortage = Shortage {
         number: 15,
         most: told.lengths.count,
     };
-    let verdict = run(sheet, told, lent, shortage, cells, covered, marks, queue);
-    agrees(comparison, verdict)
+    let verdict = run_sheet(sheet, told, lent, shortage, cells, covered, marks, queue);
+    agreed_by(comparison, verdict)
 }
 
 // A sheet in one comparison, if it is due.
@@ -263,7 +263,7 @@ fn replay_comparison(
 ) -> Tally
     ensures { λ r. ⌜ InComparison comparison (now (sheet .entry)) asked told (now (cells .entry)) (now (covered .entry)) (now (marks .entry)) (length (now (queue .entry))) tally r ⌝ }
 {
-    if !is_due(comparison, told) {
+    if !due_in(comparison, told) {
         return tally;
     }
     let agreed = agrees_in(comparison, sheet, asked, told, cells, covered, marks, queue);
@@ -319,7 +319,7 @@ fn replay_next(file: &[u8], stand: Stand, queue: &mut [u64]) -> Stand
         tally,
         &file[from..end],
         asked_at(file, stand.at),
-        known_if(part.whole, told),
+        told_if(part.whole, told),
         &cells,
         &covered,
         &marks,

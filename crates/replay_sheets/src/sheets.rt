@@ -1,17 +1,17 @@
 // A file of stored sheets, as bytes: big-endian records, each a sheet with its answer, as the oracle's README lays them out. Past the
 // file's end everything reads as 0.
 use branches::BranchLengths;
-use stored::places::byte_at;
-use stored::places::byte_behind;
-use stored::places::cell_at;
-use stored::places::past;
-use stored::places::size_at;
-use stored::places::size_behind;
-use stored::places::word_at;
+use stored::file_places::byte_at;
+use stored::file_places::byte_behind;
+use stored::file_places::cell_at;
+use stored::file_places::past;
+use stored::file_places::size_at;
+use stored::file_places::size_behind;
+use stored::file_places::word_at;
 ghost use mathlib.Core.Path.{_≡_};
 ghost use Prim.Native.Nat.{_+_, _≤_, _<_, min};
 ghost use lib.ListN.{set};
-ghost use Rattle.replay_sheets.specs.Sheets.{askedAt, sheetAt, marksOf, cellsPut, BranchesRead, left, refusalOf, treeAt, answerAt, knownIf};
+ghost use Rattle.replay_sheets.specs.Sheets.{askedAt, sheetAt, marksOf, cellsPut, BranchesRead, left, refusalOf, treeAt, answerAt, toldIf};
 
 // The letters that the file begins with: DRT1.
 pub const LETTERS: u32 = 0x44525431;
@@ -81,7 +81,7 @@ pub fn sheet_at(file: &[u8], at: usize) -> SheetPart
 }
 
 // Marks a cell, if there is a place for it.
-fn mark(marks: &mut [u8], cell: usize)
+fn mark_stored(marks: &mut [u8], cell: usize)
     ensures { λ _. ⌜ now (marks .exit) ≡ set (now (marks .entry)) cell 1 ⌝ }
 {
     if cell < marks.len() {
@@ -90,7 +90,7 @@ fn mark(marks: &mut [u8], cell: usize)
 }
 
 // Writes a cell, if there is a place for it.
-fn put(cells: &mut [u32], place: usize, cell: u32)
+fn put_stored(cells: &mut [u32], place: usize, cell: u32)
     ensures { λ _. ⌜ now (cells .exit) ≡ set (now (cells .entry)) place cell ⌝ }
 {
     if place < cells.len() {
@@ -99,25 +99,25 @@ fn put(cells: &mut [u32], place: usize, cell: u32)
 }
 
 // Marks so many cells that stand behind one another.
-fn mark_cells(file: &[u8], from: usize, count: usize, marks: &mut [u8])
+fn mark_stored_cells(file: &[u8], from: usize, count: usize, marks: &mut [u8])
     requires { ⌜ count < 4294967296 ⌝ }
     ensures { λ _. ⌜ now (marks .exit) ≡ marksOf (now (file .entry)) from count (now (marks .entry)) ⌝ }
 {
     let mut k: usize = 0;
     while k < count {
-        mark(marks, cell_at(file, past(file, from, k * 2)) as usize);
+        mark_stored(marks, cell_at(file, past(file, from, k * 2)) as usize);
         k += 1;
     }
 }
 
 // Writes them from a place on.
-fn put_cells(file: &[u8], from: usize, count: usize, start: usize, cells: &mut [u32])
+fn put_stored_cells(file: &[u8], from: usize, count: usize, start: usize, cells: &mut [u32])
     requires { ⌜ (count < 4294967296) × (start ≤ 68719476736) ⌝ }
     ensures { λ _. ⌜ now (cells .exit) ≡ cellsPut (now (file .entry)) from start count (now (cells .entry)) ⌝ }
 {
     let mut k: usize = 0;
     while k < count {
-        put(cells, start + k, cell_at(file, past(file, from, k * 2)));
+        put_stored(cells, start + k, cell_at(file, past(file, from, k * 2)));
         k += 1;
     }
 }
@@ -140,8 +140,8 @@ fn branches_at(
     while k < count {
         let length = size_at(file, end);
         let from = past(file, end, 4);
-        put_cells(file, from, length, total, cells);
-        mark_cells(file, from, length, covered);
+        put_stored_cells(file, from, length, total, cells);
+        mark_stored_cells(file, from, length, covered);
         each[k] = length;
         total += length;
         end = past(file, from, length * 2);
@@ -156,7 +156,7 @@ fn at_most_sixteen(count: u8) -> usize
     if count < 16 { count as usize } else { 16 }
 }
 
-fn refusal(number: u32, detail: usize) -> Told
+fn told_refusal(number: u32, detail: usize) -> Told
     ensures { λ r. ⌜ r ≡ refusalOf number detail ⌝ }
 {
     Told {
@@ -193,7 +193,7 @@ fn tree_at(
     let occupied = size_at(file, behind);
     let repeaters = size_behind(file, behind, 4);
     let from = past(file, behind, 8);
-    mark_cells(file, from, repeaters, marks);
+    mark_stored_cells(file, from, repeaters, marks);
     Answered {
         told: Told {
             number: 0,
@@ -226,17 +226,17 @@ pub fn answer_at(
     }
     let detail = size_behind(file, at, 1);
     Answered {
-        told: refusal(number as u32, detail),
+        told: told_refusal(number as u32, detail),
         end: past(file, at, 5),
     }
 }
 
 // The stored answer, where the file holds the whole sheet; else an answer that no run gives.
-pub fn known_if(whole: bool, told: Told) -> Told
-    ensures { λ r. ⌜ r ≡ knownIf whole told ⌝ }
+pub fn told_if(whole: bool, told: Told) -> Told
+    ensures { λ r. ⌜ r ≡ toldIf whole told ⌝ }
 {
     if whole {
         return told;
     }
-    refusal(NOT_READ, 0)
+    told_refusal(NOT_READ, 0)
 }

@@ -60,7 +60,7 @@ pub record Within (R : Room) (p : Pos) : Type 0 where
 unfoldable pub within : Room → Pos → Bool
 within R p = ltb (p .x) (R .wide) && (ltb (p .y) (R .high) && ltb (p .z) (R .deep))
 
--- each part of the position is below the longest side
+-- each part of the position is below the longest side that a room may have
 pub record SmallPos (p : Pos) : Type 0 where
   pub x-small : p .x < maxSide
   pub y-small : p .y < maxSide

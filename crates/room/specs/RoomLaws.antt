@@ -118,7 +118,7 @@ pub beneath-in : (R : Room) (n b : ℕ) → n < volume R → beneath R n ≡ Ins
 unfolding beneath
 beneath-in R n b h e = omega (arith, inside-passed (leb 1 (posOf R n .y)) (n - R .deep) b e .0)
 
--- ---- what the code computes on the way is small
+-- ---- what `between` says
 
 pub between-below : (low a high : ℕ) → a < low → between low a high ≡ false
 unfolding between
@@ -135,6 +135,8 @@ between-low low a high e = search passed
 pub between-high : (low a high : ℕ) → between low a high ≡ true → a ≤ high
 unfolding between
 between-high low a high e = search passed
+
+-- ---- what the code computes on the way is small
 
 module _ (R : Room) (G : Good R) where
   pub base-few : R .wide * R .high ≤ maxVolume

@@ -13,7 +13,7 @@ const MAX_COST: u32 = 100000;
 
 const MAX_NODES: u32 = 200000;
 
-// The kinds of a block, in the order of DustRoute's BlockKind: all of them, though no rule names some.
+// The kinds of a block, in the order of DustRoute's BlockKind: all of them, though some are named by no rule.
 pub const AIR: u8 = 0;
 
 pub const SOLID: u8 = 1;
@@ -94,7 +94,7 @@ pub struct Move {
     pub z: usize,
 }
 
-// Where a move leads: to a cell, or out of the room.
+// A cell, or none: where a move leads, a clearance, a conflict. `Outside` says that there is none.
 pub enum Neighbour {
     Inside(usize),
     Outside,
@@ -192,7 +192,7 @@ fn apart(a: usize, b: usize) -> usize
     if a < b { b - a } else { a - b }
 }
 
-// The distance |dx|+|dy|+|dz| of two positions, of which each part is below the longest side.
+// The distance |dx|+|dy|+|dz| of two positions, of which each part is below the longest side that a room may have.
 pub fn distance_at(p: Pos, q: Pos) -> usize
     requires { ⌜ SmallPos p ⌝ }
     requires { ⌜ SmallPos q ⌝ }

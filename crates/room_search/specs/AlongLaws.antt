@@ -16,25 +16,25 @@ use Rattle.room.specs.MoveLaws.{not-stays, one-less-in, move-small}
 use Rattle.room_search.specs.declared.Line.{Line}
 use Rattle.room_search.specs.declared.Spot.{Spot}
 use Rattle.room_search.specs.declared.MovesTried.the-variants.{On, Full}
-use Rattle.room_search.specs.Steps.{HeapReady, Placed, Able, Aside, MovesCame, setting, column}
+use Rattle.room_search.specs.TriedMoves.{HeapReady, Placed, Able, Aside, MovesCame, setting, column}
 use Rattle.room_search.specs.TryLaws.{tried-out, tried-none, tried-then, tried-full}
 
 module _ (R : Room) (C : RouterConfig) (classes : List ℕ) (goal from : Spot) (cost : ℕ) (known₀ previous₀ queue₀ : List ℕ) (line₀ : Line) where
   -- the moves `done` are tried, and the search goes on
-  pub record Along (done : List Move) (known previous queue : List ℕ) (line : Line) : Type 0 where
+  pub record TriedAlong (done : List Move) (known previous queue : List ℕ) (line : Line) : Type 0 where
     pub tried : MovesCame (setting R C classes goal queue₀ from cost) done known₀ previous₀ queue₀ line₀ (On line) known previous queue
     pub known-kept : length known ≡ length known₀
     pub previous-kept : length previous ≡ length previous₀
     pub queue-kept : length queue ≡ length queue₀
 
-  pub along-start : HeapReady queue₀ line₀ → Along [] known₀ previous₀ queue₀ line₀
+  pub along-start : HeapReady queue₀ line₀ → TriedAlong [] known₀ previous₀ queue₀ line₀
   along-start r = record { tried = tried-none r; known-kept = refl; previous-kept = refl; queue-kept = refl }
 
-  module _ {done : List Move} {known previous queue : List ℕ} {line : Line} (I : Along done known previous queue line) (more : List Move)
+  module _ {done : List Move} {known previous queue : List ℕ} {line : Line} (I : TriedAlong done known previous queue line) (more : List Move)
       {known′ previous′ queue′ : List ℕ} where
     pub along-next : {l : Line} → MovesCame (setting R C classes goal queue from cost) more known previous queue line (On l) known′ previous′ queue′
         → length known′ ≡ length known → length previous′ ≡ length previous → length queue′ ≡ length queue
-        → Along (done ++ more) known′ previous′ queue′ l
+        → TriedAlong (done ++ more) known′ previous′ queue′ l
     along-next T a b c = record {
       tried = tried-then more (I .tried) (rw (I .queue-kept) at T);
       known-kept = a ∙ I .known-kept;
@@ -48,10 +48,10 @@ module _ (R : Room) (C : RouterConfig) (classes : List ℕ) (goal from : Spot) (
 
   -- what is asked to try more moves
   pub able-along : {n : ℕ} (k : ℕ) {done : List Move} {known previous queue : List ℕ} {line : Line} → Able n R C classes goal from cost known₀ previous₀ queue₀ line₀
-      → Along done known previous queue line → length done + k ≤ n → Able k R C classes goal from cost known previous queue line
+      → TriedAlong done known previous queue line → length done + k ≤ n → Able k R C classes goal from cost known previous queue line
   able-along k A I h = record {
     good = A .good;
-    fair = A .fair;
+    config-good = A .config-good;
     classes-long = A .classes-long;
     known-long = I .known-kept ∙ A .known-long;
     previous-long = I .previous-kept ∙ A .previous-long;

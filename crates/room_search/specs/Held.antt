@@ -1,4 +1,5 @@
--- The search's state as lent slices hold it. A waiting entry is one number in the queue: its key, then its serial in 32 bits, then its cell in 64.
+-- The search's state as lent slices hold it. The two numbers of a waiting entry in the queue count as one: its
+-- key, then its serial in 32 bits, then its cell in 64.
 use mathlib.Core.List.{List, map}
 use Prim.Native.Nat.{ℕ, _+_, _*_, _/_, _%_, _^_}
 use Rattle.best_first.specs.Search.{Entry, State}

@@ -8,7 +8,7 @@ use lib.ListN.{length, getD, length-map}
 use Rattle.basics.specs.Tests.{askLess}
 use Rattle.basics.specs.Lists.{In}
 use Rattle.best_first.specs.Search.{Entry}
-use Rattle.best_first.specs.Entries.{Late, by-key, by-serial, Same, same-refl, same-trans, same-cons, same-swap, Popped}
+use Rattle.best_first.specs.Entries.{Late, by-key, by-serial, Same, same-refl, same-trans, same-cons, same-swap, TakenOut}
 use Rattle.queue.specs.Queue.{asOne, insert, bag, entry, EntryPushed, EntryTaken}
 use Rattle.queue.specs.BagLaws.{insert-nil, insert-le, insert-gt, bag-zero, bag-suc, length-bag}
 use Rattle.room_search.specs.Held.{packed, unpacked, entriesIn}
@@ -93,7 +93,7 @@ low-entries a (x ∷ w) k y (inr i) = low-entries a w (k .1) y i
 unfoldable pub takenEntry : List ℕ → ℕ → Entry
 takenEntry h cell = record { key = asOne (getD h 0 0) cell / 2 ^ 96; serial = asOne (getD h 0 0) cell / 2 ^ 64 % 2 ^ 32; cell = cell }
 
-pub taken-entries : (h : List ℕ) (n cell : ℕ) (h′ : List ℕ) → cell < 2 ^ 64 → EntryTaken h n cell h′ → Popped (entriesIn h n) (takenEntry h cell) (entriesIn h′ (n - 1))
+pub taken-entries : (h : List ℕ) (n cell : ℕ) (h′ : List ℕ) → cell < 2 ^ 64 → EntryTaken h n cell h′ → TakenOut (entriesIn h n) (takenEntry h cell) (entriesIn h′ (n - 1))
 unfolding entriesIn Ascending AtLeast unpacked takenEntry
 taken-entries h n cell h′ c T =
     let first : ℕ = asOne (getD h 0 0) cell in

@@ -2,14 +2,14 @@ pub mod Routing
 pub mod GraphLaws
 pub mod Held
 pub mod HeldLaws
-pub mod Steps
+pub mod TriedMoves
 pub mod OfferLaws
 pub mod TryLaws
 pub mod AlongLaws
 pub mod Takings
 pub mod TakingLaws
-pub mod RunLaws
-pub mod EndLaws
+pub mod TakeAllLaws
+pub mod SearchEndLaws
 pub mod Classes
 pub mod ClassLaws
 pub mod SameGraphLaws

@@ -15,7 +15,7 @@ use Rattle.room_search.specs.declared.Line.{Line}
 use Rattle.room_search.specs.declared.MovesTried.the-variants.{On, Full}
 use Rattle.room_search.specs.Held.{packed, held}
 use Rattle.room_search.specs.HeldLaws.{pushed-entries, length-entries}
-use Rattle.room_search.specs.Steps.{placesOf, HeapReady, Offered}
+use Rattle.room_search.specs.TriedMoves.{placesOf, HeapReady, Offered}
 
 module _ (u v c estimate : ℕ) (known previous queue : List ℕ) (line : Line) (R : HeapReady queue line) where
   -- its known cost is no higher
@@ -31,9 +31,9 @@ module _ (u v c estimate : ℕ) (known previous queue : List ℕ) (line : Line) 
     is-lower = is-cheaper c (getD known v 0) (elim lower [ inl e ↦ inl e | inr h ↦ inr (omega arith) ])
 
     -- a push is due and the waiting entries fill the queue
-    pub offer-full : placesOf queue ≤ line .waiting → Offered u v c estimate known previous queue line Full known previous queue
+    pub offered-full : placesOf queue ≤ line .waiting → Offered u v c estimate known previous queue line Full known previous queue
     unfolding held
-    offer-full h = record {
+    offered-full h = record {
       readied = tt;
       goes = λ A m ms e f g q p T. trying-full (A .sound) T (rw (f, g) is-lower) (omega (arith, p, length-entries queue (line .waiting)));
     }
@@ -44,7 +44,7 @@ module _ (u v c estimate : ℕ) (known previous queue : List ℕ) (line : Line) 
         → Offered u v c estimate known previous queue line (On (record { waiting = line .waiting + 1; serial = line .serial + 1 })) (set known v (c + 1)) (set previous v (u + 1)) queue′
     unfolding held push
     offer-pushed queue′ r s w l P = record {
-      readied = (record { heap = rw (add-one (line .waiting)) (P .order); room = omega (arith, ap (λ (n : ℕ). n / 2) l) }, omega arith);
+      readied = (record { heap = rw (add-one (line .waiting)) (P .order); fits = omega (arith, ap (λ (n : ℕ). n / 2) l) }, omega arith);
       goes = λ A m ms e f g q p T.
           trying-push (A .sound) T (rw (f, g) is-lower) (omega (arith, p, length-entries queue (line .waiting))) _ (record {
             known = rw (f, g, add-one);

@@ -17,7 +17,7 @@ use Rattle.room.specs.Room.{volume, moves, neighbour, distance}
 use Rattle.room.specs.MoveLaws.{leads}
 use Rattle.best_first.specs.Search
 use Rattle.room_search.specs.Routing.{Task, entering, moveInto, movesBy, estimateOf, graphOf, graph, classAt}
-use Rattle.room_search.specs.EndLaws.{start-is-end, goal-is-end}
+use Rattle.room_search.specs.SearchEndLaws.{start-is-end, goal-is-end}
 use Rattle.room_search.specs.Classes.{Plain, withEnd}
 
 module _ (R : Room) (C : RouterConfig) (f g : ℕ → ℕ) (same : (v : ℕ) → v < volume R → f v ≡ g v) where
@@ -38,14 +38,14 @@ module _ (R : Room) (C : RouterConfig) (f g : ℕ → ℕ) (same : (v : ℕ) →
 
 -- the classes with both ends made are what it takes to enter each cell
 module _ (T : Task) (classes : List ℕ) (P : Plain (T .room) (T .kinds) classes) (s : T .start < volume (T .room)) (g : T .goal < volume (T .room)) where
-  abbrev made : List ℕ
-  made = withEnd (T .room) (T .kinds) (T .goal) (withEnd (T .room) (T .kinds) (T .start) classes)
+  abbrev withEnds : List ℕ
+  withEnds = withEnd (T .room) (T .kinds) (T .goal) (withEnd (T .room) (T .kinds) (T .start) classes)
 
-  pub made-length : length made ≡ volume (T .room)
-  made-length = simp length-set (P .long)
+  pub ends-length : length withEnds ≡ volume (T .room)
+  ends-length = simp length-set (P .long)
 
-  made-entering : (v : ℕ) → v < volume (T .room) → getD made v 0 ≡ entering T v
-  made-entering v h =
+  ends-entering : (v : ℕ) → v < volume (T .room) → getD withEnds v 0 ≡ entering T v
+  ends-entering v h =
       askSame v (T .goal)
       (λ e. rw e (getD-set-same (withEnd (T .room) (T .kinds) (T .start) classes) (T .goal) (classAt true (T .room) (T .kinds) (T .goal)) 0 (rw length-set (omega (arith, P .long)))
       ∙ rw (goal-is-end (T .start) (T .goal))))
@@ -54,5 +54,5 @@ module _ (T : Task) (classes : List ℕ) (P : Plain (T .room) (T .kinds) classes
       (λ e. rw e (getD-set-same classes (T .start) (classAt true (T .room) (T .kinds) (T .start)) 0 (omega (arith, P .long)) ∙ rw (start-is-end (T .start) (T .goal))))
       (λ k. getD-set-other classes (T .start) v _ 0 k ∙ P .each v h ∙ rw (ne-eqb v (T .start) k, ne-eqb v (T .goal) n)))
 
-  pub made-graph : graphOf (T .room) (T .config) (λ v. getD made v 0) (T .start) (T .goal) (T .places) ≡ graph T
-  made-graph = same-graph (T .room) (T .config) (λ v. getD made v 0) (entering T) made-entering (T .start) (T .goal) (T .places)
+  pub ends-graph : graphOf (T .room) (T .config) (λ v. getD withEnds v 0) (T .start) (T .goal) (T .places) ≡ graph T
+  ends-graph = same-graph (T .room) (T .config) (λ v. getD withEnds v 0) (entering T) ends-entering (T .start) (T .goal) (T .places)

@@ -11,7 +11,7 @@ use Rattle.room.specs.declared.RouterConfig.{RouterConfig}
 use Rattle.room.specs.Room.{volume, moves}
 use Rattle.best_first.specs.Search.{Graph, Answer, State, oneMoreExpanded}
 use Rattle.best_first.specs.Search as search
-use Rattle.best_first.specs.Entries.{Popped, popped-taking}
+use Rattle.best_first.specs.Entries.{TakenOut, taken-out-taking}
 use Rattle.best_first.specs.Statements.{costOf}
 use Rattle.best_first.specs.Loops.{Going, going-bounded, going-goal, going-limit, going-full, going-try, going-on}
 use Rattle.queue.specs.Queue.{EntryTaken}
@@ -24,33 +24,33 @@ use Rattle.room_search.specs.Routing.{movesBy, graphOf}
 use Rattle.room_search.specs.Held.{entriesIn, held}
 use Rattle.room_search.specs.HeldLaws.{takenEntry, taken-entries}
 use Rattle.room_search.specs.GraphLaws.{dearest, sound}
-use Rattle.room_search.specs.Steps.{placesOf, Placed, Able, Expansion, Stage, Fitting, MovesCame, setting}
+use Rattle.room_search.specs.TriedMoves.{placesOf, Placed, Able, Expansion, Stage, Fitting, MovesCame, setting}
 use Rattle.room_search.specs.Takings.{graphIn, Takeable, TakingCame}
 
 module _ (R : Room) (C : RouterConfig) (classes known previous queue : List ℕ) (line : Line) (expanded : ℕ) (goal : Spot)
     (T : Takeable R C classes known previous queue line goal) (cell : ℕ) (queue′ : List ℕ) (c : cell < 2 ^ 64) (K : EntryTaken queue (line .waiting) cell queue′)
     (same : length queue′ ≡ length queue) where
-  popped : Popped (entriesIn queue (line .waiting)) (takenEntry queue cell) (entriesIn queue′ (line .waiting - 1))
+  popped : TakenOut (entriesIn queue (line .waiting)) (takenEntry queue cell) (entriesIn queue′ (line .waiting - 1))
   popped = taken-entries queue (line .waiting) cell queue′ c K
 
   taken-in : (cell < volume R) × (0 < getD known cell 0)
   unfolding takenEntry
-  taken-in = T .cells (takenEntry queue cell) (popped-taking popped .from)
+  taken-in = T .cells (takenEntry queue cell) (taken-out-taking popped .from)
 
-  pub cell-in : cell < volume R
-  cell-in = taken-in .0
+  pub taken-inside : cell < volume R
+  taken-inside = taken-in .0
 
   pub cell-known : 1 ≤ getD known cell 0
   cell-known = taken-in .1
 
-  abbrev pub rest : Line
-  rest = record { waiting = line .waiting - 1; serial = line .serial }
+  abbrev pub lineLeft : Line
+  lineLeft = record { waiting = line .waiting - 1; serial = line .serial }
 
   -- the cell's moves can be tried
-  pub able : (from : Spot) → from .cell ≡ cell → Placed R from → Able 12 R C classes goal from (getD known cell 0 - 1) known previous queue′ rest
+  pub able : (from : Spot) → from .cell ≡ cell → Placed R from → Able 12 R C classes goal from (getD known cell 0 - 1) known previous queue′ lineLeft
   able from e P = record {
     good = T .good;
-    fair = T .fair;
+    config-good = T .config-good;
     classes-long = T .classes-long;
     known-long = T .known-long;
     previous-long = T .previous-long;
@@ -58,7 +58,7 @@ module _ (R : Room) (C : RouterConfig) (classes known previous queue : List ℕ)
     from-placed = P;
     cost-most = omega (arith, T .costs cell);
     serial-most = T .serial-most;
-    ready = record { heap = K .order; room = omega (arith, T .ready .room, ap (λ (n : ℕ). n / 2) same) };
+    ready = record { heap = K .order; fits = omega (arith, T .ready .fits, ap (λ (n : ℕ). n / 2) same) };
   }
 
   pub taking-goal : cell ≡ goal .cell → TakingCame R C classes known previous queue line expanded goal (Ended (Arrived (record { 0 = expanded }))) known previous queue′
@@ -108,12 +108,12 @@ module _ (R : Room) (C : RouterConfig) (classes known previous queue : List ℕ)
           cost-is = sym (sub-one (getD known cell 0));
         }
 
-        stage : Stage expansion (movesBy R C (λ v. getD classes v 0) (from .cell) (moves ++ [])) known previous queue′ rest
+        stage : Stage expansion (movesBy R C (λ v. getD classes v 0) (from .cell) (moves ++ [])) known previous queue′ lineLeft
         unfolding expansion held graphOf takenEntry
         stage = rw (append-nil, here) (going-try I popped away more (expansion .sound))
 
       module _ {known′ previous′ queue″ : List ℕ} where
-        pub taking-full : MovesCame (setting R C classes goal queue′ from (getD known cell 0 - 1)) moves known previous queue′ rest Full known′ previous′ queue″
+        pub taking-full : MovesCame (setting R C classes goal queue′ from (getD known cell 0 - 1)) moves known previous queue′ lineLeft Full known′ previous′ queue″
             → TakingCame R C classes known previous queue line expanded goal (Ended (QueueFull (record { 0 = expanded + 1 }))) known′ previous′ queue″
         unfolding expansion held graphOf takenEntry
         taking-full U = record {
@@ -122,7 +122,7 @@ module _ (R : Room) (C : RouterConfig) (classes known previous queue : List ℕ)
               ∙ ap search.queue-full (sym (add-one expanded));
         }
 
-        pub taking-on : (next : Line) → MovesCame (setting R C classes goal queue′ from (getD known cell 0 - 1)) moves known previous queue′ rest (On next) known′ previous′ queue″
+        pub taking-on : (next : Line) → MovesCame (setting R C classes goal queue′ from (getD known cell 0 - 1)) moves known previous queue′ lineLeft (On next) known′ previous′ queue″
             → TakingCame R C classes known previous queue line expanded goal (GoesOn next) known′ previous′ queue″
         unfolding expansion held graphOf takenEntry movesBy
         taking-on next U = record {

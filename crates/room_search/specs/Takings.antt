@@ -19,16 +19,16 @@ use Rattle.room_search.specs.declared.AfterTaking.{AfterTaking}
 use Rattle.room_search.specs.declared.AfterTaking.the-variants.{GoesOn, Ended}
 use Rattle.room_search.specs.Routing.{graphOf}
 use Rattle.room_search.specs.Held.{entriesIn, held}
-use Rattle.room_search.specs.Steps.{maxKnown, placesOf, HeapReady, Placed}
+use Rattle.room_search.specs.TriedMoves.{maxKnown, placesOf, HeapReady, Placed}
 
--- the graph of a room whose cells have classes
+-- the graph of a room, with the classes in bytes and the places of a lent queue
 abbrev pub graphIn : Room → RouterConfig → List ℕ → ℕ → ℕ → List ℕ → Graph
 graphIn R C classes start goal queue = graphOf R C (λ v. getD classes v 0) start goal (placesOf queue)
 
 -- what one taking asks of its parameters
 pub record Takeable (R : Room) (C : RouterConfig) (classes known previous queue : List ℕ) (line : Line) (goal : Spot) : Type 0 where
   pub good : Good R
-  pub fair : GoodConfig C
+  pub config-good : GoodConfig C
   pub classes-long : length classes ≡ volume R
   pub known-long : length known ≡ volume R
   pub previous-long : length previous ≡ volume R
@@ -58,7 +58,7 @@ Went G limit answer expanded known previous queue (GoesOn next) =
     Going G limit answer (held known previous queue next (expanded + 1)) × HeapReady queue next
 Went G limit answer expanded known previous queue (Ended o) = OutcomeTold G answer known previous o
 
--- a search whose answer is `answer` goes on
+-- one taking, for every search that has come this far: it goes on to the same answer, or that answer is told
 pub record TakingCame (R : Room) (C : RouterConfig) (classes known previous queue : List ℕ) (line : Line) (expanded : ℕ) (goal : Spot) (r : AfterTaking)
     (known′ previous′ queue′ : List ℕ) : Type 0 where
   pub goes : (start : ℕ) (answer : Answer) → start < volume R
@@ -68,7 +68,7 @@ pub record TakingCame (R : Room) (C : RouterConfig) (classes known previous queu
 -- what a whole search asks of its parameters: nothing is known yet
 pub record Fresh (R : Room) (C : RouterConfig) (classes known previous queue : List ℕ) (start goal : Spot) : Type 0 where
   pub good : Good R
-  pub fair : GoodConfig C
+  pub config-good : GoodConfig C
   pub classes-long : length classes ≡ volume R
   pub known-zero : known ≡ replicate (volume R) 0
   pub previous-zero : previous ≡ replicate (volume R) 0
@@ -83,7 +83,7 @@ spotOf R v = record { cell = v; at = posOf R v }
 -- what a search over class bytes asks, whatever its memory holds: work memory of exactly V cells, and a place in the queue
 pub record Searchable (R : Room) (C : RouterConfig) (classes known previous queue : List ℕ) (start goal : ℕ) : Type 0 where
   pub good : Good R
-  pub fair : GoodConfig C
+  pub config-good : GoodConfig C
   pub classes-long : length classes ≡ volume R
   pub known-long : length known ≡ volume R
   pub previous-long : length previous ≡ volume R

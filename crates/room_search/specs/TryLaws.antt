@@ -22,7 +22,7 @@ use Rattle.room_search.specs.declared.Spot.{Spot}
 use Rattle.room_search.specs.declared.MovesTried.{MovesTried}
 use Rattle.room_search.specs.declared.MovesTried.the-variants.{On, Full}
 use Rattle.room_search.specs.Routing.{total, priceOf, movesBy, estimateOf, graphOf}
-use Rattle.room_search.specs.Steps.{HeapReady, Readied, Placed, Offered, Setting, setting, dueOf, MovesCame, Aside}
+use Rattle.room_search.specs.TriedMoves.{HeapReady, Readied, Placed, Offered, Setting, setting, dueOf, MovesCame, Aside}
 
 -- ---- what one move adds to the moves due
 

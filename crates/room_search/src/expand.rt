@@ -6,7 +6,7 @@ ghost use mathlib.Core.List.{[], _∷_};
 ghost use Rattle.room.specs.Room.{maxVolume, SmallPos, moves, distanceAt};
 ghost use Rattle.room.specs.Units.{GoodConfig, maxCost};
 ghost use Rattle.room_search.specs.Routing.{total, priceOf, estimateOf};
-ghost use Rattle.room_search.specs.Steps.{maxKnown, HeapReady, Offered, Able, Aside, setting, MovesCame, column};
+ghost use Rattle.room_search.specs.TriedMoves.{maxKnown, HeapReady, Offered, Able, Aside, setting, MovesCame, column};
 use crate::Line;
 use crate::MovesTried;
 use crate::Spot;

@@ -64,7 +64,7 @@ fn take_one(
 }
 
 // One whole search over fresh memory: the start is known at cost 0 and waits, and entries are taken until it ends.
-fn run(
+fn take_all(
     room: Room,
     config: RouterConfig,
     classes: &[u8],
@@ -139,5 +139,5 @@ pub fn search_classes(
         cell: goal,
         at: room.pos(goal),
     };
-    run(room, config, classes, known, previous, queue, from, to)
+    take_all(room, config, classes, known, previous, queue, from, to)
 }

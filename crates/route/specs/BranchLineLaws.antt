@@ -11,7 +11,7 @@ use Rattle.branches.specs.Branches.{sum, lengthsIn, cutInto, branchesOf, Branch
 use Rattle.route.specs.Lines.{netLine, branchLine, branchLines, repeatersLine, treeText}
 use Rattle.route.specs.Marked.{marked}
 use Rattle.route.specs.Putting.{Put, Fits, PutSoFar}
-use Rattle.route.specs.PutLaws.{both, then-fits, first-fits, going-begun, going-on, going-done, going-fits}
+use Rattle.route.specs.PutLaws.{both, then-fits, first-fits, putting-begun, putting-on, putting-done, putting-fits}
 
 -- the branches of the first k sinks are put: those left stand from `from` on
 pub record Branching (out : List ℕ) (at : ℕ) (whole cells lengths : List ℕ) (from k : ℕ) (out′ : List ℕ) (end : ℕ) : Type 0 where
@@ -20,7 +20,7 @@ pub record Branching (out : List ℕ) (at : ℕ) (whole cells lengths : List ℕ
 
 module _ {out : List ℕ} {at : ℕ} {whole cells lengths : List ℕ} where
   pub branching-begun : whole ≡ branchLines (cutInto lengths cells) → sum lengths ≤ length cells → Branching out at whole cells lengths 0 0 out at
-  branching-begun e h = record { going = rw e (going-begun); within = omega (arith, h) }
+  branching-begun e h = record { going = rw e (putting-begun); within = omega (arith, h) }
 
   module _ {from k : ℕ} {out′ : List ℕ} {end : ℕ} (B : Branching out at whole cells lengths from k out′ end) where
     module _ (h : k < length lengths) {n : ℕ} (e : n ≡ getD lengths k 0) where
@@ -35,15 +35,15 @@ module _ {out : List ℕ} {at : ℕ} {whole cells lengths : List ℕ} where
 
       module _ {piece : List ℕ} (q : piece ≡ take n (drop from cells)) where
         pub branch-fits : Fits out at whole → Fits out′ end (branchLine piece)
-        branch-fits f = rw q (going-fits (branchLines (cutInto (drop (k + 1) lengths) (drop (from + n) cells))) next-branch f)
+        branch-fits f = rw q (putting-fits (branchLines (cutInto (drop (k + 1) lengths) (drop (from + n) cells))) next-branch f)
 
         pub branching-on : {out″ : List ℕ} {end′ : ℕ} → Put out′ end (branchLine piece) out″ end′
             → Branching out at whole cells lengths (from + n) (k + 1) out″ end′
-        branching-on p = record { going = going-on next-branch (rw q at p); within = next-within }
+        branching-on p = record { going = putting-on next-branch (rw q at p); within = next-within }
 
     pub branching-done : length lengths ≤ k → Put out at whole out′ end
     unfolding cutInto
-    branching-done h = going-done (rw (drop-of-length-le lengths h) at (B .going))
+    branching-done h = putting-done (rw (drop-of-length-le lengths h) at (B .going))
 
 -- the lengths of the branches
 module _ {cells : List ℕ} {lengths : BranchLengths} (B : Branched lengths cells) where

@@ -5,6 +5,6 @@ pub mod PutLaws
 pub mod LineLaws
 pub mod BranchLineLaws
 pub mod Printed
-pub mod CountLaws
+pub mod BranchCountLaws
 pub mod PrintedLaws
 pub mod NumberLaws

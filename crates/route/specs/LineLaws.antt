@@ -13,7 +13,7 @@ use Rattle.basics.specs.Lists.{drop-next}
 use Rattle.io.specs.Digits.{digits, glyph, Fewest}
 use Rattle.route.specs.Lines.{decimalWithin, decimal, number, numbers, line}
 use Rattle.route.specs.Putting.{Put, Fits, PutSoFar}
-use Rattle.route.specs.PutLaws.{both, then-fits, first-fits, going-on, going-done, going-fits}
+use Rattle.route.specs.PutLaws.{both, then-fits, first-fits, putting-on, putting-done, putting-fits}
 use Rattle.route.specs.Marked.{ifMarked, markedFrom}
 
 -- ---- numbers
@@ -119,14 +119,14 @@ module _ {out whole : List ℕ} {at : ℕ} (cells : List ℕ) (i : ℕ) {out′ 
     next-cell = rw e (rw (numbers-next cells i h) at g)
 
     pub cell-fits : Fits out at whole → Fits out′ end (number n)
-    cell-fits f = going-fits (numbers (drop (i + 1) cells)) next-cell f
+    cell-fits f = putting-fits (numbers (drop (i + 1) cells)) next-cell f
 
     pub cells-on : {out″ : List ℕ} {end′ : ℕ} → Put out′ end (number n) out″ end′ → PutSoFar out at whole (numbers (drop (i + 1) cells)) out″ end′
-    cells-on p = going-on next-cell p
+    cells-on p = putting-on next-cell p
 
   pub cells-done : length cells ≤ i → Put out at whole out′ end
   unfolding numbers
-  cells-done h = going-done (rw (drop-of-length-le cells h) at g)
+  cells-done h = putting-done (rw (drop-of-length-le cells h) at g)
 
 marked-next : (marks : List ℕ) (i : ℕ) → i < length marks
     → numbers (markedFrom i (drop i marks)) ≡ numbers (ifMarked (getD marks i 0) i) ++ numbers (markedFrom (i + 1) (drop (i + 1) marks))
@@ -140,15 +140,15 @@ module _ {out whole : List ℕ} {at : ℕ} (marks : List ℕ) (i : ℕ) {out′ 
     next-mark = rw (marked-next marks i h) at g
 
     pub mark-fits : Fits out at whole → Fits out′ end (numbers (ifMarked (getD marks i 0) i))
-    mark-fits f = going-fits (numbers (markedFrom (i + 1) (drop (i + 1) marks))) next-mark f
+    mark-fits f = putting-fits (numbers (markedFrom (i + 1) (drop (i + 1) marks))) next-mark f
 
     pub marks-on : {out″ : List ℕ} {end′ : ℕ} → Put out′ end (numbers (ifMarked (getD marks i 0) i)) out″ end′
         → PutSoFar out at whole (numbers (markedFrom (i + 1) (drop (i + 1) marks))) out″ end′
-    marks-on p = going-on next-mark p
+    marks-on p = putting-on next-mark p
 
   pub marks-done : length marks ≤ i → Put out at whole out′ end
   unfolding numbers markedFrom
-  marks-done h = going-done (rw (drop-of-length-le marks h) at g)
+  marks-done h = putting-done (rw (drop-of-length-le marks h) at g)
 
 pub if-unmarked : (mark cell : ℕ) → (mark ≡ 1 → ⊥) → numbers (ifMarked mark cell) ≡ []
 unfolding numbers

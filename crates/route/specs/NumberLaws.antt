@@ -1,4 +1,4 @@
--- Which numbers can't come in this program: 6, since its own memory suffices for every room that it takes.
+-- Number 6 can't come in this program: its own memory suffices for every room that it takes.
 use mathlib.Core.Path.{_≡_, sym, ap, _∙_}
 use mathlib.Core.Bool.{Bool, true, false}
 use mathlib.Core.List.{List}

@@ -30,7 +30,7 @@ use Rattle.net_tree.specs.PromiseLaws.{comes-one}
 use Rattle.route.specs.Lines.{decimalWithin, number, numbers, line, netWord, branchWord, repeatersWord, refusedWord, netLine, branchLine, branchLines, repeatersLine, refusedLine, treeText, endedText, answerText}
 use Rattle.route.specs.Marked.{ifMarked, markedFrom, marked}
 use Rattle.route.specs.Putting.{Put, Fits}
-use Rattle.route.specs.CountLaws.{few-branches}
+use Rattle.route.specs.BranchCountLaws.{few-branches}
 use Rattle.route.specs.Printed.{maxCells, programLengths, ComesHere, over, not-over, printed, Shown, Printed, SizeJudged, is-over, is-not, longestText}
 
 -- ---- the limit at 2's place

@@ -31,17 +31,17 @@ pub put-nothing : {out : List ℕ} {at : ℕ} → Put out at [] out at
 put-nothing {out} {at} = record { ends = omega arith; front = sym (append-nil (take at out)); same = refl }
 
 module _ {out : List ℕ} {at : ℕ} {whole : List ℕ} where
-  pub going-begun : PutSoFar out at whole whole out at
-  going-begun = record { done = []; put = put-nothing; is = refl }
+  pub putting-begun : PutSoFar out at whole whole out at
+  putting-begun = record { done = []; put = put-nothing; is = refl }
 
-  pub going-on : {text left out′ out″ : List ℕ} {end end′ : ℕ} → PutSoFar out at whole (text ++ left) out′ end → Put out′ end text out″ end′ → PutSoFar out at whole left out″ end′
-  going-on {text} {left} g p = record { done = g .done ++ text; put = both (g .put) p; is = append-assoc (g .done) text left ∙ g .is }
+  pub putting-on : {text left out′ out″ : List ℕ} {end end′ : ℕ} → PutSoFar out at whole (text ++ left) out′ end → Put out′ end text out″ end′ → PutSoFar out at whole left out″ end′
+  putting-on {text} {left} g p = record { done = g .done ++ text; put = both (g .put) p; is = append-assoc (g .done) text left ∙ g .is }
 
-  pub going-done : {out′ : List ℕ} {end : ℕ} → PutSoFar out at whole [] out′ end → Put out at whole out′ end
-  going-done g = rw (sym (g .is) ∙ append-nil (g .done)) (g .put)
+  pub putting-done : {out′ : List ℕ} {end : ℕ} → PutSoFar out at whole [] out′ end → Put out at whole out′ end
+  putting-done g = rw (sym (g .is) ∙ append-nil (g .done)) (g .put)
 
-  pub going-fits : {text : List ℕ} (left : List ℕ) {out′ : List ℕ} {end : ℕ} → PutSoFar out at whole (text ++ left) out′ end → Fits out at whole → Fits out′ end text
-  going-fits {text} left g f =
+  pub putting-fits : {text : List ℕ} (left : List ℕ) {out′ : List ℕ} {end : ℕ} → PutSoFar out at whole (text ++ left) out′ end → Fits out at whole → Fits out′ end text
+  putting-fits {text} left g f =
       first-fits left (record { place = omega (arith, f .place, g .put .ends, g .put .same, length-append (g .done) (text ++ left), ap length (g .is)) })
 
 -- ---- bytes, once they are all copied

@@ -1,9 +1,9 @@
 // Reads a job sheet from standard input, routes it, and prints the tree or the refusal. The whole input is read before
 // anything is routed, and the whole answer stands in one buffer before anything is written: no answer is printed in part.
 mod lines; // lines.rt: the lines that are printed
-mod sheets; // sheets.rt: from a sheet's bytes to the lines
+mod printing; // printing.rt: from a sheet's bytes to the lines
 
-use crate::sheets::print_sheet;
+use crate::printing::put_sheet;
 use libc::STDIN_FILENO;
 use libc::STDOUT_FILENO;
 ghost use Prim.Native.Nat.{_≤_};
@@ -57,7 +57,7 @@ fn main() {
     let mut sheet = [0u8; INPUT_BYTES];
     let mut text = [0u8; TEXT_BYTES];
     let read = read_input(&mut sheet);
-    let end = print_sheet(&sheet[..read], &mut text);
+    let end = put_sheet(&sheet[..read], &mut text);
     if !io::write_all(STDOUT_FILENO, &text[..end]) {
         os::fail(b"route: writing");
     }

@@ -8,7 +8,7 @@ use Rattle.room.specs.declared.Room.{Room}
 use Rattle.room.specs.declared.RouterConfig.{RouterConfig}
 use Rattle.room.specs.Room.{Good, volume}
 use Rattle.basics.specs.Tests.{either}
-use Rattle.lent.specs.Lent.{Emptied, filled}
+use Rattle.lent.specs.Lent.{Cleared, filled}
 use Rattle.room.specs.Units.{GoodConfig, air}
 use Rattle.room_search.specs.declared.Outcome.{Outcome}
 use Rattle.best_first.specs.Search as search
@@ -20,7 +20,7 @@ use Rattle.routing.specs.declared.EndsFit.{EndsFit}
 use Rattle.routing.specs.declared.EndsFit.the-variants.{Good as EndsGood, Bad as EndsBad}
 use Rattle.routing.specs.declared.Answer.{Answer}
 use Rattle.room_search.specs.Routing.{Task, routeableKind, graph, searched}
-use Rattle.room_search.specs.Steps.{placesOf}
+use Rattle.room_search.specs.TriedMoves.{placesOf}
 use Rattle.room_search.specs.Takings.{OutcomeTold, Searchable}
 use Rattle.routing.specs.Answers.{answered, cellsOf}
 
@@ -57,21 +57,21 @@ endsFit kinds start goal =
 -- what an input has that no number from 2 to 6 refuses
 pub record Admitted (R : Room) (C : RouterConfig) (kinds : List ℕ) (start goal : ℕ) (L : Lengths) : Type 0 where
   pub good : Good R
-  pub fair : GoodConfig C
+  pub config-good : GoodConfig C
   pub kinds-long : length kinds ≡ volume R
   pub start-in : start < volume R
   pub goal-in : goal < volume R
-  pub path-room : volume R ≤ L .path
-  pub known-room : volume R ≤ L .known
-  pub previous-room : volume R ≤ L .previous
-  pub classes-room : volume R ≤ L .classes
+  pub path-enough : volume R ≤ L .path
+  pub known-enough : volume R ≤ L .known
+  pub previous-enough : volume R ≤ L .previous
+  pub classes-enough : volume R ≤ L .classes
   pub places-some : 0 < L .queue / 2
 
 -- a search's answer, its path in the cleared output, and all work memory cleared
 pub record Fitted (a : search.Answer) (path known previous classes queue : List ℕ) (r : Answer) (path′ known′ previous′ classes′ queue′ : List ℕ) : Type 0 where
   pub answer : r ≡ answered a
   pub path-is : path′ ≡ filled (cellsOf a) path
-  pub known-is : Emptied known known′
-  pub previous-is : Emptied previous previous′
-  pub classes-is : Emptied classes classes′
-  pub queue-is : Emptied queue queue′
+  pub known-is : Cleared known known′
+  pub previous-is : Cleared previous previous′
+  pub classes-is : Cleared classes classes′
+  pub queue-is : Cleared queue queue′

@@ -6,7 +6,7 @@ use native.Mathlib.Nat.{sub-zero}
 use lib.ListN.{length, getD, take, drop, replicate}
 use lib.Seq.{take-at, length-take-le, length-front}
 use Rattle.basics.specs.Zeros.{drop-zeros, cleared-to}
-use Rattle.lent.specs.Lent.{Emptied, filled}
+use Rattle.lent.specs.Lent.{Cleared, filled}
 use Rattle.room.specs.declared.Room.{Room}
 use Rattle.room.specs.declared.RouterConfig.{RouterConfig}
 use Rattle.room.specs.Room.{volume}
@@ -18,7 +18,7 @@ use Rattle.room_search.specs.declared.Outcome.{Outcome}
 use Rattle.room_search.specs.declared.Outcome.the-variants.{Arrived}
 use Rattle.room_search.specs.Routing.{Task, graphOf, searched}
 use Rattle.room_search.specs.Classes.{Plain, withEnd}
-use Rattle.room_search.specs.SameGraphLaws.{made-length, made-graph}
+use Rattle.room_search.specs.SameGraphLaws.{ends-length, ends-graph}
 use Rattle.room_search.specs.Takings.{SearchRan, spotOf, Searchable}
 use Rattle.routing.specs.Entry.{searchTask, SearchFound, RouteWritten, Admitted, RoomSearchable}
 use Rattle.routing.specs.Answers.{lengthsOf, answered, cellsOf}
@@ -29,11 +29,11 @@ module _ {R : Room} {C : RouterConfig} {kinds : List ℕ} {start goal : ℕ} {kn
   abbrev T : Task
   T = searchTask R C kinds start goal queue
 
-  pub filled-searchable : Searchable R C (withEnd R kinds goal (withEnd R kinds start classes)) known previous queue start goal
-  filled-searchable = record {
+  pub classed-searchable : Searchable R C (withEnd R kinds goal (withEnd R kinds start classes)) known previous queue start goal
+  classed-searchable = record {
     good = S .memory .good;
-    fair = S .memory .fair;
-    classes-long = made-length T classes P (S .memory .start-in) (S .memory .goal-in);
+    config-good = S .memory .config-good;
+    classes-long = ends-length T classes P (S .memory .start-in) (S .memory .goal-in);
     known-long = S .memory .known-long;
     previous-long = S .memory .previous-long;
     start-in = S .memory .start-in;
@@ -41,10 +41,10 @@ module _ {R : Room} {C : RouterConfig} {kinds : List ℕ} {start goal : ℕ} {kn
     places-some = S .memory .places-some;
   }
 
-  pub filled-found : {o : Outcome} {known′ previous′ : List ℕ} → SearchRan R C (withEnd R kinds goal (withEnd R kinds start classes)) queue (spotOf R start) (spotOf R goal) o known′ previous′
+  pub classed-found : {o : Outcome} {known′ previous′ : List ℕ} → SearchRan R C (withEnd R kinds goal (withEnd R kinds start classes)) queue (spotOf R start) (spotOf R goal) o known′ previous′
       → SearchFound T o known′ previous′
   unfolding searched
-  filled-found r = record { told = rw (made-graph T classes P (S .memory .start-in) (S .memory .goal-in)) at (r .told) }
+  classed-found r = record { told = rw (ends-graph T classes P (S .memory .start-in) (S .memory .goal-in)) at (r .told) }
 
 -- ---- the answer
 
@@ -77,7 +77,7 @@ module _ (front whole : List ℕ) (v : ℕ) (kept : length front ≡ length (tak
   pub again-length : v ≤ length whole → v ≡ length (take v (front ++ drop v whole))
   again-length h = sym (ap length (again h) ∙ kept ∙ length-take-le v whole h)
 
-  pub emptied-whole : (after : List ℕ) → after ≡ replicate (length (front ++ drop v whole)) 0 → Emptied whole after
+  pub emptied-whole : (after : List ℕ) → after ≡ replicate (length (front ++ drop v whole)) 0 → Cleared whole after
   emptied-whole after e = cleared-to (length-front whole front v kept) e
 
 pub searchable : {R : Room} {C : RouterConfig} {kinds : List ℕ} {start goal : ℕ} (path known previous classes queue : List ℕ) {v : ℕ}
@@ -87,10 +87,10 @@ searchable {R} {C} {kinds} {start} {goal} path known previous classes queue {v} 
   kinds-long = P .kinds-long;
   memory = record {
     good = P .good;
-    fair = P .fair;
-    classes-long = rw e (length-take-le (volume R) classes (P .classes-room));
-    known-long = rw e (length-take-le (volume R) known (P .known-room));
-    previous-long = rw e (length-take-le (volume R) previous (P .previous-room));
+    config-good = P .config-good;
+    classes-long = rw e (length-take-le (volume R) classes (P .classes-enough));
+    known-long = rw e (length-take-le (volume R) known (P .known-enough));
+    previous-long = rw e (length-take-le (volume R) previous (P .previous-enough));
     start-in = P .start-in;
     goal-in = P .goal-in;
     places-some = P .places-some;

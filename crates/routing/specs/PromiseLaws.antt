@@ -9,7 +9,7 @@ use lib.ListN.{length, getD}
 use Rattle.basics.specs.Tests.{ask, passed, never}
 use Rattle.basics.specs.Lists.{every}
 use Rattle.basics.specs.Promises.{Determines}
-use Rattle.lent.specs.Lent.{touches, Emptied}
+use Rattle.lent.specs.Lent.{touches, Cleared}
 use Rattle.room.specs.declared.Room.{Room}
 use Rattle.room.specs.declared.RouterConfig.{RouterConfig}
 use Rattle.room.specs.Room.{sidesGood, volume}
@@ -25,7 +25,7 @@ use Rattle.routing.specs.declared.EndsFit.the-variants.{Good as EndsGood
 use Rattle.routing.specs.declared.Answer.{Answer}
 use Rattle.routing.specs.declared.Answer.the-variants.{Refused, NotRouteable}
 use Rattle.room_search.specs.Routing.{routeableKind, routeable, searched}
-use Rattle.room_search.specs.EndLaws.{start-is-end, goal-is-end}
+use Rattle.room_search.specs.SearchEndLaws.{start-is-end, goal-is-end}
 use Rattle.routing.specs.Answers.{Input, taskOf, buffersGood, endsInside, judged, answered, fitAnswer, answerOf, refusalNumber, numberOf, cellsOf, cellsFor, Promise, input, lengthsOf}
 use Rattle.routing.specs.Entry.{endsFit, Admitted, Fitted, searchTask}
 
@@ -38,7 +38,6 @@ record Passed (R : Room) (C : RouterConfig) (kinds : List ℕ) (start goal : ℕ
   sides : sidesGood R ≡ true
   config : configGood C ≡ true
   buffers : buffersGood R kinds L ≡ true
-  codes : every kindKnown kinds ≡ true
   ends : endsInside R start goal ≡ true
 
 module _ {R : Room} {C : RouterConfig} {kinds : List ℕ} {start goal : ℕ} {L : Lengths} where
@@ -50,7 +49,7 @@ module _ {R : Room} {C : RouterConfig} {kinds : List ℕ} {start goal : ℕ} {L 
       (λ b. ask (buffersGood R kinds L)
       (λ c. ask (every kindKnown kinds)
       (λ d. ask (endsInside R start goal)
-      (λ f. record { sides = a; config = b; buffers = c; codes = d; ends = f })
+      (λ f. record { sides = a; config = b; buffers = c; ends = f })
       (λ n. differ Position (rw (a, b, c, d, n) at e)))
       (λ n. differ Code (rw (a, b, c, n) at e)))
       (λ n. differ Buffer (rw (a, b, n) at e)))
@@ -66,14 +65,14 @@ module _ {R : Room} {C : RouterConfig} {kinds : List ℕ} {start goal : ℕ} {L 
       let i : (ltb start (volume R) && ltb goal (volume R)) ≡ true = p .ends in
       record {
         good = good R (p .sides);
-        fair = good-config C (p .config);
+        config-good = good-config C (p .config);
         kinds-long = search passed;
         start-in = search passed;
         goal-in = search passed;
-        path-room = search passed;
-        known-room = search passed;
-        previous-room = search passed;
-        classes-room = search passed;
+        path-enough = search passed;
+        known-enough = search passed;
+        previous-enough = search passed;
+        classes-enough = search passed;
         places-some = search passed;
       }
 
@@ -122,8 +121,8 @@ module _ (R : Room) (C : RouterConfig) (kinds : List ℕ) (start goal : ℕ) (pa
     goal-is = rw (goal-is-end start goal)
 
     -- number 10
-    pub promise-end : (cell : ℕ) {path′ known′ previous′ classes′ queue′ : List ℕ} → EndsBad cell ≡ endsFit kinds start goal → Emptied path path′ → Emptied known known′ → Emptied previous previous′
-        → Emptied classes classes′ → Emptied queue queue′
+    pub promise-end : (cell : ℕ) {path′ known′ previous′ classes′ queue′ : List ℕ} → EndsBad cell ≡ endsFit kinds start goal → Cleared path path′ → Cleared known known′ → Cleared previous previous′
+        → Cleared classes classes′ → Cleared queue queue′
         → Promise I path known previous classes queue (NotRouteable cell) path′ known′ previous′ classes′ queue′
     unfolding answerOf fitAnswer
     promise-end cell e a b c d f = record {

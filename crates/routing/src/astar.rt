@@ -3,7 +3,7 @@ ghost use mathlib.Core.Path.{_≡_};
 ghost use Prim.Native.Nat.{_≤_, _<_};
 ghost use lib.ListN.{length, getD, replicate};
 ghost use Rattle.room_search.specs.Takings.{Showable};
-ghost use Rattle.lent.specs.Lent.{Emptied};
+ghost use Rattle.lent.specs.Lent.{Cleared};
 ghost use Rattle.trace.specs.Traces.{PreviousInside};
 ghost use Rattle.room.specs.Room.{maxVolume};
 ghost use Rattle.routing.specs.Answers.{input, lengthsOf, Promise};
@@ -92,7 +92,7 @@ fn answer_of(
 
 // Work memory is cleared, to its very end.
 fn clear_work(known: &mut [u32], previous: &mut [u32], classes: &mut [u8], queue: &mut [u64])
-    ensures { λ _. ⌜ Emptied (now (known .entry)) (now (known .exit)) × Emptied (now (previous .entry)) (now (previous .exit)) × Emptied (now (classes .entry)) (now (classes .exit)) × Emptied (now (queue .entry)) (now (queue .exit)) ⌝ }
+    ensures { λ _. ⌜ Cleared (now (known .entry)) (now (known .exit)) × Cleared (now (previous .entry)) (now (previous .exit)) × Cleared (now (classes .entry)) (now (classes .exit)) × Cleared (now (queue .entry)) (now (queue .exit)) ⌝ }
 {
     lent::clear_words(known);
     lent::clear_words(previous);
@@ -157,15 +157,15 @@ fn refuse_end(
     classes: &mut [u8],
     queue: &mut [u64],
 ) -> Answer
-    ensures { λ r. ⌜ (r ≡ Answer.NotRouteable cell) × Emptied (now (path .entry)) (now (path .exit)) × Emptied (now (known .entry)) (now (known .exit)) × Emptied (now (previous .entry)) (now (previous .exit)) × Emptied (now (classes .entry)) (now (classes .exit)) × Emptied (now (queue .entry)) (now (queue .exit)) ⌝ }
+    ensures { λ r. ⌜ (r ≡ Answer.NotRouteable cell) × Cleared (now (path .entry)) (now (path .exit)) × Cleared (now (known .entry)) (now (known .exit)) × Cleared (now (previous .entry)) (now (previous .exit)) × Cleared (now (classes .entry)) (now (classes .exit)) × Cleared (now (queue .entry)) (now (queue .exit)) ⌝ }
 {
     lent::clear_words(path);
     clear_work(known, previous, classes, queue);
     Answer::NotRouteable(cell)
 }
 
-// Whether a way leads from the start to the goal, and the cheapest known one, over a room of kinds. The path goes to the
-// front of `path`; the others are work memory. See the promise in specs/Answers.antt.
+// The search from the start to the goal over a room of kinds: a route, or the number that is due. The path goes to the front
+// of `path`; the others are work memory. See the promise in specs/Answers.antt.
 pub fn astar_route(
     room: Room,
     config: RouterConfig,

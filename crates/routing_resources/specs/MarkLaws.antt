@@ -1,4 +1,4 @@
--- Laws of marks: what each byte is, that marking is determined and composes, how a loop marks in turns, and what unmarking leaves.
+-- Laws of marks: what each byte is, that marking is determined and composes, how a loop marks, one record after another, and what unmarking leaves.
 use mathlib.Core.Path.{_≡_, refl, sym, ap, _∙_}
 use mathlib.Core.Bool.{Bool, true, false, not, _&&_, _||_}
 use mathlib.Core.List.{List, [], _∷_}
@@ -69,19 +69,19 @@ module _ (byte : ℕ) where
           with-at q (withByte byte p ms) v (rw (with-length p ms) h)
           ∙ rw (with-at p ms v h) (both-bytes byte (getD ms v 0) (p v) (q v))
 
--- Writing in turns: `rest k` tests for the cells that the turns from k on write, `rest 0` for all of them. Those that are left, written to the
+-- Writing one record after another: `rest k` tests for the cells that the records from the k-th on write, `rest 0` for all of them. Those that are left, written to the
 -- marks of now, make what all make of the marks at the start
-pub record MarksInTurn (byte : ℕ) (rest : ℕ → ℕ → Bool) (start marks : List ℕ) (k : ℕ) : Type 0 where
+pub record MarkedSoFar (byte : ℕ) (rest : ℕ → ℕ → Bool) (start marks : List ℕ) (k : ℕ) : Type 0 where
   pub long : length marks ≡ length start
   pub left : withByte byte (rest k) marks ≡ withByte byte (rest 0) start
 
-pub first-turn : (byte : ℕ) (rest : ℕ → ℕ → Bool) (start : List ℕ) → MarksInTurn byte rest start start 0
-first-turn byte rest start = record { long = refl; left = refl }
+pub marking-none : (byte : ℕ) (rest : ℕ → ℕ → Bool) (start : List ℕ) → MarkedSoFar byte rest start start 0
+marking-none byte rest start = record { long = refl; left = refl }
 
-module _ {byte : ℕ} {rest : ℕ → ℕ → Bool} {start marks : List ℕ} {k : ℕ} (turn : MarksInTurn byte rest start marks k) where
-  pub next-turn : (p : ℕ → Bool) {marks′ : List ℕ} → marks′ ≡ withByte byte p marks → ((v : ℕ) → rest k v ≡ p v || rest (k + 1) v)
-      → MarksInTurn byte rest start marks′ (k + 1)
-  next-turn p e s = record {
+module _ {byte : ℕ} {rest : ℕ → ℕ → Bool} {start marks : List ℕ} {k : ℕ} (turn : MarkedSoFar byte rest start marks k) where
+  pub marking-next : (p : ℕ → Bool) {marks′ : List ℕ} → marks′ ≡ withByte byte p marks → ((v : ℕ) → rest k v ≡ p v || rest (k + 1) v)
+      → MarkedSoFar byte rest start marks′ (k + 1)
+  marking-next p e s = record {
     long = ap length e ∙ with-length byte p marks ∙ turn .long;
     left =
         ap (withByte byte (rest (k + 1))) e
@@ -90,10 +90,10 @@ module _ {byte : ℕ} {rest : ℕ → ℕ → Bool} {start marks : List ℕ} {k 
         ∙ turn .left;
   }
 
-  pub last-turn : ((v : ℕ) → rest k v ≡ false) → marks ≡ withByte byte (rest 0) start
-  last-turn n = sym (with-none byte (rest k) marks (λ v h. n v)) ∙ turn .left
+  pub marking-last : ((v : ℕ) → rest k v ≡ false) → marks ≡ withByte byte (rest 0) start
+  marking-last n = sym (with-none byte (rest k) marks (λ v h. n v)) ∙ turn .left
 
--- a loop that marks, one record a turn, each cell for which a test of the record passes: the cells of the records from the k-th on
+-- a loop that marks, one record after another, each cell for which a test of the record passes: the cells of the records from the k-th on
 abbrev pub restOf : {X : Type 0} → (ℕ → X → Bool) → List X → ℕ → ℕ → Bool
 restOf test xs k v = any (test v) (drop k xs)
 
@@ -101,13 +101,13 @@ module _ {X : Type 0} (test : ℕ → X → Bool) (xs : List X) where
   from-here : (k : ℕ) (d : X) → k < length xs → (v : ℕ) → restOf test xs k v ≡ test v (getD xs k d) || restOf test xs (k + 1) v
   from-here k d h v = ap (any (test v)) (drop-next xs k d h)
 
-  module _ {byte : ℕ} {start marks : List ℕ} {k : ℕ} (turn : MarksInTurn byte (restOf test xs) start marks k) where
-    pub turn-on : (d x : X) → x ≡ getD xs k d → k < length xs → {marks′ : List ℕ} → marks′ ≡ withByte byte (λ v. test v x) marks
-        → MarksInTurn byte (restOf test xs) start marks′ (k + 1)
-    turn-on d x s h e = next-turn turn (λ v. test v x) e (λ v. from-here k d h v ∙ ap (λ y. test v y || restOf test xs (k + 1) v) (sym s))
+  module _ {byte : ℕ} {start marks : List ℕ} {k : ℕ} (turn : MarkedSoFar byte (restOf test xs) start marks k) where
+    pub marking-on : (d x : X) → x ≡ getD xs k d → k < length xs → {marks′ : List ℕ} → marks′ ≡ withByte byte (λ v. test v x) marks
+        → MarkedSoFar byte (restOf test xs) start marks′ (k + 1)
+    marking-on d x s h e = marking-next turn (λ v. test v x) e (λ v. from-here k d h v ∙ ap (λ y. test v y || restOf test xs (k + 1) v) (sym s))
 
-    pub turn-done : length xs ≤ k → marks ≡ withByte byte (λ v. any (test v) xs) start
-    turn-done h = last-turn turn (λ v. ap (any (test v)) (drop-of-length-le xs h))
+    pub marking-all : length xs ≤ k → marks ≡ withByte byte (λ v. any (test v) xs) start
+    marking-all h = marking-last turn (λ v. ap (any (test v)) (drop-of-length-le xs h))
 
 -- what is marked afterwards
 module _ (p : ℕ → Bool) (ms : List ℕ) (v : ℕ) (h : v < length ms) where

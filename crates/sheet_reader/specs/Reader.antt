@@ -46,8 +46,8 @@ headOf version rest sides limit horizontal stair support = record {
 abbrev pub headIn : List ℕ → Head
 headIn s = record { version = getD s 0 0; rest = fourIn (drop 1 s) 0; room = roomIn (drop sidesPlace s); config = configIn (drop configPlace s) }
 
-abbrev pub layoutFrom : Part → Part → Part → Part → Part → ℕ → Part → Layout
-layoutFrom blocks conductors clearances terminals reserved source sinks = record {
+abbrev pub layoutFound : Part → Part → Part → Part → Part → ℕ → Part → Layout
+layoutFound blocks conductors clearances terminals reserved source sinks = record {
   blocks = blocks;
   conductors = conductors;
   clearances = clearances;

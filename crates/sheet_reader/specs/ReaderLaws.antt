@@ -20,7 +20,7 @@ use Rattle.job_sheet.specs.RecordLaws.{Bytes}
 use Rattle.job_sheet.specs.ReadLaws.{job-forth}
 use Rattle.sheet_reader.specs.declared.Head.{Head}
 use Rattle.sheet_reader.specs.declared.Body.{Body}
-use Rattle.sheet_reader.specs.Reader.{Stands, onward, wholeSinks, sinksFound, headOf, headIn, layoutFrom, bodyOf, PartsFound, jobFound}
+use Rattle.sheet_reader.specs.Reader.{Stands, onward, wholeSinks, sinksFound, headOf, headIn, layoutFound, bodyOf, PartsFound, jobFound}
 
 -- ---- where a reader stands
 
@@ -40,69 +40,69 @@ module _ (s : List ℕ) (place n : ℕ) where
 -- ---- the sinks that can be read
 
 module _ (s : List ℕ) (p : Part) where
-  pub held-some : p .count ≤ maxSinks → behind endpointSize p ≤ length s → wholeSinks s p ≡ p
+  pub whole-some : p .count ≤ maxSinks → behind endpointSize p ≤ length s → wholeSinks s p ≡ p
   unfolding wholeSinks
-  held-some few inside = rw (le-leb _ _ few, le-leb _ _ inside)
+  whole-some few inside = rw (le-leb _ _ few, le-leb _ _ inside)
 
-  pub held-over : maxSinks < p .count → wholeSinks s p ≡ noPart
+  pub whole-over : maxSinks < p .count → wholeSinks s p ≡ noPart
   unfolding wholeSinks
-  held-over many = rw (lt-leb _ _ many)
+  whole-over many = rw (lt-leb _ _ many)
 
-  pub held-short : p .count ≤ maxSinks → length s < behind endpointSize p → wholeSinks s p ≡ noPart
+  pub whole-short : p .count ≤ maxSinks → length s < behind endpointSize p → wholeSinks s p ≡ noPart
   unfolding wholeSinks
-  held-short few short = rw (le-leb _ _ few, lt-leb _ _ short)
+  whole-short few short = rw (le-leb _ _ few, lt-leb _ _ short)
 
   holds : (q : Part) → q ≡ wholeSinks s p → (q .count ≤ maxSinks) × (behind endpointSize q ≤ length s)
   holds q e =
       askLess maxSinks (p .count)
-      (λ many. none (held-over many))
-      (λ few. askLess (length s) (behind endpointSize p) (λ short. none (held-short few short)) (λ inside. whole few inside))
+      (λ many. none (whole-over many))
+      (λ few. askLess (length s) (behind endpointSize p) (λ short. none (whole-short few short)) (λ inside. whole few inside))
     where
       whole : p .count ≤ maxSinks → behind endpointSize p ≤ length s → (q .count ≤ maxSinks) × (behind endpointSize q ≤ length s)
-      whole few inside = rw (e, held-some few inside) (few, inside)
+      whole few inside = rw (e, whole-some few inside) (few, inside)
 
       none : wholeSinks s p ≡ noPart → (q .count ≤ maxSinks) × (behind endpointSize q ≤ length s)
       none z = rw (e, z) (omega arith, omega arith)
 
-  pub held-few : wholeSinks s p .count ≤ maxSinks
-  held-few = holds (wholeSinks s p) refl .0
+  pub whole-few : wholeSinks s p .count ≤ maxSinks
+  whole-few = holds (wholeSinks s p) refl .0
 
-  pub held-inside : behind endpointSize (wholeSinks s p) ≤ length s
-  held-inside = holds (wholeSinks s p) refl .1
+  pub whole-inside : behind endpointSize (wholeSinks s p) ≤ length s
+  whole-inside = holds (wholeSinks s p) refl .1
 
 -- ---- a reader beside the places of the definitions, which run on past the end: it stands where they do, or both are off the sheet
 
-data Along (s : List ℕ) (a p : ℕ) : Type 0 where
-  same : a ≡ p → p ≤ length s → Along s a p
-  off : length s < a → length s < p → Along s a p
+data ReadAlong (s : List ℕ) (a p : ℕ) : Type 0 where
+  same : a ≡ p → p ≤ length s → ReadAlong s a p
+  off : length s < a → length s < p → ReadAlong s a p
 
 module _ (s : List ℕ) where
   -- so what is read is the same
-  along-drop : (a p : ℕ) → Along s a p → drop a s ≡ drop p s
+  along-drop : (a p : ℕ) → ReadAlong s a p → drop a s ≡ drop p s
   along-drop a p (same e h) = ap (λ x. drop x s) e
   along-drop a p (off h k) = drop-of-length-le s (le-of-lt h) ∙ sym (drop-of-length-le s (le-of-lt k))
 
-  along-near : (a p : ℕ) → Along s a p → p ≤ length s → a ≡ p
+  along-near : (a p : ℕ) → ReadAlong s a p → p ≤ length s → a ≡ p
   along-near a p (same e h) k = e
   along-near a p (off h k) l = absurd (omega arith)
 
-  along-from : (p n : ℕ) → Along s (onward s p n) (p + n)
+  along-from : (p n : ℕ) → ReadAlong s (onward s p n) (p + n)
   along-from p n =
       askLess (length s) (p + n) (λ h. off (rw (onward-off s p n h) (omega arith)) h) (λ h. same (onward-on s p n h) h)
 
   -- k bytes on, then n more
-  along-on : (k n : ℕ) (a p : ℕ) → Along s a p → Along s (onward s (a + k) n) (p + k + n)
+  along-on : (k n : ℕ) (a p : ℕ) → ReadAlong s a p → ReadAlong s (onward s (a + k) n) (p + k + n)
   along-on k n a p (same e h) = rw e (along-from (p + k) n)
   along-on k n a p (off h l) = off (rw (onward-off s (a + k) n (omega arith)) (omega arith)) (omega arith)
 
-  along-past : (n a p : ℕ) → Along s a p → Along s (onward s a n) (p + n)
+  along-past : (n a p : ℕ) → ReadAlong s a p → ReadAlong s (onward s a n) (p + n)
   along-past n a p (same e h) = rw e (along-from p n)
   along-past n a p (off h l) = off (rw (onward-off s a n (omega arith)) (omega arith)) (omega arith)
 
-  along-start : Along s 0 0
+  along-start : ReadAlong s 0 0
   along-start = same refl (omega arith)
 
-  along-end : (a p : ℕ) → Along s a p → eqb a (length s) ≡ eqb p (length s)
+  along-end : (a p : ℕ) → ReadAlong s a p → eqb a (length s) ≡ eqb p (length s)
   along-end a p (same e h) = ap (λ x. eqb x (length s)) e
   along-end a p (off h k) = ne-eqb a (length s) (λ e. omega (arith, h, e)) ∙ sym (ne-eqb p (length s) (λ e. omega (arith, k, e)))
 
@@ -157,7 +157,7 @@ abbrev after : List ℕ → ℕ → Part → ℕ
 after s size x = onward s (x .from) (size * x .count)
 
 module _ (s : List ℕ) where
-  list-along : (size : ℕ) (x : Part) (a p : ℕ) → x ≡ listAt s a → Along s a p → Along s (after s size x) (behind size (listAt s p))
+  list-along : (size : ℕ) (x : Part) (a p : ℕ) → x ≡ listAt s a → ReadAlong s a p → ReadAlong s (after s size x) (behind size (listAt s p))
   unfolding listAt
   list-along size x a p e A = rw (e, along-drop s a p A) (along-on s 2 (size * twoIn (drop p s) 0) a p A)
 
@@ -165,11 +165,11 @@ module _ (s : List ℕ) where
   unfolding listAt
   behind-on size p = omega arith
 
-  sinks-along : (a p : ℕ) → Along s a p → Along s (after s endpointSize (sinksAt s a)) (behind endpointSize (sinksAt s p))
+  sinks-along : (a p : ℕ) → ReadAlong s a p → ReadAlong s (after s endpointSize (sinksAt s a)) (behind endpointSize (sinksAt s p))
   unfolding sinksAt
   sinks-along a p A = rw (along-drop s a p A) (along-on s 1 (endpointSize * getD (drop p s) 0 0) a p A)
 
-  sinks-count : (a p : ℕ) → Along s a p → sinksAt s a .count ≡ sinksAt s p .count
+  sinks-count : (a p : ℕ) → ReadAlong s a p → sinksAt s a .count ≡ sinksAt s p .count
   unfolding sinksAt
   sinks-count a p A = ap (λ l. getD l 0 0) (along-drop s a p A)
 
@@ -187,7 +187,7 @@ module _ (s : List ℕ) where
       → k ≡ sinksAt s (onward s (after s positionSize r) endpointSize)
       → n ≡ sinksFound s (onward s (after s positionSize r) endpointSize)
       → w ≡ eqb (after s endpointSize k) (length s)
-      → PartsFound s (bodyOf (layoutFrom b c l t r (after s positionSize r) k) e n w)
+      → PartsFound s (bodyOf (layoutFound b c l t r (after s positionSize r) k) e n w)
   unfolding layoutIn
   body-read b c l t r k e n w eb ec el et er ee ek en ew =
       let q₁ : ℕ = listsPlace in
@@ -199,14 +199,14 @@ module _ (s : List ℕ) where
       let q₇ : ℕ = q₆ + endpointSize in
       let q₈ : ℕ = behind endpointSize (sinksAt s q₇) in
       let a₇ : ℕ = onward s (after s positionSize r) endpointSize in
-      let A₁ : Along s (onward s 0 listsPlace) q₁ = along-past s listsPlace 0 0 (along-start s) in
-      let A₂ : Along s (after s blockSize b) q₂ = list-along blockSize b _ q₁ eb A₁ in
-      let A₃ : Along s (after s positionSize c) q₃ = list-along positionSize c _ q₂ ec A₂ in
-      let A₄ : Along s (after s positionSize l) q₄ = list-along positionSize l _ q₃ el A₃ in
-      let A₅ : Along s (after s positionSize t) q₅ = list-along positionSize t _ q₄ et A₄ in
-      let A₆ : Along s (after s positionSize r) q₆ = list-along positionSize r _ q₅ er A₅ in
-      let A₇ : Along s a₇ q₇ = along-past s endpointSize _ q₆ A₆ in
-      let A₈ : Along s (after s endpointSize k) q₈ = rw ek (sinks-along a₇ q₇ A₇) in
+      let A₁ : ReadAlong s (onward s 0 listsPlace) q₁ = along-past s listsPlace 0 0 (along-start s) in
+      let A₂ : ReadAlong s (after s blockSize b) q₂ = list-along blockSize b _ q₁ eb A₁ in
+      let A₃ : ReadAlong s (after s positionSize c) q₃ = list-along positionSize c _ q₂ ec A₂ in
+      let A₄ : ReadAlong s (after s positionSize l) q₄ = list-along positionSize l _ q₃ el A₃ in
+      let A₅ : ReadAlong s (after s positionSize t) q₅ = list-along positionSize t _ q₄ et A₄ in
+      let A₆ : ReadAlong s (after s positionSize r) q₆ = list-along positionSize r _ q₅ er A₅ in
+      let A₇ : ReadAlong s a₇ q₇ = along-past s endpointSize _ q₆ A₆ in
+      let A₈ : ReadAlong s (after s endpointSize k) q₈ = rw ek (sinks-along a₇ q₇ A₇) in
       let whole : w ≡ eqb q₈ (length s) = ew ∙ along-end s _ q₈ A₈ in
       let ends : w ≡ true → q₈ ≡ length s = λ z. eqb-true _ _ (sym whole ∙ z) in
       let on₂ = behind-on blockSize q₁ in
@@ -226,10 +226,10 @@ module _ (s : List ℕ) where
       record {
         whole-is = whole;
         count-is = ap (λ x. x .count) ek ∙ sinks-count a₇ q₇ A₇;
-        layout-is = λ z i. layoutFrom ((eb ∙ ap (listAt s) (p₁ z)) i) ((ec ∙ ap (listAt s) (p₂ z)) i) ((el ∙ ap (listAt s) (p₃ z)) i) ((et ∙ ap (listAt s) (p₄ z)) i) ((er ∙ ap (listAt s) (p₅ z)) i) (p₆ z i) (k-is z i);
+        layout-is = λ z i. layoutFound ((eb ∙ ap (listAt s) (p₁ z)) i) ((ec ∙ ap (listAt s) (p₂ z)) i) ((el ∙ ap (listAt s) (p₃ z)) i) ((et ∙ ap (listAt s) (p₄ z)) i) ((er ∙ ap (listAt s) (p₅ z)) i) (p₆ z i) (k-is z i);
         source-is = λ z. ee ∙ ap (λ x. endpointIn (drop x s)) (p₆ z);
         sinks-are = λ z few.
-            en ∙ ap (λ x. sinksOf (endpointsIn s (wholeSinks s (sinksAt s x)))) (p₇ z) ∙ ap (λ x. sinksOf (endpointsIn s x)) (held-some s (sinksAt s q₇) few (omega (arith, ends z)));
+            en ∙ ap (λ x. sinksOf (endpointsIn s (wholeSinks s (sinksAt s x)))) (p₇ z) ∙ ap (λ x. sinksOf (endpointsIn s x)) (whole-some s (sinksAt s q₇) few (omega (arith, ends z)));
       }
 
   pub found-as : (x y : Body) → x ≡ y → PartsFound s y → PartsFound s x

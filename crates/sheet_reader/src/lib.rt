@@ -9,7 +9,7 @@ ghost use lib.Dec.{eqb};
 ghost use lib.ListN.{length, getD, drop};
 ghost use Rattle.job_sheet.specs.Sheet.{Read};
 ghost use Rattle.job_sheet.specs.Places.{fourIn, positionIn, endpointIn, Listed, SinksListed, shaped};
-ghost use Rattle.sheet_reader.specs.Reader.{Stands, onward, sinksFound, headOf, headIn, layoutFrom, bodyOf, PartsFound, jobFound};
+ghost use Rattle.sheet_reader.specs.Reader.{Stands, onward, sinksFound, headOf, headIn, layoutFound, bodyOf, PartsFound, jobFound};
 use job_sheet::Endpoint;
 use job_sheet::Job;
 use job_sheet::Judgement;
@@ -193,7 +193,7 @@ fn read_head(sheet: &[u8]) -> Head
 }
 
 // Where the parts were found. The source is one record.
-fn layout_of(
+fn layout_found(
     blocks: Part,
     conductors: Part,
     clearances: Part,
@@ -202,7 +202,7 @@ fn layout_of(
     source: usize,
     sinks: Part,
 ) -> Layout
-    ensures { λ r. ⌜ r ≡ layoutFrom blocks conductors clearances terminals reserved source sinks ⌝ }
+    ensures { λ r. ⌜ r ≡ layoutFound blocks conductors clearances terminals reserved source sinks ⌝ }
 {
     Layout {
         blocks,
@@ -253,7 +253,7 @@ fn read_body(sheet: &[u8]) -> Body
     let sinks = reader.sinks();
     let reader = reader.behind(job_sheet::ENDPOINT_SIZE, listed);
     let whole = reader.at_end();
-    let layout = layout_of(
+    let layout = layout_found(
         blocks,
         conductors,
         clearances,
@@ -280,7 +280,7 @@ fn shaped(sheet: &[u8], head: Head, body: Body) -> bool
 }
 
 // The job that was read.
-fn job_of(head: Head, body: Body) -> Job
+fn job_found(head: Head, body: Body) -> Job
     ensures { λ r. ⌜ r ≡ jobFound head body ⌝ }
 {
     let room = head.room;
@@ -322,6 +322,6 @@ pub fn read_sheet(sheet: &[u8]) -> Reading
     }
     Reading {
         judgement,
-        job: job_of(head, body),
+        job: job_found(head, body),
     }
 }

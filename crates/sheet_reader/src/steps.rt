@@ -39,7 +39,7 @@ pub fn at_end(sheet: &[u8], place: usize) -> bool
 }
 
 // The part itself where it is of at most sixteen endpoints that the sheet has whole, else a part of none.
-fn held(sheet: &[u8], part: Part) -> Part
+fn whole_sinks(sheet: &[u8], part: Part) -> Part
     requires { ⌜ part .from ≤ length (now sheet) + 2 ⌝ }
     ensures { λ r. ⌜ r ≡ wholeSinks (now (sheet .entry)) part ⌝ }
 {
@@ -59,5 +59,5 @@ pub fn sinks(sheet: &[u8], place: usize) -> Sinks
     requires { ⌜ Stands (now sheet) place ⌝ }
     ensures { λ r. ⌜ r ≡ sinksFound (now (sheet .entry)) place ⌝ }
 {
-    job_sheet::sinks_from(sheet, held(sheet, places::sinks_at(sheet, place)))
+    job_sheet::sinks_from(sheet, whole_sinks(sheet, places::sinks_at(sheet, place)))
 }

@@ -1,5 +1,5 @@
-pub mod Places
-pub mod PlaceLaws
+pub mod FilePlaces
+pub mod FilePlaceLaws
 pub mod Memory
 pub mod MemoryLaws
 pub mod Runs

@@ -1,4 +1,4 @@
--- What every stored case is put to, a search or a sheet: the verdict on a run, longer buffers, the least queue, and turns one after another.
+-- What every stored case is put to, a search or a sheet: the verdict on a run, longer buffers, the least queue, and rounds one after another.
 use mathlib.Core.Path.{_≡_}
 use mathlib.Core.Bool.{Bool, true, false, _&&_, not}
 use Prim.Native.Nat.{ℕ, suc, _+_, _*_, _-_, _/_}
@@ -40,12 +40,12 @@ queueMore number = either (eqb number 6) 1 (either (eqb number 13) 1 51)
 unfoldable pub sumOf : ℕ → ℕ → ℕ
 sumOf count more = either (ltb 1000000 count) count (either (ltb 1000000 more) count (count + more))
 
--- ---- turns
+-- ---- rounds
 
--- what so many turns lead to, where turn k follows from the one before it by a relation
+-- what so many rounds lead to, where round k follows from the one before it by a relation
 pub data Repeated {X : Type 0} (next : ℕ → X → X → Type 0) (start : X) : ℕ → X → Type 0 where
   none : {r : X} → r ≡ start → Repeated next start 0 r
-  one-more : {k : ℕ} {x r : X} → Repeated next start k x → next k x r → Repeated next start (suc k) r
+  once-more : {k : ℕ} {x r : X} → Repeated next start k x → next k x r → Repeated next start (suc k) r
 
 -- ---- the least queue
 
@@ -68,7 +68,7 @@ narrowedBy G places Other = record { full = G .full; enough = G .enough; runs = 
 
 -- a gap that is open is halved by a run half way, a place of whose queue takes two numbers; any other stays
 pub data Halved (ran : ℕ → Verdict → Type 0) (G r : Gap) : Type 0 where
-  stays : isOpen G ≡ false → r ≡ G → Halved ran G r
+  closed : isOpen G ≡ false → r ≡ G → Halved ran G r
   halves : isOpen G ≡ true → (places : ℕ) → places ≡ middleOf (G .full) (G .enough) → (queue : ℕ) → queue ≡ places * 2
       → (v : Verdict) → ran queue v → r ≡ narrowedBy G places v → Halved ran G r
 

@@ -4,9 +4,9 @@ ghost use mathlib.Core.Bool.{false};
 ghost use mathlib.Core.List.{[]};
 ghost use Prim.Native.Nat.{_<_};
 ghost use Rattle.stored.specs.Memory.{rubbish, Rubbish, dueAt, holds, coversAt, covers};
-ghost use Rattle.stored.specs.Places.{cellsFrom};
-use crate::places::cell_at;
-use crate::places::past;
+ghost use Rattle.stored.specs.FilePlaces.{cellsFrom};
+use crate::file_places::cell_at;
+use crate::file_places::past;
 
 // How many numbers the programs' own buffers have: those of the longest buffer that is stored, 16,484, and some more.
 pub const OWN_LENGTH: usize = 16600;

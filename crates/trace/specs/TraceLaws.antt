@@ -93,7 +93,7 @@ pub record Writing (previous : List ℕ) (path : List ℕ) (path₀ : List ℕ) 
   pub cells : left ≡ length (trace fuel previous v [])
   pub inside : v < length previous
   pub kept : length path ≡ length path₀
-  pub room : left ≤ length path
+  pub fits : left ≤ length path
   pub written : List ℕ
   pub behind : drop left path ≡ written ++ drop count path₀
   pub same : trace left previous v written ≡ whole
@@ -106,7 +106,7 @@ module _ {previous path₀ whole : List ℕ} {count : ℕ} where
     cells = e;
     inside = h;
     kept = refl;
-    room = r;
+    fits = r;
     written = [];
     behind = refl;
     same = rw e (trace-enough most previous from []) ∙ sym w;
@@ -119,8 +119,8 @@ module _ {previous path₀ whole : List ℕ} {count : ℕ} where
     behind-now : drop k (set path k v) ≡ (v ∷ I .written) ++ drop count path₀
     behind-now =
         let e : suc k ≡ left = omega arith in
-        let r : k < length (set path k v) = rw length-set (omega (arith, I .room)) in
-        drop-cons (set path k v) k 0 r ∙ rw (getD-set-same path k v 0 (omega (arith, I .room)), drop-set-lt (suc k) path k v (omega arith), e) (ap (λ (l : List ℕ). v ∷ l) (I .behind))
+        let r : k < length (set path k v) = rw length-set (omega (arith, I .fits)) in
+        drop-cons (set path k v) k 0 r ∙ rw (getD-set-same path k v 0 (omega (arith, I .fits)), drop-set-lt (suc k) path k v (omega arith), e) (ap (λ (l : List ℕ). v ∷ l) (I .behind))
 
     suc-k : left ≡ suc k
     suc-k = omega arith
@@ -128,8 +128,8 @@ module _ {previous path₀ whole : List ℕ} {count : ℕ} where
     kept-now : length (set path k v) ≡ length path₀
     kept-now = length-set path k v ∙ I .kept
 
-    room-now : k ≤ length (set path k v)
-    room-now = rw length-set (omega (arith, I .room))
+    fits-now : k ≤ length (set path k v)
+    fits-now = rw length-set (omega (arith, I .fits))
 
     -- the first cell has no predecessor, and is the last to be written
     pub writing-first : getD previous v 0 ≡ 0 → Writing previous (set path k v) path₀ count k v whole
@@ -146,7 +146,7 @@ module _ {previous path₀ whole : List ℕ} {count : ℕ} where
               cells = z;
               inside = I .inside;
               kept = kept-now;
-              room = room-now;
+              fits = fits-now;
               written = v ∷ I .written;
               behind = behind-now;
               same = rw z (sym (trace-start k previous v (I .written) e) ∙ w);
@@ -168,7 +168,7 @@ module _ {previous path₀ whole : List ℕ} {count : ℕ} where
               cells = omega (arith, c, length-back f previous v (getD previous v 0 - 1) s);
               inside = omega (arith, L v, I .inside);
               kept = kept-now;
-              room = room-now;
+              fits = fits-now;
               written = v ∷ I .written;
               behind = behind-now;
               same = sym (trace-back k previous v (getD previous v 0 - 1) (I .written) s) ∙ w;

@@ -24,6 +24,12 @@ pub enum Other {
     EndsStayOpen,
     /// A vertical pair's conflict is its lower cell.
     LowerOfPair,
+    /// A path's stairs are looked through from the goal on.
+    StairsFromGoal,
+    /// At a stair a conductor above the clearance comes before the clearance's kind.
+    AboveClearanceFirst,
+    /// A stair's second cell counts from the goal, so it is the one nearer to the approach.
+    SecondFromGoal,
     /// Conflicts are looked for among the occupied cells.
     ConflictWithOccupied,
     /// A conflict stays blocked for the sink's later goals.
@@ -36,6 +42,9 @@ pub enum Other {
     TailsAsSearched,
     /// A sink's tail follows its run, before the next sink's run.
     TailAfterRun,
+    /// A tail's repeater may stand on a terminal or approach of this net: of ends the tail rule says "not the first cell"
+    /// alone, and "such cell" speaks of tree neighbours and facing.
+    TailOnOwnEnds,
     /// Of a cell's tree neighbours only those count that the branch has which brought it.
     NeighboursOfOneBranch,
     /// A cell's tree neighbours are counted once for each step of a branch.

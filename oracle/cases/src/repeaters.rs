@@ -133,9 +133,13 @@ impl<'a> Wires<'a> {
     /// A repeater may stand here: off this net's terminals and approaches, with a cell before and after on the path, two
     /// tree neighbours, and equal flat facing in and out.
     fn fits(&self, path: &[usize], index: usize) -> bool {
+        !self.own.contains(&path[index]) && self.fits_between(path, index)
+    }
+
+    /// The same, on this net's terminals and approaches too.
+    fn fits_between(&self, path: &[usize], index: usize) -> bool {
         0 < index
             && index + 1 < path.len()
-            && !self.own.contains(&path[index])
             && self.degree(path[index]) == 2
             && self.straight(path[index - 1], path[index], path[index + 1])
     }
@@ -185,8 +189,12 @@ impl<'a> Wires<'a> {
         if end - reset <= TAIL {
             return;
         }
+        let fits = match self.laid.reads(Other::TailOnOwnEnds) {
+            true => Self::fits_between,
+            false => Self::fits,
+        };
         let fit = (end - TAIL..end).find(|index| {
-            self.fits(path, *index) && !is_repeater(&(index - 1)) && !is_repeater(&(index + 1))
+            fits(self, path, *index) && !is_repeater(&(index - 1)) && !is_repeater(&(index + 1))
         });
         repeaters.extend(fit.map(|index| path[index]));
     }

@@ -299,7 +299,7 @@ impl<'a> Tree<'a> {
         }
         self.joinable.extend(laid);
         self.occupied.extend(&branch);
-        for (_, clearance) in stairs(self.room, &branch) {
+        for Stair { clearance, .. } in stairs(self.room, &branch) {
             self.blocked[clearance] = !self.stay_open.contains(&clearance);
         }
         Ok(branch)
@@ -376,34 +376,62 @@ impl<'a> Tree<'a> {
             false => self.joinable.clone(),
         };
         conductors.extend(path);
-        let above = |cell| self.room.next(cell, UP);
         let conducts = |cell: &usize| conductors.contains(cell);
         let beneath = |cell: &usize| self.room.next(*cell, DOWN).filter(conducts);
         if let Some(upper) = conductors.iter().find(|cell| beneath(cell).is_some()) {
             let lower = beneath(upper).filter(|_| self.reading.is(Other::LowerOfPair));
             return Some(lower.unwrap_or(*upper));
         }
-        for (second, clearance) in stairs(self.room, path) {
-            if self.kinds[clearance] != kind::AIR {
-                let on_path = path.iter().find(|cell| **cell == clearance);
-                return Some(*on_path.unwrap_or(&second));
-            }
-            if let Some(cell) = above(clearance).filter(conducts) {
-                return Some(cell);
-            }
+        let mut stairs = stairs(self.room, path);
+        if self.reading.is(Other::StairsFromGoal) {
+            stairs.reverse();
         }
-        None
+        let conflict = |stair: &Stair| self.stair_conflict(path, &conductors, stair);
+        stairs.iter().find_map(conflict)
+    }
+
+    /// The conflict at one stair: a clearance that is not Air gives the path's cell there, else the pair's second cell;
+    /// then a conductor above the clearance gives that cell.
+    fn stair_conflict(
+        &self,
+        path: &[usize],
+        conductors: &BTreeSet<usize>,
+        stair: &Stair,
+    ) -> Option<usize> {
+        let Stair { pair, clearance } = stair;
+        let second = match self.reading.is(Other::SecondFromGoal) {
+            true => pair[0],
+            false => pair[1],
+        };
+        let on_path = path.iter().find(|cell| *cell == clearance);
+        let given = *on_path.unwrap_or(&second);
+        let filled = (self.kinds[*clearance] != kind::AIR).then_some(given);
+        let conducts = |cell: &usize| conductors.contains(cell);
+        let above = self.room.next(*clearance, UP).filter(conducts);
+        match self.reading.is(Other::AboveClearanceFirst) {
+            true => above.or(filled),
+            false => filled.or(above),
+        }
     }
 }
 
-/// Along a path's stairs: the pair's second cell, and the clearance, which lies above the lower end.
-pub fn stairs(room: &Room, path: &[usize]) -> Vec<(usize, usize)> {
+/// Two cells of a path that follow each other at different heights, and the clearance, which lies above the lower one.
+pub struct Stair {
+    pub pair: [usize; 2],
+    pub clearance: usize,
+}
+
+/// A path's stairs, from its beginning on.
+pub fn stairs(room: &Room, path: &[usize]) -> Vec<Stair> {
     let height = |cell| room.place(cell).y;
     path.windows(2)
         .filter(|pair| height(pair[0]) != height(pair[1]))
         .filter_map(|pair| {
             let lower = *pair.iter().min_by_key(|cell| height(**cell))?;
-            Some((pair[1], room.next(lower, UP)?))
+            Some(Stair {
+                pair: [pair[0], pair[1]],
+                clearance: room.next(lower, UP)?,
+            })
         })
         .collect()
 }

@@ -10,8 +10,8 @@ seen-beneath-requires c κs = search needs
 seen-kind-requires : tie.Need-seen-kind-requires
 seen-kind-requires c κs = search needs
 
-is-end-requires : tie.Need-is-end-requires
-is-end-requires c κs = search needs
+an-end-requires : tie.Need-an-end-requires
+an-end-requires c κs = search needs
 
 class-for-requires : tie.Need-class-for-requires
 class-for-requires c κs = search needs
@@ -20,9 +20,9 @@ returns : tie.Need-returns
 returns c =
     let a = c .before .before .before .before .before .before .args in
     let pre = c .before .before .before .before .before .before .pre in
-    class-by (a .room) (a .kinds .now) (a .blocked .now) (a .start) (a .goal) (pre .0 .kinds-long) (a .cell) (pre .1) _ _ _ _ (c .before .is-end .ensures) (c .before .before .seen-kind .ensures) (c .before .before .before .seen-beneath .ensures) (c .class-for .ensures)
+    class-by (a .room) (a .kinds .now) (a .blocked .now) (a .start) (a .goal) (pre .0 .kinds-long) (a .cell) (pre .1) _ _ _ _ (c .before .an-end .ensures) (c .before .before .seen-kind .ensures) (c .before .before .before .seen-beneath .ensures) (c .class-for .ensures)
 
 pub class-seen-spec : {M : Type 1} → statement M
 class-seen-spec =
     tie.close
-    (tie.spec seen-beneath-requires seen-kind-requires is-end-requires class-for-requires returns)
+    (tie.spec seen-beneath-requires seen-kind-requires an-end-requires class-for-requires returns)

@@ -17,14 +17,14 @@ shared-slice-read-if2 c = search needs
 returns-2 : tie.Need-returns-2
 returns-2 c = let a = c .before .before .before .before .before .before .args in seen-free (a .kinds .now) (a .blocked .now) (a .start) (a .goal) (a .cell) (c .if2 .taken)
 
-is-end-requires : tie.Need-is-end-requires
-is-end-requires c κs = search needs
+an-end-requires : tie.Need-an-end-requires
+an-end-requires c κs = search needs
 
 returns-3 : tie.Need-returns-3
-returns-3 c = let a = c .before .before .before .before .before .before .before .before .args in seen-end (a .kinds .now) (a .blocked .now) (a .start) (a .goal) (a .cell) (c .before .before .before .before .if1 .left) (c .before .before .if2 .left) (sym (c .before .is-end .ensures) ∙ c .if3 .taken)
+returns-3 c = let a = c .before .before .before .before .before .before .before .before .args in seen-end (a .kinds .now) (a .blocked .now) (a .start) (a .goal) (a .cell) (c .before .before .before .before .if1 .left) (c .before .before .if2 .left) (sym (c .before .an-end .ensures) ∙ c .if3 .taken)
 
 returns-4 : tie.Need-returns-4
-returns-4 c = let a = c .before .before .before .before .before .before .before .before .args in seen-solid (a .kinds .now) (a .blocked .now) (a .start) (a .goal) (a .cell) (c .before .before .before .before .if1 .left) (c .before .before .if2 .left) (sym (c .before .is-end .ensures) ∙ c .if3 .left)
+returns-4 c = let a = c .before .before .before .before .before .before .before .before .args in seen-solid (a .kinds .now) (a .blocked .now) (a .start) (a .goal) (a .cell) (c .before .before .before .before .if1 .left) (c .before .before .if2 .left) (sym (c .before .an-end .ensures) ∙ c .if3 .left)
 
 pub seen-kind-spec : {M : Type 1} → statement M
 seen-kind-spec =
@@ -34,6 +34,6 @@ seen-kind-spec =
     returns
     shared-slice-read-if2
     returns-2
-    is-end-requires
+    an-end-requires
     returns-3
     returns-4)

@@ -45,11 +45,11 @@ slice-write-kinds c =
     let start = c .before .before .before .before .before .before in
     omega (arith, cell-small (start .pre .0) (start .pre .1 .0) _ (c .before .before .before .cell .ensures), start .pre .1 .1)
 
-lesser-requires : tie.Need-lesser-requires
-lesser-requires c κs = search needs
+lesser-kept-requires : tie.Need-lesser-kept-requires
+lesser-kept-requires c κs = search needs
 
 cast-nodes : tie.Need-cast-nodes
-cast-nodes c = omega (arith, not-higher _ _ _ (c .lesser .ensures), c .before .before .before .before .before .before .before .good)
+cast-nodes c = omega (arith, not-higher _ _ _ (c .lesser-kept .ensures), c .before .before .before .before .before .before .before .good)
 
 mul-nodes : tie.Need-mul-nodes
 mul-nodes c =
@@ -69,8 +69,8 @@ repeat-number-requires c κs =
       cell-small (start .pre .0) (start .pre .1 .0) _ (c .before .before .before .before .cell .ensures) .1,
     )
 
-lesser-requires-2 : tie.Need-lesser-requires-2
-lesser-requires-2 c κs = search needs
+lesser-kept-requires-2 : tie.Need-lesser-kept-requires-2
+lesser-kept-requires-2 c κs = search needs
 
 same-length : tie.Need-same-length
 same-length c = search needs
@@ -84,8 +84,8 @@ returns c =
     let known = c .before .before .before .before .as-index .ensures .0 in
     record {
       kinds-are = rw cell;
-      nodes-are = rw (c .before .before .lesser .ensures, known, cell);
-      found-is = rw (c .lesser2 .ensures, c .before .repeat-number .ensures, known, cell);
+      nodes-are = rw (c .before .before .lesser-kept .ensures, known, cell);
+      found-is = rw (c .lesser-kept2 .ensures, c .before .repeat-number .ensures, known, cell);
     }
 
 pub place-block-spec : {M : Type 1} → statement M
@@ -99,12 +99,12 @@ place-block-spec =
     cast-node
     add-node
     slice-write-kinds
-    lesser-requires
+    lesser-kept-requires
     cast-nodes
     mul-nodes
     slice-write-nodes
     repeat-number-requires
-    lesser-requires-2
+    lesser-kept-requires-2
     same-length
     same-length-2
     returns)

@@ -1,4 +1,4 @@
--- `place_each` meets its contract: after i turns the first i blocks are laid out.
+-- `place_each` meets its contract: after i rounds the first i blocks are laid out.
 use mathlib.Core.Path.{_≡_, sym, _∙_}
 use Prim.Native.Nat.{_-_, _≤_}
 use native.Mathlib.Omega.{arith}

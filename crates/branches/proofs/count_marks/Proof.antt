@@ -1,4 +1,4 @@
--- `count_marks` meets its contract: each turn counts one cell or passes it.
+-- `count_marks` meets its contract: each round counts one cell or passes it.
 use borrow.Author.Needs.{needs}
 use Prim.Native.Nat.{_-_}
 use lib.ListN.{length}

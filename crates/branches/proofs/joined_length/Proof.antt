@@ -1,4 +1,4 @@
--- `joined_length` meets its contract: each turn adds one length.
+-- `joined_length` meets its contract: each round adds one length.
 use borrow.Author.Needs.{needs}
 use Prim.Native.Nat.{_≤_, _-_}
 use mathlib.Core.Path.{_≡_}

@@ -1,22 +1,22 @@
--- `mark_cells` meets its contract: each turn marks one cell of the branch.
+-- `mark_cells` meets its contract: each round marks one of the cells.
 use borrow.Author.Needs.{needs}
 use Prim.Native.Nat.{_≤_, _-_}
 use native.Mathlib.Omega.{arith}
 use lib.ListN.{length}
 use lib.Dec.{eqb}
-use Rattle.routing_resources.specs.MarkLaws.{MarksInTurn, first-turn, restOf, turn-on, turn-done}
+use Rattle.routing_resources.specs.MarkLaws.{MarkedSoFar, marking-none, restOf, marking-on, marking-all}
 use Rattle.geometry.specs.Geometry.{standsIn}
 use Rattle.branches.proofs.mark_cells.Statement.{statement}
 use Rattle.branches.proofs.mark_cells.Tie as tie
 
 abbrev Inv-loop : tie.InvT-loop
-Inv-loop marks₀ cells i₀ marks i = (i ≤ length cells) × MarksInTurn 1 (restOf (λ v cell. eqb cell v) cells) marks₀ marks i
+Inv-loop marks₀ cells i₀ marks i = (i ≤ length cells) × MarkedSoFar 1 (restOf (λ v cell. eqb cell v) cells) marks₀ marks i
 
 abbrev μ-loop : tie.MeasureT-loop
 μ-loop marks₀ cells i₀ marks i = length cells - i
 
 loop-holds : tie.Need-loop-holds Inv-loop μ-loop
-loop-holds c = (omega arith, first-turn _ _ _)
+loop-holds c = (omega arith, marking-none _ _ _)
 
 mul-as-index : tie.Need-mul-as-index Inv-loop μ-loop
 mul-as-index c = search needs
@@ -41,14 +41,14 @@ loop-less c = search needs
 loop-again : tie.Need-loop-again Inv-loop μ-loop
 loop-again c =
     let turn = c .before .before .before .before .before .before .before .loop in
-    (omega arith, turn-on (λ v cell. eqb cell v) _ (turn .inv .1) 0 _ (c .before .before .before .as-index .ensures .0) (c .before .before .before .before .before .before .loop-test .taken) (c .before .before .mark .ensures))
+    (omega arith, marking-on (λ v cell. eqb cell v) _ (turn .inv .1) 0 _ (c .before .before .before .as-index .ensures .0) (c .before .before .before .before .before .before .loop-test .taken) (c .before .before .mark .ensures))
 
 same-length : tie.Need-same-length Inv-loop μ-loop
 same-length c = c .before .loop .inv .1 .long
 
 returns : tie.Need-returns Inv-loop μ-loop
 unfolding standsIn
-returns c = turn-done (λ v cell. eqb cell v) _ (c .before .loop .inv .1) (c .loop-test .left)
+returns c = marking-all (λ v cell. eqb cell v) _ (c .before .loop .inv .1) (c .loop-test .left)
 
 pub mark-cells-spec : {M : Type 1} → statement M
 mark-cells-spec =

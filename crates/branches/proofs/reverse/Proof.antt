@@ -1,4 +1,4 @@
--- `reverse` meets its contract: each turn the two outer cells of what is left change places.
+-- `reverse` meets its contract: each round the two outer cells of what is left change places.
 use borrow.Author.Needs.{needs}
 use Rattle.branches.specs.WriteLaws.{Mirrored, mirrored-none, mirrored-next, mirrored-done, last-inside}
 use Rattle.branches.proofs.reverse.Statement.{statement}

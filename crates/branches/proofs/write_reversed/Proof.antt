@@ -1,4 +1,4 @@
--- `write_reversed` meets its contract: each turn writes the last cell that is left of the path.
+-- `write_reversed` meets its contract: each round writes the last cell that is left of the path.
 use borrow.Author.Needs.{needs}
 use Prim.Native.Nat.{_-_}
 use Rattle.branches.specs.WriteLaws.{Reversing, reversing-none, reversing-next, reversing-done}

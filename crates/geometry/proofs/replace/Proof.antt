@@ -1,4 +1,4 @@
--- `replace` meets its contract: each turn replaces the byte of one cell of the path.
+-- `replace` meets its contract: each round replaces the byte of one cell of the path.
 use mathlib.Core.Path.{_∙_}
 use mathlib.Core.Logic.{⊎-elim}
 use Prim.Native.Nat.{_-_}
@@ -7,17 +7,17 @@ use borrow.Author.Needs.{needs}
 use Rattle.geometry.specs.Along.{replacedAt}
 use Rattle.geometry.specs.LayLaws.{one-put, one-kept, walk-length, walk-in}
 use Rattle.geometry.proofs.replace.Statement.{statement}
-use Rattle.basics.specs.Walks.{Walk, walk-first, walk-next, walk-last}
+use Rattle.basics.specs.Folds.{Folding, fold-first, fold-next, fold-last}
 use Rattle.geometry.proofs.replace.Tie as tie
 
 abbrev Inv-loop : tie.InvT-loop
-Inv-loop bytes₀ path old new i₀ bytes i = Walk (replacedAt old new) path bytes₀ bytes i
+Inv-loop bytes₀ path old new i₀ bytes i = Folding (replacedAt old new) path bytes₀ bytes i
 
 abbrev μ-loop : tie.MeasureT-loop
 μ-loop bytes₀ path old new i₀ bytes i = length path - i
 
 loop-holds : tie.Need-loop-holds Inv-loop μ-loop
-loop-holds c = walk-first _ _ _
+loop-holds c = fold-first _ _ _
 
 mul-as-index : tie.Need-mul-as-index Inv-loop μ-loop
 mul-as-index c = search needs
@@ -48,15 +48,15 @@ loop-again c =
     let more = c .before .before .before .before .loop-test .taken in
     let cell = c .before .before .as-index .ensures .0 in
     ⊎-elim
-    (λ w. walk-next _ _ walk 0 more _ (w .1 ∙ one-put _ (args .new) _ _ bytes cell (w .0 .taken)))
-    (λ w. walk-next _ _ walk 0 more _ (w .1 ∙ one-kept _ (args .new) _ _ bytes cell (w .0 .left)))
+    (λ w. fold-next _ _ walk 0 more _ (w .1 ∙ one-put _ (args .new) _ _ bytes cell (w .0 .taken)))
+    (λ w. fold-next _ _ walk 0 more _ (w .1 ∙ one-kept _ (args .new) _ _ bytes cell (w .0 .left)))
     (c .if1 .came)
 
 same-length : tie.Need-same-length Inv-loop μ-loop
 same-length c = walk-length _ _ (c .before .loop .inv)
 
 returns : tie.Need-returns Inv-loop μ-loop
-returns c = walk-last _ _ (c .before .loop .inv) (c .loop-test .left)
+returns c = fold-last _ _ (c .before .loop .inv) (c .loop-test .left)
 
 pub replace-spec : {M : Type 1} → statement M
 replace-spec =

@@ -5,13 +5,13 @@ use native.Mathlib.Omega.{arith}
 use lib.ListN.{length}
 use borrow.Author.Needs.{needs}
 use Rattle.geometry.specs.Geometry.{standsIn, stairConflict}
-use Rattle.geometry.specs.Along.{laid}
+use Rattle.geometry.specs.Along.{conductsBy}
 use Rattle.geometry.specs.StairLaws.{stairsFrom, stairs-next, stairs-found, stairs-end, stair-read}
 use Rattle.geometry.proofs.stair_conflict.Statement.{statement}
 use Rattle.geometry.proofs.stair_conflict.Tie as tie
 
 abbrev Inv-loop : tie.InvT-loop
-Inv-loop room kinds bytes path i₀ i = (i ≤ length path) × (stairsFrom room kinds (standsIn path) (laid bytes) path i ≡ stairConflict room kinds (standsIn path) (laid bytes) path)
+Inv-loop room kinds bytes path i₀ i = (i ≤ length path) × (stairsFrom room kinds (standsIn path) (conductsBy bytes) path i ≡ stairConflict room kinds (standsIn path) (conductsBy bytes) path)
 
 abbrev μ-loop : tie.MeasureT-loop
 μ-loop room kinds bytes path i₀ i = length path - i

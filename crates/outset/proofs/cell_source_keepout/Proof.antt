@@ -1,22 +1,22 @@
--- `cell_source_keepout` meets its contract: each turn marks the keepout that one block asks for.
+-- `cell_source_keepout` meets its contract: each round marks the keepout that one block asks for.
 use Prim.Native.Nat.{_≤_, _-_}
 use native.Mathlib.Omega.{arith}
-use Rattle.routing_resources.specs.MarkLaws.{MarksInTurn, first-turn, restOf, turn-on, turn-done}
+use Rattle.routing_resources.specs.MarkLaws.{MarkedSoFar, marking-none, restOf, marking-on, marking-all}
 use Rattle.job_sheet.specs.Places.{noBlock, blocksIn}
-use Rattle.outset.specs.Outset.{sourceKeepout}
+use Rattle.outset.specs.Outset.{blockKeepout}
 use borrow.Author.Needs.{needs}
 use Rattle.outset.proofs.cell_source_keepout.Statement.{statement}
 use Rattle.job_sheet.specs.RecordLaws.{blocks-long}
 use Rattle.outset.proofs.cell_source_keepout.Tie as tie
 
 abbrev Inv-loop : tie.InvT-loop
-Inv-loop sheet part room kinds nodes marks₀ i₀ marks i = (i ≤ part .count) × MarksInTurn 1 (restOf (sourceKeepout room kinds nodes) (blocksIn sheet part)) marks₀ marks i
+Inv-loop sheet part room kinds nodes marks₀ i₀ marks i = (i ≤ part .count) × MarkedSoFar 1 (restOf (blockKeepout room kinds nodes) (blocksIn sheet part)) marks₀ marks i
 
 abbrev μ-loop : tie.MeasureT-loop
 μ-loop sheet part room kinds nodes marks₀ i₀ marks i = part .count - i
 
 loop-holds : tie.Need-loop-holds Inv-loop μ-loop
-loop-holds c = (omega arith, first-turn _ _ _)
+loop-holds c = (omega arith, marking-none _ _ _)
 
 block-at-requires : tie.Need-block-at-requires Inv-loop μ-loop
 block-at-requires c κs = (c .if1 .taken, c .before .before .before .before .before .before .before .pre .1 .inside)
@@ -31,13 +31,13 @@ loop-less : tie.Need-loop-less Inv-loop μ-loop
 loop-less c = search needs
 
 loop-again : tie.Need-loop-again Inv-loop μ-loop
-loop-again c = (omega (arith, c .before .before .before .before .before .if1 .taken), turn-on (sourceKeepout _ _ _) _ (c .before .before .before .before .before .before .before .loop .inv .1) noBlock _ (c .before .before .before .before .block-at .ensures) (rw (blocks-long _ _) (c .before .before .before .before .before .if1 .taken)) (c .before .before .block-keepout .ensures))
+loop-again c = (omega (arith, c .before .before .before .before .before .if1 .taken), marking-on (blockKeepout _ _ _) _ (c .before .before .before .before .before .before .before .loop .inv .1) noBlock _ (c .before .before .before .before .block-at .ensures) (rw (blocks-long _ _) (c .before .before .before .before .before .if1 .taken)) (c .before .before .block-keepout .ensures))
 
 same-length : tie.Need-same-length Inv-loop μ-loop
 same-length c = c .before .before .loop .inv .1 .long
 
 returns : tie.Need-returns Inv-loop μ-loop
-returns c = turn-done (sourceKeepout _ _ _) _ (c .before .before .loop .inv .1) (rw (blocks-long _ _) (c .if1 .left))
+returns c = marking-all (blockKeepout _ _ _) _ (c .before .before .loop .inv .1) (rw (blocks-long _ _) (c .if1 .left))
 
 pub cell-source-keepout-spec : {M : Type 1} → statement M
 cell-source-keepout-spec =

@@ -1,8 +1,8 @@
--- `mark_conductors` meets its contract: each turn marks one conductor and its keepout.
+-- `mark_conductors` meets its contract: each round marks one conductor and its keepout.
 use Prim.Native.Nat.{_≤_, _-_}
 use native.Mathlib.Omega.{arith}
 use Rattle.room.specs.RoomLaws.{cell-in}
-use Rattle.routing_resources.specs.MarkLaws.{MarksInTurn, first-turn, restOf, turn-on, turn-done}
+use Rattle.routing_resources.specs.MarkLaws.{MarkedSoFar, marking-none, restOf, marking-on, marking-all}
 use Rattle.job_sheet.specs.Places.{noPosition, positionsIn}
 use Rattle.outset.specs.Outset.{nearConductor}
 use borrow.Author.Needs.{needs}
@@ -11,13 +11,13 @@ use Rattle.job_sheet.specs.RecordLaws.{positions-long}
 use Rattle.outset.proofs.mark_conductors.Tie as tie
 
 abbrev Inv-loop : tie.InvT-loop
-Inv-loop sheet part room marks₀ i₀ marks i = (i ≤ part .count) × MarksInTurn 1 (restOf (nearConductor room) (positionsIn sheet part)) marks₀ marks i
+Inv-loop sheet part room marks₀ i₀ marks i = (i ≤ part .count) × MarkedSoFar 1 (restOf (nearConductor room) (positionsIn sheet part)) marks₀ marks i
 
 abbrev μ-loop : tie.MeasureT-loop
 μ-loop sheet part room marks₀ i₀ marks i = part .count - i
 
 loop-holds : tie.Need-loop-holds Inv-loop μ-loop
-loop-holds c = (omega arith, first-turn _ _ _)
+loop-holds c = (omega arith, marking-none _ _ _)
 
 position-at-requires : tie.Need-position-at-requires Inv-loop μ-loop
 position-at-requires c κs = (c .if1 .taken, c .before .before .before .before .before .pre .list .inside)
@@ -35,13 +35,13 @@ loop-less : tie.Need-loop-less Inv-loop μ-loop
 loop-less c = search needs
 
 loop-again : tie.Need-loop-again Inv-loop μ-loop
-loop-again c = (omega (arith, c .before .before .before .before .before .before .if1 .taken), turn-on (nearConductor _) _ (c .before .before .before .before .before .before .before .before .loop .inv .1) noPosition _ (c .before .before .before .before .before .position-at .ensures) (rw (positions-long _ _) (c .before .before .before .before .before .before .if1 .taken)) (rw (c .before .before .before .cell .ensures) at (c .before .before .mark-conductor .ensures)))
+loop-again c = (omega (arith, c .before .before .before .before .before .before .if1 .taken), marking-on (nearConductor _) _ (c .before .before .before .before .before .before .before .before .loop .inv .1) noPosition _ (c .before .before .before .before .before .position-at .ensures) (rw (positions-long _ _) (c .before .before .before .before .before .before .if1 .taken)) (rw (c .before .before .before .cell .ensures) at (c .before .before .mark-conductor .ensures)))
 
 same-length : tie.Need-same-length Inv-loop μ-loop
 same-length c = c .before .before .loop .inv .1 .long
 
 returns : tie.Need-returns Inv-loop μ-loop
-returns c = turn-done (nearConductor _) _ (c .before .before .loop .inv .1) (rw (positions-long _ _) (c .if1 .left))
+returns c = marking-all (nearConductor _) _ (c .before .before .loop .inv .1) (rw (positions-long _ _) (c .if1 .left))
 
 pub mark-conductors-spec : {M : Type 1} → statement M
 mark-conductors-spec =

@@ -14,14 +14,14 @@ read-input-requires c κs = search needs
 array-share-prefix-sheet : tie.Need-array-share-prefix-sheet
 array-share-prefix-sheet c = search needs
 
-slice-aggregate-print-sheet : tie.Need-slice-aggregate-print-sheet
-slice-aggregate-print-sheet c = sym (length-take-le _ _ (search needs))
+slice-aggregate-put-sheet : tie.Need-slice-aggregate-put-sheet
+slice-aggregate-put-sheet c = sym (length-take-le _ _ (search needs))
 
-slice-aggregate-print-sheet-2 : tie.Need-slice-aggregate-print-sheet-2
-slice-aggregate-print-sheet-2 c = search needs
+slice-aggregate-put-sheet-2 : tie.Need-slice-aggregate-put-sheet-2
+slice-aggregate-put-sheet-2 c = search needs
 
-print-sheet-requires : tie.Need-print-sheet-requires
-print-sheet-requires c κs = search needs
+put-sheet-requires : tie.Need-put-sheet-requires
+put-sheet-requires c κs = search needs
 
 array-share-prefix-text : tie.Need-array-share-prefix-text
 array-share-prefix-text c = search needs
@@ -51,9 +51,9 @@ main-spec =
     slice-aggregate-read-input
     read-input-requires
     array-share-prefix-sheet
-    slice-aggregate-print-sheet
-    slice-aggregate-print-sheet-2
-    print-sheet-requires
+    slice-aggregate-put-sheet
+    slice-aggregate-put-sheet-2
+    put-sheet-requires
     array-share-prefix-text
     slice-aggregate-write-all
     write-all-requires

@@ -1,4 +1,4 @@
--- `branch_stair_clearances` meets its contract: each turn marks the clearance of one pair of the branch.
+-- `branch_stair_clearances` meets its contract: each round marks the clearance of one pair of the branch.
 use mathlib.Core.Path.{_≡_, refl}
 use mathlib.Core.Bool.{Bool, false, _||_}
 use mathlib.Core.List.{List}
@@ -6,11 +6,11 @@ use Prim.Native.Nat.{ℕ, _+_, _-_, _≤_, _<_}
 use native.Mathlib.Omega.{arith}
 use lib.ListN.{length, getD, drop}
 use borrow.Author.Needs.{needs}
-use Rattle.basics.specs.Walks.{ByPairs, pairs-next, pairs-end}
+use Rattle.basics.specs.Folds.{ByPairs, pairs-next, pairs-end}
 use Rattle.room.specs.declared.Room.{Room}
 use Rattle.room.specs.Room.{volume}
 use Rattle.routing_resources.specs.Marks.{isCell, AllCells}
-use Rattle.routing_resources.specs.MarkLaws.{MarksInTurn, first-turn, next-turn, last-turn, read-below}
+use Rattle.routing_resources.specs.MarkLaws.{MarkedSoFar, marking-none, marking-next, marking-last, read-below}
 use Rattle.routing_resources.specs.Resources.{clearanceOf, isClearance}
 use Rattle.routing_resources.specs.ResourceLaws.{clearance-in}
 use Rattle.routing_resources.proofs.branch_stair_clearances.Statement.{statement}
@@ -36,13 +36,13 @@ ends-in : (R : Room) (branch : List ℕ) → AllCells R branch → (i : ℕ) →
 ends-in R branch cells i h a b e f = (read-below cells i (omega arith) a e, read-below cells (i + 1) h b f)
 
 abbrev Inv-loop : tie.InvT-loop
-Inv-loop room branch marks₀ i₀ marks i = (i ≤ length branch) × MarksInTurn 1 (clears room branch) marks₀ marks i
+Inv-loop room branch marks₀ i₀ marks i = (i ≤ length branch) × MarkedSoFar 1 (clears room branch) marks₀ marks i
 
 abbrev μ-loop : tie.MeasureT-loop
 μ-loop room branch marks₀ i₀ marks i = length branch - i
 
 loop-holds : tie.Need-loop-holds Inv-loop μ-loop
-loop-holds c = (omega arith, first-turn _ _ _)
+loop-holds c = (omega arith, marking-none _ _ _)
 
 add-loop : tie.Need-add-loop Inv-loop μ-loop
 add-loop c = search needs
@@ -88,13 +88,13 @@ loop-less c = search needs
 
 loop-again : tie.Need-loop-again Inv-loop μ-loop
 loop-again c =
-    (omega arith, let more = one-more _ _ (c .before .before .before .before .before .before .before .before .before .before .loop .i) (c .before .before .before .before .before .before .before .before .before .loop-test .taken) in next-turn (c .before .before .before .before .before .before .before .before .before .before .loop .inv .1) _ (c .before .before .put-mark .ensures) (rw (c .before .before .before .before .clearance .ensures, c .before .before .before .before .before .before .before .as-index .ensures .0, c .before .before .before .before .before .as-index2 .ensures .0) more))
+    (omega arith, let more = one-more _ _ (c .before .before .before .before .before .before .before .before .before .before .loop .i) (c .before .before .before .before .before .before .before .before .before .loop-test .taken) in marking-next (c .before .before .before .before .before .before .before .before .before .before .loop .inv .1) _ (c .before .before .put-mark .ensures) (rw (c .before .before .before .before .clearance .ensures, c .before .before .before .before .before .before .before .as-index .ensures .0, c .before .before .before .before .before .as-index2 .ensures .0) more))
 
 same-length : tie.Need-same-length Inv-loop μ-loop
 same-length c = c .before .loop .inv .1 .long
 
 returns : tie.Need-returns Inv-loop μ-loop
-returns c = last-turn (c .before .loop .inv .1) (all-cleared _ _ _ (c .loop-test .left))
+returns c = marking-last (c .before .loop .inv .1) (all-cleared _ _ _ (c .loop-test .left))
 
 pub branch-stair-clearances-spec : {M : Type 1} → statement M
 branch-stair-clearances-spec =

@@ -1,4 +1,4 @@
--- `horizontal_neighbors` meets its contract: each turn marks where one direction leads.
+-- `horizontal_neighbors` meets its contract: each round marks where one direction leads.
 use mathlib.Core.Path.{_≡_, refl, _∙_}
 use mathlib.Core.Bool.{Bool}
 use mathlib.Core.List.{List}
@@ -15,7 +15,7 @@ use Rattle.room.specs.Room.{posOf, by, moveAt, neighbourAt, neighbour}
 use Rattle.room.specs.RoomLaws.{pos-in}
 use Rattle.room.specs.MoveLaws.{leads, move-small}
 use Rattle.routing_resources.specs.Marks.{markedBy, isCell}
-use Rattle.routing_resources.specs.MarkLaws.{MarksInTurn, first-turn, restOf, turn-on, turn-done}
+use Rattle.routing_resources.specs.MarkLaws.{MarkedSoFar, marking-none, restOf, marking-on, marking-all}
 use Rattle.routing_resources.specs.Resources.{directions, isNeighbour}
 use Rattle.routing_resources.proofs.horizontal_neighbors.Statement.{statement}
 use Rattle.routing_resources.proofs.horizontal_neighbors.Tie as tie
@@ -42,7 +42,7 @@ in-threes (suc (suc (suc zero))) rise h = refl
 in-threes (suc (suc (suc (suc k)))) rise h = absurd (omega arith)
 
 abbrev Inv-loop : tie.InvT-loop
-Inv-loop room marks₀ cell rise p k₀ marks k = (k ≤ 4) × MarksInTurn 1 (restOf (leadsTo room p) (directions rise)) marks₀ marks k
+Inv-loop room marks₀ cell rise p k₀ marks k = (k ≤ 4) × MarkedSoFar 1 (restOf (leadsTo room p) (directions rise)) marks₀ marks k
 
 abbrev μ-loop : tie.MeasureT-loop
 μ-loop room marks₀ cell rise p k₀ marks k = 4 - k
@@ -51,7 +51,7 @@ pos-requires : tie.Need-pos-requires Inv-loop μ-loop
 pos-requires c κs = c .before .pre .0
 
 loop-holds : tie.Need-loop-holds Inv-loop μ-loop
-loop-holds c = (omega arith, first-turn _ _ _)
+loop-holds c = (omega arith, marking-none _ _ _)
 
 mul-move-at : tie.Need-mul-move-at Inv-loop μ-loop
 mul-move-at c = search needs
@@ -88,13 +88,13 @@ loop-again c =
     let loop = c .before .before .before .before .before .before .before .loop in
     let more = c .before .before .before .before .before .before .loop-test .taken in
     let move = c .before .before .before .before .before .move-at .ensures ∙ in-threes (loop .k) (args .rise) more in
-    (omega arith, turn-on (leadsTo _ _) _ (loop .inv .1) (by 0 0 0) _ move more (c .before .before .put-mark .ensures ∙ rw (c .before .before .before .before .neighbour-at .ensures)))
+    (omega arith, marking-on (leadsTo _ _) _ (loop .inv .1) (by 0 0 0) _ move more (c .before .before .put-mark .ensures ∙ rw (c .before .before .before .before .neighbour-at .ensures)))
 
 same-length : tie.Need-same-length Inv-loop μ-loop
 same-length c = c .before .loop .inv .1 .long
 
 returns : tie.Need-returns Inv-loop μ-loop
-returns c = turn-done (leadsTo _ _) _ (c .before .loop .inv .1) (four _ _ (c .loop-test .left)) ∙ rw (c .before .before .pos .ensures) (beside _ _ _ _)
+returns c = marking-all (leadsTo _ _) _ (c .before .loop .inv .1) (four _ _ (c .loop-test .left)) ∙ rw (c .before .before .pos .ensures) (beside _ _ _ _)
 
 pub horizontal-neighbors-spec : {M : Type 1} → statement M
 horizontal-neighbors-spec =

@@ -1,5 +1,5 @@
 -- `read_body` meets its contract: a walk of its MIR, by hand, in which each method of the reader is one step (`Methods`).
--- All that the proof knows of the methods, of `layout_of` and of `body_of` is that each meets its contract.
+-- All that the proof knows of the methods, of `layout_found` and of `body_of` is that each meets its contract.
 use mathlib.Core.Path.{_≡_, refl, ap, _∙_}
 use Prim.Native.Nat.{ℕ}
 use native.Mathlib.Omega.{arith}
@@ -41,7 +41,7 @@ use Rattle.job_sheet.proofs.Part as Part′
 use Rattle.job_sheet.proofs.Part.Laws as PartLaws
 use Rattle.job_sheet.proofs.Sinks as Sinks′
 use Rattle.job_sheet.proofs.Sinks.Laws as SinksLaws
-use Rattle.sheet_reader.specs.Reader.{layoutFrom, bodyOf, PartsFound}
+use Rattle.sheet_reader.specs.Reader.{layoutFound, bodyOf, PartsFound}
 use Rattle.sheet_reader.specs.ReaderLaws.{onward-stands, body-read, found-as}
 use Rattle.sheet_reader.specs.declared.Reader.{Reader}
 use Rattle.sheet_reader.proofs.Calling.{none, Promise, Promised, makes-of, Token, bytes, lawful-at}
@@ -63,8 +63,8 @@ use Rattle.sheet_reader.proofs.Reader.sinks.Symbol.{name as #sinks}
 use Rattle.sheet_reader.proofs.Reader.sinks.Met as sinks-thm
 use Rattle.sheet_reader.proofs.Reader.sinks_list.Symbol.{name as #sinks-list}
 use Rattle.sheet_reader.proofs.Reader.sinks_list.Met as sinks-list-thm
-use Rattle.sheet_reader.proofs.layout_of.Symbol.{name as #layout-of}
-use Rattle.sheet_reader.proofs.layout_of.Met as layout-of-thm
+use Rattle.sheet_reader.proofs.layout_found.Symbol.{name as #layout-found}
+use Rattle.sheet_reader.proofs.layout_found.Met as layout-found-thm
 use Rattle.sheet_reader.proofs.body_of.Symbol.{name as #body-of}
 use Rattle.sheet_reader.proofs.body_of.Met as body-of-thm
 use Rattle.sheet_reader.proofs.read_body.Key.{name as #read-body}
@@ -72,15 +72,15 @@ use Rattle.sheet_reader.proofs.read_body as read-body
 use Rattle.sheet_reader.proofs.read_body.Statement as stated
 use Rattle.sheet_reader.proofs.read_body.Code as code
 
--- what `layout_of` and `body_of` take and promise
+-- what `layout_found` and `body_of` take and promise
 abbrev part : Slot 0
 part = plain (λ _. Part′.the-row)
 
 abbrev layout-parts : List (Slot 0)
 layout-parts = part ∷ part ∷ part ∷ part ∷ part ∷ plain (λ _. usize) ∷ part ∷ []
 
-abbrev layout-of : Promise layout-parts (plain (λ _. Layout′.the-row))
-layout-of = record { requires = λ _ _. none; Ensures = λ _ a r. r ≡ layoutFrom (a .0) (a .1 .0) (a .1 .1 .0) (a .1 .1 .1 .0) (a .1 .1 .1 .1 .0) (a .1 .1 .1 .1 .1 .0) (a .1 .1 .1 .1 .1 .1 .0) }
+abbrev layout-found : Promise layout-parts (plain (λ _. Layout′.the-row))
+layout-found = record { requires = λ _ _. none; Ensures = λ _ a r. r ≡ layoutFound (a .0) (a .1 .0) (a .1 .1 .0) (a .1 .1 .1 .0) (a .1 .1 .1 .1 .0) (a .1 .1 .1 .1 .1 .0) (a .1 .1 .1 .1 .1 .1 .0) }
 
 abbrev body-parts : List (Slot 0)
 body-parts = plain (λ _. Layout′.the-row) ∷ plain (λ _. Endpoint′.the-row) ∷ plain (λ _. Sinks′.the-row) ∷ plain (λ _. bool) ∷ []
@@ -103,7 +103,7 @@ module _ {M : Type 1} (𝓤 : URA M) (H : Heap 𝓤) (A : Atoms 𝓤) (W : Given
   part-makes : Makes 𝓤 H A Part′.the-row (Is Part′.the-row)
   part-makes = LL.makes Part′.the-type PartLaws.the-plain 𝓤 H A
 
-  module _ (C : Calls 𝓤 H) (Λ : Loops 𝓤 H) (fm : FmC 𝓤 H (W .laws) C) (known-at-end : Triple 𝓤 (C #at-end) (Promised 𝓤 H A (reading at-end))) (known-behind : Triple 𝓤 (C #behind) (Promised 𝓤 H A (making behind))) (known-endpoint : Triple 𝓤 (C #endpoint) (Promised 𝓤 H A (reading endpoint))) (known-list : Triple 𝓤 (C #list) (Promised 𝓤 H A (reading list))) (known-new : Triple 𝓤 (C #new) (Promised 𝓤 H A (making new))) (known-past : Triple 𝓤 (C #past) (Promised 𝓤 H A (making past))) (known-sinks : Triple 𝓤 (C #sinks) (Promised 𝓤 H A (reading sinks))) (known-sinks-list : Triple 𝓤 (C #sinks-list) (Promised 𝓤 H A (reading sinks-list))) (known-layout-of : Triple 𝓤 (C #layout-of) (Promised 𝓤 H A layout-of)) (known-body-of : Triple 𝓤 (C #body-of) (Promised 𝓤 H A body-of)) where
+  module _ (C : Calls 𝓤 H) (Λ : Loops 𝓤 H) (fm : FmC 𝓤 H (W .laws) C) (known-at-end : Triple 𝓤 (C #at-end) (Promised 𝓤 H A (reading at-end))) (known-behind : Triple 𝓤 (C #behind) (Promised 𝓤 H A (making behind))) (known-endpoint : Triple 𝓤 (C #endpoint) (Promised 𝓤 H A (reading endpoint))) (known-list : Triple 𝓤 (C #list) (Promised 𝓤 H A (reading list))) (known-new : Triple 𝓤 (C #new) (Promised 𝓤 H A (making new))) (known-past : Triple 𝓤 (C #past) (Promised 𝓤 H A (making past))) (known-sinks : Triple 𝓤 (C #sinks) (Promised 𝓤 H A (reading sinks))) (known-sinks-list : Triple 𝓤 (C #sinks-list) (Promised 𝓤 H A (reading sinks-list))) (known-layout-found : Triple 𝓤 (C #layout-found) (Promised 𝓤 H A layout-found)) (known-body-of : Triple 𝓤 (C #body-of) (Promised 𝓤 H A body-of)) where
     walk : Is (bytes .row (κ, tt)) s (v ∷ [])
         → ent 𝓤 (Before 𝓤 H A (bytes ∷ []) (plain (λ _. Body′.the-row)) (read-body.clauses 𝓤 H A mem run) κ q (s, tt) (v ∷ [], tt) tt)
         (WpFn 𝓤 H C Λ code.function (v ∷ []) (After 𝓤 H A (bytes ∷ []) (plain (λ _. Body′.the-row)) (read-body.clauses 𝓤 H A mem run) κ q (s, tt) (v ∷ [], tt) tt))
@@ -168,7 +168,7 @@ module _ {M : Type 1} (𝓤 : URA M) (H : Heap 𝓤) (A : Atoms 𝓤) (W : Given
         assigns ! (of-opd ! (load ! (from ! (stop !)) (look ! 41 refl))) (from ! (stop !)) (init ! 3 refl (lawful-at W erased κ (reached 5 r₁₇) is₈)) $
         reads ! fm at-end known-at-end κ q (reached 5 r₁₇) tt (and-then ! (load ! (from ! (stop !)) (look ! 3 refl)) (no-more !)) (λ w₂₀ r₂₀ e₂₀ i₂₀.
         land ! (from ! (stop !)) (init ! 39 refl (at-end .typed 𝓤 H A W r₂₀ _ i₂₀ .0)) $
-        makes-of ! fm layout-of known-layout-of (part-makes, (part-makes, (part-makes, (part-makes, (part-makes, (uint-makes 𝓤 H A W w64, (part-makes, tt)))))))
+        makes-of ! fm layout-found known-layout-found (part-makes, (part-makes, (part-makes, (part-makes, (part-makes, (uint-makes 𝓤 H A W w64, (part-makes, tt)))))))
         (r₄, (r₆, (r₈, (r₁₀, (r₁₂, (reached 3 r₁₂ .place, (r₁₇, tt))))))) (w₄ ∷ [], (w₆ ∷ [], (w₈ ∷ [], (w₁₀ ∷ [], (w₁₂ ∷ [], (vint w64 (reached 3 r₁₂ .place) ∷ [], (w₁₇ ∷ [], tt))))))) (i₄, (i₆, (i₈, (i₁₀, (i₁₂, ((refl, lawful-at W erased κ (reached 3 r₁₂) is₆ .1 .1 .0 .fits), (i₁₇, tt))))))) tt
         (and-then ! (load ! (from ! (stop !)) (look ! 72 refl)) (and-then ! (load ! (from ! (stop !)) (look ! 68 refl)) (and-then ! (load ! (from ! (stop !)) (look ! 64 refl)) (and-then ! (load ! (from ! (stop !)) (look ! 60 refl)) (and-then ! (load ! (from ! (stop !)) (look ! 56 refl)) (and-then ! (load ! (from ! (stop !)) (look ! 52 refl)) (and-then ! (load ! (from ! (stop !)) (look ! 46 refl)) (no-more !)))))))) (λ w₂₁ r₂₁ e₂₁ i₂₁.
         discard ! $ land ! (from ! (stop !)) (init ! 37 refl (LL.lawful Layout′.the-type LayoutLaws.the-laws 𝓤 H A W .typed r₂₁ _ i₂₁ .0)) $
@@ -190,4 +190,4 @@ read-body-spec 𝓤 H 𝓜 𝓖 𝓡 =
     meets 𝓤 H 𝓜 𝓖 𝓡 (bytes ∷ []) (plain (λ _. Body′.the-row)) (read-body.clauses 𝓤 H (𝓖 .A) (𝓜 .mem) (𝓡 .run)) (bytes-told, tt) #read-body code.function code.env (code.unfolded 𝓤 H 𝓜 𝓡)
     (λ fm κ q a _ are. walk 𝓤 H (𝓖 .A) (givenOf 𝓤 H 𝓜 𝓖) (𝓜 .mem) (𝓡 .run) κ q (a .0) (tables 𝓤 H 𝓜 𝓡 code.env .C) (tables 𝓤 H 𝓜 𝓡 code.env .Λ) fm
     (at-end-thm.met 𝓤 H 𝓜 𝓖 𝓡) (behind-thm.met 𝓤 H 𝓜 𝓖 𝓡) (endpoint-thm.met 𝓤 H 𝓜 𝓖 𝓡) (list-thm.met 𝓤 H 𝓜 𝓖 𝓡) (new-thm.met 𝓤 H 𝓜 𝓖 𝓡) (past-thm.met 𝓤 H 𝓜 𝓖 𝓡) (sinks-thm.met 𝓤 H 𝓜 𝓖 𝓡) (sinks-list-thm.met 𝓤 H 𝓜 𝓖 𝓡)
-    (layout-of-thm.met 𝓤 H 𝓜 𝓖 𝓡) (body-of-thm.met 𝓤 H 𝓜 𝓖 𝓡) (are .0))
+    (layout-found-thm.met 𝓤 H 𝓜 𝓖 𝓡) (body-of-thm.met 𝓤 H 𝓜 𝓖 𝓡) (are .0))

@@ -41,15 +41,15 @@ returns-2 c =
     let S = shaped-is _ (test-passes (c .before .before .before .before .before .shaped .ensures) (c .before .before .before .before .if1 .left)) in
     read-refused _ (λ i. omega (arith, c .before .before .before .before .before .before .before .before .shared-slice-known .given i)) S _ (c .before .before .before .judge .ensures) (test-fails (c .before .before .is-good .ensures) (c .before .if2 .taken)) _ (c .refusal2 .ensures)
 
-job-of-requires : tie.Need-job-of-requires
-job-of-requires c κs = search needs
+job-found-requires : tie.Need-job-found-requires
+job-found-requires c κs = search needs
 
 returns-3 : tie.Need-returns-3
 returns-3 c =
     let S = shaped-is _ (test-passes (c .before .before .before .before .before .shaped .ensures) (c .before .before .before .before .if1 .left)) in
     let bytes : Bytes (now (c .before .before .before .before .before .before .before .before .before .args .sheet)) = λ i. omega (arith, c .before .before .before .before .before .before .before .before .shared-slice-known .given i) in
     read-accepted _ bytes S _ (c .before .before .before .judge .ensures) (test-passes (c .before .before .is-good .ensures) (c .before .if2 .left)) _
-    (c .job-of .ensures ∙ found-job _ _ (c .before .before .before .before .before .before .read-body .ensures) S bytes _ (c .before .before .before .before .before .before .before .read-head .ensures))
+    (c .job-found .ensures ∙ found-job _ _ (c .before .before .before .before .before .before .read-body .ensures) S bytes _ (c .before .before .before .before .before .before .before .read-head .ensures))
 
 pub read-sheet-spec : {M : Type 1} → statement M
 read-sheet-spec =
@@ -64,5 +64,5 @@ read-sheet-spec =
     is-good-requires
     refusal-requires-2
     returns-2
-    job-of-requires
+    job-found-requires
     returns-3)

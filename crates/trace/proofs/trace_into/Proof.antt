@@ -29,7 +29,7 @@ mul-path : tie.Need-mul-path Inv-loop μ-loop
 mul-path c = search needs
 
 slice-write-path : tie.Need-slice-write-path Inv-loop μ-loop
-slice-write-path c = omega (arith, c .before .loop .inv .room, c .loop-test .taken)
+slice-write-path c = omega (arith, c .before .loop .inv .fits, c .loop-test .taken)
 
 mul-before : tie.Need-mul-before Inv-loop μ-loop
 mul-before c = search needs

@@ -213,6 +213,30 @@ fn conflicts() -> Vec<Point> {
             Fewer::Jobs(vec![THREE_SINKS]),
         ),
         point(
+            "stairs-from-approach",
+            "a path's stairs are looked through from the approach on",
+            Other::StairsFromGoal,
+            under_a_block(),
+            Fewer::Jobs(vec![BLOCK]),
+        ),
+        point(
+            "clearance-first",
+            "at a stair the clearance's kind comes before a conductor above it",
+            Other::AboveClearanceFirst,
+            round_a_block(),
+            Fewer::Jobs(vec![Jobs {
+                costs: &[USUAL, [0, 0, 0]],
+                ..BLOCK
+            }]),
+        ),
+        point(
+            "second-from-approach",
+            "a stair's second cell counts from the approach",
+            Other::SecondFromGoal,
+            beside_a_block(),
+            Fewer::Jobs(vec![BLOCK]),
+        ),
+        point(
             "conflict-joinable",
             "conflicts are looked for among the joinable cells, not the occupied ones",
             Other::ConflictWithOccupied,
@@ -234,6 +258,31 @@ fn conflicts() -> Vec<Point> {
             Fewer::Open("63 conflicts, start and goal are 65 cells; no walk goes so far"),
         ),
     ]
+}
+
+/// The first way tried leads down beneath the block and up again, so both its stairs have the block for their clearance.
+fn under_a_block() -> Job {
+    job([2, 2, 2], plain([0, 1, 1]), &[plain([1, 1, 0])], |job| {
+        costs(job, [10, 0, 15]);
+        job.blocks.push(block(0, [0, 1, 0], kind::SOLID));
+    })
+}
+
+/// One branch leads over the block; the next is first tried beneath it.
+fn round_a_block() -> Job {
+    let sink = plain([0, 1, 0]);
+    job([1, 3, 3], plain([0, 1, 2]), &[sink, sink], |job| {
+        costs(job, [0, 0, 0]);
+        job.blocks.push(block(0, [0, 1, 1], kind::SOLID));
+    })
+}
+
+/// The block is above the start of the search.
+fn beside_a_block() -> Job {
+    job([3, 2, 1], plain([2, 1, 0]), &[plain([0; 3])], |job| {
+        costs(job, [0, 0, 0]);
+        job.blocks.push(block(0, [0, 1, 0], kind::SOLID));
+    })
 }
 
 fn over_a_block() -> Job {
@@ -261,7 +310,7 @@ fn line(cells: u8, sinks: &[u8]) -> Job {
     default_job([cells, 1, 1], &sinks)
 }
 
-/// In which order repeaters are planned.
+/// In which order repeaters are planned, and what a tail's repeater keeps.
 fn planned() -> Vec<Point> {
     vec![
         point(
@@ -279,6 +328,13 @@ fn planned() -> Vec<Point> {
             Other::TailAfterRun,
             line(14, &[9, 13]),
             Fewer::Reason("a run's repeater takes a path of 14 cells"),
+        ),
+        point(
+            "tails-off-own-ends",
+            "a tail's repeater stands on no terminal or approach of this net",
+            Other::TailOnOwnEnds,
+            line(10, &[1, 9]),
+            Fewer::Reason("a repeater takes a path of 10 cells"),
         ),
         point(
             "runs-in-sheet-order",

@@ -63,7 +63,7 @@ geometry-conflict-requires c κs =
     let pre = c .before .before .before .before .before .before .before .before .before .before .before .before .before .before .before .before .before .before .before .before .before .before .before .before .before .before .pre in
     let args = c .before .before .before .before .before .before .before .before .before .before .before .before .before .before .before .before .before .before .before .before .before .before .before .before .before .before .args in
     let t = rw (c .before .before .before .tried .given .1) at (search-for .ensures .tells _ (pre .says)) in
-    (pre .grounds .good, ((pre .grounds .kinds-long, pre .grounds .joinable-long), (path-in (siteOf (args .room) (args .config) (args .kinds .now) (args .joinable .now) (args .queue .now)) _ _ _ (pre .grounds .start-in) (pre .goal-in) t, (pre .grounds .joinable-marks, pre .grounds .alone))))
+    (pre .grounds .good, ((pre .grounds .kinds-long, pre .grounds .joinable-long), (path-in (siteOf (args .room) (args .config) (args .kinds .now) (args .joinable .now) (args .queue .now)) _ _ _ (pre .grounds .start-in) (pre .goal-in) t, (pre .grounds .joinable-marks, pre .grounds .no-pair))))
 
 enum-known-conflict : tie.Need-enum-known-conflict
 enum-known-conflict c = search needs

@@ -4,17 +4,17 @@ use borrow.Author.Needs.{needs}
 use Rattle.goals.proofs.attempts.ends_goal.Statement.{statement}
 use Rattle.goals.proofs.attempts.ends_goal.Tie as tie
 
-is-end-requires : tie.Need-is-end-requires
-is-end-requires c κs = search needs
+an-end-requires : tie.Need-an-end-requires
+an-end-requires c κs = search needs
 
 returns : tie.Need-returns
-returns c = rw (sym (c .before .is-end .ensures) ∙ c .if1 .taken)
+returns c = rw (sym (c .before .an-end .ensures) ∙ c .if1 .taken)
 
 shared-slice-read-result : tie.Need-shared-slice-read-result
 shared-slice-read-result c = search needs
 
 returns-2 : tie.Need-returns-2
-returns-2 c = rw (sym (c .before .before .is-end .ensures) ∙ c .before .if1 .left)
+returns-2 c = rw (sym (c .before .before .an-end .ensures) ∙ c .before .if1 .left)
 
 pub ends-goal-spec : {M : Type 1} → statement M
-ends-goal-spec = tie.close (tie.spec is-end-requires returns shared-slice-read-result returns-2)
+ends-goal-spec = tie.close (tie.spec an-end-requires returns shared-slice-read-result returns-2)

@@ -2,7 +2,7 @@
 use mathlib.Core.Path.{sym, _∙_}
 use native.Mathlib.Omega.{arith}
 use Rattle.branches.specs.WriteLaws.{branch-long}
-use Rattle.multinet.specs.AddingLaws.{no-room-left, addable, branch-placed}
+use Rattle.multinet.specs.AddingLaws.{no-space-left, addable, branch-placed}
 use borrow.Author.Needs.{needs}
 use Rattle.multinet.proofs.adding.place_branch.Statement.{statement}
 use Rattle.branches.specs.BranchLaws.{branch-short}
@@ -21,7 +21,7 @@ add-t15 : tie.Need-add-t15
 add-t15 c = search needs
 
 returns : tie.Need-returns
-returns c = no-room-left (c .before .before .joined-length .ensures) (c .before .branch-length .ensures ∙ sym (branch-long (c .before .before .before .before .before .before .before .args .tap) (c .before .before .before .before .before .before .before .args .path .now))) (c .if1 .taken)
+returns c = no-space-left (c .before .before .joined-length .ensures) (c .before .branch-length .ensures ∙ sym (branch-long (c .before .before .before .before .before .before .before .args .tap) (c .before .before .before .before .before .before .before .args .path .now))) (c .if1 .taken)
 
 joined-length-requires-2 : tie.Need-joined-length-requires-2
 joined-length-requires-2 c κs = search needs

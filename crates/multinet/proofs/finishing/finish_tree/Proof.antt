@@ -18,11 +18,11 @@ slice-aggregate-mark-cells c = sym (length-take-le _ _ (used-fits (c .before .be
 mark-cells-requires : tie.Need-mark-cells-requires
 mark-cells-requires c κs = cells-occupied (c .before .before .before .before .before .before .before .before .before .before .before .before .before .before .pre) (c .before .before .before .before .before .before .joined-length .ensures) (c .before .before .before .before .mark .kept .0)
 
-mark-ends-requires : tie.Need-mark-ends-requires
-mark-ends-requires c κs = ends-in (c .before .before .before .before .before .before .before .before .before .before .before .before .before .before .before .before .before .before .pre)
+mark-net-ends-requires : tie.Need-mark-net-ends-requires
+mark-net-ends-requires c κs = ends-in (c .before .before .before .before .before .before .before .before .before .before .before .before .before .before .before .before .before .before .pre)
 
 place-repeaters-requires : tie.Need-place-repeaters-requires
-place-repeaters-requires c κs = placeable (c .before .before .before .before .before .before .before .before .before .before .before .before .before .before .before .before .before .before .before .before .before .before .before .before .before .before .pre) (c .before .before .before .before .before .before .before .mark-ends .ensures)
+place-repeaters-requires c κs = placeable (c .before .before .before .before .before .before .before .before .before .before .before .before .before .before .before .before .before .before .before .before .before .before .before .before .before .before .pre) (c .before .before .before .before .before .before .before .mark-net-ends .ensures)
 
 same-length : tie.Need-same-length
 same-length c = c .before .before .before .before .before .before .before .before .before .before .before .before .before .before .before .before .before .before .before .before .mark-cells .kept .0 ∙ c .before .before .before .before .before .before .before .before .before .before .before .before .before .before .before .before .before .before .before .before .before .before .before .before .before .mark .kept .0
@@ -31,7 +31,7 @@ same-length-2 : tie.Need-same-length-2
 same-length-2 c = c .before .before .before .before .before .before .before .before .place-repeaters .kept .1 .1 .1 .1 .1 .1 .0
 
 same-length-3 : tie.Need-same-length-3
-same-length-3 c = c .before .before .before .before .before .before .before .before .before .before .before .before .before .before .before .before .mark-ends .kept .1 .1 .0
+same-length-3 c = c .before .before .before .before .before .before .before .before .before .before .before .before .before .before .before .before .mark-net-ends .kept .1 .1 .0
 
 same-length-4 : tie.Need-same-length-4
 same-length-4 c = c .before .before .before .before .before .before .before .before .place-repeaters .kept .1 .1 .1 .1 .1 .1 .1 .0
@@ -43,7 +43,7 @@ same-length-6 : tie.Need-same-length-6
 same-length-6 c = c .before .before .before .before .before .before .before .before .place-repeaters .kept .1 .1 .1 .1 .1 .1 .1 .1 .1 .0
 
 returns : tie.Need-returns
-returns c = finished (c .before .before .before .before .before .before .before .before .before .before .before .before .before .before .before .before .before .before .before .before .before .before .before .before .before .before .before .before .before .before .before .before .before .before .before .pre) (c .before .before .before .before .before .before .before .before .before .before .before .before .before .before .before .before .before .before .before .before .before .before .before .before .before .before .before .joined-length .ensures) (c .before .before .before .before .before .before .before .before .before .before .before .before .before .before .before .before .before .before .before .before .before .before .before .before .before .mark .ensures) (c .before .before .before .before .before .before .before .before .before .before .before .before .before .before .before .before .before .before .before .before .mark-cells .ensures) (c .before .before .before .before .before .before .before .before .before .before .before .before .before .before .before .before .mark-ends .ensures) (c .before .before .before .before .before .before .before .before .place-repeaters .ensures)
+returns c = finished (c .before .before .before .before .before .before .before .before .before .before .before .before .before .before .before .before .before .before .before .before .before .before .before .before .before .before .before .before .before .before .before .before .before .before .before .pre) (c .before .before .before .before .before .before .before .before .before .before .before .before .before .before .before .before .before .before .before .before .before .before .before .before .before .before .before .joined-length .ensures) (c .before .before .before .before .before .before .before .before .before .before .before .before .before .before .before .before .before .before .before .before .before .before .before .before .before .mark .ensures) (c .before .before .before .before .before .before .before .before .before .before .before .before .before .before .before .before .before .before .before .before .mark-cells .ensures) (c .before .before .before .before .before .before .before .before .before .before .before .before .before .before .before .before .mark-net-ends .ensures) (c .before .before .before .before .before .before .before .before .place-repeaters .ensures)
 
 pub finish-tree-spec : {M : Type 1} → statement M
 finish-tree-spec =
@@ -53,7 +53,7 @@ finish-tree-spec =
     mark-requires
     slice-aggregate-mark-cells
     mark-cells-requires
-    mark-ends-requires
+    mark-net-ends-requires
     place-repeaters-requires
     same-length
     same-length-2

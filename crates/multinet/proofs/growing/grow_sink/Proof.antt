@@ -2,7 +2,7 @@
 use mathlib.Core.Path.{refl, sym, _∙_}
 use lib.Seq.{length-take-le}
 use native.Mathlib.Omega.{arith}
-use Rattle.multinet.specs.SinkLaws.{sink-in, found-fits, findable, placeable, came-full, came-failed, came-placed}
+use Rattle.multinet.specs.SinkTurnLaws.{sink-in, found-fits, findable, branch-placeable, came-full, came-failed, came-placed}
 use borrow.Author.Needs.{needs}
 use Rattle.multinet.proofs.growing.grow_sink.Statement.{statement}
 use Rattle.multinet.proofs.growing.grow_sink.Tie as tie
@@ -35,7 +35,7 @@ slice-aggregate-place-branch : tie.Need-slice-aggregate-place-branch
 slice-aggregate-place-branch c = sym (length-take-le _ _ (found-fits (c .before .before .before .before .before .before .before .before .before .before .before .before .before .before .before .before .before .before .before .before .find-route .ensures .0) _ _ (c .before .before .tried2 .given .1)))
 
 place-branch-requires : tie.Need-place-branch-requires
-place-branch-requires c κs = placeable (c .before .before .before .before .before .before .before .before .before .before .before .before .before .before .before .before .before .before .before .before .before .before .before .before .before .before .before .before .before .before .before .before .before .before .before .before .before .before .before .before .before .before .before .before .pre) _ (c .before .before .before .before .before .before .before .before .before .before .before .before .before .before .before .before .before .before .before .before .before .before .before .before .before .before .before .before .before .before .before .before .before .sink-at .ensures) (c .before .before .before .before .before .before .before .before .before .before .before .before .before .before .before .before .before .before .before .before .before .before .before .find-route .ensures .0) _ _ (c .before .before .before .before .before .tried2 .given .1) (c .before .before .before .before .before .before .before .before .before .before .before .before .before .before .before .before .before .before .before .before .before .before .before .find-route .ensures .1 .0) (c .before .before .before .before .before .before .before .before .before .before .before .before .before .before .before .before .before .before .before .before .before .before .before .find-route .ensures .1 .1)
+place-branch-requires c κs = branch-placeable (c .before .before .before .before .before .before .before .before .before .before .before .before .before .before .before .before .before .before .before .before .before .before .before .before .before .before .before .before .before .before .before .before .before .before .before .before .before .before .before .before .before .before .before .before .pre) _ (c .before .before .before .before .before .before .before .before .before .before .before .before .before .before .before .before .before .before .before .before .before .before .before .before .before .before .before .before .before .before .before .before .before .sink-at .ensures) (c .before .before .before .before .before .before .before .before .before .before .before .before .before .before .before .before .before .before .before .before .before .before .before .find-route .ensures .0) _ _ (c .before .before .before .before .before .tried2 .given .1) (c .before .before .before .before .before .before .before .before .before .before .before .before .before .before .before .before .before .before .before .before .before .before .before .find-route .ensures .1 .0) (c .before .before .before .before .before .before .before .before .before .before .before .before .before .before .before .before .before .before .before .before .before .before .before .find-route .ensures .1 .1)
 
 same-length : tie.Need-same-length
 same-length c = c .before .before .before .before .before .before .before .before .before .before .before .before .before .before .before .before .before .before .before .find-route .kept .1 .1 .1 .0

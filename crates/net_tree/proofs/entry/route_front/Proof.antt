@@ -1,4 +1,4 @@
--- `route_front` meets its contract: the front of each buffer is lent on.
+-- `route_front` meets its contract: the front of each buffer is lent on, the branch buffer and the queue whole.
 use mathlib.Core.Path.{refl, sym}
 use native.Mathlib.Omega.{arith}
 use lib.Seq.{length-take-le, length-front}
@@ -36,10 +36,10 @@ slice-aggregate-route-job-4 : tie.Need-slice-aggregate-route-job-4
 slice-aggregate-route-job-4 c = sym (length-take-le _ _ (omega (arith, c .before .before .before .before .before .volume .ensures, enough (c .before .before .before .before .before .before .before .before .before .before .before .before .before .before .before .before .before .before .before .pre .0) .blocked-room)))
 
 slice-relend-prefix-route-job-5 : tie.Need-slice-relend-prefix-route-job-5
-slice-relend-prefix-route-job-5 c = omega (arith, c .before .before .before .before .before .volume .ensures, enough (c .before .before .before .before .before .before .before .before .before .before .before .before .before .before .before .before .before .before .before .pre .0) .classes-room)
+slice-relend-prefix-route-job-5 c = omega (arith, c .before .before .before .before .before .volume .ensures, enough (c .before .before .before .before .before .before .before .before .before .before .before .before .before .before .before .before .before .before .before .pre .0) .classes-enough)
 
 slice-aggregate-route-job-5 : tie.Need-slice-aggregate-route-job-5
-slice-aggregate-route-job-5 c = sym (length-take-le _ _ (omega (arith, c .before .before .before .before .before .before .volume .ensures, enough (c .before .before .before .before .before .before .before .before .before .before .before .before .before .before .before .before .before .before .before .before .pre .0) .classes-room)))
+slice-aggregate-route-job-5 c = sym (length-take-le _ _ (omega (arith, c .before .before .before .before .before .before .volume .ensures, enough (c .before .before .before .before .before .before .before .before .before .before .before .before .before .before .before .before .before .before .before .before .pre .0) .classes-enough)))
 
 slice-relend-prefix-route-job-6 : tie.Need-slice-relend-prefix-route-job-6
 slice-relend-prefix-route-job-6 c = omega (arith, c .before .before .before .before .before .before .volume .ensures, enough (c .before .before .before .before .before .before .before .before .before .before .before .before .before .before .before .before .before .before .before .before .pre .0) .joinable-room)
@@ -48,22 +48,22 @@ slice-aggregate-route-job-6 : tie.Need-slice-aggregate-route-job-6
 slice-aggregate-route-job-6 c = sym (length-take-le _ _ (omega (arith, c .before .before .before .before .before .before .before .volume .ensures, enough (c .before .before .before .before .before .before .before .before .before .before .before .before .before .before .before .before .before .before .before .before .before .pre .0) .joinable-room)))
 
 slice-relend-prefix-route-job-7 : tie.Need-slice-relend-prefix-route-job-7
-slice-relend-prefix-route-job-7 c = omega (arith, c .before .before .before .before .before .before .before .volume .ensures, enough (c .before .before .before .before .before .before .before .before .before .before .before .before .before .before .before .before .before .before .before .before .before .pre .0) .known-room)
+slice-relend-prefix-route-job-7 c = omega (arith, c .before .before .before .before .before .before .before .volume .ensures, enough (c .before .before .before .before .before .before .before .before .before .before .before .before .before .before .before .before .before .before .before .before .before .pre .0) .known-enough)
 
 slice-aggregate-route-job-7 : tie.Need-slice-aggregate-route-job-7
-slice-aggregate-route-job-7 c = sym (length-take-le _ _ (omega (arith, c .before .before .before .before .before .before .before .before .volume .ensures, enough (c .before .before .before .before .before .before .before .before .before .before .before .before .before .before .before .before .before .before .before .before .before .before .pre .0) .known-room)))
+slice-aggregate-route-job-7 c = sym (length-take-le _ _ (omega (arith, c .before .before .before .before .before .before .before .before .volume .ensures, enough (c .before .before .before .before .before .before .before .before .before .before .before .before .before .before .before .before .before .before .before .before .before .before .pre .0) .known-enough)))
 
 slice-relend-prefix-route-job-8 : tie.Need-slice-relend-prefix-route-job-8
-slice-relend-prefix-route-job-8 c = omega (arith, c .before .before .before .before .before .before .before .before .volume .ensures, enough (c .before .before .before .before .before .before .before .before .before .before .before .before .before .before .before .before .before .before .before .before .before .before .pre .0) .previous-room)
+slice-relend-prefix-route-job-8 c = omega (arith, c .before .before .before .before .before .before .before .before .volume .ensures, enough (c .before .before .before .before .before .before .before .before .before .before .before .before .before .before .before .before .before .before .before .before .before .before .pre .0) .previous-enough)
 
 slice-aggregate-route-job-8 : tie.Need-slice-aggregate-route-job-8
-slice-aggregate-route-job-8 c = sym (length-take-le _ _ (omega (arith, c .before .before .before .before .before .before .before .before .before .volume .ensures, enough (c .before .before .before .before .before .before .before .before .before .before .before .before .before .before .before .before .before .before .before .before .before .before .before .pre .0) .previous-room)))
+slice-aggregate-route-job-8 c = sym (length-take-le _ _ (omega (arith, c .before .before .before .before .before .before .before .before .before .volume .ensures, enough (c .before .before .before .before .before .before .before .before .before .before .before .before .before .before .before .before .before .before .before .before .before .before .before .pre .0) .previous-enough)))
 
 slice-relend-prefix-route-job-9 : tie.Need-slice-relend-prefix-route-job-9
-slice-relend-prefix-route-job-9 c = omega (arith, c .before .before .before .before .before .before .before .before .before .volume .ensures, enough (c .before .before .before .before .before .before .before .before .before .before .before .before .before .before .before .before .before .before .before .before .before .before .before .pre .0) .path-room)
+slice-relend-prefix-route-job-9 c = omega (arith, c .before .before .before .before .before .before .before .before .before .volume .ensures, enough (c .before .before .before .before .before .before .before .before .before .before .before .before .before .before .before .before .before .before .before .before .before .before .before .pre .0) .path-enough)
 
 slice-aggregate-route-job-9 : tie.Need-slice-aggregate-route-job-9
-slice-aggregate-route-job-9 c = sym (length-take-le _ _ (omega (arith, c .before .before .before .before .before .before .before .before .before .before .volume .ensures, enough (c .before .before .before .before .before .before .before .before .before .before .before .before .before .before .before .before .before .before .before .before .before .before .before .before .pre .0) .path-room)))
+slice-aggregate-route-job-9 c = sym (length-take-le _ _ (omega (arith, c .before .before .before .before .before .before .before .before .before .before .volume .ensures, enough (c .before .before .before .before .before .before .before .before .before .before .before .before .before .before .before .before .before .before .before .before .before .before .before .before .pre .0) .path-enough)))
 
 slice-relend-prefix-route-job-10 : tie.Need-slice-relend-prefix-route-job-10
 slice-relend-prefix-route-job-10 c = omega (arith, c .before .before .before .before .before .before .before .before .before .before .volume .ensures, enough (c .before .before .before .before .before .before .before .before .before .before .before .before .before .before .before .before .before .before .before .before .before .before .before .before .pre .0) .best-room)

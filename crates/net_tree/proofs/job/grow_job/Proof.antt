@@ -1,6 +1,6 @@
 -- `grow_job` meets its contract: the source is planted, the tree grows, and what comes of it is gathered.
 use mathlib.Core.Path.{_∙_}
-use Rattle.net_tree.specs.GrowthLaws.{plantable, gatherable, gathered}
+use Rattle.net_tree.specs.GrowJobLaws.{plantable, gatherable, gathered}
 use borrow.Author.Needs.{needs}
 use Rattle.net_tree.proofs.job.grow_job.Statement.{statement}
 use Rattle.net_tree.proofs.job.grow_job.Tie as tie

@@ -1,6 +1,6 @@
 -- `harvest` meets its contract: no mark forbids at first, the tree is finished, and its marks are counted.
 use mathlib.Core.Path.{refl, _∙_}
-use Rattle.net_tree.specs.GrowthLaws.{harvest-finishable}
+use Rattle.net_tree.specs.GrowJobLaws.{harvest-finishable}
 use borrow.Author.Needs.{needs}
 use Rattle.net_tree.proofs.job.harvest.Statement.{statement}
 use Rattle.net_tree.proofs.job.harvest.Tie as tie

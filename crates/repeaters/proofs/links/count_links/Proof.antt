@@ -4,7 +4,7 @@ use native.Mathlib.Omega.{arith}
 use mathlib.Core.Path.{_∙_, ap}
 use Rattle.room.specs.RoomLaws.{pos-in}
 use Rattle.repeaters.specs.Links.{insideCount}
-use Rattle.repeaters.specs.LinkLaws.{LinksCounted, counted-none, counted-next, counted-all, inside-one}
+use Rattle.repeaters.specs.LinkLaws.{LinksCounted, links-none, links-next, links-all, inside-one}
 use borrow.Author.Needs.{needs}
 use Rattle.repeaters.proofs.links.count_links.Statement.{statement}
 use Rattle.repeaters.proofs.links.count_links.Tie as tie
@@ -19,7 +19,7 @@ pos-requires : tie.Need-pos-requires Inv-loop μ-loop
 pos-requires c κs = search needs
 
 loop-holds : tie.Need-loop-holds Inv-loop μ-loop
-loop-holds c = counted-none
+loop-holds c = links-none
 
 linked-place-requires : tie.Need-linked-place-requires Inv-loop μ-loop
 linked-place-requires c κs = (c .before .before .before .pre .0, (rw (c .before .before .pos .ensures) (pos-in _ (c .before .before .before .pre .0) _ (c .before .before .before .pre .1)), c .loop-test .taken))
@@ -37,10 +37,10 @@ loop-less : tie.Need-loop-less Inv-loop μ-loop
 loop-less c = search needs
 
 loop-again : tie.Need-loop-again Inv-loop μ-loop
-loop-again c = counted-next (c .before .before .before .loop .inv) (c .before .before .loop-test .taken) _ (c .one-inside .ensures ∙ ap insideCount (c .before .linked-place .ensures))
+loop-again c = links-next (c .before .before .before .loop .inv) (c .before .before .loop-test .taken) _ (c .one-inside .ensures ∙ ap insideCount (c .before .linked-place .ensures))
 
 returns : tie.Need-returns Inv-loop μ-loop
-returns c = rw (c .before .before .pos .ensures) at (counted-all (c .before .loop .inv) (c .loop-test .left))
+returns c = rw (c .before .before .pos .ensures) at (links-all (c .before .loop .inv) (c .loop-test .left))
 
 pub count-links-spec : {M : Type 1} → statement M
 count-links-spec =

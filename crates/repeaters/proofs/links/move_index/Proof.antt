@@ -1,6 +1,6 @@
 -- `move_index` meets its contract: its tests are those of the definition.
 use borrow.Author.Tests.{eq-eqb, ne-eqb}
-use Rattle.repeaters.specs.Joins.{moveIndex}
+use Rattle.repeaters.specs.Masks.{moveIndex}
 use borrow.Author.Needs.{needs}
 use Rattle.repeaters.proofs.links.move_index.Statement.{statement}
 use Rattle.repeaters.proofs.links.move_index.Tie as tie

@@ -1,6 +1,6 @@
 -- `ordered_move` meets its contract: the table is the definition's list of places.
 use mathlib.Core.Path.{_∙_}
-use Rattle.repeaters.specs.JoinLaws.{order-in, order-is}
+use Rattle.repeaters.specs.MaskLaws.{order-in, order-is}
 use borrow.Author.Needs.{needs}
 use Rattle.repeaters.proofs.links.ordered_move.Statement.{statement}
 use Rattle.repeaters.proofs.links.ordered_move.Tie as tie

@@ -1,6 +1,6 @@
 -- `step_index` meets its contract: a step changes each part by at most 1.
 use native.Mathlib.Omega.{arith}
-use Rattle.repeaters.specs.JoinLaws.{step-parts}
+use Rattle.repeaters.specs.MaskLaws.{step-parts}
 use borrow.Author.Needs.{needs}
 use Rattle.repeaters.proofs.links.step_index.Statement.{statement}
 use Rattle.repeaters.proofs.links.step_index.Tie as tie

@@ -3,15 +3,15 @@ use native.Mathlib.Omega.{arith}
 use mathlib.Core.Path.{_≡_, refl, _∙_}
 use Prim.Native.Nat.{_-_}
 use lib.ListN.{length}
-use Rattle.repeaters.specs.JoinLaws.{adding-masked, masked-none}
-use Rattle.repeaters.specs.TreeLaws.{Laying, laying-none, laying-next, laying-all, branch-in, branch-steps}
+use Rattle.repeaters.specs.MaskLaws.{adding-masked, masked-none}
+use Rattle.repeaters.specs.AdjacencyLaws.{LayingLinks, laying-none, laying-next, laying-all, branch-within, branch-laid}
 use Rattle.repeaters.specs.NeighbourLaws.{tree-joined}
 use borrow.Author.Needs.{needs}
 use Rattle.repeaters.proofs.links.tree_adjacency.Statement.{statement}
 use Rattle.repeaters.proofs.links.tree_adjacency.Tie as tie
 
 abbrev Inv-loop : tie.InvT-loop
-Inv-loop room branches links₀ lengths count from₀ k₀ links from k = (length links ≡ length links₀) × Laying room lengths branches links₀ links from k
+Inv-loop room branches links₀ lengths count from₀ k₀ links from k = (length links ≡ length links₀) × LayingLinks room lengths branches links₀ links from k
 
 abbrev μ-loop : tie.MeasureT-loop
 μ-loop room branches links₀ lengths count from₀ k₀ links from k = count - k
@@ -26,7 +26,7 @@ element-copy-out-to : tie.Need-element-copy-out-to Inv-loop μ-loop
 element-copy-out-to c = search needs
 
 add-to : tie.Need-add-to Inv-loop μ-loop
-add-to c = record { fits = omega (arith, branch-in (c .before .before .before .before .before .pre .1 .0) (c .before .before .loop .inv .1) (c .before .loop-test .taken) _ refl) }
+add-to c = record { fits = omega (arith, branch-within (c .before .before .before .before .before .pre .1 .0) (c .before .before .loop .inv .1) (c .before .loop-test .taken) _ refl) }
 
 mul-link-branch : tie.Need-mul-link-branch Inv-loop μ-loop
 mul-link-branch c = search needs
@@ -38,10 +38,10 @@ part-link-branch-start : tie.Need-part-link-branch-start Inv-loop μ-loop
 part-link-branch-start c = search needs
 
 part-link-branch-end : tie.Need-part-link-branch-end Inv-loop μ-loop
-part-link-branch-end c = branch-in (c .before .before .before .before .before .pre .1 .0) (c .before .before .loop .inv .1) (c .before .loop-test .taken) _ refl
+part-link-branch-end c = branch-within (c .before .before .before .before .before .pre .1 .0) (c .before .before .loop .inv .1) (c .before .loop-test .taken) _ refl
 
 link-branch-requires : tie.Need-link-branch-requires Inv-loop μ-loop
-link-branch-requires c κs = (c .before .before .before .before .before .before .before .pre .0, (branch-steps (c .before .before .before .before .before .before .before .pre .1 .0) (c .before .before .before .before .loop .inv .1) (c .before .before .before .loop-test .taken) _ refl, adding-masked (c .before .before .before .before .loop .inv .1 .adding) (masked-none (c .before .before .before .before .before .before .before .pre .1 .1))))
+link-branch-requires c κs = (c .before .before .before .before .before .before .before .pre .0, (branch-laid (c .before .before .before .before .before .before .before .pre .1 .0) (c .before .before .before .before .loop .inv .1) (c .before .before .before .loop-test .taken) _ refl, adding-masked (c .before .before .before .before .loop .inv .1 .adding) (masked-none (c .before .before .before .before .before .before .before .pre .1 .1))))
 
 add-k : tie.Need-add-k Inv-loop μ-loop
 add-k c = search needs

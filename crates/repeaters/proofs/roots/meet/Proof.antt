@@ -1,6 +1,6 @@
 -- `meet` meets its contract: a cell that was not reached has room in the line.
 use native.Mathlib.Omega.{arith}
-use Rattle.repeaters.specs.RootLaws.{held-most, met-before, line-room, met-now}
+use Rattle.repeaters.specs.RootLaws.{held-most, met-before, line-fits, met-now}
 use borrow.Author.Needs.{needs}
 use Rattle.repeaters.proofs.roots.meet.Statement.{statement}
 use Rattle.repeaters.proofs.roots.meet.Tie as tie
@@ -33,7 +33,7 @@ mul-line : tie.Need-mul-line
 mul-line c = record { fits = omega (arith, held-most (c .before .before .pre .0), c .before .before .pre .1 .0) }
 
 slice-write-line : tie.Need-slice-write-line
-slice-write-line c = line-room (c .before .before .pre .0) _ _ (c .before .before .pre .1 .1 .0) (c .before .before .pre .1 .1 .1) (c .if1 .left)
+slice-write-line c = line-fits (c .before .before .pre .0) _ _ (c .before .before .pre .1 .1 .0) (c .before .before .pre .1 .1 .1) (c .if1 .left)
 
 add-result : tie.Need-add-result
 add-result c = record { fits = omega (arith, held-most (c .before .before .pre .0), c .before .before .pre .1 .0) }

@@ -1,4 +1,4 @@
--- `rooted_parent` meets its contract. The loop's invariant: the turns left from here come to the same as all from the outset.
+-- `rooted_parent` meets its contract. The loop's invariant: the visits left from here come to the same as all from the outset.
 use native.Mathlib.Omega.{arith}
 use mathlib.Core.Path.{refl, sym, _∙_, ap}
 use Prim.Native.Nat.{ℕ, _-_}

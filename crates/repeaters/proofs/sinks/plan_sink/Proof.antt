@@ -14,7 +14,7 @@ slice-reshare-prefix-plan-path : tie.Need-slice-reshare-prefix-plan-path
 slice-reshare-prefix-plan-path c = search needs
 
 slice-aggregate-plan-path : tie.Need-slice-aggregate-plan-path
-slice-aggregate-plan-path c = sym (length-take-le (c .before .before .before .root-path .result) (c .before .before .before .root-path .last .1 .1 .0) (c .before .before .before .root-path .ensures .room))
+slice-aggregate-plan-path c = sym (length-take-le (c .before .before .before .root-path .result) (c .before .before .before .root-path .last .1 .1 .0) (c .before .before .before .root-path .ensures .fits))
 
 plan-path-requires : tie.Need-plan-path-requires
 plan-path-requires c κs = (path-ready (c .before .before .before .before .before .before .before .before .before .before .before .pre .0) (c .before .before .before .before .before .before .before .before .before .before .before .pre .1 .0) (c .before .before .before .before .root-path .ensures), c .before .before .before .before .before .before .before .before .before .before .before .pre .1 .1 .0)

@@ -18,7 +18,7 @@ slice-reshare-prefix-reinforce-path : tie.Need-slice-reshare-prefix-reinforce-pa
 slice-reshare-prefix-reinforce-path c = search needs
 
 slice-aggregate-reinforce-path : tie.Need-slice-aggregate-reinforce-path
-slice-aggregate-reinforce-path c = sym (length-take-le (c .before .before .before .root-path .result) (c .before .before .before .root-path .last .1 .1 .0) (c .before .before .before .root-path .ensures .room))
+slice-aggregate-reinforce-path c = sym (length-take-le (c .before .before .before .root-path .result) (c .before .before .before .root-path .last .1 .1 .0) (c .before .before .before .root-path .ensures .fits))
 
 reinforce-path-requires : tie.Need-reinforce-path-requires
 reinforce-path-requires c κs = (path-ready (c .before .before .before .before .before .before .before .before .before .before .before .before .before .pre .0) (c .before .before .before .before .before .before .before .before .before .before .before .before .before .pre .1 .0) (c .before .before .before .before .root-path .ensures), c .before .before .before .before .before .before .before .before .before .before .before .before .before .pre .1 .1 .0)

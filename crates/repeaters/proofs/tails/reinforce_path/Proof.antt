@@ -1,4 +1,4 @@
--- `reinforce_path` meets its contract: each of its answers is one branch of the definition.
+-- `reinforce_path` meets its contract: each of its answers is one case of the definition.
 use native.Mathlib.Omega.{arith}
 use mathlib.Core.Logic.{⊎-elim}
 use Rattle.repeaters.specs.TailLaws.{last-in, reinforced-near, reinforced-none, reinforced-put, earliest-in}

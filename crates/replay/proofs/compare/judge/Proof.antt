@@ -1,6 +1,6 @@
 -- `judge` meets its contract: as stored, or the queue full, or neither.
 use mathlib.Core.Path.{sym, _∙_}
-use Rattle.stored.specs.Places.{cellsFrom}
+use Rattle.stored.specs.FilePlaces.{cellsFrom}
 use Rattle.replay.specs.Verdicts.{verdictOf}
 use Rattle.basics.specs.Tests.{test-fails, test-passes}
 use borrow.Author.Needs.{needs}

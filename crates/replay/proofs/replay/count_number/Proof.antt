@@ -1,7 +1,7 @@
 -- `count_number` meets its contract: what the records left come to is the whole.
 use Prim.Native.Nat.{_-_}
 use Rattle.replay.specs.Runs.{timesNumbered}
-use Rattle.replay.specs.RunLaws.{NumbersCounted, counted-none, counted-next, counted-done}
+use Rattle.replay.specs.RunLaws.{NumbersCounted, numbered-none, numbered-next, numbered-done}
 use borrow.Author.Needs.{needs}
 use Rattle.replay.proofs.replay.count_number.Statement.{statement}
 use Rattle.replay.proofs.replay.count_number.Tie as tie
@@ -19,7 +19,7 @@ first-place-requires : tie.Need-first-place-requires Inv-loop μ-loop
 first-place-requires c κs = search needs
 
 loop-holds : tie.Need-loop-holds Inv-loop μ-loop
-loop-holds c = counted-none
+loop-holds c = numbered-none
 
 stored-at-requires : tie.Need-stored-at-requires Inv-loop μ-loop
 stored-at-requires c κs = search needs
@@ -34,11 +34,11 @@ loop-less : tie.Need-loop-less Inv-loop μ-loop
 loop-less c = search needs
 
 loop-again : tie.Need-loop-again Inv-loop μ-loop
-loop-again c = counted-next (c .before .before .before .loop .inv) (c .before .before .loop-test .taken) (c .before .stored-at .ensures) (c .one-more .ensures)
+loop-again c = numbered-next (c .before .before .before .loop .inv) (c .before .before .loop-test .taken) (c .before .stored-at .ensures) (c .one-more .ensures)
 
 returns : tie.Need-returns Inv-loop μ-loop
 unfolding timesNumbered
-returns c = rw (← (c .before .before .before .count-in .ensures), ← (c .before .before .first-place .ensures)) (counted-done (c .before .loop .inv) (c .loop-test .left))
+returns c = rw (← (c .before .before .before .count-in .ensures), ← (c .before .before .first-place .ensures)) (numbered-done (c .before .loop .inv) (c .loop-test .left))
 
 pub count-number-spec : {M : Type 1} → statement M
 count-number-spec =

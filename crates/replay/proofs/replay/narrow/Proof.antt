@@ -1,4 +1,4 @@
--- `narrow` meets its contract: the gap is halved once a turn.
+-- `narrow` meets its contract: the gap is halved once a round.
 use mathlib.Core.Path.{_≡_, refl}
 use Prim.Native.Nat.{_-_, _≤_}
 use native.Mathlib.Numerals.{add-one}
@@ -6,15 +6,15 @@ use native.Mathlib.Omega.{arith}
 use lib.ListN.{length}
 use Rattle.replay.specs.Runs.{RanWith}
 use borrow.Author.Needs.{needs}
-use Rattle.stored.specs.Runs.{Repeated, none, one-more, Halved}
+use Rattle.stored.specs.Runs.{Repeated, none, once-more, Halved}
 use Rattle.replay.proofs.replay.narrow.Statement.{statement}
 use Rattle.replay.proofs.replay.narrow.Tie as tie
 
 abbrev Inv-loop : tie.InvT-loop
-Inv-loop file stored queue₀ gap₀ turns₀ queue gap turns = (turns ≤ 32) × Repeated (λ _. Halved (RanWith file (length queue₀) stored)) gap₀ turns gap × (length queue ≡ length queue₀)
+Inv-loop file stored queue₀ gap₀ rounds₀ queue gap rounds = (rounds ≤ 32) × Repeated (λ _. Halved (RanWith file (length queue₀) stored)) gap₀ rounds gap × (length queue ≡ length queue₀)
 
 abbrev μ-loop : tie.MeasureT-loop
-μ-loop file stored queue₀ gap₀ turns₀ queue gap turns = 32 - turns
+μ-loop file stored queue₀ gap₀ rounds₀ queue gap rounds = 32 - rounds
 
 loop-holds : tie.Need-loop-holds Inv-loop μ-loop
 loop-holds c = (search needs, none refl, refl)
@@ -22,20 +22,20 @@ loop-holds c = (search needs, none refl, refl)
 narrow-once-requires : tie.Need-narrow-once-requires Inv-loop μ-loop
 narrow-once-requires c κs = search needs
 
-add-turns : tie.Need-add-turns Inv-loop μ-loop
-add-turns c = search needs
+add-rounds : tie.Need-add-rounds Inv-loop μ-loop
+add-rounds c = search needs
 
 loop-less : tie.Need-loop-less Inv-loop μ-loop
 loop-less c = search needs
 
 loop-again : tie.Need-loop-again Inv-loop μ-loop
-loop-again c = (search needs, rw add-one (one-more (c .before .before .before .before .before .loop .inv .1) (rw (c .before .before .before .before .before .loop .inv .2) at (c .before .before .narrow-once .ensures))), search needs)
+loop-again c = (search needs, rw add-one (once-more (c .before .before .before .before .before .loop .inv .1) (rw (c .before .before .before .before .before .loop .inv .2) at (c .before .before .narrow-once .ensures))), search needs)
 
 same-length : tie.Need-same-length Inv-loop μ-loop
 same-length c = c .before .loop .inv .2
 
 returns : tie.Need-returns Inv-loop μ-loop
-returns c = let e : c .before .loop .turns ≡ 32 = omega arith in record { halvings = rw e at (c .before .loop .inv .1) }
+returns c = let e : c .before .loop .rounds ≡ 32 = omega arith in record { halvings = rw e at (c .before .loop .inv .1) }
 
 pub narrow-spec : {M : Type 1} → statement M
 narrow-spec =
@@ -45,7 +45,7 @@ narrow-spec =
     μ-loop
     loop-holds
     narrow-once-requires
-    add-turns
+    add-rounds
     loop-less
     loop-again
     same-length

@@ -1,4 +1,4 @@
--- `replay` meets its contract: one record a turn.
+-- `replay` meets its contract: one record a round.
 use mathlib.Core.Path.{_≡_, refl}
 use Prim.Native.Nat.{_-_, _≤_}
 use native.Mathlib.Numerals.{add-one}
@@ -6,7 +6,7 @@ use native.Mathlib.Omega.{arith}
 use lib.ListN.{length}
 use Rattle.replay.specs.Runs.{Next}
 use borrow.Author.Needs.{needs}
-use Rattle.stored.specs.Runs.{Repeated, none, one-more}
+use Rattle.stored.specs.Runs.{Repeated, none, once-more}
 use Rattle.replay.proofs.replay.replay.Statement.{statement}
 use Rattle.replay.proofs.replay.replay.Tie as tie
 
@@ -35,7 +35,7 @@ loop-less : tie.Need-loop-less Inv-loop μ-loop
 loop-less c = search needs
 
 loop-again : tie.Need-loop-again Inv-loop μ-loop
-loop-again c = (search needs, rw add-one (one-more (c .before .before .before .before .before .loop .inv .1) (rw (c .before .before .before .before .before .loop .inv .2) at (c .before .before .replay-next .ensures))), search needs)
+loop-again c = (search needs, rw add-one (once-more (c .before .before .before .before .before .loop .inv .1) (rw (c .before .before .before .before .before .loop .inv .2) at (c .before .before .replay-next .ensures))), search needs)
 
 same-length : tie.Need-same-length Inv-loop μ-loop
 same-length c = c .before .loop .inv .2

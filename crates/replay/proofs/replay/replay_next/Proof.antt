@@ -1,13 +1,13 @@
 -- `replay_next` meets its contract: nothing behind one that differs, else the search at the place reached.
 use mathlib.Core.Path.{refl}
 use borrow.Author.Tests.{not-true, not-false}
-use Rattle.replay.specs.Runs.{stopped, replayed}
+use Rattle.replay.specs.Runs.{past-difference, replayed}
 use borrow.Author.Needs.{needs}
 use Rattle.replay.proofs.replay.replay_next.Statement.{statement}
 use Rattle.replay.proofs.replay.replay_next.Tie as tie
 
 returns : tie.Need-returns
-returns c = stopped (not-true (c .before .before .before .before .args .stand .agreed) (c .if1 .taken)) refl
+returns c = past-difference (not-true (c .before .before .before .before .args .stand .agreed) (c .if1 .taken)) refl
 
 stored-at-requires : tie.Need-stored-at-requires
 stored-at-requires c κs = search needs

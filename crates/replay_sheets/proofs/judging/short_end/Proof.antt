@@ -9,15 +9,15 @@ enum-told c = search needs
 enum-known-ended : tie.Need-enum-known-ended
 enum-known-ended c = search needs
 
-short-refusal-requires : tie.Need-short-refusal-requires
-short-refusal-requires c κs = search needs
+shortage-told-requires : tie.Need-shortage-told-requires
+shortage-told-requires c κs = search needs
 
 returns : tie.Need-returns
 returns c = search needs
 
 returns-2 : tie.Need-returns-2
-returns-2 c = rw (c .before .before .ended .given .1) (c .short-refusal .ensures)
+returns-2 c = rw (c .before .before .ended .given .1) (c .shortage-told .ensures)
 
 pub short-end-spec : {M : Type 1} → statement M
 short-end-spec =
-    tie.close (tie.spec enum-told enum-known-ended short-refusal-requires returns returns-2)
+    tie.close (tie.spec enum-told enum-known-ended shortage-told-requires returns returns-2)

@@ -16,20 +16,20 @@ same-length c = search needs
 returns : tie.Need-returns
 returns c = least-queue (c .before .before .before .before .if1 .taken) _ (c .before .before .before .before .before .size-of .ensures) (c .before .before .narrows .ensures)
 
-lengths-of-requires : tie.Need-lengths-of-requires
-lengths-of-requires c κs = search needs
+lengths-for-requires : tie.Need-lengths-for-requires
+lengths-for-requires c κs = search needs
 
-run-requires : tie.Need-run-requires
-run-requires c κs = search needs
+run-sheet-requires : tie.Need-run-sheet-requires
+run-sheet-requires c κs = search needs
 
-agrees-requires : tie.Need-agrees-requires
-agrees-requires c κs = search needs
+agreed-by-requires : tie.Need-agreed-by-requires
+agreed-by-requires c κs = search needs
 
 same-length-2 : tie.Need-same-length-2
 same-length-2 c = search needs
 
 returns-2 : tie.Need-returns-2
-returns-2 c = one-run (c .before .before .before .before .before .before .if1 .left) _ (c .before .before .before .before .before .before .before .size-of .ensures) _ (c .before .before .before .before .before .lengths-of .ensures) _ (c .before .before .before .run .ensures) (c .agrees .ensures)
+returns-2 c = one-run (c .before .before .before .before .before .before .if1 .left) _ (c .before .before .before .before .before .before .before .size-of .ensures) _ (c .before .before .before .before .before .lengths-for .ensures) _ (c .before .before .before .run-sheet .ensures) (c .agreed-by .ensures)
 
 pub agrees-in-spec : {M : Type 1} → statement M
 agrees-in-spec =
@@ -39,8 +39,8 @@ agrees-in-spec =
     narrows-requires
     same-length
     returns
-    lengths-of-requires
-    run-requires
-    agrees-requires
+    lengths-for-requires
+    run-sheet-requires
+    agreed-by-requires
     same-length-2
     returns-2)

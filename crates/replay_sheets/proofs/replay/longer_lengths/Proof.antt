@@ -1,5 +1,5 @@
 -- `longer_lengths` meets its contract, length by length.
-use Rattle.replay_sheets.specs.RunLaws.{longer-by}
+use Rattle.replay_sheets.specs.RunLaws.{longer-lent}
 use borrow.Author.Needs.{needs}
 use Rattle.replay_sheets.proofs.replay.longer_lengths.Statement.{statement}
 use Rattle.replay_sheets.proofs.replay.longer_lengths.Tie as tie
@@ -20,7 +20,7 @@ longer-requires : tie.Need-longer-requires
 longer-requires c κs = search needs
 
 returns : tie.Need-returns
-returns c = longer-by _ _ (c .before .before .before .before .cells-more .ensures) (c .before .before .before .branch-more .ensures) (c .before .before .twice .ensures) (c .before .queue-more .ensures) (c .longer .ensures)
+returns c = longer-lent _ _ (c .before .before .before .before .cells-more .ensures) (c .before .before .before .branch-more .ensures) (c .before .before .twice .ensures) (c .before .queue-more .ensures) (c .longer .ensures)
 
 pub longer-lengths-spec : {M : Type 1} → statement M
 longer-lengths-spec =

@@ -1,4 +1,4 @@
--- `replay` meets its contract: one record a turn.
+-- `replay` meets its contract: one record a round.
 use mathlib.Core.Path.{_≡_}
 use Prim.Native.Nat.{_-_, _≤_}
 use native.Mathlib.Numerals.{add-one}
@@ -7,7 +7,7 @@ use lib.ListN.{length}
 use Rattle.replay_sheets.specs.ReplayLaws.{next-long}
 use borrow.Author.Needs.{needs}
 use Rattle.replay_sheets.specs.Replays.{Next, noneYet}
-use Rattle.stored.specs.Runs.{Repeated, none, one-more}
+use Rattle.stored.specs.Runs.{Repeated, none, once-more}
 use Rattle.replay_sheets.proofs.replay.replay.Statement.{statement}
 use Rattle.replay_sheets.proofs.replay.replay.Tie as tie
 
@@ -39,7 +39,7 @@ loop-less : tie.Need-loop-less Inv-loop μ-loop
 loop-less c = search needs
 
 loop-again : tie.Need-loop-again Inv-loop μ-loop
-loop-again c = (search needs, search needs, rw add-one (one-more (c .before .before .before .before .before .loop .inv .2) (next-long (c .before .before .before .before .before .loop .inv .0) (c .before .before .replay-next .ensures))))
+loop-again c = (search needs, search needs, rw add-one (once-more (c .before .before .before .before .before .loop .inv .2) (next-long (c .before .before .before .before .before .loop .inv .0) (c .before .before .replay-next .ensures))))
 
 same-length : tie.Need-same-length Inv-loop μ-loop
 same-length c = search needs

@@ -1,4 +1,4 @@
--- `replay_comparisons` meets its contract: one comparison a turn.
+-- `replay_comparisons` meets its contract: one comparison a round.
 use mathlib.Core.Path.{_≡_, refl}
 use Prim.Native.Nat.{_-_, _≤_}
 use native.Mathlib.Numerals.{add-one}
@@ -7,7 +7,7 @@ use lib.ListN.{length}
 use Rattle.replay_sheets.specs.ReplayLaws.{comparison-long}
 use borrow.Author.Needs.{needs}
 use Rattle.replay_sheets.specs.Replays.{InComparison}
-use Rattle.stored.specs.Runs.{Repeated, none, one-more}
+use Rattle.stored.specs.Runs.{Repeated, none, once-more}
 use Rattle.replay_sheets.proofs.replay.replay_comparisons.Statement.{statement}
 use Rattle.replay_sheets.proofs.replay.replay_comparisons.Tie as tie
 
@@ -33,7 +33,7 @@ loop-less : tie.Need-loop-less Inv-loop μ-loop
 loop-less c = search needs
 
 loop-again : tie.Need-loop-again Inv-loop μ-loop
-loop-again c = (search needs, search needs, rw add-one (one-more (c .before .before .before .before .before .loop .inv .2) (comparison-long (c .before .before .before .before .before .loop .inv .0) (c .before .before .replay-comparison .ensures))))
+loop-again c = (search needs, search needs, rw add-one (once-more (c .before .before .before .before .before .loop .inv .2) (comparison-long (c .before .before .before .before .before .loop .inv .0) (c .before .before .replay-comparison .ensures))))
 
 same-length : tie.Need-same-length Inv-loop μ-loop
 same-length c = search needs

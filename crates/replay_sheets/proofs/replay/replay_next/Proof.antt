@@ -3,7 +3,7 @@ use mathlib.Core.Path.{sym, _∙_}
 use Prim.Native.Nat.{ℕ}
 use lib.ListN.{length-replicate}
 use Rattle.stored.specs.Memory.{ownLength}
-use Rattle.replay_sheets.specs.Sheets.{sixteenZeros}
+use Rattle.replay_sheets.specs.Sheets.{ownZeros}
 use Rattle.replay_sheets.specs.SheetLaws.{sheet-starts, sheet-ends}
 use Rattle.replay_sheets.specs.ReplayLaws.{next-by}
 use borrow.Author.Needs.{needs}
@@ -37,8 +37,8 @@ part-replay-comparisons-end c = sheet-ends _ _ (c .before .before .before .befor
 asked-at-requires : tie.Need-asked-at-requires
 asked-at-requires c κs = search needs
 
-known-if-requires : tie.Need-known-if-requires
-known-if-requires c κs = search needs
+told-if-requires : tie.Need-told-if-requires
+told-if-requires c κs = search needs
 
 slice-aggregate-replay-comparisons : tie.Need-slice-aggregate-replay-comparisons
 slice-aggregate-replay-comparisons c = sym (c .before .before .before .before .before .before .before .before .answer-at .kept .1 .1 .0 ∙ length-replicate {0} {A = ℕ} ownLength 0)
@@ -56,8 +56,8 @@ same-length : tie.Need-same-length
 same-length c = search needs
 
 returns : tie.Need-returns
-unfolding sixteenZeros
-returns c = next-by _ _ (c .before .before .before .before .before .before .before .before .before .before .before .before .before .before .before .before .before .before .sheet-at .ensures) (c .before .before .before .before .before .before .before .before .before .before .before .before .before .before .answer-at .ensures) (c .before .before .before .before .before .before .before .before .asked-at .ensures) (c .before .before .before .before .before .before .before .known-if .ensures) (c .before .before .replay-comparisons .ensures)
+unfolding ownZeros
+returns c = next-by _ _ (c .before .before .before .before .before .before .before .before .before .before .before .before .before .before .before .before .before .before .sheet-at .ensures) (c .before .before .before .before .before .before .before .before .before .before .before .before .before .before .answer-at .ensures) (c .before .before .before .before .before .before .before .before .asked-at .ensures) (c .before .before .before .before .before .before .before .told-if .ensures) (c .before .before .replay-comparisons .ensures)
 
 pub replay-next-spec : {M : Type 1} → statement M
 replay-next-spec =
@@ -72,7 +72,7 @@ replay-next-spec =
     part-replay-comparisons-start
     part-replay-comparisons-end
     asked-at-requires
-    known-if-requires
+    told-if-requires
     slice-aggregate-replay-comparisons
     slice-aggregate-replay-comparisons-2
     slice-aggregate-replay-comparisons-3

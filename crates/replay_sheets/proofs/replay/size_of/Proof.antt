@@ -20,14 +20,14 @@ returns c = refused _ (c .before .before .read-sheet .ensures) (test-fails (c .b
 volume-requires : tie.Need-volume-requires
 volume-requires c κs = usable _ _ (accepted-by (c .before .before .before .read-sheet .ensures) (test-passes (c .before .before .is-good .ensures) (c .before .if1 .left))) .room-good
 
-lesser-requires : tie.Need-lesser-requires
-lesser-requires c κs = search needs
+smaller-requires : tie.Need-smaller-requires
+smaller-requires c κs = search needs
 
 cast-t10 : tie.Need-cast-t10
 cast-t10 c = search needs
 
 returns-2 : tie.Need-returns-2
-returns-2 c = accepted _ (accepted-by (c .before .before .before .before .before .before .read-sheet .ensures) (test-passes (c .before .before .before .before .before .is-good .ensures) (c .before .before .before .before .if1 .left))) (c .before .lesser .ensures ∙ ap (min (c .before .before .before .before .before .before .before .before .args .lent)) (c .before .before .volume .ensures)) refl
+returns-2 c = accepted _ (accepted-by (c .before .before .before .before .before .before .read-sheet .ensures) (test-passes (c .before .before .before .before .before .is-good .ensures) (c .before .before .before .before .if1 .left))) (c .before .smaller .ensures ∙ ap (min (c .before .before .before .before .before .before .before .before .args .lent)) (c .before .before .volume .ensures)) refl
 
 pub size-of-spec : {M : Type 1} → statement M
 size-of-spec =
@@ -37,6 +37,6 @@ size-of-spec =
     is-good-requires
     returns
     volume-requires
-    lesser-requires
+    smaller-requires
     cast-t10
     returns-2)

@@ -25,17 +25,17 @@ returns c = answer-tree _ _ _ _ _ (c .before .before .before .before .before .be
 size-behind-requires : tie.Need-size-behind-requires
 size-behind-requires c κs = search needs
 
-cast-refusal : tie.Need-cast-refusal
-cast-refusal c = search needs
+cast-told-refusal : tie.Need-cast-told-refusal
+cast-told-refusal c = search needs
 
-refusal-requires : tie.Need-refusal-requires
-refusal-requires c κs = search needs
+told-refusal-requires : tie.Need-told-refusal-requires
+told-refusal-requires c κs = search needs
 
 past-requires : tie.Need-past-requires
 past-requires c κs = search needs
 
 returns-2 : tie.Need-returns-2
-returns-2 c = answer-refused _ _ _ _ _ (c .before .before .before .before .byte-at .ensures) (c .before .before .before .if1 .left) (c .before .before .size-behind .ensures .0) (c .before .refusal .ensures) (c .past .ensures)
+returns-2 c = answer-refused _ _ _ _ _ (c .before .before .before .before .byte-at .ensures) (c .before .before .before .if1 .left) (c .before .before .size-behind .ensures .0) (c .before .told-refusal .ensures) (c .past .ensures)
 
 pub answer-at-spec : {M : Type 1} → statement M
 answer-at-spec =
@@ -48,7 +48,7 @@ answer-at-spec =
     same-length-3
     returns
     size-behind-requires
-    cast-refusal
-    refusal-requires
+    cast-told-refusal
+    told-refusal-requires
     past-requires
     returns-2)

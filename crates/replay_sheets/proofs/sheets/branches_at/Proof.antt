@@ -24,11 +24,11 @@ size-at-requires c κs = search needs
 past-requires : tie.Need-past-requires Inv-loop μ-loop
 past-requires c κs = search needs
 
-put-cells-requires : tie.Need-put-cells-requires Inv-loop μ-loop
-put-cells-requires c κs = search needs
+put-stored-cells-requires : tie.Need-put-stored-cells-requires Inv-loop μ-loop
+put-stored-cells-requires c κs = search needs
 
-mark-cells-requires : tie.Need-mark-cells-requires Inv-loop μ-loop
-mark-cells-requires c κs = search needs
+mark-stored-cells-requires : tie.Need-mark-stored-cells-requires Inv-loop μ-loop
+mark-stored-cells-requires c κs = search needs
 
 mul-each : tie.Need-mul-each Inv-loop μ-loop
 mul-each c = search needs
@@ -52,7 +52,7 @@ loop-less : tie.Need-loop-less Inv-loop μ-loop
 loop-less c = search needs
 
 loop-again : tie.Need-loop-again Inv-loop μ-loop
-loop-again c = (search needs, search needs, search needs, search needs, branched-next (c .before .before .before .before .before .before .before .before .before .before .before .before .loop .inv .4) (c .before .before .before .before .before .before .before .before .before .before .size-at .ensures .0) (c .before .before .before .before .before .before .before .before .before .past .ensures) (c .before .before .before .before .before .before .before .put-cells .ensures) (c .before .before .before .mark-cells .ensures) (c .past2 .ensures))
+loop-again c = (search needs, search needs, search needs, search needs, branched-next (c .before .before .before .before .before .before .before .before .before .before .before .before .loop .inv .4) (c .before .before .before .before .before .before .before .before .before .before .size-at .ensures .0) (c .before .before .before .before .before .before .before .before .before .past .ensures) (c .before .before .before .before .before .before .before .put-stored-cells .ensures) (c .before .before .before .mark-stored-cells .ensures) (c .past2 .ensures))
 
 same-length : tie.Need-same-length Inv-loop μ-loop
 same-length c = search needs
@@ -72,8 +72,8 @@ branches-at-spec =
     loop-holds
     size-at-requires
     past-requires
-    put-cells-requires
-    mark-cells-requires
+    put-stored-cells-requires
+    mark-stored-cells-requires
     mul-each
     array-write-each
     add-total

@@ -1,5 +1,5 @@
 -- `sheet_at` meets its contract: no place lies before the one it goes on from.
-use Rattle.stored.specs.PlaceLaws.{past-within, past-behind}
+use Rattle.stored.specs.FilePlaceLaws.{past-within, past-behind}
 use Rattle.replay_sheets.specs.SheetLaws.{sheet-by}
 use borrow.Author.Needs.{needs}
 use Rattle.replay_sheets.proofs.sheets.sheet_at.Statement.{statement}

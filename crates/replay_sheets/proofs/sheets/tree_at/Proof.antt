@@ -28,8 +28,8 @@ size-behind-requires-2 c κs = search needs
 past-requires-2 : tie.Need-past-requires-2
 past-requires-2 c κs = search needs
 
-mark-cells-requires : tie.Need-mark-cells-requires
-mark-cells-requires c κs = search needs
+mark-stored-cells-requires : tie.Need-mark-stored-cells-requires
+mark-stored-cells-requires c κs = search needs
 
 cast-t14 : tie.Need-cast-t14
 cast-t14 c = search needs
@@ -50,7 +50,7 @@ same-length-3 : tie.Need-same-length-3
 same-length-3 c = search needs
 
 returns : tie.Need-returns
-returns c = tree-by _ _ _ _ _ (c .before .before .before .before .before .before .before .before .before .before .before .before .before .before .before .before .before .before .before .size-behind .ensures .0) (c .before .before .before .before .before .before .before .before .before .before .before .before .before .before .before .before .before .before .byte-behind .ensures) (c .before .before .before .before .before .before .before .before .before .before .before .before .before .before .before .before .before .past .ensures) (c .before .before .before .before .before .before .before .before .before .before .before .before .before .before .before .before .at-most-sixteen .ensures) (c .before .before .before .before .before .before .before .before .before .before .before .before .before .branches-at .ensures) (c .before .before .before .before .before .before .before .size-at .ensures .0) (c .before .before .before .before .before .before .size-behind2 .ensures .0) (c .before .before .before .before .before .past2 .ensures) (c .before .before .before .mark-cells .ensures) (c .past3 .ensures)
+returns c = tree-by _ _ _ _ _ (c .before .before .before .before .before .before .before .before .before .before .before .before .before .before .before .before .before .before .before .size-behind .ensures .0) (c .before .before .before .before .before .before .before .before .before .before .before .before .before .before .before .before .before .before .byte-behind .ensures) (c .before .before .before .before .before .before .before .before .before .before .before .before .before .before .before .before .before .past .ensures) (c .before .before .before .before .before .before .before .before .before .before .before .before .before .before .before .before .at-most-sixteen .ensures) (c .before .before .before .before .before .before .before .before .before .before .before .before .before .branches-at .ensures) (c .before .before .before .before .before .before .before .size-at .ensures .0) (c .before .before .before .before .before .before .size-behind2 .ensures .0) (c .before .before .before .before .before .past2 .ensures) (c .before .before .before .mark-stored-cells .ensures) (c .past3 .ensures)
 
 pub tree-at-spec : {M : Type 1} → statement M
 tree-at-spec =
@@ -64,7 +64,7 @@ tree-at-spec =
     size-at-requires
     size-behind-requires-2
     past-requires-2
-    mark-cells-requires
+    mark-stored-cells-requires
     cast-t14
     mul-past
     past-requires-3

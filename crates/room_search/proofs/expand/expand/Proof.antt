@@ -4,14 +4,14 @@ use borrow.Author.Needs.{needs}
 use Prim.Native.Nat.{_+_, _-_, _*_, _≤_}
 use lib.ListN.{getD, take, drop}
 use Rattle.room.specs.Room.{by, moves}
-use Rattle.room_search.specs.Steps.{column}
-use Rattle.room_search.specs.AlongLaws.{Along, along-start, along-next, along-stop, able-along, columns-next, columns-split, columns-few, columns-small, columns-all}
+use Rattle.room_search.specs.TriedMoves.{column}
+use Rattle.room_search.specs.AlongLaws.{TriedAlong, along-start, along-next, along-stop, able-along, columns-next, columns-split, columns-few, columns-small, columns-all}
 use Rattle.room_search.proofs.expand.expand.Statement.{statement}
 use Rattle.room_search.proofs.expand.expand.Tie as tie
 
 abbrev Inv-loop : tie.InvT-loop
 Inv-loop room config classes known₀ previous₀ queue₀ from cost goal now-at₀ side₀ known previous queue now-at side =
-    (side ≤ 4) × Along room config classes goal from cost known₀ previous₀ queue₀ now-at₀ (take (side * 3) moves) known previous queue now-at
+    (side ≤ 4) × TriedAlong room config classes goal from cost known₀ previous₀ queue₀ now-at₀ (take (side * 3) moves) known previous queue now-at
 
 abbrev μ-loop : tie.MeasureT-loop
 μ-loop room config classes known₀ previous₀ queue₀ from cost goal now-at₀ side₀ known previous queue now-at side = 4 - side

@@ -1,7 +1,7 @@
 -- `offer` meets its contract: each of its three returns is one outcome of an offer.
 use native.Mathlib.Omega.{arith}
 use mathlib.Core.Logic.{inl, inr, ⊎-elim}
-use Rattle.room_search.specs.OfferLaws.{offer-kept, offer-full, offer-pushed}
+use Rattle.room_search.specs.OfferLaws.{offer-kept, offered-full, offer-pushed}
 use borrow.Author.Needs.{needs}
 use Rattle.room_search.proofs.expand.offer.Statement.{statement}
 use Rattle.room_search.proofs.expand.offer.Tie as tie
@@ -19,7 +19,7 @@ returns : tie.Need-returns
 returns c = let s = c .before .before .before .before .before .before in let a = s .args in offer-kept (a .from) (a .cell) (a .cost) _ (a .known .now) (a .previous .now) (a .queue .now) (a .line) (s .pre .1 .1 .0) (c .before .if1 .taken) (c .if2 .taken)
 
 returns-2 : tie.Need-returns-2
-returns-2 c = let s = c .before .before .before .before .before .before in let a = s .args in offer-full (a .from) (a .cell) (a .cost) _ (a .known .now) (a .previous .now) (a .queue .now) (a .line) (s .pre .1 .1 .0) (⊎-elim (λ w. inr (w .1 .left)) (λ w. inl (w .left)) (c .before .if1 .came)) (c .if3 .taken)
+returns-2 c = let s = c .before .before .before .before .before .before in let a = s .args in offered-full (a .from) (a .cell) (a .cost) _ (a .known .now) (a .previous .now) (a .queue .now) (a .line) (s .pre .1 .1 .0) (⊎-elim (λ w. inr (w .1 .left)) (λ w. inl (w .left)) (c .before .if1 .came)) (c .if3 .taken)
 
 add-serial : tie.Need-add-serial
 add-serial c = search needs

@@ -5,14 +5,14 @@ use mathlib.Core.List.{[], _∷_}
 use Prim.Native.Nat.{_+_, _-_, _≤_}
 use lib.ListN.{take, drop}
 use Rattle.room.specs.Room.{by}
-use Rattle.room_search.specs.Steps.{column}
-use Rattle.room_search.specs.AlongLaws.{Along, along-start, along-next, along-stop, able-along, aside-rising, column-next, column-split, column-few, column-all}
+use Rattle.room_search.specs.TriedMoves.{column}
+use Rattle.room_search.specs.AlongLaws.{TriedAlong, along-start, along-next, along-stop, able-along, aside-rising, column-next, column-split, column-few, column-all}
 use Rattle.room_search.proofs.expand.try_beside.Statement.{statement}
 use Rattle.room_search.proofs.expand.try_beside.Tie as tie
 
 abbrev Inv-loop : tie.InvT-loop
 Inv-loop room config classes known₀ previous₀ queue₀ from cost beside goal m now-at₀ y₀ known previous queue now-at y =
-    (y ≤ 3) × Along room config classes goal from cost known₀ previous₀ queue₀ now-at₀ (take y (column m)) known previous queue now-at
+    (y ≤ 3) × TriedAlong room config classes goal from cost known₀ previous₀ queue₀ now-at₀ (take y (column m)) known previous queue now-at
 
 abbrev μ-loop : tie.MeasureT-loop
 μ-loop room config classes known₀ previous₀ queue₀ from cost beside goal m now-at₀ y₀ known previous queue now-at y = 3 - y

@@ -1,7 +1,7 @@
 -- `take_one` meets its contract: each return is one outcome of a taking.
 use native.Mathlib.Omega.{arith}
 use mathlib.Core.Path.{refl, _∙_}
-use Rattle.room_search.specs.TakingLaws.{cell-in, cell-known, able, taking-goal, taking-limit, taking-full, taking-on}
+use Rattle.room_search.specs.TakingLaws.{taken-inside, cell-known, able, taking-goal, taking-limit, taking-full, taking-on}
 use borrow.Author.Needs.{needs}
 use Rattle.room_search.proofs.search.take_one.Statement.{statement}
 use Rattle.room_search.proofs.search.take_one.Tie as tie
@@ -31,16 +31,16 @@ pos-requires : tie.Need-pos-requires
 pos-requires c κs = search needs
 
 mul-cost : tie.Need-mul-cost
-mul-cost c = let s = c .before .before .before .before .before .before .before .before .before .before .before .before .before in let a = s .args in let p = s .pre .0 in record { fits = omega (arith, cell-in (a .room) (a .config) (a .classes .now) (a .known .now) (a .previous .now) (a .queue .now) (a .line) (a .expanded) (a .goal) p _ _ (omega (arith, c .before .before .before .before .before .before .before .take .ok)) (c .before .before .before .before .before .before .before .take .ensures) (c .before .before .before .before .before .before .before .take .kept .0), p .good .few) }
+mul-cost c = let s = c .before .before .before .before .before .before .before .before .before .before .before .before .before in let a = s .args in let p = s .pre .0 in record { fits = omega (arith, taken-inside (a .room) (a .config) (a .classes .now) (a .known .now) (a .previous .now) (a .queue .now) (a .line) (a .expanded) (a .goal) p _ _ (omega (arith, c .before .before .before .before .before .before .before .take .ok)) (c .before .before .before .before .before .before .before .take .ensures) (c .before .before .before .before .before .before .before .take .kept .0), p .good .few) }
 
 slice-read-cost : tie.Need-slice-read-cost
-slice-read-cost c = let s = c .before .before .before .before .before .before .before .before .before .before .before .before .before .before in let a = s .args in let p = s .pre .0 in omega (arith, cell-in (a .room) (a .config) (a .classes .now) (a .known .now) (a .previous .now) (a .queue .now) (a .line) (a .expanded) (a .goal) p _ _ (omega (arith, c .before .before .before .before .before .before .before .before .take .ok)) (c .before .before .before .before .before .before .before .before .take .ensures) (c .before .before .before .before .before .before .before .before .take .kept .0), p .known-long)
+slice-read-cost c = let s = c .before .before .before .before .before .before .before .before .before .before .before .before .before .before in let a = s .args in let p = s .pre .0 in omega (arith, taken-inside (a .room) (a .config) (a .classes .now) (a .known .now) (a .previous .now) (a .queue .now) (a .line) (a .expanded) (a .goal) p _ _ (omega (arith, c .before .before .before .before .before .before .before .before .take .ok)) (c .before .before .before .before .before .before .before .before .take .ensures) (c .before .before .before .before .before .before .before .before .take .kept .0), p .known-long)
 
 sub-cost-2 : tie.Need-sub-cost-2
 sub-cost-2 c = let s = c .before .before .before .before .before .before .before .before .before .before .before .before .before .before in let a = s .args in let p = s .pre .0 in cell-known (a .room) (a .config) (a .classes .now) (a .known .now) (a .previous .now) (a .queue .now) (a .line) (a .expanded) (a .goal) p _ _ (omega (arith, c .before .before .before .before .before .before .before .before .take .ok)) (c .before .before .before .before .before .before .before .before .take .ensures) (c .before .before .before .before .before .before .before .before .take .kept .0)
 
 expand-requires : tie.Need-expand-requires
-expand-requires c κs = let s = c .before .before .before .before .before .before .before .before .before .before .before .before .before .before .before .before .before in let a = s .args in let p = s .pre .0 in able (a .room) (a .config) (a .classes .now) (a .known .now) (a .previous .now) (a .queue .now) (a .line) (a .expanded) (a .goal) p _ _ (omega (arith, c .before .before .before .before .before .before .before .before .before .before .before .take .ok)) (c .before .before .before .before .before .before .before .before .before .before .before .take .ensures) (c .before .before .before .before .before .before .before .before .before .before .before .take .kept .0) _ refl (record { inside = cell-in (a .room) (a .config) (a .classes .now) (a .known .now) (a .previous .now) (a .queue .now) (a .line) (a .expanded) (a .goal) p _ _ (omega (arith, c .before .before .before .before .before .before .before .before .before .before .before .take .ok)) (c .before .before .before .before .before .before .before .before .before .before .before .take .ensures) (c .before .before .before .before .before .before .before .before .before .before .before .take .kept .0); is = c .before .before .before .before .pos .ensures })
+expand-requires c κs = let s = c .before .before .before .before .before .before .before .before .before .before .before .before .before .before .before .before .before in let a = s .args in let p = s .pre .0 in able (a .room) (a .config) (a .classes .now) (a .known .now) (a .previous .now) (a .queue .now) (a .line) (a .expanded) (a .goal) p _ _ (omega (arith, c .before .before .before .before .before .before .before .before .before .before .before .take .ok)) (c .before .before .before .before .before .before .before .before .before .before .before .take .ensures) (c .before .before .before .before .before .before .before .before .before .before .before .take .kept .0) _ refl (record { inside = taken-inside (a .room) (a .config) (a .classes .now) (a .known .now) (a .previous .now) (a .queue .now) (a .line) (a .expanded) (a .goal) p _ _ (omega (arith, c .before .before .before .before .before .before .before .before .before .before .before .take .ok)) (c .before .before .before .before .before .before .before .before .before .before .before .take .ensures) (c .before .before .before .before .before .before .before .before .before .before .before .take .kept .0); is = c .before .before .before .before .pos .ensures })
 
 enum-known-next : tie.Need-enum-known-next
 enum-known-next c = search needs

@@ -1,4 +1,4 @@
--- `put_bytes` meets its contract: each turn puts one byte more.
+-- `put_bytes` meets its contract: each round puts one byte more.
 use borrow.Author.Needs.{needs}
 use Prim.Native.Nat.{_-_}
 use lib.ListN.{length}

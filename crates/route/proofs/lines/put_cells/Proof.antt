@@ -4,7 +4,7 @@ use Prim.Native.Nat.{_-_}
 use lib.ListN.{length, drop}
 use Rattle.route.specs.Lines.{numbers}
 use Rattle.route.specs.Putting.{PutSoFar}
-use Rattle.route.specs.PutLaws.{going-begun}
+use Rattle.route.specs.PutLaws.{putting-begun}
 use Rattle.route.specs.LineLaws.{cell-fits, cells-on, cells-done}
 use Rattle.route.proofs.lines.put_cells.Statement.{statement}
 use Rattle.route.proofs.lines.put_cells.Tie as tie
@@ -16,7 +16,7 @@ abbrev μ-loop : tie.MeasureT-loop
 μ-loop out₀ at cells end₀ i₀ out end i = length cells - i
 
 loop-holds : tie.Need-loop-holds Inv-loop μ-loop
-loop-holds c = going-begun
+loop-holds c = putting-begun
 
 mul-as-long : tie.Need-mul-as-long Inv-loop μ-loop
 mul-as-long c = search needs

@@ -5,7 +5,7 @@ use lib.ListN.{length, drop}
 use Rattle.route.specs.Lines.{numbers}
 use Rattle.route.specs.Marked.{markedFrom, marked}
 use Rattle.route.specs.Putting.{PutSoFar}
-use Rattle.route.specs.PutLaws.{going-begun}
+use Rattle.route.specs.PutLaws.{putting-begun}
 use Rattle.route.specs.LineLaws.{mark-fits, marks-on, marks-done}
 use Rattle.route.proofs.lines.put_marked.Statement.{statement}
 use Rattle.route.proofs.lines.put_marked.Tie as tie
@@ -17,7 +17,7 @@ abbrev μ-loop : tie.MeasureT-loop
 μ-loop out₀ at marks end₀ cell₀ out end cell = length marks - cell
 
 loop-holds : tie.Need-loop-holds Inv-loop μ-loop
-loop-holds c = going-begun
+loop-holds c = putting-begun
 
 shared-slice-read-put-if-marked : tie.Need-shared-slice-read-put-if-marked Inv-loop μ-loop
 shared-slice-read-put-if-marked c = search needs

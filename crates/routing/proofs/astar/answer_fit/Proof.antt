@@ -6,7 +6,7 @@ use Rattle.routing.specs.Entry.{searchTask}
 use Rattle.routing.specs.EntryLaws.{again, again-length, emptied-whole, searchable}
 use borrow.Author.Needs.{needs}
 use Rattle.routing.proofs.astar.answer_fit.Statement.{statement}
-use Rattle.room_search.specs.RunLaws.{told-showable}
+use Rattle.room_search.specs.TakeAllLaws.{told-showable}
 use Rattle.room_search.specs.Routing.{graphOf, graph, searched}
 use lib.Seq.{length-take-le}
 use Rattle.basics.specs.Zeros.{cleared-to}
@@ -19,19 +19,19 @@ slice-relend-prefix-search-room : tie.Need-slice-relend-prefix-search-room
 slice-relend-prefix-search-room c = search needs
 
 slice-aggregate-search-room : tie.Need-slice-aggregate-search-room
-slice-aggregate-search-room c = let s = c .before .before .before .before .before .before .before .before in let a = s .args in let p = s .pre in let v = c .before .volume .result in let e = c .before .volume .ensures in sym (length-take-le v (a .known .now) (rw e (p .known-room)))
+slice-aggregate-search-room c = let s = c .before .before .before .before .before .before .before .before in let a = s .args in let p = s .pre in let v = c .before .volume .result in let e = c .before .volume .ensures in sym (length-take-le v (a .known .now) (rw e (p .known-enough)))
 
 slice-relend-prefix-search-room-2 : tie.Need-slice-relend-prefix-search-room-2
 slice-relend-prefix-search-room-2 c = search needs
 
 slice-aggregate-search-room-2 : tie.Need-slice-aggregate-search-room-2
-slice-aggregate-search-room-2 c = let s = c .before .before .before .before .before .before .before .before .before in let a = s .args in let p = s .pre in let v = c .before .before .volume .result in let e = c .before .before .volume .ensures in sym (length-take-le v (a .previous .now) (rw e (p .previous-room)))
+slice-aggregate-search-room-2 c = let s = c .before .before .before .before .before .before .before .before .before in let a = s .args in let p = s .pre in let v = c .before .before .volume .result in let e = c .before .before .volume .ensures in sym (length-take-le v (a .previous .now) (rw e (p .previous-enough)))
 
 slice-relend-prefix-search-room-3 : tie.Need-slice-relend-prefix-search-room-3
 slice-relend-prefix-search-room-3 c = search needs
 
 slice-aggregate-search-room-3 : tie.Need-slice-aggregate-search-room-3
-slice-aggregate-search-room-3 c = let s = c .before .before .before .before .before .before .before .before .before .before in let a = s .args in let p = s .pre in let v = c .before .before .before .volume .result in let e = c .before .before .before .volume .ensures in sym (length-take-le v (a .classes .now) (rw e (p .classes-room)))
+slice-aggregate-search-room-3 c = let s = c .before .before .before .before .before .before .before .before .before .before in let a = s .args in let p = s .pre in let v = c .before .before .before .volume .result in let e = c .before .before .before .volume .ensures in sym (length-take-le v (a .classes .now) (rw e (p .classes-enough)))
 
 search-room-requires : tie.Need-search-room-requires
 search-room-requires c κs = let s = c .before .before .before .before .before .before .before .before .before .before .before in let a = s .args in let p = s .pre in let v = c .before .before .before .before .volume .result in let e = c .before .before .before .before .volume .ensures in searchable (a .path .now) (a .known .now) (a .previous .now) (a .classes .now) (a .queue .now) p e
@@ -43,17 +43,17 @@ slice-reshare-prefix-answer-of : tie.Need-slice-reshare-prefix-answer-of
 slice-reshare-prefix-answer-of c = search needs
 
 slice-aggregate-answer-of : tie.Need-slice-aggregate-answer-of
-slice-aggregate-answer-of c = let s = c .before .before .before .before .before .before .before .before .before .before .before .before .before .before .before .before .before .before .before .before .before .before .before .before .before in let a = s .args in let p = s .pre in let v = c .before .before .before .before .before .before .before .before .before .before .before .before .before .before .before .before .before .before .volume .result in let e = c .before .before .before .before .before .before .before .before .before .before .before .before .before .before .before .before .before .before .volume .ensures in again-length (c .before .before .before .before .before .before .before .before .before .before .before .before .before .search-room .last .1 .1 .1 .1 .1 .0) (a .known .now) v (c .before .before .before .before .before .before .before .before .before .before .before .before .before .search-room .kept .1 .1 .1 .1 .1 .0) (rw e (p .known-room))
+slice-aggregate-answer-of c = let s = c .before .before .before .before .before .before .before .before .before .before .before .before .before .before .before .before .before .before .before .before .before .before .before .before .before in let a = s .args in let p = s .pre in let v = c .before .before .before .before .before .before .before .before .before .before .before .before .before .before .before .before .before .before .volume .result in let e = c .before .before .before .before .before .before .before .before .before .before .before .before .before .before .before .before .before .before .volume .ensures in again-length (c .before .before .before .before .before .before .before .before .before .before .before .before .before .search-room .last .1 .1 .1 .1 .1 .0) (a .known .now) v (c .before .before .before .before .before .before .before .before .before .before .before .before .before .search-room .kept .1 .1 .1 .1 .1 .0) (rw e (p .known-enough))
 
 slice-reshare-prefix-answer-of-2 : tie.Need-slice-reshare-prefix-answer-of-2
 slice-reshare-prefix-answer-of-2 c = search needs
 
 slice-aggregate-answer-of-2 : tie.Need-slice-aggregate-answer-of-2
-slice-aggregate-answer-of-2 c = let s = c .before .before .before .before .before .before .before .before .before .before .before .before .before .before .before .before .before .before .before .before .before .before .before .before .before .before in let a = s .args in let p = s .pre in let v = c .before .before .before .before .before .before .before .before .before .before .before .before .before .before .before .before .before .before .before .volume .result in let e = c .before .before .before .before .before .before .before .before .before .before .before .before .before .before .before .before .before .before .before .volume .ensures in again-length (c .before .before .before .before .before .before .before .before .before .before .before .before .before .before .search-room .last .1 .1 .1 .1 .1 .1 .0) (a .previous .now) v (c .before .before .before .before .before .before .before .before .before .before .before .before .before .before .search-room .kept .1 .1 .1 .1 .1 .1 .0) (rw e (p .previous-room))
+slice-aggregate-answer-of-2 c = let s = c .before .before .before .before .before .before .before .before .before .before .before .before .before .before .before .before .before .before .before .before .before .before .before .before .before .before in let a = s .args in let p = s .pre in let v = c .before .before .before .before .before .before .before .before .before .before .before .before .before .before .before .before .before .before .before .volume .result in let e = c .before .before .before .before .before .before .before .before .before .before .before .before .before .before .before .before .before .before .before .volume .ensures in again-length (c .before .before .before .before .before .before .before .before .before .before .before .before .before .before .search-room .last .1 .1 .1 .1 .1 .1 .0) (a .previous .now) v (c .before .before .before .before .before .before .before .before .before .before .before .before .before .before .search-room .kept .1 .1 .1 .1 .1 .1 .0) (rw e (p .previous-enough))
 
 answer-of-requires : tie.Need-answer-of-requires
 unfolding graphOf
-answer-of-requires c κs = let s = c .before .before .before .before .before .before .before .before .before .before .before .before .before .before .before .before .before .before .before .before .before .before .before .before .before .before .before in let a = s .args in let p = s .pre in let v = c .before .before .before .before .before .before .before .before .before .before .before .before .before .before .before .before .before .before .before .before .volume .result in let e = c .before .before .before .before .before .before .before .before .before .before .before .before .before .before .before .before .before .before .before .before .volume .ensures in let K = (c .before .before .before .before .before .before .before .before .before .before .before .before .before .before .before .search-room .last .1 .1 .1 .1 .1 .0) in let Q = (c .before .before .before .before .before .before .before .before .before .before .before .before .before .before .before .search-room .last .1 .1 .1 .1 .1 .1 .0) in let kk = again K (a .known .now) v (c .before .before .before .before .before .before .before .before .before .before .before .before .before .before .before .search-room .kept .1 .1 .1 .1 .1 .0) (rw e (p .known-room)) in let qq = again Q (a .previous .now) v (c .before .before .before .before .before .before .before .before .before .before .before .before .before .before .before .search-room .kept .1 .1 .1 .1 .1 .1 .0) (rw e (p .previous-room)) in let kl = (c .before .before .before .before .before .before .before .before .before .before .before .before .before .before .before .search-room .kept .1 .1 .1 .1 .1 .0) ∙ length-take-le v (a .known .now) (rw e (p .known-room)) in let ql = (c .before .before .before .before .before .before .before .before .before .before .before .before .before .before .before .search-room .kept .1 .1 .1 .1 .1 .1 .0) ∙ length-take-le v (a .previous .now) (rw e (p .previous-room)) in let F = c .before .before .before .before .before .before .before .before .before .before .before .before .before .before .before .search-room .ensures in let T = searchTask (a .room) (a .config) (a .kinds .now) (a .start) (a .goal) (a .queue .now) in let long = ap length qq ∙ ql in ((rw (long, e) (p .goal-in), rw (long, e) (p .good .few), ap length kk ∙ kl ∙ sym long, rw (long, e) (omega (arith, p .path-room, c .before .before .before .before .before .clear-words .kept .0))), (cleared-to (sym (c .before .before .before .before .before .clear-words .kept .0)) (c .before .before .before .before .before .clear-words .ensures), rw (kk, qq) (told-showable (graph T) (searched T) (c .before .before .before .before .before .before .before .before .before .before .before .before .before .before .before .search-room .result) K Q (ql ∙ e) (F .told))))
+answer-of-requires c κs = let s = c .before .before .before .before .before .before .before .before .before .before .before .before .before .before .before .before .before .before .before .before .before .before .before .before .before .before .before in let a = s .args in let p = s .pre in let v = c .before .before .before .before .before .before .before .before .before .before .before .before .before .before .before .before .before .before .before .before .volume .result in let e = c .before .before .before .before .before .before .before .before .before .before .before .before .before .before .before .before .before .before .before .before .volume .ensures in let K = (c .before .before .before .before .before .before .before .before .before .before .before .before .before .before .before .search-room .last .1 .1 .1 .1 .1 .0) in let Q = (c .before .before .before .before .before .before .before .before .before .before .before .before .before .before .before .search-room .last .1 .1 .1 .1 .1 .1 .0) in let kk = again K (a .known .now) v (c .before .before .before .before .before .before .before .before .before .before .before .before .before .before .before .search-room .kept .1 .1 .1 .1 .1 .0) (rw e (p .known-enough)) in let qq = again Q (a .previous .now) v (c .before .before .before .before .before .before .before .before .before .before .before .before .before .before .before .search-room .kept .1 .1 .1 .1 .1 .1 .0) (rw e (p .previous-enough)) in let kl = (c .before .before .before .before .before .before .before .before .before .before .before .before .before .before .before .search-room .kept .1 .1 .1 .1 .1 .0) ∙ length-take-le v (a .known .now) (rw e (p .known-enough)) in let ql = (c .before .before .before .before .before .before .before .before .before .before .before .before .before .before .before .search-room .kept .1 .1 .1 .1 .1 .1 .0) ∙ length-take-le v (a .previous .now) (rw e (p .previous-enough)) in let F = c .before .before .before .before .before .before .before .before .before .before .before .before .before .before .before .search-room .ensures in let T = searchTask (a .room) (a .config) (a .kinds .now) (a .start) (a .goal) (a .queue .now) in let long = ap length qq ∙ ql in ((rw (long, e) (p .goal-in), rw (long, e) (p .good .few), ap length kk ∙ kl ∙ sym long, rw (long, e) (omega (arith, p .path-enough, c .before .before .before .before .before .clear-words .kept .0))), (cleared-to (sym (c .before .before .before .before .before .clear-words .kept .0)) (c .before .before .before .before .before .clear-words .ensures), rw (kk, qq) (told-showable (graph T) (searched T) (c .before .before .before .before .before .before .before .before .before .before .before .before .before .before .before .search-room .result) K Q (ql ∙ e) (F .told))))
 
 clear-work-requires : tie.Need-clear-work-requires
 clear-work-requires c κs = search needs
@@ -74,7 +74,7 @@ same-length-5 : tie.Need-same-length-5
 same-length-5 c = search needs
 
 returns : tie.Need-returns
-returns c = let s = c .before .before .before .before .before .before .before .before .before .before .before .before .before .before .before .before .before .before .before .before .before .before .before .before .before .before .before .before .before .before .before .before .before .before .before .before .before .before .before .before .before .before .before in let a = s .args in let p = s .pre in let v = c .before .before .before .before .before .before .before .before .before .before .before .before .before .before .before .before .before .before .before .before .before .before .before .before .before .before .before .before .before .before .before .before .before .before .before .before .volume .result in let e = c .before .before .before .before .before .before .before .before .before .before .before .before .before .before .before .before .before .before .before .before .before .before .before .before .before .before .before .before .before .before .before .before .before .before .before .before .volume .ensures in let K = (c .before .before .before .before .before .before .before .before .before .before .before .before .before .before .before .before .before .before .before .before .before .before .before .before .before .before .before .before .before .before .before .search-room .last .1 .1 .1 .1 .1 .0) in let Q = (c .before .before .before .before .before .before .before .before .before .before .before .before .before .before .before .before .before .before .before .before .before .before .before .before .before .before .before .before .before .before .before .search-room .last .1 .1 .1 .1 .1 .1 .0) in let kk = again K (a .known .now) v (c .before .before .before .before .before .before .before .before .before .before .before .before .before .before .before .before .before .before .before .before .before .before .before .before .before .before .before .before .before .before .before .search-room .kept .1 .1 .1 .1 .1 .0) (rw e (p .known-room)) in let qq = again Q (a .previous .now) v (c .before .before .before .before .before .before .before .before .before .before .before .before .before .before .before .before .before .before .before .before .before .before .before .before .before .before .before .before .before .before .before .search-room .kept .1 .1 .1 .1 .1 .1 .0) (rw e (p .previous-room)) in let kl = (c .before .before .before .before .before .before .before .before .before .before .before .before .before .before .before .before .before .before .before .before .before .before .before .before .before .before .before .before .before .before .before .search-room .kept .1 .1 .1 .1 .1 .0) ∙ length-take-le v (a .known .now) (rw e (p .known-room)) in let ql = (c .before .before .before .before .before .before .before .before .before .before .before .before .before .before .before .before .before .before .before .before .before .before .before .before .before .before .before .before .before .before .before .search-room .kept .1 .1 .1 .1 .1 .1 .0) ∙ length-take-le v (a .previous .now) (rw e (p .previous-room)) in let F = c .before .before .before .before .before .before .before .before .before .before .before .before .before .before .before .before .before .before .before .before .before .before .before .before .before .before .before .before .before .before .before .search-room .ensures in let T = searchTask (a .room) (a .config) (a .kinds .now) (a .start) (a .goal) (a .queue .now) in let S = c .before .before .before .before .before .before .before .before .before .before .before .before .before .before .before .answer-of .ensures .shows T (sym (ap length qq ∙ ql ∙ e)) refl (rw (kk, qq) F) in record { answer = S .0; path-is = rw (c .before .before .before .before .before .before .before .before .before .before .before .before .before .before .before .before .before .before .before .before .before .clear-words .kept .0) at (S .1); known-is = emptied-whole (c .before .before .before .before .before .before .before .before .before .before .before .before .before .before .before .before .before .before .before .before .before .before .before .before .before .before .before .before .before .before .before .search-room .last .1 .1 .1 .1 .1 .0) (a .known .now) v (c .before .before .before .before .before .before .before .before .before .before .before .before .before .before .before .before .before .before .before .before .before .before .before .before .before .before .before .before .before .before .before .search-room .kept .1 .1 .1 .1 .1 .0) _ (c .before .before .before .before .before .before .before .before .clear-work .ensures .0); previous-is = emptied-whole (c .before .before .before .before .before .before .before .before .before .before .before .before .before .before .before .before .before .before .before .before .before .before .before .before .before .before .before .before .before .before .before .search-room .last .1 .1 .1 .1 .1 .1 .0) (a .previous .now) v (c .before .before .before .before .before .before .before .before .before .before .before .before .before .before .before .before .before .before .before .before .before .before .before .before .before .before .before .before .before .before .before .search-room .kept .1 .1 .1 .1 .1 .1 .0) _ (c .before .before .before .before .before .before .before .before .clear-work .ensures .1); classes-is = emptied-whole (c .before .before .before .before .before .before .before .before .before .before .before .before .before .before .before .before .before .before .before .before .before .before .before .before .before .before .before .before .before .before .before .search-room .last .1 .1 .1 .1 .1 .1 .1 .0) (a .classes .now) v (c .before .before .before .before .before .before .before .before .before .before .before .before .before .before .before .before .before .before .before .before .before .before .before .before .before .before .before .before .before .before .before .search-room .kept .1 .1 .1 .1 .1 .1 .1 .0) _ (c .before .before .before .before .before .before .before .before .clear-work .ensures .2); queue-is = cleared-to (c .before .before .before .before .before .before .before .before .before .before .before .before .before .before .before .before .before .before .before .before .before .before .before .before .before .before .before .before .before .before .before .search-room .kept .1 .1 .1 .1 .1 .1 .1 .1 .0) (c .before .before .before .before .before .before .before .before .clear-work .ensures .3) }
+returns c = let s = c .before .before .before .before .before .before .before .before .before .before .before .before .before .before .before .before .before .before .before .before .before .before .before .before .before .before .before .before .before .before .before .before .before .before .before .before .before .before .before .before .before .before .before in let a = s .args in let p = s .pre in let v = c .before .before .before .before .before .before .before .before .before .before .before .before .before .before .before .before .before .before .before .before .before .before .before .before .before .before .before .before .before .before .before .before .before .before .before .before .volume .result in let e = c .before .before .before .before .before .before .before .before .before .before .before .before .before .before .before .before .before .before .before .before .before .before .before .before .before .before .before .before .before .before .before .before .before .before .before .before .volume .ensures in let K = (c .before .before .before .before .before .before .before .before .before .before .before .before .before .before .before .before .before .before .before .before .before .before .before .before .before .before .before .before .before .before .before .search-room .last .1 .1 .1 .1 .1 .0) in let Q = (c .before .before .before .before .before .before .before .before .before .before .before .before .before .before .before .before .before .before .before .before .before .before .before .before .before .before .before .before .before .before .before .search-room .last .1 .1 .1 .1 .1 .1 .0) in let kk = again K (a .known .now) v (c .before .before .before .before .before .before .before .before .before .before .before .before .before .before .before .before .before .before .before .before .before .before .before .before .before .before .before .before .before .before .before .search-room .kept .1 .1 .1 .1 .1 .0) (rw e (p .known-enough)) in let qq = again Q (a .previous .now) v (c .before .before .before .before .before .before .before .before .before .before .before .before .before .before .before .before .before .before .before .before .before .before .before .before .before .before .before .before .before .before .before .search-room .kept .1 .1 .1 .1 .1 .1 .0) (rw e (p .previous-enough)) in let kl = (c .before .before .before .before .before .before .before .before .before .before .before .before .before .before .before .before .before .before .before .before .before .before .before .before .before .before .before .before .before .before .before .search-room .kept .1 .1 .1 .1 .1 .0) ∙ length-take-le v (a .known .now) (rw e (p .known-enough)) in let ql = (c .before .before .before .before .before .before .before .before .before .before .before .before .before .before .before .before .before .before .before .before .before .before .before .before .before .before .before .before .before .before .before .search-room .kept .1 .1 .1 .1 .1 .1 .0) ∙ length-take-le v (a .previous .now) (rw e (p .previous-enough)) in let F = c .before .before .before .before .before .before .before .before .before .before .before .before .before .before .before .before .before .before .before .before .before .before .before .before .before .before .before .before .before .before .before .search-room .ensures in let T = searchTask (a .room) (a .config) (a .kinds .now) (a .start) (a .goal) (a .queue .now) in let S = c .before .before .before .before .before .before .before .before .before .before .before .before .before .before .before .answer-of .ensures .shows T (sym (ap length qq ∙ ql ∙ e)) refl (rw (kk, qq) F) in record { answer = S .0; path-is = rw (c .before .before .before .before .before .before .before .before .before .before .before .before .before .before .before .before .before .before .before .before .before .clear-words .kept .0) at (S .1); known-is = emptied-whole (c .before .before .before .before .before .before .before .before .before .before .before .before .before .before .before .before .before .before .before .before .before .before .before .before .before .before .before .before .before .before .before .search-room .last .1 .1 .1 .1 .1 .0) (a .known .now) v (c .before .before .before .before .before .before .before .before .before .before .before .before .before .before .before .before .before .before .before .before .before .before .before .before .before .before .before .before .before .before .before .search-room .kept .1 .1 .1 .1 .1 .0) _ (c .before .before .before .before .before .before .before .before .clear-work .ensures .0); previous-is = emptied-whole (c .before .before .before .before .before .before .before .before .before .before .before .before .before .before .before .before .before .before .before .before .before .before .before .before .before .before .before .before .before .before .before .search-room .last .1 .1 .1 .1 .1 .1 .0) (a .previous .now) v (c .before .before .before .before .before .before .before .before .before .before .before .before .before .before .before .before .before .before .before .before .before .before .before .before .before .before .before .before .before .before .before .search-room .kept .1 .1 .1 .1 .1 .1 .0) _ (c .before .before .before .before .before .before .before .before .clear-work .ensures .1); classes-is = emptied-whole (c .before .before .before .before .before .before .before .before .before .before .before .before .before .before .before .before .before .before .before .before .before .before .before .before .before .before .before .before .before .before .before .search-room .last .1 .1 .1 .1 .1 .1 .1 .0) (a .classes .now) v (c .before .before .before .before .before .before .before .before .before .before .before .before .before .before .before .before .before .before .before .before .before .before .before .before .before .before .before .before .before .before .before .search-room .kept .1 .1 .1 .1 .1 .1 .1 .0) _ (c .before .before .before .before .before .before .before .before .clear-work .ensures .2); queue-is = cleared-to (c .before .before .before .before .before .before .before .before .before .before .before .before .before .before .before .before .before .before .before .before .before .before .before .before .before .before .before .before .before .before .before .search-room .kept .1 .1 .1 .1 .1 .1 .1 .1 .0) (c .before .before .before .before .before .before .before .before .clear-work .ensures .3) }
 
 pub answer-fit-spec : {M : Type 1} → statement M
 answer-fit-spec =

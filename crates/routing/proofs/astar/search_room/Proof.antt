@@ -1,5 +1,5 @@
 -- `search_room` meets its contract: classes are filled in, and the search runs over the task's own graph.
-use Rattle.routing.specs.EntryLaws.{filled-searchable, filled-found}
+use Rattle.routing.specs.EntryLaws.{classed-searchable, classed-found}
 use borrow.Author.Needs.{needs}
 use Rattle.routing.proofs.astar.search_room.Statement.{statement}
 use Rattle.routing.proofs.astar.search_room.Tie as tie
@@ -16,7 +16,7 @@ make-end-requires-2 c κs = search needs
 search-classes-requires : tie.Need-search-classes-requires
 search-classes-requires c κs =
     let pre = c .before .before .before .before .before .before .before .before .before .before .before .before .before .before .before .before .before .before .before .before .before .pre in
-    rw (c .before .before .before .before .before .before .make-end2 .ensures, c .before .before .before .before .before .before .before .before .before .before .make-end .ensures) (filled-searchable pre (c .before .before .before .before .before .before .before .before .before .before .before .before .before .before .fill-classes .ensures))
+    rw (c .before .before .before .before .before .before .make-end2 .ensures, c .before .before .before .before .before .before .before .before .before .before .make-end .ensures) (classed-searchable pre (c .before .before .before .before .before .before .before .before .before .before .before .before .before .before .fill-classes .ensures))
 
 same-length : tie.Need-same-length
 same-length c = c .before .before .before .before .before .before .search-classes .kept .1 .1 .1 .0
@@ -33,7 +33,7 @@ same-length-4 c = c .before .before .before .before .before .before .search-clas
 returns : tie.Need-returns
 returns c =
     let pre = c .before .before .before .before .before .before .before .before .before .before .before .before .before .before .before .before .before .before .before .before .before .before .before .before .before .before .before .before .pre in
-    filled-found pre (c .before .before .before .before .before .before .before .before .before .before .before .before .before .before .before .before .before .before .before .before .before .fill-classes .ensures) (rw (c .before .before .before .before .before .before .before .before .before .before .before .before .before .make-end2 .ensures, c .before .before .before .before .before .before .before .before .before .before .before .before .before .before .before .before .before .make-end .ensures) at (c .before .before .before .before .before .before .search-classes .ensures))
+    classed-found pre (c .before .before .before .before .before .before .before .before .before .before .before .before .before .before .before .before .before .before .before .before .before .fill-classes .ensures) (rw (c .before .before .before .before .before .before .before .before .before .before .before .before .before .make-end2 .ensures, c .before .before .before .before .before .before .before .before .before .before .before .before .before .before .before .before .before .make-end .ensures) at (c .before .before .before .before .before .before .search-classes .ensures))
 
 pub search-room-spec : {M : Type 1} → statement M
 search-room-spec =

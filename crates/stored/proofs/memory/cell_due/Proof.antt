@@ -1,6 +1,6 @@
 -- `cell_due` meets its contract, case by case.
 use Rattle.stored.specs.Memory.{dueAt}
-use Rattle.stored.specs.PlaceLaws.{cells-at, none-more}
+use Rattle.stored.specs.FilePlaceLaws.{cells-at, none-more}
 use borrow.Author.Needs.{needs}
 use Rattle.stored.proofs.memory.cell_due.Statement.{statement}
 use Rattle.stored.proofs.memory.cell_due.Tie as tie

@@ -3,7 +3,7 @@ use Prim.Native.Nat.{_-_}
 use lib.ListN.{length}
 use Rattle.stored.specs.Memory.{isDue, holds}
 use Rattle.stored.specs.MemoryLaws.{PassedSoFar, passed-none, passed-next, passed-failed, passed-all, is-due, not-due}
-use Rattle.stored.specs.Places.{cellsFrom}
+use Rattle.stored.specs.FilePlaces.{cellsFrom}
 use borrow.Author.Needs.{needs}
 use Rattle.stored.proofs.memory.cells_hold.Statement.{statement}
 use Rattle.stored.proofs.memory.cells_hold.Tie as tie

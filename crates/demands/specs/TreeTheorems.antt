@@ -1,0 +1,259 @@
+-- THE THIRD DEMAND IN A TREE: what TreeStatements claims of each search made there, of a sink's route, of number 14, of every branch, and of the branches
+-- that the public tree gives out.
+use mathlib.Core.Path.{_≡_, refl, sym, ap, _∙_}
+use mathlib.Core.Logic.{_≢_}
+use mathlib.Core.Bool.{true, false}
+use mathlib.Core.List.{List, []}
+use Prim.Native.Nat.{ℕ, zero, suc, _+_, _*_, _≤_, _<_}
+use native.Mathlib.Numerals.{add-one}
+use native.Mathlib.Omega.{arith}
+use lib.Dec.{eqb}
+use lib.ListN.{length}
+use lib.Seq.{getD-set-same, getD-set-other}
+use Rattle.basics.specs.Tests.{ask, askSame, never}
+use Rattle.room.specs.declared.Neighbour.{Neighbour}
+use Rattle.room.specs.declared.Neighbour.the-variants.{Inside, Outside}
+use Rattle.room.specs.Room.{Good, volume}
+use Rattle.best_first.specs.Search.{Answer, route, no-route}
+use Rattle.best_first.specs.Statements.{Decided}
+use Rattle.room_search.specs.Routing.{Task, routeable, searched}
+use Rattle.routing_resources.specs.Marks.{isMarked, markedBy}
+use Rattle.geometry.specs.Geometry.{conflictOf}
+use Rattle.goals.specs.Goals.{Site, Trial, found, failed, full, trialOf, searchedFor, atConflict, afterSearch, maxAttempts, attempts, triedGoal, routeToTree, siteTask, endsGoal}
+use Rattle.goals.specs.PathLaws.{found-by}
+use Rattle.goals.specs.Routes.{as-blocked, one-more}
+use Rattle.goals.specs.RouteLaws.{tree-joins, below-failed}
+use Rattle.ends.specs.Ends.{endsOf}
+use Rattle.turns.specs.Turns.{far}
+use Rattle.turns.specs.TurnLaws.{turn-in}
+use Rattle.branches.specs.Branches.{branchOf}
+use Rattle.multinet.specs.Tree.{Plot, Tree, Growth, grown, stopped, tapAt, siteAt, sinkNow, planted, withBranch, fitsIn, afterSink, growSink, growOn, growFrom, growthOf}
+use Rattle.multinet.specs.Growing.{SoundPlot, turnIn, branchIn}
+use Rattle.multinet.specs.GrowthLaws.{same-tree, turn-more, turns-count, growth-count}
+use Rattle.multinet.specs.GrowingLaws.{sink-now, other-turn}
+use Rattle.net_tree.specs.declared.Lengths.{Lengths}
+use Rattle.net_tree.specs.declared.Answer as trees
+use Rattle.net_tree.specs.declared.Ended.the-variants.{Routed, Refused}
+use Rattle.net_tree.specs.Answers.{Lent, lengthsOf, plotFor, TreeOutcome, routed, refused, Comes, answerOf, lentAfter, Promise}
+use Rattle.net_tree.specs.SheetTrees.{TreeOf}
+use Rattle.net_tree.specs.SheetTreeLaws.{tree-of}
+use Rattle.demands.specs.Statements.{Posed, Priced, Ample, NoLawfulWay}
+use Rattle.demands.specs.Theorems.{route-lawful, route-cheapest, no-route-true, settled}
+use Rattle.demands.specs.TreeStatements.{SearchMeans, RouteMeans, GoalEnds, no-way, conflict-stays, attempts-over, BranchMeans, TreeMeans, AnswerMeans}
+
+-- ---- one search
+
+module _ (T : Task) (G : Good (T .room)) (start-in : T .start < volume (T .room)) (goal-in : T .goal < volume (T .room)) where
+  ready : routeable T (T .start) ≡ true → routeable T (T .goal) ≡ true → Posed T
+  ready s g = record { good = G; start-in = start-in; goal-in = goal-in; start-free = s; goal-free = g }
+
+  found-ready : (path : List ℕ) (cost : ℕ) → searchedFor T ≡ found path cost → Posed T
+  found-ready path cost e = let F = found-by T path cost e in ready (F .start-free) (F .goal-free)
+
+  -- an end that is not routeable leaves no lawful way
+  no-start : routeable T (T .start) ≡ false → NoLawfulWay T
+  no-start f after w = let z : false ≡ true = sym f ∙ w .start-free in never (cc)
+
+  no-end : routeable T (T .goal) ≡ false → NoLawfulWay T
+  no-end f after w = let z : false ≡ true = sym f ∙ w .goal-free in never (cc)
+
+  module _ (D : Priced (T .config)) (A : Ample T) where
+    failed-search : searchedFor T ≡ failed → NoLawfulWay T
+    unfolding searchedFor
+    failed-search e =
+        ask (routeable T (T .start))
+        (λ s. ask (routeable T (T .goal)) (λ g. go s g (searched T) refl (rw (s, g) at e) (settled (ready s g) D A)) no-end)
+        no-start
+      where
+        go : routeable T (T .start) ≡ true → routeable T (T .goal) ≡ true → (a : Answer) → searched T ≡ a → trialOf a ≡ failed → Decided a → NoLawfulWay T
+        go s g (route path cost x) w q d = never (cc)
+        go s g (no-route x) w q d = no-route-true (ready s g) w
+
+    search-not-full : (x : ℕ) → searchedFor T ≢ full x
+    unfolding searchedFor
+    search-not-full x e =
+        ask (routeable T (T .start))
+        (λ s. ask (routeable T (T .goal)) (λ g. go (searched T) (rw (s, g) at e) (settled (ready s g) D A)) (λ f. other (rw (s, f) at e)))
+        (λ f. other (rw f at e))
+      where
+        other : failed ≡ full x → ⊥
+        other q = never (cc)
+
+        go : (a : Answer) → trialOf a ≡ full x → Decided a → ⊥
+        go (route path cost y) q d = never (cc)
+        go (no-route y) q d = never (cc)
+
+  -- what is proved of one search is proved of each search that a goal is tried by
+  pub search-means : SearchMeans T
+  search-means = record {
+    found-lawful = λ path cost e. let F = found-by T path cost e in route-lawful (found-ready path cost e) (F .is);
+    found-cheapest = λ D path cost e. let F = found-by T path cost e in route-cheapest (found-ready path cost e) D (F .is);
+    failed-true = λ D A e. failed-search D A e;
+    never-full = λ D A x e. search-not-full D A x e;
+  }
+
+-- ---- a sink's route
+
+module _ (S : Site) (G : Good (S .room)) (start : ℕ) (start-in : start < volume (S .room)) where
+  pub route-means : (blocked path : List ℕ) (cost : ℕ) → routeToTree S start blocked ≡ found path cost → RouteMeans S start blocked path cost
+  route-means blocked path cost e =
+      let J = tree-joins S start blocked path cost e in
+      let M = search-means (siteTask S (J .reaches .blocked-last) start (J .goal)) G start-in (J .goal-in) in
+      record { joins = J; lawful = M .found-lawful path cost (J .reaches .found-so); cheapest = λ D. M .found-cheapest D path cost (J .reaches .found-so) }
+
+  -- ---- number 14
+
+  -- with a node limit and a queue of 12 for each cell, at costs of 10 and 20 or more
+  module _ (D : Priced (S .config)) (limit-wide : 12 * volume (S .room) ≤ S .config .limit .0) (queue-wide : 12 * volume (S .room) ≤ S .places) where
+    means : (blocked : List ℕ) (goal : ℕ) → goal < volume (S .room) → SearchMeans (siteTask S blocked start goal)
+    means blocked goal h = search-means (siteTask S blocked start goal) G start-in h
+
+    ample : (blocked : List ℕ) (goal : ℕ) → Ample (siteTask S blocked start goal)
+    ample blocked goal = record { limit-wide = limit-wide; queue-wide = queue-wide }
+
+    prepend : {goal n : ℕ} {blocked path : List ℕ} {cost v : ℕ} → searchedFor (siteTask S blocked start goal) ≡ found path cost
+        → conflictOf (S .room) (S .kinds) (S .joinable) path ≡ Inside v → endsGoal blocked start goal v ≡ false
+        → GoalEnds S start goal n (markedBy (eqb v) blocked) → GoalEnds S start goal (suc n) blocked
+    prepend w f g (no-way m later r q) = no-way (suc m) later (one-more w f g r) q
+    prepend w f g (conflict-stays m later path cost v r s c e) = conflict-stays (suc m) later path cost v (one-more w f g r) s c e
+    prepend w f g (attempts-over later r) = attempts-over later (one-more w f g r)
+
+    module _ (goal : ℕ) (goal-in : goal < volume (S .room)) where
+      goal-ends : (n : ℕ) (blocked : List ℕ) → attempts n S start goal blocked ≡ failed → GoalEnds S start goal n blocked
+      unfolding attempts afterSearch atConflict
+      goal-ends zero blocked e = attempts-over blocked as-blocked
+      goal-ends (suc n) blocked e = after (searchedFor (siteTask S blocked start goal)) refl e (goal-ends n)
+        where
+          at : (p : List ℕ) (c : ℕ) → searchedFor (siteTask S blocked start goal) ≡ found p c
+              → (place : Neighbour) → conflictOf (S .room) (S .kinds) (S .joinable) p ≡ place
+              → atConflict blocked start goal (attempts n S start goal) (found p c) place ≡ failed
+              → ((blocked′ : List ℕ) → attempts n S start goal blocked′ ≡ failed → GoalEnds S start goal n blocked′)
+              → GoalEnds S start goal (suc n) blocked
+          at p c w Outside f q later = never (cc)
+          at p c w (Inside v) f q later =
+              ask (endsGoal blocked start goal v)
+              (λ t. conflict-stays 0 blocked p c v as-blocked w f t)
+              (λ g. prepend w f g (later (markedBy (eqb v) blocked) (rw g at q)))
+
+          after : (trial : Trial) → searchedFor (siteTask S blocked start goal) ≡ trial
+              → afterSearch S blocked start goal (attempts n S start goal) trial ≡ failed
+              → ((blocked′ : List ℕ) → attempts n S start goal blocked′ ≡ failed → GoalEnds S start goal n blocked′)
+              → GoalEnds S start goal (suc n) blocked
+          after (found p c) w q later = at p c w (conflictOf (S .room) (S .kinds) (S .joinable) p) refl q later
+          after failed w q later = no-way 0 blocked as-blocked (means blocked goal goal-in .failed-true D (ample blocked goal) w)
+          after (full x) w q later = absurd (means blocked goal goal-in .never-full D (ample blocked goal) x w)
+
+    -- number 14: every joinable cell was tried, and each has its reason
+    pub no-goal-means : (blocked : List ℕ) → routeToTree S start blocked ≡ failed → (goal : ℕ) → goal < volume (S .room) → isMarked (S .joinable) goal ≡ true
+        → GoalEnds S start goal maxAttempts blocked
+    unfolding routeToTree triedGoal
+    no-goal-means blocked e goal h j = goal-ends goal h maxAttempts blocked (rw j at (below-failed S start blocked (volume (S .room)) e goal h))
+
+-- ---- every branch of a grown tree
+
+module _ (P : Plot) (S : SoundPlot P) (blocked : List ℕ) where
+  -- the tree after these turns, and the branches of the sinks whose turns they were
+  record Meant (turn : ℕ) (T : Tree) : Type 0 where
+    so-far : growFrom turn P 0 (planted P blocked) ≡ grown T
+    each : (k : ℕ) → k < P .taps .count → turnIn P k < turn → BranchMeans P blocked k (branchIn T k)
+
+  module _ {turn : ℕ} (b : turn < P .taps .count) {T T′ : Tree} (M : Meant turn T) (e : growSink P (sinkNow P turn) T ≡ grown T′) where
+    abbrev sink : ℕ
+    sink = sinkNow P turn
+
+    now : (sink < P .taps .count) × (turnIn P sink ≡ turn)
+    now = sink-now P turn sink refl b
+
+    next-so-far : growFrom (turn + 1) P 0 (planted P blocked) ≡ grown T′
+    next-so-far = let z : 0 + turn ≡ turn = omega arith in rw add-one (turn-more P turn 0 (planted P blocked) T (M .so-far) ∙ rw z e)
+
+    with-meant : (branch : List ℕ) → BranchMeans P blocked sink branch → T′ ≡ withBranch (P .room) sink branch T → Meant (turn + 1) T′
+    unfolding withBranch
+    with-meant branch B w = record {
+      so-far = next-so-far;
+      each = λ k h g. rw w (askSame k sink
+          (λ q. rw (q, getD-set-same (T .branches) sink branch [] (omega (arith, now .0, turns-count P turn blocked T (M .so-far)))) B)
+          (λ d. rw (getD-set-other (T .branches) sink k branch [] d) (M .each k h (earlier k h g d))));
+    }
+      where
+        earlier : (k : ℕ) → k < P .taps .count → turnIn P k < turn + 1 → k ≢ sink → turnIn P k < turn
+        earlier k h g d = let o = other-turn P turn sink refl k h d in omega (arith, g, o)
+
+    routed-meant : (trial : Trial) → routeToTree (siteAt P (T .joinable)) (tapAt P sink .approach) (T .blocked) ≡ trial
+        → afterSink P sink T trial ≡ grown T′ → Meant (turn + 1) T′
+    unfolding afterSink
+    routed-meant (found path cost) w q =
+        ask (fitsIn P T (branchOf (tapAt P sink) path))
+        (λ t. with-meant (branchOf (tapAt P sink) path) meant (sym (same-tree (rw t at q))))
+        (λ f. never (cc (rw f at q)))
+      where
+        meant : BranchMeans P blocked sink (branchOf (tapAt P sink) path)
+        meant = record {
+          before = T;
+          at-turn = rw (now .1) (M .so-far);
+          path = path;
+          cost = cost;
+          branch-is = refl;
+          means = route-means (siteAt P (T .joinable)) (S .good) (tapAt P sink .approach) (S .net .taps-in .approach-in sink (now .0)) (T .blocked) path cost w;
+        }
+    routed-meant failed w q = never (cc)
+    routed-meant (full x) w q = never (cc)
+
+    turn-meant : Meant (turn + 1) T′
+    unfolding growSink
+    turn-meant = routed-meant (routeToTree (siteAt P (T .joinable)) (tapAt P sink .approach) (T .blocked)) refl e
+
+  all-meant : (n turn : ℕ) → turn + n ≤ P .taps .count → (T T′ : Tree) → Meant turn T → growFrom n P turn T ≡ grown T′ → Meant (turn + n) T′
+  unfolding growFrom
+  all-meant zero turn h T T′ M q = let z : turn + 0 ≡ turn = omega arith in rw (z, ← same-tree q) M
+  all-meant (suc n) turn h T T′ M q = go (growSink P (sinkNow P turn) T) refl q (all-meant n (turn + 1) (omega arith))
+    where
+      go : (g : Growth) → growSink P (sinkNow P turn) T ≡ g → growOn (growFrom n P (turn + 1)) g ≡ grown T′
+          → ((T₁ T₂ : Tree) → Meant (turn + 1) T₁ → growFrom n P (turn + 1) T₁ ≡ grown T₂ → Meant (turn + 1 + n) T₂) → Meant (turn + suc n) T′
+      go (grown T₁) e z later = let s : turn + suc n ≡ turn + 1 + n = omega arith in rw s (later T₁ T′ (turn-meant (omega arith) M e) z)
+      go (stopped number detail) e z later = never (cc)
+
+  at-outset : Meant 0 (planted P blocked)
+  unfolding growFrom
+  at-outset = record { so-far = refl; each = λ k h g. absurd (omega arith) }
+
+  -- every sink's branch is its route to the tree as it was at that sink's turn, and demand 3 speaks of that route
+  pub tree-means : (T : Tree) → growthOf P blocked ≡ grown T → (k : ℕ) → k < P .taps .count → BranchMeans P blocked k (branchIn T k)
+  unfolding growthOf
+  tree-means T e k h =
+      all-meant (P .taps .count) 0 (omega arith) (planted P blocked) T at-outset e .each k h (omega (arith, turn-in (far (P .room) (P .source) (P .taps .taps)) (P .taps .count) k h))
+
+-- ---- the public tree
+
+module _ {sheet : List ℕ} {L : Lengths} {branches : List (List ℕ)} (T : TreeOf sheet L branches) where
+  abbrev P : Plot
+  P = plotFor (T .contents) L (T .outset) (T .kinds)
+
+  taps-count : length branches ≡ P .taps .count
+  taps-count = ap length (T .branches-are) ∙ growth-count P (T .blocked) (T .tree) (T .grows)
+
+  sinks-count : P .taps .count ≡ length (T .contents .sinks)
+  unfolding endsOf
+  sinks-count = ap (λ e. e .taps .count) (T .is-set .ends-are)
+
+  tree-branches : TreeMeans sheet L branches
+  tree-branches = record {
+    tree-of = T;
+    count-is = taps-count ∙ sinks-count;
+    each = λ k h. rw (T .branches-are) (tree-means P (T .sound) (T .blocked) (T .tree) (T .grows) k (omega (arith, h, taps-count)));
+  }
+
+-- where `route_net_tree` promises a tree, every branch that it gives out has its meaning
+pub answer-means : {sheet : List ℕ} {B : Lent} {r : trees.Answer} {B′ : Lent} → Promise sheet B r B′ → {cells marks : ℕ} → r .ended ≡ Routed cells marks → AnswerMeans sheet B r B′
+answer-means {sheet} {B} {r} {B′} K {cells} {marks} e = go (K .outcome) (K .comes) (K .answer) (K .lent-is)
+  where
+    go : (o : TreeOutcome) → Comes sheet (lengthsOf B) o → r ≡ answerOf o → B′ ≡ lentAfter o B → AnswerMeans sheet B r B′
+    go (routed branches occupied repeaters) c a l = record {
+      branches = branches;
+      occupied = occupied;
+      repeaters = repeaters;
+      answer = a;
+      lent-is = l;
+      means = tree-branches (tree-of c);
+    }
+    go (refused number detail) c a l = let z : Refused number detail ≡ Routed cells marks = sym (ap (λ x. x .ended) a) ∙ e in never (cc)

@@ -1,0 +1,90 @@
+// From the bytes of a sheet to the lines that are printed.
+use crate::lines::put_answer;
+use crate::lines::put_refused;
+ghost use mathlib.Core.Path.{_≡_};
+ghost use Prim.Native.Nat.{_*_, _≤_};
+ghost use lib.ListN.{length, getD};
+ghost use Rattle.route.specs.Printed.{programLengths, SizeJudged, Shown, Printed, longestText};
+ghost use Rattle.net_tree.specs.Answers.{Comes};
+
+// "Over 4,096 cells it prints `refused 2 0`; its queue holds 12,288 places, its branch buffer 16,384 cells." A place of the
+// queue takes two numbers.
+const MAX_CELLS: usize = 4096;
+
+const BRANCH_CELLS: usize = 16384;
+
+const QUEUE_NUMBERS: usize = 24576;
+
+// A byte of the sheet as a number of cells.
+fn side(byte: u8) -> usize
+    ensures { λ r. ⌜ (r ≡ byte) × (r ≤ 255) ⌝ }
+{
+    byte as usize
+}
+
+// How many cells the sheet's room has: its sides are bytes 5 to 7.
+fn cells_in(sheet: &[u8]) -> usize
+    requires { ⌜ 8 ≤ length (now sheet) ⌝ }
+    ensures { λ r. ⌜ r ≡ getD (now (sheet .entry)) 5 0 * getD (now (sheet .entry)) 6 0 * getD (now (sheet .entry)) 7 0 ⌝ }
+{
+    side(sheet[5]) * side(sheet[6]) * side(sheet[7])
+}
+
+// Whether a sheet that means something has a room over this program's limit.
+fn too_large(sheet: &[u8]) -> bool
+    ensures { λ r. ⌜ SizeJudged (now (sheet .entry)) r ⌝ }
+{
+    let reading = sheet_reader::read_sheet(sheet);
+    let judgement = reading.judgement;
+    if judgement.number() == 1 {
+        return false;
+    }
+    MAX_CELLS < cells_in(sheet)
+}
+
+// Routes in memory of this program's own, and puts the answer's lines.
+fn put_routed(sheet: &[u8], out: &mut [u8]) -> usize
+    requires { ⌜ longestText ≤ length (now out) ⌝ }
+    ensures { λ r. ⌜ Shown (Comes (now (sheet .entry)) programLengths) (now (out .exit)) r ⌝ }
+{
+    let mut branches = [0u32; BRANCH_CELLS];
+    let mut occupied = [0u8; MAX_CELLS];
+    let mut repeaters = [0u8; MAX_CELLS];
+    let mut kinds = [0u8; MAX_CELLS];
+    let mut blocked = [0u8; MAX_CELLS];
+    let mut classes = [0u8; MAX_CELLS];
+    let mut joinable = [0u8; MAX_CELLS];
+    let mut known = [0u32; MAX_CELLS];
+    let mut previous = [0u32; MAX_CELLS];
+    let mut path = [0u32; MAX_CELLS];
+    let mut best = [0u32; MAX_CELLS];
+    let mut queue = [0u64; QUEUE_NUMBERS];
+    let answer = net_tree::route_net_tree(
+        sheet,
+        &mut branches,
+        &mut occupied,
+        &mut repeaters,
+        &mut kinds,
+        &mut blocked,
+        &mut classes,
+        &mut joinable,
+        &mut known,
+        &mut previous,
+        &mut path,
+        &mut best,
+        &mut queue,
+    );
+    put_answer(out, answer, &branches, &repeaters)
+}
+
+// Puts what this program prints of a sheet, and answers how many bytes that are. The limit of 4,096 cells stands at 2's place:
+// after 1, which `too_large` passes over, and before 3.
+pub fn put_sheet(sheet: &[u8], out: &mut [u8]) -> usize
+    requires { ⌜ longestText ≤ length (now out) ⌝ }
+    ensures { λ r. ⌜ Printed (now (sheet .entry)) (now (out .exit)) r ⌝ }
+{
+    if too_large(sheet) {
+        return put_refused(out, 0, 2, 0);
+    }
+    put_routed(sheet, out)
+}
