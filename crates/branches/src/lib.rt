@@ -1,5 +1,6 @@
 // A sink's branch: written into what is left of the lent branch buffer, put in sheet order, its cells marked.
 use ends::Tap;
+use job_sheet::MAX_SINKS;
 use room::as_index;
 ghost use mathlib.Core.Path.{_≡_};
 ghost use mathlib.Core.List.{_++_, reverse};
@@ -13,7 +14,7 @@ ghost use Rattle.branches.specs.Branches.{branchOf, branchLength, noLeng
 // How long each sink's branch is, in sheet order, 0 for a sink that has none yet; as one value with the sinks' count.
 pub struct BranchLengths {
     pub count: usize,
-    pub each: [usize; 16],
+    pub each: [usize; MAX_SINKS],
 }
 
 // So many sinks, none of which has a branch.
@@ -22,7 +23,7 @@ pub fn no_lengths(count: usize) -> BranchLengths
 {
     BranchLengths {
         count,
-        each: [0; 16],
+        each: [0; MAX_SINKS],
     }
 }
 

@@ -1,5 +1,6 @@
 // The ends of one net: numbers 8 and 9, else the source's terminal, and each sink's terminal and approach.
 use job_sheet::Endpoint;
+use job_sheet::MAX_SINKS;
 use job_sheet::Sinks;
 use port_realization::Realized;
 use port_realization::Terminal;
@@ -18,7 +19,7 @@ pub struct Tap {
 // The sinks' taps with their count, as one value.
 pub struct Taps {
     pub count: usize,
-    pub taps: [Tap; 16],
+    pub taps: [Tap; MAX_SINKS],
 }
 
 // Number 8 or 9 with its detail, 0 for the source and k for the k-th sink; or neither.
@@ -125,7 +126,7 @@ fn taps_of(room: Room, sinks: Sinks) -> Taps
     ensures { λ r. ⌜ r ≡ tapsOf room (sinksIn sinks) ⌝ }
 {
     let count = sinks.count;
-    let mut taps = [no_tap(); 16];
+    let mut taps = [no_tap(); MAX_SINKS];
     let mut k: usize = 0;
     while k < count {
         taps[k] = tap_of(room, sinks.ends[k]);

@@ -25,7 +25,7 @@ enum Records {
 fn position_fault(room: Room, p: Pos) -> Judgement
     ensures { λ r. ⌜ r ≡ positionFault room p ⌝ }
 {
-    if room.holds(p) {
+    if room.within(p) {
         Judgement::Good
     } else {
         Judgement::Position
@@ -35,7 +35,7 @@ fn position_fault(room: Room, p: Pos) -> Judgement
 fn block_fault(room: Room, block: Block) -> Judgement
     ensures { λ r. ⌜ r ≡ blockFault room block ⌝ }
 {
-    if !room.holds(block.at) {
+    if !room.within(block.at) {
         return Judgement::Position;
     }
     if !room::kind_known(block.kind) {
@@ -54,7 +54,7 @@ fn block_fault(room: Room, block: Block) -> Judgement
 fn endpoint_fault(room: Room, endpoint: Endpoint) -> Judgement
     ensures { λ r. ⌜ r ≡ endpointFault room endpoint ⌝ }
 {
-    if !room.holds(endpoint.at) {
+    if !room.within(endpoint.at) {
         return Judgement::Position;
     }
     if !room::port_known(endpoint.port) {

@@ -53,7 +53,7 @@ pub struct Endpoint {
 // "The sixteen sinks with their count travel as one value."
 pub struct Sinks {
     pub count: usize,
-    pub ends: [Endpoint; 16],
+    pub ends: [Endpoint; MAX_SINKS],
 }
 
 // What a sheet says. Its lists are told by where they stand.
@@ -133,7 +133,7 @@ pub fn sinks_from(sheet: &[u8], part: Part) -> Sinks
 {
     let from = part.from;
     let count = part.count;
-    let mut ends = [no_endpoint(); 16];
+    let mut ends = [no_endpoint(); MAX_SINKS];
     let mut k = 0;
     while k < count {
         let end = places::endpoint_from(sheet, from + ENDPOINT_SIZE * k);
@@ -193,7 +193,7 @@ pub fn refusal(judgement: Judgement) -> Reading
             source: end,
             sinks: Sinks {
                 count: 0,
-                ends: [end; 16],
+                ends: [end; MAX_SINKS],
             },
         },
     }

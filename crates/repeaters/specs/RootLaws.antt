@@ -55,47 +55,47 @@ spread-done (suc n) next parents = refl
 
 -- ---- one cell is met
 
-waiting-more : (line : List ℕ) (head tail v : ℕ) → tail < length line → head ≤ tail → slice head (tail + 1) (set line tail v) ≡ slice head tail line ++ (v ∷ [])
-waiting-more line head tail v h k =
-    rw (add-one, take-suc-set line tail v h) (drop-append-le head (take tail line) (v ∷ []) (rw (length-take-le tail line (omega arith)) k))
+waiting-more : (line : List ℕ) (head reached v : ℕ) → reached < length line → head ≤ reached → slice head (reached + 1) (set line reached v) ≡ slice head reached line ++ (v ∷ [])
+waiting-more line head reached v h k =
+    rw (add-one, take-suc-set line reached v h) (drop-append-le head (take reached line) (v ∷ []) (rw (length-take-le reached line (omega arith)) k))
 
-module _ {parents line : List ℕ} {tail : ℕ} (H : LineHeld parents line tail) where
-  pub held-most : tail ≤ length parents
+module _ {parents line : List ℕ} {reached : ℕ} (H : LineHeld parents line reached) where
+  pub held-most : reached ≤ length parents
   held-most = omega (arith, H .counted, nonzeros-le parents)
 
-  pub met-before : (from v : ℕ) → getD parents v 0 ≢ 0 → Met from (v ∷ []) parents line tail parents line tail
-  met-before from v n = record { held = H; long = refl; on = omega arith; goes = λ head h. meet-before from v parents (slice head tail line) n }
+  pub met-before : (from v : ℕ) → getD parents v 0 ≢ 0 → Met from (v ∷ []) parents line reached parents line reached
+  met-before from v n = record { held = H; long = refl; on = omega arith; goes = λ head h. meet-before from v parents (slice head reached line) n }
 
   module _ (from v : ℕ) (from-in : from < length parents) (v-in : v < length parents) (new : getD parents v 0 ≡ 0) where
-    pub line-fits : tail < length line
+    pub line-fits : reached < length line
     line-fits = omega (arith, H .counted, H .line-long, nonzeros-less parents v v-in new)
 
-    pub met-now : Met from (v ∷ []) parents line tail (set parents v (from + 1)) (set line tail v) (tail + 1)
+    pub met-now : Met from (v ∷ []) parents line reached (set parents v (from + 1)) (set line reached v) (reached + 1)
     met-now = record {
       held = record {
-        line-long = length-set line tail v ∙ H .line-long ∙ sym (length-set parents v (from + 1));
-        counted = ap (λ (x : ℕ). nonzeros (set parents v x)) (add-one from) ∙ nonzeros-new parents v from v-in new ∙ ap suc (H .counted) ∙ sym (add-one tail);
+        line-long = length-set line reached v ∙ H .line-long ∙ sym (length-set parents v (from + 1));
+        counted = ap (λ (x : ℕ). nonzeros (set parents v x)) (add-one from) ∙ nonzeros-new parents v from v-in new ∙ ap suc (H .counted) ∙ sym (add-one reached);
         cells = λ i h. rw length-set (in-line i h);
-        linked = λ w. rw length-set (parent w);
+        parents-inside = λ w. rw length-set (parent w);
       };
       long = length-set parents v (from + 1);
       on = omega arith;
-      goes = λ head h. rw (waiting-more line head tail v line-fits h) (meet-now from v parents (slice head tail line) new);
+      goes = λ head h. rw (waiting-more line head reached v line-fits h) (meet-now from v parents (slice head reached line) new);
     }
       where
-        in-line : (i : ℕ) → i < tail + 1 → getD (set line tail v) i 0 < length parents
+        in-line : (i : ℕ) → i < reached + 1 → getD (set line reached v) i 0 < length parents
         in-line i h =
-            askSame i tail
-            (λ q. rw (q, getD-set-same line tail v 0 line-fits) v-in)
-            (λ d. rw (getD-set-other line tail i v 0 d) (H .cells i (omega (arith, d))))
+            askSame i reached
+            (λ q. rw (q, getD-set-same line reached v 0 line-fits) v-in)
+            (λ d. rw (getD-set-other line reached i v 0 d) (H .cells i (omega (arith, d))))
 
         parent : (w : ℕ) → getD (set parents v (from + 1)) w 0 ≤ length parents
         parent w =
             askSame w v
             (λ q. rw (q, getD-set-same parents v (from + 1) 0 v-in) (omega arith))
-            (λ d. rw (getD-set-other parents v w (from + 1) 0 d) (H .linked w))
+            (λ d. rw (getD-set-other parents v w (from + 1) 0 d) (H .parents-inside w))
 
-  pub met-none : (from : ℕ) → Met from [] parents line tail parents line tail
+  pub met-none : (from : ℕ) → Met from [] parents line reached parents line reached
   unfolding along
   met-none from = record { held = H; long = refl; on = omega arith; goes = λ head h. refl }
 
@@ -106,53 +106,53 @@ unfolding along
 meet-more from (Neighbour.Inside v) vs w = refl
 meet-more from Neighbour.Outside vs w = refl
 
-pub record Visiting (R : Room) (p : Pos) (from mask : ℕ) (parents₀ line₀ : List ℕ) (tail₀ : ℕ) (parents line : List ℕ) (tail rest k : ℕ) : Type 0 where
+pub record Visiting (R : Room) (p : Pos) (from mask : ℕ) (parents₀ line₀ : List ℕ) (reached₀ : ℕ) (parents line : List ℕ) (reached rest k : ℕ) : Type 0 where
   pub within : k ≤ 12
-  pub held : LineHeld parents line tail
+  pub held : LineHeld parents line reached
   pub long : length parents ≡ length parents₀
-  pub on : tail₀ ≤ tail
-  pub goes : (head : ℕ) → head ≤ tail₀
-      → meetAll from (cellsLeft R p rest k) (wave parents (slice head tail line))
-      ≡ meetAll from (cellsBy R p mask orderedMoves) (wave parents₀ (slice head tail₀ line₀))
+  pub on : reached₀ ≤ reached
+  pub goes : (head : ℕ) → head ≤ reached₀
+      → meetAll from (cellsLeft R p rest k) (wave parents (slice head reached line))
+      ≡ meetAll from (cellsBy R p mask orderedMoves) (wave parents₀ (slice head reached₀ line₀))
 
-module _ {R : Room} {p : Pos} {from mask : ℕ} {parents₀ line₀ : List ℕ} {tail₀ : ℕ} where
-  pub visiting-none : LineHeld parents₀ line₀ tail₀ → Visiting R p from mask parents₀ line₀ tail₀ parents₀ line₀ tail₀ mask 0
+module _ {R : Room} {p : Pos} {from mask : ℕ} {parents₀ line₀ : List ℕ} {reached₀ : ℕ} where
+  pub visiting-none : LineHeld parents₀ line₀ reached₀ → Visiting R p from mask parents₀ line₀ reached₀ parents₀ line₀ reached₀ mask 0
   visiting-none H = record { within = omega arith; held = H; long = refl; on = omega arith; goes = λ head h. refl }
 
-  module _ {parents line : List ℕ} {tail rest k : ℕ} (I : Visiting R p from mask parents₀ line₀ tail₀ parents line tail rest k) where
-    pub visiting-next : k < 12 → (place : Neighbour) → place ≡ linkedPlace R p rest (orderedMove k) → {parents′ line′ : List ℕ} {tail′ : ℕ}
-        → Met from (consPlace place []) parents line tail parents′ line′ tail′
-        → Visiting R p from mask parents₀ line₀ tail₀ parents′ line′ tail′ (rest / 2) (k + 1)
-    visiting-next h place e {parents′} {line′} {tail′} M = record {
+  module _ {parents line : List ℕ} {reached rest k : ℕ} (I : Visiting R p from mask parents₀ line₀ reached₀ parents line reached rest k) where
+    pub visiting-next : k < 12 → (place : Neighbour) → place ≡ linkedPlace R p rest (orderedMove k) → {parents′ line′ : List ℕ} {reached′ : ℕ}
+        → Met from (consPlace place []) parents line reached parents′ line′ reached′
+        → Visiting R p from mask parents₀ line₀ reached₀ parents′ line′ reached′ (rest / 2) (k + 1)
+    visiting-next h place e {parents′} {line′} {reached′} M = record {
       within = omega arith;
       held = M .held;
       long = M .long ∙ I .long;
       on = omega (arith, I .on, M .on);
       goes = λ head q.
           ap (meetAll from (cellsLeft R p (rest / 2) (k + 1))) (M .goes head (omega (arith, I .on)))
-          ∙ sym (meet-more from place (cellsLeft R p (rest / 2) (k + 1)) (wave parents (slice head tail line)))
-          ∙ ap (λ (vs : List ℕ). meetAll from vs (wave parents (slice head tail line)))
+          ∙ sym (meet-more from place (cellsLeft R p (rest / 2) (k + 1)) (wave parents (slice head reached line)))
+          ∙ ap (λ (vs : List ℕ). meetAll from vs (wave parents (slice head reached line)))
           (ap (λ (q : Neighbour). consPlace q (cellsLeft R p (rest / 2) (k + 1))) e ∙ sym (cells-more R p rest k h))
           ∙ I .goes head q;
     }
 
-    pub visiting-all : 12 ≤ k → Met from (cellsBy R p mask orderedMoves) parents₀ line₀ tail₀ parents line tail
+    pub visiting-all : 12 ≤ k → Met from (cellsBy R p mask orderedMoves) parents₀ line₀ reached₀ parents line reached
     unfolding along
     visiting-all h = record {
       held = I .held;
       long = I .long;
       on = I .on;
       goes = λ head q.
-          sym (ap (λ (vs : List ℕ). meetAll from vs (wave parents (slice head tail line))) (cells-none R p rest k (I .within) h)) ∙ I .goes head q;
+          sym (ap (λ (vs : List ℕ). meetAll from vs (wave parents (slice head reached line))) (cells-none R p rest k (I .within) h)) ∙ I .goes head q;
     }
 
 -- ---- the loop over the cells that wait
 
-pub record Spreading (R : Room) (source : ℕ) (links parents line : List ℕ) (head tail : ℕ) : Type 0 where
-  pub held : LineHeld parents line tail
+pub record Spreading (R : Room) (source : ℕ) (links parents line : List ℕ) (head reached : ℕ) : Type 0 where
+  pub held : LineHeld parents line reached
   pub long : length parents ≡ volume R
-  pub within : head ≤ tail
-  pub same : spread (volume R - head) (linkedCells R links) (wave parents (slice head tail line))
+  pub within : head ≤ reached
+  pub same : spread (volume R - head) (linkedCells R links) (wave parents (slice head reached line))
       ≡ spread (volume R) (linkedCells R links) (wave (firstParents (volume R) source) (source ∷ []))
 
 module _ {R : Room} {source : ℕ} {links : List ℕ} where
@@ -163,7 +163,7 @@ module _ {R : Room} {source : ℕ} {links : List ℕ} where
       line-long = length-set line 0 source ∙ e ∙ sym long;
       counted = rw add-one (nonzeros-new (replicate (volume R) 0) source source (rw (length-replicate {A = ℕ} (volume R) 0) h) (getD-replicate {A = ℕ} (volume R) source 0 0 h) ∙ ap suc (nonzeros-none (volume R)));
       cells = λ i k. rw long (first i k);
-      linked = λ v. rw long (parent v);
+      parents-inside = λ v. rw long (parent v);
     };
     long = long;
     within = omega arith;
@@ -189,45 +189,45 @@ module _ {R : Room} {source : ℕ} {links : List ℕ} where
       one [] q = absurd (omega arith)
       one (x ∷ xs) q = refl
 
-  module _ {parents line : List ℕ} {head tail : ℕ} (I : Spreading R source links parents line head tail) where
-    pub spreading-most : tail ≤ volume R
+  module _ {parents line : List ℕ} {head reached : ℕ} (I : Spreading R source links parents line head reached) where
+    pub spreading-most : reached ≤ volume R
     spreading-most = omega (arith, held-most (I .held), I .long)
 
-    pub spreading-in : head < tail → (cell : ℕ) → cell ≡ getD line head 0 → cell < volume R
+    pub spreading-in : head < reached → (cell : ℕ) → cell ≡ getD line head 0 → cell < volume R
     spreading-in h cell e = rw (e, ← I .long) (I .held .cells head h)
 
-    pub spreading-next : head < tail → (cell : ℕ) → cell ≡ getD line head 0 → {parents′ line′ : List ℕ} {tail′ : ℕ}
-        → Met cell (linkedCells R links cell) parents line tail parents′ line′ tail′
-        → Spreading R source links parents′ line′ (head + 1) tail′
-    spreading-next h cell e {parents′} {line′} {tail′} M = record {
+    pub spreading-next : head < reached → (cell : ℕ) → cell ≡ getD line head 0 → {parents′ line′ : List ℕ} {reached′ : ℕ}
+        → Met cell (linkedCells R links cell) parents line reached parents′ line′ reached′
+        → Spreading R source links parents′ line′ (head + 1) reached′
+    spreading-next h cell e {parents′} {line′} {reached′} M = record {
       held = M .held;
       long = M .long ∙ I .long;
       within = omega (arith, M .on);
       same =
           ap (spread (volume R - (head + 1)) (linkedCells R links)) (M .goes (head + 1) (omega arith))
-          ∙ sym (spread-visit (volume R - (head + 1)) (linkedCells R links) parents cell (slice (head + 1) tail line))
+          ∙ sym (spread-visit (volume R - (head + 1)) (linkedCells R links) parents cell (slice (head + 1) reached line))
           ∙ rw (← left, ← first) (I .same);
     }
       where
         left : volume R - head ≡ suc (volume R - (head + 1))
         left = omega (arith, spreading-most)
 
-        in-line : tail ≤ length line
+        in-line : reached ≤ length line
         in-line = omega (arith, held-most (I .held), I .held .line-long)
 
-        first : slice head tail line ≡ cell ∷ slice (head + 1) tail line
-        first = rw (add-one, e) (slice-cons head tail line 0 h in-line)
+        first : slice head reached line ≡ cell ∷ slice (head + 1) reached line
+        first = rw (add-one, e) (slice-cons head reached line 0 h in-line)
 
-    pub spreading-all : tail ≤ head → (parents′ : List ℕ) → parents′ ≡ set parents source 0 → Rooted R source links parents′
+    pub spreading-all : reached ≤ head → (parents′ : List ℕ) → parents′ ≡ set parents source 0 → Rooted R source links parents′
     unfolding parentsFrom
     spreading-all h parents′ e = record {
       is = e ∙ ap (λ (ps : List ℕ). set ps source 0) done;
-      linked = λ v. rw (e, length-set parents source 0) (parent v);
+      parents-inside = λ v. rw (e, length-set parents source 0) (parent v);
       long = ap length e ∙ length-set parents source 0 ∙ I .long;
     }
       where
-        none : slice head tail line ≡ []
-        none = let e : head ≡ tail = omega (arith, I .within) in rw e (slice-empty tail line)
+        none : slice head reached line ≡ []
+        none = let e : head ≡ reached = omega (arith, I .within) in rw e (slice-empty reached line)
 
         done : parents ≡ spread (volume R) (linkedCells R links) (wave (firstParents (volume R) source) (source ∷ []))
         done = sym (spread-done (volume R - head) (linkedCells R links) parents) ∙ rw none at (I .same)
@@ -236,7 +236,7 @@ module _ {R : Room} {source : ℕ} {links : List ℕ} where
         parent v =
             askSame v source
             (λ q. rw q (at-source parents source))
-            (λ d. rw (getD-set-other parents source v 0 0 d) (I .held .linked v))
+            (λ d. rw (getD-set-other parents source v 0 0 d) (I .held .parents-inside v))
           where
             at-source : (ps : List ℕ) (s : ℕ) → getD (set ps s 0) s 0 ≤ length ps
             at-source [] s = omega arith

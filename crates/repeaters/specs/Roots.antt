@@ -1,4 +1,4 @@
--- The breadth-first search as the code holds it: the cells reached stand in a line, in the order in which they were reached; those from `head` to `tail`
+-- The breadth-first search as the code holds it: the cells reached stand in a line, in the order in which they were reached; those from `head` to `reached`
 -- wait to be visited.
 use mathlib.Core.Path.{_≡_}
 use mathlib.Core.List.{List}
@@ -12,24 +12,24 @@ use Rattle.trace.specs.Traces.{PreviousInside}
 use Rattle.repeaters.specs.Repeaters.{wave, meetAll, parentsFrom, rootPath}
 use Rattle.repeaters.specs.Links.{linkedCells}
 
--- each cell reached, one whose parent is not 0, stands in the line once, so that the line has room for all
-pub record LineHeld (parents line : List ℕ) (tail : ℕ) : Type 0 where
+-- each cell reached, one whose parent is not 0, stands in the line once, so that the line is long enough for all
+pub record LineHeld (parents line : List ℕ) (reached : ℕ) : Type 0 where
   pub line-long : length line ≡ length parents
-  pub counted : nonzeros parents ≡ tail
-  pub cells : (i : ℕ) → i < tail → getD line i 0 < length parents
-  pub linked : PreviousInside parents
+  pub counted : nonzeros parents ≡ reached
+  pub cells : (i : ℕ) → i < reached → getD line i 0 < length parents
+  pub parents-inside : PreviousInside parents
 
 -- these cells were met from one cell, whichever wait to be visited
-pub record Met (from : ℕ) (cells : List ℕ) (parents line : List ℕ) (tail : ℕ) (parents′ line′ : List ℕ) (tail′ : ℕ) : Type 0 where
-  pub held : LineHeld parents′ line′ tail′
+pub record Met (from : ℕ) (cells : List ℕ) (parents line : List ℕ) (reached : ℕ) (parents′ line′ : List ℕ) (reached′ : ℕ) : Type 0 where
+  pub held : LineHeld parents′ line′ reached′
   pub long : length parents′ ≡ length parents
-  pub on : tail ≤ tail′
-  pub goes : (head : ℕ) → head ≤ tail → wave parents′ (slice head tail′ line′) ≡ meetAll from cells (wave parents (slice head tail line))
+  pub on : reached ≤ reached′
+  pub goes : (head : ℕ) → head ≤ reached → wave parents′ (slice head reached′ line′) ≡ meetAll from cells (wave parents (slice head reached line))
 
 -- the parents are those of the definition
 pub record Rooted (R : Room) (source : ℕ) (links parents : List ℕ) : Type 0 where
   pub is : parents ≡ parentsFrom (linkedCells R links) (volume R) source
-  pub linked : PreviousInside parents
+  pub parents-inside : PreviousInside parents
   pub long : length parents ≡ volume R
 
 -- the path stands at the front of the line

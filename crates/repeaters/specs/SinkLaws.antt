@@ -25,7 +25,7 @@ path-ready {R} {links} {parents} G {cell} h T = record {
   good = G .good;
   links-long = G .links-long;
   forbidden-long = G .forbidden-long;
-  cells = rw (T .is) (path-cells R parents (G .parents-long) (G .linked) cell h);
+  cells = rw (T .is) (path-cells R parents (G .parents-long) (G .parents-inside) cell h);
 }
 
 -- the walk over the sinks in use, whose marks keep their length

@@ -17,7 +17,7 @@ pub record TreeReady (R : Room) (links parents forbidden : List ℕ) : Type 0 wh
   pub good : Good R
   pub links-long : length links ≡ volume R
   pub parents-long : length parents ≡ volume R
-  pub linked : PreviousInside parents
+  pub parents-inside : PreviousInside parents
   pub forbidden-long : length forbidden ≡ volume R
 
 -- what placing the repeaters of a tree asks of its parameters

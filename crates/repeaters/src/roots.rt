@@ -14,38 +14,38 @@ ghost use Rattle.repeaters.specs.Links.{orderedMoves, consPlace, cellsBy
 ghost use Rattle.repeaters.specs.Roots.{LineHeld, Met, Rooted, Traced};
 
 // A cell met from another is reached, unless it was before, and waits at the line's end. Gives the line's end.
-fn meet(parents: &mut [u32], line: &mut [u32], tail: usize, from: usize, cell: usize) -> usize
-    requires { ⌜ LineHeld (now parents) (now line) tail ⌝ }
+fn meet(parents: &mut [u32], line: &mut [u32], reached: usize, from: usize, cell: usize) -> usize
+    requires { ⌜ LineHeld (now parents) (now line) reached ⌝ }
     requires { ⌜ length (now parents) ≤ maxVolume ⌝ }
     requires { ⌜ from < length (now parents) ⌝ }
     requires { ⌜ cell < length (now parents) ⌝ }
-    ensures { λ r. ⌜ Met from (cell ∷ []) (now (parents .entry)) (now (line .entry)) tail (now (parents .exit)) (now (line .exit)) r ⌝ }
+    ensures { λ r. ⌜ Met from (cell ∷ []) (now (parents .entry)) (now (line .entry)) reached (now (parents .exit)) (now (line .exit)) r ⌝ }
 {
     if parents[cell] != 0 {
-        return tail;
+        return reached;
     }
     parents[cell] = from as u32 + 1;
-    line[tail] = cell as u32;
-    tail + 1
+    line[reached] = cell as u32;
+    reached + 1
 }
 
 // The same for a place, which outside the room is none.
 fn meet_place(
     parents: &mut [u32],
     line: &mut [u32],
-    tail: usize,
+    reached: usize,
     from: usize,
     place: Neighbour,
 ) -> usize
-    requires { ⌜ LineHeld (now parents) (now line) tail ⌝ }
+    requires { ⌜ LineHeld (now parents) (now line) reached ⌝ }
     requires { ⌜ length (now parents) ≤ maxVolume ⌝ }
     requires { ⌜ from < length (now parents) ⌝ }
     requires { ⌜ ((v : ℕ) → place ≡ Neighbour.Inside v → v < length (now parents)) ⌝ }
-    ensures { λ r. ⌜ Met from (consPlace place []) (now (parents .entry)) (now (line .entry)) tail (now (parents .exit)) (now (line .exit)) r ⌝ }
+    ensures { λ r. ⌜ Met from (consPlace place []) (now (parents .entry)) (now (line .entry)) reached (now (parents .exit)) (now (line .exit)) r ⌝ }
 {
     match place {
-        Neighbour::Inside(cell) => meet(parents, line, tail, from, cell),
-        Neighbour::Outside => tail,
+        Neighbour::Inside(cell) => meet(parents, line, reached, from, cell),
+        Neighbour::Outside => reached,
     }
 }
 
@@ -56,17 +56,17 @@ fn visit(
     from: usize,
     parents: &mut [u32],
     line: &mut [u32],
-    tail: usize,
+    reached: usize,
 ) -> usize
     requires { ⌜ Good room ⌝ }
     requires { ⌜ length (now parents) ≡ volume room ⌝ }
-    requires { ⌜ LineHeld (now parents) (now line) tail ⌝ }
+    requires { ⌜ LineHeld (now parents) (now line) reached ⌝ }
     requires { ⌜ from < volume room ⌝ }
-    ensures { λ r. ⌜ Met from (cellsBy room (posOf room from) mask orderedMoves) (now (parents .entry)) (now (line .entry)) tail (now (parents .exit)) (now (line .exit)) r ⌝ }
+    ensures { λ r. ⌜ Met from (cellsBy room (posOf room from) mask orderedMoves) (now (parents .entry)) (now (line .entry)) reached (now (parents .exit)) (now (line .exit)) r ⌝ }
 {
     let p = room.pos(from);
     let mut rest = mask;
-    let mut end = tail;
+    let mut end = reached;
     let mut k: usize = 0;
     while k < 12 {
         let place = linked_place(room, p, rest, k);
@@ -95,11 +95,11 @@ pub fn rooted_parent(
     parents[source] = source as u32 + 1;
     line[0] = source as u32;
     let mut head: usize = 0;
-    let mut tail: usize = 1;
-    while head < tail {
+    let mut reached: usize = 1;
+    while head < reached {
         let cell = as_index(line[head]);
         head += 1;
-        tail = visit(room, links[cell], cell, parents, line, tail);
+        reached = visit(room, links[cell], cell, parents, line, reached);
     }
     parents[source] = 0;
 }

@@ -1,6 +1,7 @@
 // A file of stored sheets, as bytes: big-endian records, each a sheet with its answer, as the oracle's README lays them out. Past the
 // file's end everything reads as 0.
 use branches::BranchLengths;
+use job_sheet::MAX_SINKS;
 use stored::file_places::byte_at;
 use stored::file_places::byte_behind;
 use stored::file_places::cell_at;
@@ -52,7 +53,7 @@ pub struct Answered {
 
 // A tree's branches: the length of each, how many cells they have together, and where they end.
 struct Branches {
-    each: [usize; 16],
+    each: [usize; MAX_SINKS],
     total: usize,
     end: usize,
 }
@@ -133,7 +134,7 @@ fn branches_at(
     requires { ⌜ count ≤ 16 ⌝ }
     ensures { λ r. ⌜ BranchesRead (now (file .entry)) at (now (cells .entry)) (now (covered .entry)) count (now (cells .exit)) (now (covered .exit)) (r .each) (r .total) (r .end) ⌝ }
 {
-    let mut each = [0usize; 16];
+    let mut each = [0usize; MAX_SINKS];
     let mut total: usize = 0;
     let mut end = at;
     let mut k: usize = 0;

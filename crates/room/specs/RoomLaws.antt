@@ -146,7 +146,7 @@ module _ (R : Room) (G : Good R) where
   unfolding cellOf
   row-few p w = omega (arith, G .few, cell-in R p w, mul-le-mul-left (p .x * R .high + p .y) (G .z-some))
 
-  -- a cell that is not of the lowest layer has one beneath it
+  -- a cell that is not of the lowest level has one beneath it
   pub deep-enough : (n : ℕ) → 1 ≤ posOf R n .y → R .deep ≤ n
   unfolding posOf
   deep-enough n h =

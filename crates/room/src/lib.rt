@@ -243,7 +243,7 @@ impl Room {
     }
 
     // Whether a position is in the room.
-    pub fn holds(self, p: Pos) -> bool
+    pub fn within(self, p: Pos) -> bool
         ensures { λ r. ⌜ r ≡ within self p ⌝ }
     {
         if self.wide <= p.x {

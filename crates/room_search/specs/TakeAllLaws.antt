@@ -150,7 +150,7 @@ searchable-fresh S known previous from to k p f t = record {
 
 -- the path of a search that arrived can be written
 pub told-showable : (G : Graph) (answer : Answer) (o : Outcome) (known previous : List ℕ) → length previous ≡ G .size → OutcomeTold G answer known previous o → Showable o (G .goal) known previous
-told-showable G answer (Arrived x) known previous e t = (λ v. rw e (t .linked v), t .reached)
+told-showable G answer (Arrived x) known previous e t = (λ v. rw e (t .previous-inside v), t .reached)
 told-showable G answer (NoRoute x) known previous e t = tt
 told-showable G answer (LimitPassed x) known previous e t = tt
 told-showable G answer (QueueFull x) known previous e t = tt

@@ -66,7 +66,7 @@ module _ (R : Room) (C : RouterConfig) (classes known previous queue : List ℕ)
   taking-goal e = record {
     goes = λ start answer s I. record {
       is = going-goal I popped e;
-      linked = going-bounded (sound R C (λ v. getD classes v 0) start (goal .cell) (placesOf queue) s (T .goal-placed .inside)) I .previous-in;
+      previous-inside = going-bounded (sound R C (λ v. getD classes v 0) start (goal .cell) (placesOf queue) s (T .goal-placed .inside)) I .previous-in;
       reached = rw (← e) cell-known;
     };
   }

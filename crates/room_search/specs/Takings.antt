@@ -42,7 +42,7 @@ pub record Takeable (R : Room) (C : RouterConfig) (classes known previous queue 
 -- the goal is taken: the path by predecessors, and the goal's known cost
 pub record Arrival (G : Graph) (answer : Answer) (known previous : List ℕ) (expanded : ℕ) : Type 0 where
   pub is : answer ≡ route (trace (G .size) previous (G .goal) []) (pred (getD known (G .goal) 0)) expanded
-  pub linked : (v : ℕ) → getD previous v 0 ≤ G .size
+  pub previous-inside : (v : ℕ) → getD previous v 0 ≤ G .size
   pub reached : 0 < getD known (G .goal) 0
 
 -- what the outcome says of the search's answer

@@ -1,4 +1,4 @@
--- `path_to` meets its contract: as many cells as are counted are written, and the path has room for them.
+-- `path_to` meets its contract: as many cells as are counted are written, and the path is long enough for them.
 use native.Mathlib.Omega.{arith}
 use mathlib.Core.List.{[]}
 use lib.ListN.{length}

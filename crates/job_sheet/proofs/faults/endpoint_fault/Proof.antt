@@ -6,36 +6,36 @@ use borrow.Author.Needs.{needs}
 use Rattle.job_sheet.proofs.faults.endpoint_fault.Statement.{statement}
 use Rattle.job_sheet.proofs.faults.endpoint_fault.Tie as tie
 
-holds-requires : tie.Need-holds-requires
-holds-requires c κs = search needs
+within-requires : tie.Need-within-requires
+within-requires c κs = search needs
 
 returns : tie.Need-returns
 unfolding endpointFault firstFault
-returns c = rw (test-fails (c .before .holds .ensures) (c .if1 .taken))
+returns c = rw (test-fails (c .before .within .ensures) (c .if1 .taken))
 
 port-known-requires : tie.Need-port-known-requires
 port-known-requires c κs = search needs
 
 returns-2 : tie.Need-returns-2
 unfolding endpointFault firstFault
-returns-2 c = rw (test-passes (c .before .before .before .holds .ensures) (c .before .before .if1 .left), test-fails (c .before .port-known .ensures) (c .if2 .taken))
+returns-2 c = rw (test-passes (c .before .before .before .within .ensures) (c .before .before .if1 .left), test-fails (c .before .port-known .ensures) (c .if2 .taken))
 
 facing-known-requires : tie.Need-facing-known-requires
 facing-known-requires c κs = search needs
 
 returns-3 : tie.Need-returns-3
 unfolding endpointFault firstFault
-returns-3 c = rw (test-passes (c .before .before .before .before .before .holds .ensures) (c .before .before .before .before .if1 .left), test-passes (c .before .before .before .port-known .ensures) (c .before .before .if2 .left), sym (c .before .facing-known .ensures) ∙ c .if3 .taken)
+returns-3 c = rw (test-passes (c .before .before .before .before .before .within .ensures) (c .before .before .before .before .if1 .left), test-passes (c .before .before .before .port-known .ensures) (c .before .before .if2 .left), sym (c .before .facing-known .ensures) ∙ c .if3 .taken)
 
 returns-4 : tie.Need-returns-4
 unfolding endpointFault firstFault
-returns-4 c = rw (test-passes (c .before .before .before .before .before .holds .ensures) (c .before .before .before .before .if1 .left), test-passes (c .before .before .before .port-known .ensures) (c .before .before .if2 .left), sym (c .before .facing-known .ensures) ∙ c .if3 .left)
+returns-4 c = rw (test-passes (c .before .before .before .before .before .within .ensures) (c .before .before .before .before .if1 .left), test-passes (c .before .before .before .port-known .ensures) (c .before .before .if2 .left), sym (c .before .facing-known .ensures) ∙ c .if3 .left)
 
 pub endpoint-fault-spec : {M : Type 1} → statement M
 endpoint-fault-spec =
     tie.close
     (tie.spec
-    holds-requires
+    within-requires
     returns
     port-known-requires
     returns-2

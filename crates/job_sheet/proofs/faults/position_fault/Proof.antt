@@ -4,14 +4,14 @@ use borrow.Author.Needs.{needs}
 use Rattle.job_sheet.proofs.faults.position_fault.Statement.{statement}
 use Rattle.job_sheet.proofs.faults.position_fault.Tie as tie
 
-holds-requires : tie.Need-holds-requires
-holds-requires c κs = search needs
+within-requires : tie.Need-within-requires
+within-requires c κs = search needs
 
 returns : tie.Need-returns
-returns c = rw (sym (c .before .holds .ensures) ∙ c .if1 .taken)
+returns c = rw (sym (c .before .within .ensures) ∙ c .if1 .taken)
 
 returns-2 : tie.Need-returns-2
-returns-2 c = rw (sym (c .before .holds .ensures) ∙ c .if1 .left)
+returns-2 c = rw (sym (c .before .within .ensures) ∙ c .if1 .left)
 
 pub position-fault-spec : {M : Type 1} → statement M
-position-fault-spec = tie.close (tie.spec holds-requires returns returns-2)
+position-fault-spec = tie.close (tie.spec within-requires returns returns-2)

@@ -1,4 +1,4 @@
--- `meet` meets its contract: a cell that was not reached has room in the line.
+-- `meet` meets its contract: a cell that was not reached has a place in the line.
 use native.Mathlib.Omega.{arith}
 use Rattle.repeaters.specs.RootLaws.{held-most, met-before, line-fits, met-now}
 use borrow.Author.Needs.{needs}

@@ -11,10 +11,10 @@ use Rattle.repeaters.proofs.roots.rooted_parent.Statement.{statement}
 use Rattle.repeaters.proofs.roots.rooted_parent.Tie as tie
 
 abbrev Inv-loop : tie.InvT-loop
-Inv-loop room source links parents₀ line₀ head₀ tail₀ parents line head tail = Spreading room source links parents line head tail
+Inv-loop room source links parents₀ line₀ head₀ reached₀ parents line head reached = Spreading room source links parents line head reached
 
 abbrev μ-loop : tie.MeasureT-loop
-μ-loop room source links parents₀ line₀ head₀ tail₀ parents line head tail = volume room - head
+μ-loop room source links parents₀ line₀ head₀ reached₀ parents line head reached = volume room - head
 
 cast-parents : tie.Need-cast-parents Inv-loop μ-loop
 cast-parents c = record { fits = omega (arith, c .before .before .before .pre .0 .few, c .before .before .before .pre .1 .0) }

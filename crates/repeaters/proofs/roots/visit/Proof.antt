@@ -10,10 +10,10 @@ use Rattle.repeaters.proofs.roots.visit.Statement.{statement}
 use Rattle.repeaters.proofs.roots.visit.Tie as tie
 
 abbrev Inv-loop : tie.InvT-loop
-Inv-loop room mask from parents₀ line₀ tail p rest₀ end₀ k₀ parents line rest end k = Visiting room p from mask parents₀ line₀ tail parents line end rest k
+Inv-loop room mask from parents₀ line₀ reached p rest₀ end₀ k₀ parents line rest end k = Visiting room p from mask parents₀ line₀ reached parents line end rest k
 
 abbrev μ-loop : tie.MeasureT-loop
-μ-loop room mask from parents₀ line₀ tail p rest₀ end₀ k₀ parents line rest end k = 12 - k
+μ-loop room mask from parents₀ line₀ reached p rest₀ end₀ k₀ parents line rest end k = 12 - k
 
 pos-requires : tie.Need-pos-requires Inv-loop μ-loop
 pos-requires c κs = c .before .before .pre .0

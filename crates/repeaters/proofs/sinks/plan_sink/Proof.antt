@@ -8,7 +8,7 @@ use Rattle.repeaters.proofs.sinks.plan_sink.Statement.{statement}
 use Rattle.repeaters.proofs.sinks.plan_sink.Tie as tie
 
 root-path-requires : tie.Need-root-path-requires
-root-path-requires c κs = (rw (c .before .before .before .before .before .before .pre .0 .parents-long) (c .before .before .before .before .before .before .pre .1 .0), (c .before .before .before .before .before .before .pre .0 .linked, (omega (arith, c .before .before .before .before .before .before .pre .0 .parents-long, c .before .before .before .before .before .before .pre .0 .good .few), c .before .before .before .before .before .before .pre .1 .1 .1 ∙ sym (c .before .before .before .before .before .before .pre .0 .parents-long))))
+root-path-requires c κs = (rw (c .before .before .before .before .before .before .pre .0 .parents-long) (c .before .before .before .before .before .before .pre .1 .0), (c .before .before .before .before .before .before .pre .0 .parents-inside, (omega (arith, c .before .before .before .before .before .before .pre .0 .parents-long, c .before .before .before .before .before .before .pre .0 .good .few), c .before .before .before .before .before .before .pre .1 .1 .1 ∙ sym (c .before .before .before .before .before .before .pre .0 .parents-long))))
 
 slice-reshare-prefix-plan-path : tie.Need-slice-reshare-prefix-plan-path
 slice-reshare-prefix-plan-path c = search needs

@@ -12,7 +12,7 @@ returns : tie.Need-returns
 returns c = rw (not-true (c .before .before .before .before .before .before .before .args .tap .wire) (c .if1 .taken))
 
 root-path-requires : tie.Need-root-path-requires
-root-path-requires c κs = (rw (c .before .before .before .before .before .before .before .before .pre .0 .parents-long) (c .before .before .before .before .before .before .before .before .pre .1 .0), (c .before .before .before .before .before .before .before .before .pre .0 .linked, (omega (arith, c .before .before .before .before .before .before .before .before .pre .0 .parents-long, c .before .before .before .before .before .before .before .before .pre .0 .good .few), c .before .before .before .before .before .before .before .before .pre .1 .1 .1 ∙ sym (c .before .before .before .before .before .before .before .before .pre .0 .parents-long))))
+root-path-requires c κs = (rw (c .before .before .before .before .before .before .before .before .pre .0 .parents-long) (c .before .before .before .before .before .before .before .before .pre .1 .0), (c .before .before .before .before .before .before .before .before .pre .0 .parents-inside, (omega (arith, c .before .before .before .before .before .before .before .before .pre .0 .parents-long, c .before .before .before .before .before .before .before .before .pre .0 .good .few), c .before .before .before .before .before .before .before .before .pre .1 .1 .1 ∙ sym (c .before .before .before .before .before .before .before .before .pre .0 .parents-long))))
 
 slice-reshare-prefix-reinforce-path : tie.Need-slice-reshare-prefix-reinforce-path
 slice-reshare-prefix-reinforce-path c = search needs

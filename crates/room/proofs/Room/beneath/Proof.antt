@@ -1,4 +1,4 @@
--- `Room::beneath` meets its contract: a cell that is not of the lowest layer has one beneath it.
+-- `Room::beneath` meets its contract: a cell that is not of the lowest level has one beneath it.
 use borrow.Author.Tests.{le-leb, lt-leb}
 use Rattle.room.specs.Room.{beneath}
 use Rattle.room.specs.RoomLaws.{deep-enough}

@@ -1,8 +1,8 @@
--- `Room::holds` meets its contract: each test is one of the definition's.
+-- `Room::within` meets its contract: each test is one of the definition's.
 use borrow.Author.Tests.{le-ltb, lt-ltb}
 use Rattle.room.specs.Room.{within}
-use Rattle.room.proofs.Room.holds.Statement.{statement}
-use Rattle.room.proofs.Room.holds.Tie as tie
+use Rattle.room.proofs.Room.within.Statement.{statement}
+use Rattle.room.proofs.Room.within.Tie as tie
 
 returns : tie.Need-returns
 unfolding within
@@ -16,5 +16,5 @@ returns-3 : tie.Need-returns-3
 unfolding within
 returns-3 c = rw (lt-ltb _ _ (c .before .before .before .before .before .if1 .left), lt-ltb _ _ (c .before .before .if2 .left))
 
-pub holds-spec : {M : Type 1} → statement M
-holds-spec = tie.close (tie.spec returns returns-2 returns-3)
+pub within-spec : {M : Type 1} → statement M
+within-spec = tie.close (tie.spec returns returns-2 returns-3)
