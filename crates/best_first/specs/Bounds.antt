@@ -6,14 +6,16 @@ use mathlib.Core.List.{List, [], _∷_}
 use Prim.Native.Nat.{ℕ, suc, _+_, _-_, _*_, _≤_, _<_, zero-le}
 use native.Mathlib.Omega.{arith}
 use native.Mathlib.Nat.{mul-suc, mul-comm, mul-le-mul-left, eq-zero-or-pos, suc-pred-eq-of-pos}
+use lib.Dec.{ltb}
 use lib.ListN.{length, getD, set, replicate, length-set}
 use lib.Seq.{getD-set-same}
 use Rattle.basics.specs.Lists.{In}
+use Rattle.basics.specs.Counts.{times-most}
 use Rattle.basics.specs.Zeros.{zeros}
 use Rattle.best_first.specs.Search.{Graph, Move, Entry, State, Taken, push, oneMoreExpanded, firstState}
 use Rattle.best_first.specs.Ways.{Sound}
 use Rattle.best_first.specs.Statements.{Taking, knownAt, costOf, Reached, at-first, then, Bounded}
-use Rattle.best_first.specs.ListsAfterSet.{AfterStore, hit, miss, after, in-reach, nonzeros, nonzeros-le, nonzeros-none, nonzeros-new, nonzeros-old}
+use Rattle.best_first.specs.ListsAfterSet.{AfterStore, hit, miss, after, in-reach, nonzeros, nonzeros-none, nonzeros-new, nonzeros-old}
 use Rattle.best_first.specs.Entries.{same-sym, same-in}
 use Rattle.best_first.specs.Equations.{offered, Gain, no-gain}
 use Rattle.best_first.specs.Reached.{through}
@@ -72,7 +74,7 @@ module _ {G : Graph} {degree dearest : ℕ} (S : Sound G degree dearest) where
     where
       most : dearest * nonzeros (s .known) ≤ (G .size - 1) * dearest + dearest
       most =
-          let k : nonzeros (s .known) ≤ suc (G .size - 1) = omega (arith, nonzeros-le (s .known), A .known-long) in
+          let k : nonzeros (s .known) ≤ suc (G .size - 1) = omega (arith, times-most (ltb 0) (s .known), A .known-long) in
           omega (arith, mul-le-mul-left dearest k, mul-suc dearest (G .size - 1), mul-comm dearest (G .size - 1))
 
       cost : (v : ℕ) → (knownAt s v ≡ 0) ⊎ (0 < knownAt s v) → knownAt s v ≤ (G .size - 1) * dearest + 1

@@ -2,12 +2,15 @@
 use mathlib.Core.Path.{_≡_, refl, ap, _∙_}
 use mathlib.Core.Logic.{_≢_}
 use mathlib.Core.List.{List, [], _∷_}
-use Prim.Native.Nat.{ℕ, zero, suc, _≤_, _<_, zero-le, suc-le-suc}
+use Prim.Native.Nat.{ℕ, zero, suc, _<_, zero-le, suc-le-suc}
 use native.Mathlib.Omega.{arith}
 use native.Mathlib.Nat.{not-suc-le-zero, le-of-suc-le-suc}
+use lib.Dec.{ltb}
 use lib.ListN.{length, getD, set, replicate}
 use lib.Seq.{getD-set-same, getD-set-other}
+use borrow.Author.Tests.{lt-ltb}
 use Rattle.basics.specs.Tests.{askSame}
+use Rattle.basics.specs.Counts.{times}
 
 pub length-zero : {X : Type 0} (l : List X) → length l ≡ 0 → l ≡ []
 length-zero [] e = refl
@@ -29,36 +32,26 @@ after l i x j h = askSame j i (λ e. hit e (ap (λ (k : ℕ). getD (set l i x) k
 
 -- ---- how many elements are not 0
 
-unfoldable pub nonzeros : List ℕ → ℕ
-nonzeros [] = 0
-nonzeros (zero ∷ l) = nonzeros l
-nonzeros (suc x ∷ l) = suc (nonzeros l)
-
-pub nonzeros-le : (l : List ℕ) → nonzeros l ≤ length l
-unfolding nonzeros
-nonzeros-le [] = zero-le
-nonzeros-le (zero ∷ l) = omega (arith, nonzeros-le l)
-nonzeros-le (suc x ∷ l) = suc-le-suc (nonzeros-le l)
+abbrev pub nonzeros : List ℕ → ℕ
+nonzeros l = times (ltb 0) l
 
 pub nonzeros-none : (n : ℕ) → nonzeros (replicate n 0) ≡ 0
-unfolding nonzeros
+unfolding times
 nonzeros-none zero = refl
-nonzeros-none (suc n) = nonzeros-none n
+nonzeros-none (suc n) = omega (arith, nonzeros-none n)
 
 -- a store where 0 stood
 pub nonzeros-new : (l : List ℕ) (i x : ℕ) → i < length l → getD l i 0 ≡ 0 → nonzeros (set l i (suc x)) ≡ suc (nonzeros l)
-unfolding nonzeros
+unfolding times
 nonzeros-new [] i x h e = absurd (not-suc-le-zero h)
-nonzeros-new (zero ∷ l) zero x h e = refl
-nonzeros-new (zero ∷ l) (suc i) x h e = nonzeros-new l i x (le-of-suc-le-suc h) e
+nonzeros-new (zero ∷ l) zero x h e = rw (lt-ltb 0 (suc x) (suc-le-suc zero-le)) (omega arith)
 nonzeros-new (suc y ∷ l) zero x h e = omega arith
-nonzeros-new (suc y ∷ l) (suc i) x h e = ap suc (nonzeros-new l i x (le-of-suc-le-suc h) e)
+nonzeros-new (y ∷ l) (suc i) x h e = omega (arith, nonzeros-new l i x (le-of-suc-le-suc h) e)
 
 -- a store where another element stood
 pub nonzeros-old : (l : List ℕ) (i x : ℕ) → 0 < getD l i 0 → nonzeros (set l i (suc x)) ≡ nonzeros l
-unfolding nonzeros
+unfolding times
 nonzeros-old [] i x h = omega arith
 nonzeros-old (zero ∷ l) zero x h = omega arith
-nonzeros-old (zero ∷ l) (suc i) x h = nonzeros-old l i x h
-nonzeros-old (suc y ∷ l) zero x h = refl
-nonzeros-old (suc y ∷ l) (suc i) x h = ap suc (nonzeros-old l i x h)
+nonzeros-old (suc y ∷ l) zero x h = rw (lt-ltb 0 (suc x) (suc-le-suc zero-le), lt-ltb 0 (suc y) h)
+nonzeros-old (y ∷ l) (suc i) x h = omega (arith, nonzeros-old l i x h)

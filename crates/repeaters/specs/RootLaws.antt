@@ -6,17 +6,19 @@ use Prim.Native.Nat.{ℕ, zero, suc, _+_, _-_, _/_, _≤_, _<_}
 use native.Mathlib.Nat.{le-of-suc-le-suc, not-suc-le-zero, sub-zero}
 use native.Mathlib.Numerals.{add-one}
 use native.Mathlib.Omega.{arith}
+use lib.Dec.{ltb}
 use lib.ListN.{length, getD, take, drop, set, replicate, length-set, length-replicate, getD-replicate}
 use lib.Seq.{slice, slice-cons, slice-empty, take-suc-set, drop-append-le, getD-set-same, getD-set-other, length-take-le, take-at}
 use borrow.Author.Tests.{eq-eqb, ne-eqb}
 use Rattle.basics.specs.Tests.{askSame}
+use Rattle.basics.specs.Counts.{times-most}
 use Rattle.basics.specs.Folds.{along}
 use Rattle.basics.specs.Zeros.{zeros}
 use Rattle.room.specs.declared.Room.{Room}
 use Rattle.room.specs.declared.Pos.{Pos}
 use Rattle.room.specs.declared.Neighbour.{Neighbour}
 use Rattle.room.specs.Room.{volume}
-use Rattle.best_first.specs.ListsAfterSet.{nonzeros, nonzeros-le, nonzeros-none, nonzeros-new}
+use Rattle.best_first.specs.ListsAfterSet.{nonzeros, nonzeros-none, nonzeros-new}
 use Rattle.best_first.specs.Search.{trace}
 use Rattle.best_first.specs.Equations.{trace-start, trace-back}
 use Rattle.trace.specs.Traces.{PreviousInside}
@@ -30,7 +32,7 @@ use Rattle.routing_resources.specs.Marks.{AllCells}
 
 -- a cell that is not reached is one more to come
 nonzeros-less : (ps : List ℕ) (v : ℕ) → v < length ps → getD ps v 0 ≡ 0 → nonzeros ps < length ps
-nonzeros-less ps v h e = omega (arith, nonzeros-new ps v 0 h e, nonzeros-le (set ps v 1), length-set ps v 1)
+nonzeros-less ps v h e = omega (arith, nonzeros-new ps v 0 h e, times-most (ltb 0) (set ps v 1), length-set ps v 1)
 
 -- ---- the equations of the definition, case by case
 
@@ -61,7 +63,7 @@ waiting-more line head reached v h k =
 
 module _ {parents line : List ℕ} {reached : ℕ} (H : LineHeld parents line reached) where
   pub held-most : reached ≤ length parents
-  held-most = omega (arith, H .counted, nonzeros-le parents)
+  held-most = omega (arith, H .counted, times-most (ltb 0) parents)
 
   pub met-before : (from v : ℕ) → getD parents v 0 ≢ 0 → Met from (v ∷ []) parents line reached parents line reached
   met-before from v n = record { held = H; long = refl; on = omega arith; goes = λ head h. meet-before from v parents (slice head reached line) n }
