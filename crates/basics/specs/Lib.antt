@@ -1,6 +1,7 @@
 pub mod Tests
 pub mod Lists
 pub mod Counts
+pub mod Sums
 pub mod Zeros
 pub mod Padding
 pub mod Promises

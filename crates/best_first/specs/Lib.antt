@@ -3,7 +3,6 @@ pub mod Ways
 pub mod Statements
 pub mod Theorems
 pub mod ListsAfterSet
-pub mod Sums
 pub mod Entries
 pub mod Equations
 pub mod Reached

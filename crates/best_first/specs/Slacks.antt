@@ -12,10 +12,10 @@ use borrow.Author.Tests.{eq-eqb, ne-eqb, ltb-true, lt-ltb, le-ltb}
 use Rattle.basics.specs.Tests.{ask, askSame}
 use Rattle.basics.specs.Lists.{In}
 use Rattle.basics.specs.Counts.{times, times-most}
+use Rattle.basics.specs.Sums.{sumBelow, sum-same, sum-more, single, single-most, Single, there, elsewhere, at-single}
 use Rattle.best_first.specs.Search.{Graph, Move, Entry, State, push, oneMoreExpanded, bestFirst}
 use Rattle.best_first.specs.Ways.{Sound, Consistent}
 use Rattle.best_first.specs.Statements.{knownAt, pushes, slack, Slacks}
-use Rattle.best_first.specs.Sums.{sumBelow, sum-same, sum-more, single, single-most, Single, there, elsewhere, at-single}
 use Rattle.best_first.specs.Equations.{Gain, offered}
 use Rattle.best_first.specs.Predecessors.{not-start}
 use Rattle.best_first.specs.Base.{Mid, due-lawful, same, now-known}

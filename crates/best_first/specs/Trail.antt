@@ -12,11 +12,11 @@ use borrow.Author.Tests.{ltb-true, lt-ltb, le-ltb}
 use Rattle.basics.specs.Tests.{ask, askLess}
 use Rattle.basics.specs.Lists.{In}
 use Rattle.basics.specs.Counts.{bit, bit-small}
+use Rattle.basics.specs.Sums.{sumBelow, sum-le, sum-same, sum-more, single, Single, there, elsewhere, at-single}
 use Rattle.best_first.specs.Search.{Graph, Move, trace}
 use Rattle.best_first.specs.Ways.{GraphStep, Way}
 use Rattle.best_first.specs.Statements.{Lawful}
 use Rattle.best_first.specs.ListsAfterSet.{in-reach}
-use Rattle.best_first.specs.Sums.{sumBelow, sum-le, sum-same, sum-more, single, Single, there, elsewhere, at-single}
 use Rattle.best_first.specs.Equations.{trace-start, trace-back}
 use Rattle.best_first.specs.Predecessors.{Linked, Link, Origin}
 

@@ -1,4 +1,4 @@
--- Sums over the cells below a number.
+-- Sums over the numbers below a number.
 use mathlib.Core.Path.{_≡_, refl}
 use mathlib.Core.Logic.{_≢_}
 use Prim.Native.Nat.{ℕ, zero, suc, _+_, _*_, _≤_, _<_, zero-le}
@@ -63,3 +63,12 @@ total-single v a (suc n) h = go (at-single v a n) (total-single v a n)
 -- g is at least f everywhere below n, and at least a more at v
 pub sum-more : (n v a : ℕ) (f g : ℕ → ℕ) → v < n → ((x : ℕ) → x < n → f x + single v a x ≤ g x) → sumBelow n f + a ≤ sumBelow n g
 sum-more n v a f g h k = omega (arith, sum-le n (λ x. f x + single v a x) g k, sum-add n f (single v a), total-single v a n h)
+
+-- g is at least f everywhere, and more at v
+pub sum-less : (n v : ℕ) (f g : ℕ → ℕ) → v < n → ((x : ℕ) → f x ≤ g x) → f v < g v → sumBelow n f < sumBelow n g
+sum-less n v f g h most less =
+    omega (
+      arith,
+      sum-more n v 1 f g h
+          (λ x l. elim (at-single v 1 x) [ there e q ↦ let m : f x < g x = rw e at less in omega arith | elsewhere d q ↦ omega (arith, most x) ]),
+    )
