@@ -1,5 +1,5 @@
--- Membership in a list, tests over a list, a rule that one computed test shows of every member, a list from one of its members on, and a list
--- written from its front.
+-- Membership in a list, tests over a list, lists one after another, a rule that one computed test shows of every member, a list from one of its
+-- members on, and a list written from its front.
 use mathlib.Core.Path.{_≡_, refl, sym, ap, _∙_}
 use mathlib.Core.Logic.{_⊎_, inl, inr}
 use mathlib.Core.Bool.{Bool, true, false, _&&_, _||_, and-assoc}
@@ -26,6 +26,11 @@ every p (x ∷ xs) = p x && every p xs
 abbrev pub any : {X : Type 0} → (X → Bool) → List X → Bool
 any p [] = false
 any p (x ∷ xs) = p x || any p xs
+
+-- lists one after another
+abbrev pub joined : {X : Type 0} → List (List X) → List X
+joined [] = []
+joined (l ∷ ls) = l ++ joined ls
 
 -- one computed test shows a rule of every member
 pub every-in : {X : Type 0} (p : X → Bool) (xs : List X) → every p xs ≡ true → (x : X) → In x xs → p x ≡ true
@@ -55,6 +60,10 @@ every-append p (x ∷ xs) ys = rw (every-append p xs ys) (sym (and-assoc (p x) (
 pub every-map : {X Y : Type 0} (p : Y → Bool) (f : X → Y) (xs : List X) → every p (map f xs) ≡ every (λ x. p (f x)) xs
 every-map p f [] = refl
 every-map p f (x ∷ xs) = rw (every-map p f xs)
+
+pub every-joined : {X : Type 0} (p : X → Bool) (ls : List (List X)) → every p (joined ls) ≡ every (every p) ls
+every-joined p [] = refl
+every-joined p (l ∷ ls) = rw (every-append p l (joined ls), every-joined p ls)
 
 -- a list from the i-th member on
 pub drop-next : {X : Type 0} (l : List X) (i : ℕ) (d : X) → i < length l → drop i l ≡ getD l i d ∷ drop (i + 1) l

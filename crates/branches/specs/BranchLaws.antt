@@ -8,8 +8,7 @@ use lib.Dec.{eqb}
 use lib.ListN.{length, getD, take, drop, set, length-append, length-drop, length-set, replicate, length-replicate, getD-replicate, take-append-drop, List·getD-append}
 use lib.Seq.{take-append-seam, take-append-le, split-at, set-split, take-suc, take-at, drop-at, take-length, length-take-le, getD-append-add, getD-set-same, getD-set-other}
 use Rattle.basics.specs.Tests.{ask, askSame, askLess}
-use Rattle.basics.specs.Lists.{In}
-use Rattle.job_sheet.specs.Sheet.{joined}
+use Rattle.basics.specs.Lists.{In, joined}
 use Rattle.ends.specs.declared.Tap.{Tap}
 use Rattle.branches.specs.declared.BranchLengths.{BranchLengths}
 use Rattle.branches.specs.Branches.{branchOf, allButLast, inserted, sum, lengthsIn, cutInto, SheetOrder, LengthsOf}

@@ -7,8 +7,9 @@ use lib.Dec.{eqb}
 use lib.ListN.{length, getD, take, drop, replicate}
 use Rattle.basics.specs.Tests.{either}
 use Rattle.basics.specs.Counts.{times}
+use Rattle.basics.specs.Lists.{joined}
 use Rattle.room.specs.Room.{maxVolume}
-use Rattle.job_sheet.specs.Sheet.{maxSinks, joined}
+use Rattle.job_sheet.specs.Sheet.{maxSinks}
 use Rattle.ends.specs.declared.Tap.{Tap}
 use Rattle.branches.specs.declared.BranchLengths.{BranchLengths}
 

@@ -5,7 +5,7 @@ use mathlib.Core.List.{List, [], _∷_, map}
 use Prim.Native.Nat.{ℕ, _-_, _≤_, _<_}
 use lib.ListN.{length, getD, replicate, List·getD-append}
 use Rattle.basics.specs.Tests.{ask, either, passed, never}
-use Rattle.basics.specs.Lists.{every, every-in, every-map, in-at}
+use Rattle.basics.specs.Lists.{every, every-in, every-map, in-at, every-joined}
 use Rattle.room.specs.declared.Room.{Room}
 use Rattle.room.specs.declared.Pos.{Pos}
 use Rattle.room.specs.Room.{Within, within, sidesGood}
@@ -21,7 +21,7 @@ use Rattle.job_sheet.specs.Sheet.{Contents, isGood, firstFault, sidesFau
 use Rattle.job_sheet.specs.Accepted.{BlockList, PositionList, SinkList, Usable}
 use Rattle.job_sheet.specs.Places.{noBlock, noPosition, positionsIn}
 use Rattle.job_sheet.specs.LayoutLaws.{PartsIn, blocks-back, conductors-back, clearances-back, terminals-back, reserved-back}
-use Rattle.job_sheet.specs.FaultLaws.{every-joined, good-is, fault-first, good-first}
+use Rattle.job_sheet.specs.FaultLaws.{good-is, fault-first, good-first}
 
 -- ---- no fault at all
 

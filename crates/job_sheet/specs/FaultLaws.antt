@@ -5,7 +5,7 @@ use mathlib.Core.List.{List, [], _∷_, _++_, map}
 use Prim.Native.Nat.{ℕ, suc, zero}
 use lib.ListN.{drop}
 use Rattle.basics.specs.Tests.{ask, either, and-left, and-right, and-both, never}
-use Rattle.basics.specs.Lists.{every, every-append, every-map, every-all}
+use Rattle.basics.specs.Lists.{every, every-map, every-all, joined, every-joined}
 use Rattle.room.specs.declared.Room.{Room}
 use Rattle.room.specs.declared.Pos.{Pos}
 use Rattle.room.specs.declared.RouterConfig.{RouterConfig}
@@ -18,7 +18,7 @@ use Rattle.job_sheet.specs.declared.Part.{Part}
 use Rattle.job_sheet.specs.declared.faults.Records.the-variants.{Blocks, Positions, Endpoints}
 use Rattle.job_sheet.specs.declared.Judgement.{Judgement}
 use Rattle.job_sheet.specs.declared.Judgement.the-variants.{Good, Sheet, Sides, Config, Position, Code}
-use Rattle.job_sheet.specs.Sheet.{Contents, joined, isGood, firstFault, sidesFault, configFault, positionFault, blockFault, endpointFault, faultsOf, judged, blockSize, positionSize, endpointSize, sidesPlace, configPlace}
+use Rattle.job_sheet.specs.Sheet.{Contents, isGood, firstFault, sidesFault, configFault, positionFault, blockFault, endpointFault, faultsOf, judged, blockSize, positionSize, endpointSize, sidesPlace, configPlace}
 use Rattle.job_sheet.specs.Places.{roomIn, configIn, many, blocksIn, positionsIn, endpointsIn, faultsIn, headFault, layoutIn, contentsIn}
 
 pub good-is : (v : Judgement) → isGood v ≡ true → v ≡ Good
@@ -128,10 +128,6 @@ module _ (s : List ℕ) (R : Room) (C : RouterConfig) (L : Layout) (r : R ≡ ro
   judged-steps v₀ v₁ v₂ v₃ v₄ v₅ v₆ v₇ e₀ e₁ e₂ e₃ e₄ e₅ e₆ e₇ = rw (e₇, e₆, e₅, e₄, e₃, e₂, e₁, e₀, r, c, l) (judged-carried s)
 
 -- ---- number 1 is no judgement of contents
-
-pub every-joined : {X : Type 0} (p : X → Bool) (ls : List (List X)) → every p (joined ls) ≡ every (every p) ls
-every-joined p [] = refl
-every-joined p (l ∷ ls) = rw (every-append p l (joined ls), every-joined p ls)
 
 notSheet : Judgement → Bool
 notSheet Good = true

@@ -7,10 +7,10 @@ use native.Mathlib.Nat.{div-add-mod', add-zero}
 use native.Mathlib.Omega.{arith}
 use lib.ListN.{length, getD, drop, length-append, length-drop}
 use lib.Seq.{drop-at, drop-drop, drop-cons, drop-length, getD-drop}
-use Rattle.basics.specs.Lists.{drop-next}
+use Rattle.basics.specs.Lists.{drop-next, joined}
 use Rattle.job_sheet.specs.declared.Endpoint.{Endpoint}
 use Rattle.job_sheet.specs.declared.places.Layout.{Layout}
-use Rattle.job_sheet.specs.Sheet.{Contents, version, maxBytes, maxSinks, two, four, joined, sides, costs, position, block, endpoint, counted, sinkBytes, rest, bytesOf, bytesBy, blockSize, positionSize, endpointSize, listsPlace, listed, behind, layoutOf, sidesPlace, configPlace}
+use Rattle.job_sheet.specs.Sheet.{Contents, version, maxBytes, maxSinks, two, four, sides, costs, position, block, endpoint, counted, sinkBytes, rest, bytesOf, bytesBy, blockSize, positionSize, endpointSize, listsPlace, listed, behind, layoutOf, sidesPlace, configPlace}
 use Rattle.job_sheet.specs.Places.{roomIn, configIn, twoIn, fourIn, endpointIn, many, blocksIn, positionsIn, endpointsIn, listAt, sinksAt, layoutIn, contentsIn, Shaped}
 use Rattle.job_sheet.specs.RecordLaws.{Bytes, Coding, four-back, positions, blocks, endpoints, many-back, joined-long, many-long, many-forth, bytes-drop, two-forth, fours, configs, rooms, span-drop}
 

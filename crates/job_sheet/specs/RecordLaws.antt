@@ -7,10 +7,11 @@ use native.Mathlib.Omega.{arith}
 use lib.Arith.{digits-div, digits-mod}
 use lib.ListN.{length, getD, drop, length-append, length-drop}
 use lib.Seq.{drop-cons, drop-at, drop-drop, getD-drop}
+use Rattle.basics.specs.Lists.{joined}
 use Rattle.room.specs.declared.Pos.{Pos}
 use Rattle.job_sheet.specs.declared.Block.{Block}
 use Rattle.job_sheet.specs.declared.Part.{Part}
-use Rattle.job_sheet.specs.Sheet.{two, four, joined, sides, costs, position, block, endpoint, blockSize, positionSize, endpointSize}
+use Rattle.job_sheet.specs.Sheet.{two, four, sides, costs, position, block, endpoint, blockSize, positionSize, endpointSize}
 use Rattle.job_sheet.specs.Places.{twoIn, fourIn, roomIn, configIn, positionIn, blockIn, endpointIn, many, noBlock, noPosition, blocksIn, positionsIn}
 
 -- ---- bytes

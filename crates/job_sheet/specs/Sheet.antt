@@ -7,6 +7,7 @@ use Prim.Native.Nat.{ℕ, _+_, _-_, _*_, _/_, _%_, _≤_}
 use lib.Dec.{eqb}
 use lib.ListN.{length, replicate}
 use Rattle.basics.specs.Tests.{either}
+use Rattle.basics.specs.Lists.{joined}
 use Rattle.room.specs.declared.Room.{Room}
 use Rattle.room.specs.declared.Pos.{Pos}
 use Rattle.room.specs.declared.RouterConfig.{RouterConfig}
@@ -64,11 +65,6 @@ two n = n / 256 ∷ n % 256 ∷ []
 
 abbrev pub four : ℕ → List ℕ
 four n = two (n / 65536) ++ two (n % 65536)
-
--- lists one after another
-abbrev pub joined : {X : Type 0} → List (List X) → List X
-joined [] = []
-joined (l ∷ ls) = l ++ joined ls
 
 -- "X, Y, Z"
 abbrev pub sides : Room → List ℕ

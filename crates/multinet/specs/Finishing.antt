@@ -3,10 +3,11 @@ use mathlib.Core.Path.{_≡_}
 use mathlib.Core.List.{List, []}
 use Prim.Native.Nat.{ℕ, _≤_, _<_}
 use lib.ListN.{length, getD}
+use Rattle.basics.specs.Lists.{joined}
 use Rattle.room.specs.declared.Room.{Room}
 use Rattle.room.specs.Room.{Good, volume}
 use Rattle.routing_resources.specs.Marks.{markedBy, noMarks, AllCells}
-use Rattle.job_sheet.specs.Sheet.{joined, maxSinks}
+use Rattle.job_sheet.specs.Sheet.{maxSinks}
 use Rattle.ends.specs.declared.Taps.{Taps}
 use Rattle.ends.specs.Ends.{tapsIn, NetInside}
 use Rattle.geometry.specs.Geometry.{standsIn}

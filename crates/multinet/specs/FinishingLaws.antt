@@ -6,12 +6,11 @@ use native.Mathlib.Omega.{arith}
 use lib.Dec.{eqb}
 use lib.ListN.{length, getD, take, drop, length-map, length-replicate, take-append-drop, List·getD-map}
 use lib.Seq.{getD-take, length-take-le, ext-getD}
-use Rattle.basics.specs.Lists.{any}
+use Rattle.basics.specs.Lists.{any, joined}
 use Rattle.room.specs.declared.Room.{Room}
 use Rattle.room.specs.Room.{volume}
 use Rattle.routing_resources.specs.Marks.{markedBy, noMarks, AllCells, CellsBelow}
 use Rattle.routing_resources.specs.MarkLaws.{with-length, with-or}
-use Rattle.job_sheet.specs.Sheet.{joined}
 use Rattle.ends.specs.declared.Tap.{Tap}
 use Rattle.ends.specs.declared.Taps.{Taps}
 use Rattle.ends.specs.Ends.{noTap, tapsIn}

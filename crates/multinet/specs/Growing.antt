@@ -4,12 +4,13 @@ use mathlib.Core.Logic.{_⊎_}
 use mathlib.Core.List.{List, [], _∷_}
 use Prim.Native.Nat.{ℕ, _-_, _≤_, _<_}
 use lib.ListN.{length, getD, drop}
+use Rattle.basics.specs.Lists.{joined}
 use Rattle.room.specs.declared.Room.{Room}
 use Rattle.room.specs.declared.Neighbour.the-variants.{Outside}
 use Rattle.room.specs.Room.{Good, volume, Step}
 use Rattle.room.specs.Units.{GoodConfig}
 use Rattle.routing_resources.specs.Marks.{markedBy, isMarked, AllCells, Marks}
-use Rattle.job_sheet.specs.Sheet.{joined, maxSinks}
+use Rattle.job_sheet.specs.Sheet.{maxSinks}
 use Rattle.ends.specs.declared.Tap.{Tap}
 use Rattle.ends.specs.Ends.{NetInside}
 use Rattle.geometry.specs.Geometry.{standsIn, conflictOf, NoPair}

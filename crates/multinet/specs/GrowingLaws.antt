@@ -10,11 +10,11 @@ use lib.ListN.{length, getD, take, drop, set, length-set, length-append}
 use lib.Seq.{getD-set-same, getD-set-other, drop-drop}
 use borrow.Author.Tests.{le-leb, lt-leb}
 use Rattle.basics.specs.Tests.{ask, askSame}
-use Rattle.basics.specs.Lists.{In}
+use Rattle.basics.specs.Lists.{In, joined}
 use Rattle.routing_resources.specs.Marks.{markedBy, isMarked, AllCells}
 use Rattle.routing_resources.specs.MarkLaws.{with-length, with-or, with-same, marks-with}
 use Rattle.routing_resources.specs.Resources.{isClearance}
-use Rattle.job_sheet.specs.Sheet.{joined, maxSinks}
+use Rattle.job_sheet.specs.Sheet.{maxSinks}
 use Rattle.geometry.specs.Geometry.{standsIn, NoPair}
 use Rattle.geometry.specs.LayLaws.{stands-in, in-stands}
 use Rattle.geometry.specs.GeometryLaws.{no-pair-after}

@@ -9,10 +9,11 @@ use lib.ListN.{length, replicate, length-replicate, getD-replicate, List·getD-e
 use borrow.Author.Tests.{eqb-true}
 use Rattle.basics.specs.Tests.{ask, askLess, never}
 use Rattle.basics.specs.Zeros.{zeros}
+use Rattle.basics.specs.Lists.{joined}
 use Rattle.room.specs.Room.{volume}
 use Rattle.routing_resources.specs.Marks.{noMarks, isMarked, Marks}
 use Rattle.routing_resources.specs.MarkLaws.{with-length, with-none, marked-after, marks-none, marks-with}
-use Rattle.job_sheet.specs.Sheet.{joined, maxSinks}
+use Rattle.job_sheet.specs.Sheet.{maxSinks}
 use Rattle.geometry.specs.Geometry.{standsIn}
 use Rattle.geometry.specs.GeometryLaws.{no-pair-one}
 use Rattle.goals.specs.Trials.{WorkMemory}

@@ -7,13 +7,13 @@ use Prim.Native.Nat.{ℕ, _/_}
 use lib.Dec.{leb}
 use lib.ListN.{length}
 use Rattle.basics.specs.Tests.{either}
-use Rattle.basics.specs.Lists.{every}
+use Rattle.basics.specs.Lists.{every, joined}
 use Rattle.lent.specs.Lent.{outputAfter, workAfter}
 use Rattle.room.specs.declared.Room.{Room}
 use Rattle.room.specs.Room.{volume}
 use Rattle.job_sheet.specs.declared.Reading.{Reading}
 use Rattle.job_sheet.specs.declared.Judgement.the-variants as judgement
-use Rattle.job_sheet.specs.Sheet.{Contents, Means, Read, judged, isGood, numberOf, joined}
+use Rattle.job_sheet.specs.Sheet.{Contents, Means, Read, judged, isGood, numberOf}
 use Rattle.outset.specs.declared.Outset.{Outset}
 use Rattle.outset.specs.SetOut.{ready, numberBy, detailBy, OutsetOf}
 use Rattle.branches.specs.Branches.{branchLengths, markedCount}

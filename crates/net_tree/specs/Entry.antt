@@ -4,6 +4,7 @@ use mathlib.Core.List.{List, _++_}
 use Prim.Native.Nat.{ℕ, _<_}
 use lib.ListN.{length, drop, replicate}
 use mathlib.Core.Bool.{true}
+use Rattle.basics.specs.Lists.{joined}
 use Rattle.lent.specs.Lent.{filled}
 use Rattle.multinet.specs.declared.Stop.{Stop}
 use Rattle.multinet.specs.declared.GrowthEnd.the-variants.{Whole, Early}
@@ -14,7 +15,7 @@ use Rattle.room_search.specs.TriedMoves.{placesOf}
 use Rattle.routing_resources.specs.Marks.{noMarks, Marks}
 use Rattle.job_sheet.specs.declared.Job.{Job}
 use Rattle.job_sheet.specs.Accepted.{Accepted}
-use Rattle.job_sheet.specs.Sheet.{Contents, Means, joined}
+use Rattle.job_sheet.specs.Sheet.{Contents, Means}
 use Rattle.ends.specs.declared.Taps.{Taps}
 use Rattle.outset.specs.declared.Outset.{Outset}
 use Rattle.outset.specs.SetOut.{OutsetOf}

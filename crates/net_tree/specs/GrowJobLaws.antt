@@ -9,10 +9,11 @@ use lib.Seq.{ext-getD}
 use Rattle.basics.specs.Tests.{askLess}
 use Rattle.basics.specs.Zeros.{drop-zeros, zeros}
 use Rattle.basics.specs.Padding.{padded-long}
+use Rattle.basics.specs.Lists.{joined}
 use Rattle.lent.specs.Lent.{filled}
 use Rattle.room.specs.declared.Room.{Room}
 use Rattle.routing_resources.specs.Marks.{markedBy, noMarks}
-use Rattle.job_sheet.specs.Sheet.{joined, maxSinks}
+use Rattle.job_sheet.specs.Sheet.{maxSinks}
 use Rattle.ends.specs.declared.Taps.{Taps}
 use Rattle.branches.specs.declared.BranchLengths.{BranchLengths}
 use Rattle.branches.specs.Branches.{branchLengths, markedCount}

@@ -8,13 +8,14 @@ use lib.ListN.{length, drop, replicate, length-append, length-drop}
 use borrow.Author.Tests.{lt-ltb, ne-eqb}
 use Rattle.basics.specs.Tests.{never}
 use Rattle.basics.specs.Zeros.{drop-zeros, zeros-long, cleared-to}
+use Rattle.basics.specs.Lists.{joined}
 use Rattle.lent.specs.Lent.{touches, filled, outputAfter, workAfter, Cleared}
 use Rattle.room.specs.Room.{volume}
 use Rattle.job_sheet.specs.declared.Job.{Job}
 use Rattle.job_sheet.specs.declared.Reading.{Reading}
 use Rattle.job_sheet.specs.declared.Judgement.{Judgement}
 use Rattle.job_sheet.specs.declared.Judgement.the-variants as judgement
-use Rattle.job_sheet.specs.Sheet.{Read, isGood, numberOf, joined}
+use Rattle.job_sheet.specs.Sheet.{Read, isGood, numberOf}
 use Rattle.job_sheet.specs.Accepted.{Accepted}
 use Rattle.job_sheet.specs.Theorems.{usable}
 use Rattle.net_tree.specs.declared.Answer.{Answer}

@@ -3,7 +3,7 @@ use mathlib.Core.List.{List, [], _∷_, _++_, map}
 use Prim.Native.Nat.{ℕ, zero, suc, _+_, _/_, _%_}
 use lib.Dec.{ltb}
 use Rattle.basics.specs.Tests.{either}
-use Rattle.job_sheet.specs.Sheet.{joined}
+use Rattle.basics.specs.Lists.{joined}
 use Rattle.branches.specs.Branches.{branchesOf}
 use Rattle.branches.specs.declared.BranchLengths.{BranchLengths}
 use Rattle.net_tree.specs.declared.Answer.{Answer}

@@ -11,12 +11,13 @@ use borrow.Author.Tests.{ltb-true, ltb-false}
 use Rattle.basics.specs.Tests.{ask, never}
 use Rattle.basics.specs.Promises.{Determines}
 use Rattle.basics.specs.Padding.{padded-long}
+use Rattle.basics.specs.Lists.{joined}
 use Rattle.lent.specs.Lent.{filled}
 use Rattle.room.specs.Room.{volume}
 use Rattle.job_sheet.specs.declared.Reading.{Reading}
 use Rattle.job_sheet.specs.declared.Judgement.{Judgement}
 use Rattle.job_sheet.specs.declared.Judgement.the-variants.{Good, Sheet, Sides, Config, Position, Code}
-use Rattle.job_sheet.specs.Sheet.{Contents, Means, Read, meaning, nothing, bytesBy, rest, numberOf, joined, maxSinks}
+use Rattle.job_sheet.specs.Sheet.{Contents, Means, Read, meaning, nothing, bytesBy, rest, numberOf, maxSinks}
 use Rattle.job_sheet.specs.Theorems.{number-one}
 use Rattle.branches.specs.declared.BranchLengths.{BranchLengths}
 use Rattle.branches.specs.Branches.{sum, lengthsIn, cutInto, branchesOf, Branched}
