@@ -22,14 +22,15 @@ use Rattle.port_realization.specs.PortLaws.{terminal-in, sink-inside}
 use Rattle.job_sheet.specs.declared.Endpoint.{Endpoint}
 use Rattle.job_sheet.specs.declared.Sinks.{Sinks}
 use Rattle.job_sheet.specs.Sheet.{maxSinks, noEndpoint}
+use Rattle.job_sheet.specs.Accepted.{SinkList}
 use Rattle.ends.specs.declared.Tap.{Tap}
 use Rattle.ends.specs.declared.Taps.{Taps}
 use Rattle.ends.specs.declared.Fault.{Fault}
 use Rattle.ends.specs.declared.Fault.the-variants.{Good, NoFacing, Outside}
 use Rattle.ends.specs.declared.Ends.{Ends}
-use Rattle.ends.specs.Ends.{sinksIn, sourceEnd, sinkEnd, dueFor, firstDue, endsAt, noTap, tapOf, tapsOf, tapFrom, withoutApproach, terminalIn, faultBy, faultOf, endsOf, tapsIn, SinksWithin, TapsInside, NetInside}
+use Rattle.ends.specs.Ends.{sinksIn, sourceEnd, sinkEnd, dueFor, firstDue, endsAt, noTap, tapOf, tapsOf, tapFrom, withoutApproach, terminalIn, faultBy, faultOf, endsOf, tapsIn, TapsInside, NetInside}
 
-module _ {R : Room} {k : Sinks} (S : SinksWithin R k) where
+module _ {R : Room} {k : Sinks} (S : SinkList R k) where
   pub sinks-long : length (sinksIn k) ≡ k .count
   sinks-long = length-take-le (k .count) (k .ends) (omega (arith, S .few, S .whole))
 
@@ -47,7 +48,7 @@ pub record NoneDue (R : Room) (number : ℕ) (k : Sinks) (i : ℕ) : Type 0 wher
 pub none-passed : (R : Room) (number : ℕ) (k : Sinks) → NoneDue R number k 0
 none-passed R number k = record { same = refl; so-far = omega arith }
 
-module _ (R : Room) (number : ℕ) (source : Endpoint) {k : Sinks} (S : SinksWithin R k) where
+module _ (R : Room) (number : ℕ) (source : Endpoint) {k : Sinks} (S : SinkList R k) where
   pub due-source : dueFor (sourceEnd R source) ≡ number → 1 ≡ firstDue number 0 (endsAt R source (sinksIn k))
   unfolding firstDue
   due-source e = rw (eq-eqb _ _ e)
@@ -65,7 +66,7 @@ module _ (R : Room) (number : ℕ) (source : Endpoint) {k : Sinks} (S : SinksWit
         let none : drop i (sinksIn k) ≡ [] = let e : i ≡ k .count = omega (arith, P .so-far) in rw e (slice-empty (k .count) (k .ends)) in
         rw (ne-eqb _ _ n, ← p, none)
 
-pub sink-passed : {R : Room} {number : ℕ} {k : Sinks} → SinksWithin R k → {i : ℕ} → NoneDue R number k i → i < k .count
+pub sink-passed : {R : Room} {number : ℕ} {k : Sinks} → SinkList R k → {i : ℕ} → NoneDue R number k i → i < k .count
     → (dueFor (sinkEnd R (getD (k .ends) i noEndpoint)) ≢ number) → NoneDue R number k (i + 1)
 unfolding firstDue
 sink-passed {R = R} {number = number} {k = k} S {i = i} P h n = record { same = step ∙ P .same; so-far = omega arith }
@@ -79,7 +80,7 @@ pub record Tapped (R : Room) (k : Sinks) (taps : List Tap) (i : ℕ) : Type 0 wh
   pub same : taps ≡ map (tapOf R) (take i (k .ends)) ++ replicate (maxSinks - i) noTap
   pub so-far : i ≤ k .count
 
-module _ {R : Room} {k : Sinks} (S : SinksWithin R k) {taps : List Tap} {i : ℕ} (T : Tapped R k taps i) where
+module _ {R : Room} {k : Sinks} (S : SinkList R k) {taps : List Tap} {i : ℕ} (T : Tapped R k taps i) where
   pub tap-on : i < k .count → (t : Tap) → t ≡ tapOf R (getD (k .ends) i noEndpoint) → Tapped R k (set taps i t) (i + 1)
   tap-on h t e =
       let p = map (tapOf R) (take i (k .ends)) in
@@ -185,7 +186,7 @@ mapped-at f (x ∷ xs) zero d e h = refl
 mapped-at f (x ∷ xs) (suc i) d e h = mapped-at f xs i d e (omega arith)
 
 -- each sink's tap stands at its place
-module _ {R : Room} {k : Sinks} (S : SinksWithin R k) where
+module _ {R : Room} {k : Sinks} (S : SinkList R k) where
   pub tap-at : (i : ℕ) → i < k .count → getD (tapsOf R (sinksIn k) .taps) i noTap ≡ tapOf R (getD (k .ends) i noEndpoint)
   tap-at i h =
       let l = sinksIn k in
@@ -195,7 +196,7 @@ module _ {R : Room} {k : Sinks} (S : SinksWithin R k) where
       ∙ mapped-at (tapOf R) l i noEndpoint noTap b
       ∙ ap (tapOf R) (getD-take (k .count) (k .ends) i noEndpoint h)
 
-module _ {R : Room} (source : Endpoint) {k : Sinks} (w : Within R (source .at)) (S : SinksWithin R k) (good : faultOf R source (sinksIn k) ≡ Good) where
+module _ {R : Room} (source : Endpoint) {k : Sinks} (w : Within R (source .at)) (S : SinkList R k) (good : faultOf R source (sinksIn k) ≡ Good) where
   none : (number : ℕ) → firstDue number 0 (endsAt R source (sinksIn k)) ≡ 0 → (i : ℕ) → i < k .count → dueFor (sinkEnd R (getD (k .ends) i noEndpoint)) ≢ number
   none number e i h q =
       let l = sinksIn k in

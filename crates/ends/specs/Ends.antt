@@ -8,14 +8,14 @@ use lib.Dec.{eqb}
 use lib.ListN.{length, getD, take, replicate}
 use Rattle.basics.specs.Tests.{either}
 use Rattle.room.specs.declared.Room.{Room}
-use Rattle.room.specs.Room.{Within, volume}
+use Rattle.room.specs.Room.{volume}
 use Rattle.room.specs.Units.{wire}
 use Rattle.port_realization.specs.declared.Terminal.{Terminal}
 use Rattle.port_realization.specs.declared.Realized.{Realized}
 use Rattle.port_realization.specs.Ports.{terminalOf, realizedOf}
 use Rattle.job_sheet.specs.declared.Endpoint.{Endpoint}
 use Rattle.job_sheet.specs.declared.Sinks.{Sinks}
-use Rattle.job_sheet.specs.Sheet.{maxSinks, noEndpoint}
+use Rattle.job_sheet.specs.Sheet.{maxSinks}
 use Rattle.ends.specs.declared.Tap.{Tap}
 use Rattle.ends.specs.declared.Taps.{Taps}
 use Rattle.ends.specs.declared.Ends.{Ends}
@@ -98,12 +98,6 @@ unfoldable pub endsOf : Room → Endpoint → List Endpoint → Ends
 endsOf R source sinks = record { fault = faultOf R source sinks; source = terminalIn (sourceEnd R source); taps = tapsOf R sinks }
 
 -- ---- what the functions ask
-
--- the sinks are in the room
-pub record SinksWithin (R : Room) (k : Sinks) : Type 0 where
-  pub few : k .count ≤ maxSinks
-  pub whole : length (k .ends) ≡ maxSinks
-  pub within : (i : ℕ) → i < k .count → Within R (getD (k .ends) i noEndpoint .at)
 
 -- sinks that no number refuses: their terminals and approaches are in the room
 pub record TapsInside (R : Room) (k : Taps) : Type 0 where

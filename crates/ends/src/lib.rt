@@ -7,7 +7,8 @@ use port_realization::Terminal;
 use room::Room;
 ghost use mathlib.Core.Path.{_≡_};
 ghost use Rattle.room.specs.Room.{Good, Within};
-ghost use Rattle.ends.specs.Ends.{sinksIn, sourceEnd, sinkEnd, dueFor, firstDue, endsAt, noTap, tapOf, tapsOf, terminalIn, faultOf, endsOf, SinksWithin};
+ghost use Rattle.job_sheet.specs.Accepted.{SinkList};
+ghost use Rattle.ends.specs.Ends.{sinksIn, sourceEnd, sinkEnd, dueFor, firstDue, endsAt, noTap, tapOf, tapsOf, terminalIn, faultOf, endsOf};
 
 // A sink as the wire meets it: where its branch ends, where its searches start, and whether its port is Wire.
 pub struct Tap {
@@ -78,7 +79,7 @@ fn due_for(end: Realized) -> usize
 fn first_due(room: Room, source: Endpoint, sinks: Sinks, number: usize) -> usize
     requires { ⌜ Good room ⌝ }
     requires { ⌜ Within room (source .at) ⌝ }
-    requires { ⌜ SinksWithin room sinks ⌝ }
+    requires { ⌜ SinkList room sinks ⌝ }
     ensures { λ r. ⌜ r ≡ firstDue number 0 (endsAt room source (sinksIn sinks)) ⌝ }
 {
     if due_for(source_end(room, source)) == number {
@@ -122,7 +123,7 @@ fn tap_of(room: Room, sink: Endpoint) -> Tap
 
 fn taps_of(room: Room, sinks: Sinks) -> Taps
     requires { ⌜ Good room ⌝ }
-    requires { ⌜ SinksWithin room sinks ⌝ }
+    requires { ⌜ SinkList room sinks ⌝ }
     ensures { λ r. ⌜ r ≡ tapsOf room (sinksIn sinks) ⌝ }
 {
     let count = sinks.count;
@@ -153,7 +154,7 @@ fn terminal_in(end: Realized) -> usize
 fn fault_of(room: Room, source: Endpoint, sinks: Sinks) -> Fault
     requires { ⌜ Good room ⌝ }
     requires { ⌜ Within room (source .at) ⌝ }
-    requires { ⌜ SinksWithin room sinks ⌝ }
+    requires { ⌜ SinkList room sinks ⌝ }
     ensures { λ r. ⌜ r ≡ faultOf room source (sinksIn sinks) ⌝ }
 {
     let unfaced = first_due(room, source, sinks, 8);
@@ -171,7 +172,7 @@ fn fault_of(room: Room, source: Endpoint, sinks: Sinks) -> Fault
 pub fn realize_ends(room: Room, source: Endpoint, sinks: Sinks) -> Ends
     requires { ⌜ Good room ⌝ }
     requires { ⌜ Within room (source .at) ⌝ }
-    requires { ⌜ SinksWithin room sinks ⌝ }
+    requires { ⌜ SinkList room sinks ⌝ }
     ensures { λ r. ⌜ r ≡ endsOf room source (sinksIn sinks) ⌝ }
 {
     Ends {

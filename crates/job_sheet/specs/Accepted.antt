@@ -37,6 +37,7 @@ pub record PositionList (sheet : List ℕ) (R : Room) (p : Part) (ps : List Pos)
 
 pub record SinkList (R : Room) (k : Sinks) : Type 0 where
   pub few : k .count ≤ maxSinks
+  pub whole : length (k .ends) ≡ maxSinks
   pub within : (i : ℕ) → i < k .count → Within R (getD (k .ends) i noEndpoint .at)
 
 pub record Usable (sheet : List ℕ) (job : Job) (J : Contents) : Type 0 where

@@ -6,6 +6,7 @@ use Prim.Native.Nat.{ℕ, _-_, _≤_, _<_}
 use lib.ListN.{length, getD, replicate, List·getD-append}
 use Rattle.basics.specs.Tests.{ask, either, passed, never}
 use Rattle.basics.specs.Lists.{every, every-in, every-map, in-at, every-joined}
+use Rattle.basics.specs.Padding.{padded-long}
 use Rattle.room.specs.declared.Room.{Room}
 use Rattle.room.specs.declared.Pos.{Pos}
 use Rattle.room.specs.Room.{Within, within, sidesGood}
@@ -107,6 +108,7 @@ module _ (J : Contents) (N : NoFault J) (I : PartsIn (bytesOf J) (layoutOf J)) w
   sink-list : length (J .sinks) ≤ maxSinks → SinkList (J .room) (sinksOf (J .sinks))
   sink-list few = record {
     few = few;
+    whole = padded-long (J .sinks) maxSinks (length (J .sinks)) noEndpoint refl few;
     within = λ i h. rw (sink-at i h) (endpoint-within (J .room) _ (good-at (endpointFault (J .room)) (J .sinks) (N .sinks) i h noEndpoint));
   }
 

@@ -16,7 +16,8 @@ use Rattle.port_realization.specs.Ports.{approachOf}
 use Rattle.port_realization.specs.PortLaws.{sink-inside}
 use Rattle.job_sheet.specs.declared.Endpoint.{Endpoint}
 use Rattle.job_sheet.specs.declared.Sinks.{Sinks}
-use Rattle.ends.specs.Ends.{sinksIn, sinkEnd, noTap, tapFrom, tapOf, tapsOf, SinksWithin}
+use Rattle.job_sheet.specs.Accepted.{SinkList}
+use Rattle.ends.specs.Ends.{sinksIn, sinkEnd, noTap, tapFrom, tapOf, tapsOf}
 use Rattle.ends.specs.EndLaws.{tap-at}
 use Rattle.multinet.specs.Growing.{Near}
 use Rattle.repeaters.specs.MaskLaws.{step-back}
@@ -40,5 +41,5 @@ module _ {R : Room} (G : Good R) where
       go Realized.NoFacing q = inl refl
       go Realized.Outside q = inl refl
 
-  pub taps-near : {k : Sinks} → SinksWithin R k → (i : ℕ) → i < k .count → Near R (getD (tapsOf R (sinksIn k) .taps) i noTap)
+  pub taps-near : {k : Sinks} → SinkList R k → (i : ℕ) → i < k .count → Near R (getD (tapsOf R (sinksIn k) .taps) i noTap)
   taps-near S i h = rw (tap-at S i h) (tap-near _ (S .within i h))

@@ -7,14 +7,13 @@ use lib.ListN.{length, length-replicate}
 use lib.Seq.{take-append-seam}
 use Rattle.basics.specs.Tests.{never}
 use Rattle.basics.specs.Promises.{Determines}
-use Rattle.basics.specs.Padding.{padded-long}
 use Rattle.room.specs.declared.Room.{Room}
 use Rattle.room.specs.Room.{Good, Within, volume}
 use Rattle.routing_resources.specs.Marks.{noMarks}
 use Rattle.job_sheet.specs.declared.Endpoint.{Endpoint}
 use Rattle.job_sheet.specs.declared.Job.{Job}
-use Rattle.job_sheet.specs.Sheet.{Contents, maxSinks, noEndpoint, sinksOf, jobOf}
-use Rattle.job_sheet.specs.Accepted.{Accepted, BlockList, Usable}
+use Rattle.job_sheet.specs.Sheet.{Contents, sinksOf, jobOf}
+use Rattle.job_sheet.specs.Accepted.{Accepted, BlockList, SinkList, Usable}
 use Rattle.job_sheet.specs.Places.{blocksIn}
 use Rattle.job_sheet.specs.Theorems.{one-meaning, usable}
 use Rattle.blocks.specs.declared.Placement.{Placement}
@@ -23,7 +22,7 @@ use Rattle.blocks.specs.BlockLaws as blocks
 use Rattle.blocks.specs.BlockLaws.{tabulated-long, own-list, blocks-laid-for}
 use Rattle.ends.specs.declared.Ends.{Ends}
 use Rattle.ends.specs.declared.Fault.{Fault}
-use Rattle.ends.specs.Ends.{sinksIn, endsOf, SinksWithin, NetInside}
+use Rattle.ends.specs.Ends.{sinksIn, endsOf, NetInside}
 use Rattle.ends.specs.EndLaws.{net-in}
 use Rattle.outset.specs.declared.Outset.{Outset}
 use Rattle.outset.specs.Outset.{blockedAtOutset, OutsetReady, OutsetMarked}
@@ -68,12 +67,8 @@ module _ {sheet : List ℕ} {job : Job} (A : Accepted sheet job) where
   pub source-within : Within (job .room) (job .source .at)
   source-within = use-of .source
 
-  pub sinks-within : SinksWithin (job .room) (job .sinks)
-  sinks-within = record {
-    few = use-of .sinks .few;
-    whole = ap (λ k. length (k .ends)) sinks-are ∙ padded-long (told .sinks) maxSinks (length (told .sinks)) noEndpoint refl (A .means .few-sinks);
-    within = use-of .sinks .within;
-  }
+  pub sinks-within : SinkList (job .room) (job .sinks)
+  sinks-within = use-of .sinks
 
   -- where no number is due, the net's cells are in the room
   pub good-ends : (p : Placement) {e : Ends} → e ≡ endsOf (job .room) (job .source) (sinksIn (job .sinks)) → readyBy p (e .fault) ≡ true
