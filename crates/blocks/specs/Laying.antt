@@ -15,9 +15,13 @@ use Rattle.blocks.specs.Blocks.{blockCell, recordCell, recordNode, recor
 unfoldable pub lesserKept : ℕ → ℕ → ℕ
 lesserKept a b = either (eqb a 0) b (either (eqb b 0) a (either (ltb b a) b a))
 
--- a node and a cell as one number, never 0: "least node, then least cell" is the least number, as a cell's number is below 65,536
+-- so many numbers are kept for the cells of one node: a cell's number is below it
+abbrev pub perNode : ℕ
+perNode = 65536
+
+-- a node and a cell as one number, never 0: "least node, then least cell" is the least number
 abbrev pub numbered : ℕ → ℕ → ℕ
-numbered node v = node * 65536 + v + 1
+numbered node v = node * perNode + v + 1
 
 -- The repeat that a block of one node makes in the cell v, whose least node so far is another; both are given as one more, and 0 is none. Whichever
 -- came first, the higher node's block is the repeat, as "a lower node [..] holds" its cell

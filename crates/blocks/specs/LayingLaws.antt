@@ -16,7 +16,7 @@ use Rattle.job_sheet.specs.declared.Block.{Block}
 use Rattle.job_sheet.specs.Places.{noBlock}
 use Rattle.blocks.specs.declared.Placement.the-variants.{Placed, RepeatAt}
 use Rattle.blocks.specs.Blocks.{kindOf, nodeOf, kindsOf, nodesOf, recordCell, recordNode, recordKind, Repeat, NotAfter, Placing, placed, repeated, BlocksLaid}
-use Rattle.blocks.specs.Laying.{lesserKept, numbered, repeatNumber, BlockAdded, Noted, no-block, of-block, RepeatFound, no-repeat, of-repeat, Kept}
+use Rattle.blocks.specs.Laying.{lesserKept, perNode, numbered, repeatNumber, BlockAdded, Noted, no-block, of-block, RepeatFound, no-repeat, of-repeat, Kept}
 use Rattle.blocks.specs.BlockLaws.{less-or-same, tabulated-is, OfCell, of-record, of-none, of-cell, of-its-cell}
 
 -- ---- the lesser of two numbers of which 0 stands for none
@@ -113,7 +113,7 @@ made-least (by-new s t e) x h k l = (omega arith, omega arith)
 made-least (by-old least e t z) x h k l = (omega arith, omega arith)
 
 -- "least node, then least cell" is the least number
-numbered-least : (a b c d : ℕ) → b < 65536 → d < 65536 → numbered a b ≤ numbered c d → (a < c) ⊎ ((a ≡ c) × (b ≤ d))
+numbered-least : (a b c d : ℕ) → b < perNode → d < perNode → numbered a b ≤ numbered c d → (a < c) ⊎ ((a ≡ c) × (b ≤ d))
 numbered-least a b c d hb hd le =
     askLess a c inl (λ g. inr (omega arith, omega arith))
 
@@ -322,10 +322,10 @@ module _ {R : Room} {bs : List Block} {kinds nodes : List ℕ} {found : ℕ} whe
     kept-placed : found ≡ 0 → Placing R bs n Placed
     kept-placed z = placed (nothing-repeats z) refl
 
-    kept-repeated : (found ≡ 0 → ⊥) → ((i : ℕ) → i < n → recordCell R bs i < 65536) → Placing R bs n (RepeatAt ((found - 1) % 65536))
+    kept-repeated : (found ≡ 0 → ⊥) → ((i : ℕ) → i < n → recordCell R bs i < perNode) → Placing R bs n (RepeatAt ((found - 1) % perNode))
     kept-repeated some small = go (K .repeat)
       where
-        go : RepeatFound R bs n found → Placing R bs n (RepeatAt ((found - 1) % 65536))
+        go : RepeatFound R bs n found → Placing R bs n (RepeatAt ((found - 1) % perNode))
         go (no-repeat z) = absurd (some z)
         go (of-repeat i r e) = repeated i r first (ap RepeatAt cell)
           where
@@ -333,9 +333,9 @@ module _ {R : Room} {bs : List Block} {kinds nodes : List ℕ} {found : ℕ} whe
             first j q =
                 numbered-least (recordNode bs i) (recordCell R bs i) (recordNode bs j) (recordCell R bs j) (small i (r .repeat-in)) (small j (q .repeat-in)) (rw e at (K .least-repeat j q .1))
 
-            cell : (found - 1) % 65536 ≡ recordCell R bs i
+            cell : (found - 1) % perNode ≡ recordCell R bs i
             cell =
-                let d : found - 1 ≡ recordNode bs i * 65536 + recordCell R bs i = omega (arith, e) in
+                let d : found - 1 ≡ recordNode bs i * perNode + recordCell R bs i = omega (arith, e) in
                 rw d (digits-mod (recordNode bs i) (small i (r .repeat-in)))
 
   module _ (K : Kept R bs (length bs) kinds nodes found) (z : found ≡ 0) where
@@ -364,9 +364,9 @@ module _ {R : Room} {bs : List Block} {kinds nodes : List ℕ} {found : ℕ} whe
     pub kept-all : BlocksLaid R bs kinds nodes Placed
     kept-all = record { placing = kept-placed K z; kinds-are = kept-kinds; nodes-are = kept-nodes }
 
-  module _ (K : Kept R bs (length bs) kinds nodes found) (some : found ≡ 0 → ⊥) (small : (i : ℕ) → i < length bs → recordCell R bs i < 65536) where
+  module _ (K : Kept R bs (length bs) kinds nodes found) (some : found ≡ 0 → ⊥) (small : (i : ℕ) → i < length bs → recordCell R bs i < perNode) where
     pub kept-refused : {kinds′ nodes′ : List ℕ} → kinds′ ≡ replicate (length kinds) 0 → nodes′ ≡ replicate (length nodes) 0
-        → BlocksLaid R bs kinds′ nodes′ (RepeatAt ((found - 1) % 65536))
+        → BlocksLaid R bs kinds′ nodes′ (RepeatAt ((found - 1) % perNode))
     kept-refused e f = record {
       placing = kept-repeated K some small;
       kinds-are = e ∙ rw (K .kinds-long);

@@ -7,12 +7,12 @@ use Rattle.room.specs.declared.Room.{Room}
 use Rattle.room.specs.declared.Pos.{Pos}
 use Rattle.room.specs.Room.{Good, Within, volume, cellOf}
 use Rattle.room.specs.RoomLaws.{cell-in}
-use Rattle.blocks.specs.Laying.{lesserKept}
+use Rattle.blocks.specs.Laying.{lesserKept, perNode}
 use Rattle.blocks.specs.LayingLaws.{lesser-is}
 use Rattle.blocks.proofs.place_block.Statement.{statement}
 use Rattle.blocks.proofs.place_block.Tie as tie
 
-cell-small : {R : Room} {p : Pos} → Good R → Within R p → (cell : ℕ) → cell ≡ cellOf R p → (cell < volume R) × (cell < 65536)
+cell-small : {R : Room} {p : Pos} → Good R → Within R p → (cell : ℕ) → cell ≡ cellOf R p → (cell < volume R) × (cell < perNode)
 cell-small {R} {p} G w cell e = let h = cell-in R p w in rw e (h, omega (arith, G .few))
 
 not-higher : (known node kept : ℕ) → kept ≡ lesserKept known (node + 1) → kept ≤ node + 1

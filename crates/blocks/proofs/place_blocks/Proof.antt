@@ -10,7 +10,7 @@ use Rattle.job_sheet.specs.declared.Part.{Part}
 use Rattle.job_sheet.specs.Accepted.{BlockList}
 use Rattle.job_sheet.specs.Places.{blocksIn}
 use Rattle.blocks.specs.Blocks.{recordCell}
-use Rattle.blocks.specs.Laying.{Kept}
+use Rattle.blocks.specs.Laying.{perNode, Kept}
 use Rattle.blocks.specs.BlockLaws.{record-cells-in, list-within}
 use Rattle.blocks.specs.LayingLaws.{kept-all, kept-refused}
 use Rattle.blocks.proofs.place_blocks.Statement.{statement}
@@ -22,7 +22,7 @@ of-all : (sheet : List ℕ) (R : Room) (p : Part) {kinds nodes : List ℕ} {foun
 of-all sheet R p K = rw (blocks-long sheet p) K
 
 cells-small : {sheet : List ℕ} {R : Room} {p : Part} → Good R → BlockList sheet R p (blocksIn sheet p)
-    → (i : ℕ) → i < length (blocksIn sheet p) → recordCell R (blocksIn sheet p) i < 65536
+    → (i : ℕ) → i < length (blocksIn sheet p) → recordCell R (blocksIn sheet p) i < perNode
 cells-small {sheet} {R} {p} G L i h = omega (arith, G .few, record-cells-in R (blocksIn sheet p) (list-within L) i h)
 
 place-each-requires : tie.Need-place-each-requires
