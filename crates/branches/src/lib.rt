@@ -4,7 +4,7 @@ use job_sheet::MAX_SINKS;
 use room::as_index;
 ghost use mathlib.Core.Path.{_≡_};
 ghost use mathlib.Core.List.{_++_, reverse};
-ghost use Prim.Native.Nat.{_+_, _≤_, _<_};
+ghost use Prim.Native.Nat.{_+_, _^_, _≤_, _<_};
 ghost use lib.ListN.{length, take, drop};
 ghost use Rattle.job_sheet.specs.Sheet.{maxSinks};
 ghost use Rattle.routing_resources.specs.Marks.{markedBy, CellsBelow};
@@ -29,7 +29,7 @@ pub fn no_lengths(count: usize) -> BranchLengths
 
 // How long a branch is whose path has so many cells: the terminal is one more if it differs from the approach.
 pub fn branch_length(count: usize, tap: Tap) -> usize
-    requires { ⌜ count + 1 < 18446744073709551616 ⌝ }
+    requires { ⌜ count + 1 < 2 ^ 64 ⌝ }
     ensures { λ r. ⌜ r ≡ branchLength tap count ⌝ }
 {
     if tap.terminal == tap.approach {
@@ -54,7 +54,7 @@ fn write_reversed(path: &[u32], out: &mut [u32])
 // Writes one branch to the front of what is left of the branch buffer.
 fn write_branch(path: &[u32], tap: Tap, out: &mut [u32])
     requires { ⌜ length (branchOf tap (now path)) ≤ length (now out) ⌝ }
-    requires { ⌜ tap .terminal < 4294967296 ⌝ }
+    requires { ⌜ tap .terminal < 2 ^ 32 ⌝ }
     ensures { λ _. ⌜ now (out .exit) ≡ branchOf tap (now (path .entry)) ++ drop (length (branchOf tap (now (path .entry)))) (now (out .entry)) ⌝ }
 {
     write_reversed(path, out);
@@ -95,7 +95,7 @@ fn rotate(cells: &mut [u32], mid: usize)
 pub fn insert_branch(branches: &mut [u32], at: usize, used: usize, path: &[u32], tap: Tap)
     requires { ⌜ at ≤ used ⌝ }
     requires { ⌜ used + length (branchOf tap (now path)) ≤ length (now branches) ⌝ }
-    requires { ⌜ tap .terminal < 4294967296 ⌝ }
+    requires { ⌜ tap .terminal < 2 ^ 32 ⌝ }
     ensures { λ _. ⌜ now (branches .exit) ≡ inserted at used (branchOf tap (now (path .entry))) (now (branches .entry)) ⌝ }
 {
     write_branch(path, tap, &mut branches[used..]);

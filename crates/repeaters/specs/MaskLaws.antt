@@ -17,7 +17,7 @@ use Rattle.room.specs.declared.Room.{Room}
 use Rattle.room.specs.declared.Pos.{Pos}
 use Rattle.room.specs.declared.Move.{Move}
 use Rattle.room.specs.declared.Neighbour.{Neighbour}
-use Rattle.room.specs.Room.{Good, volume, posOf, by, moves, moveAt, holdsAt, neighbour, Step, moveBetween}
+use Rattle.room.specs.Room.{maxSide, Good, volume, posOf, by, moves, moveAt, holdsAt, neighbour, Step, moveBetween}
 use Rattle.room.specs.RoomLaws.{small-pos}
 use Rattle.room.specs.MoveLaws.{Moved, leads, small, symmetric, opposite, opposite-in, sameMove, same-move, between-is}
 use Rattle.repeaters.specs.Repeaters.{isStep}
@@ -102,9 +102,9 @@ pub record StepParts (p q : Pos) : Type 0 where
   pub z-back : p .z ≤ q .z + 1
   pub y-small : q .y + 1 - p .y ≤ 2
   pub z-small : q .z + 1 - p .z ≤ 2
-  pub x-few : q .x < 64
-  pub y-few : q .y < 64
-  pub z-few : q .z < 64
+  pub x-few : q .x < maxSide
+  pub y-few : q .y < maxSide
+  pub z-few : q .z < maxSide
 
 module _ {R : Room} {a b : ℕ} (s : Step R a b) where
   step-to : b < volume R
@@ -231,7 +231,7 @@ module _ {R : Room} {a b : ℕ} (s : Step R a b) (p : ℕ → ℕ → Bool) wher
           ∙ mask-add 12 (isLink R p a) index (step-in s) (at-index ∙ f)
           ∙ whole
 
-      link-small : getD links a 0 + 2 ^ index < 4096
+      link-small : getD links a 0 + 2 ^ index < 2 ^ 12
       link-small = rw new-mask (mask-small 12 (isLink R (withLink a b p) a))
 
       link-added : Masks R (withLink a b p) (set links a (getD links a 0 + 2 ^ index))
@@ -267,7 +267,7 @@ module _ {R : Room} where
       pub linked-now : NowLinked R (λ u v. eqb a u && eqb b v) links (set links a (getD links a 0 + value))
       linked-now = record { goes = λ p M. rw e (link-added s p M (not-yet p M)) }
 
-      pub value-fits : Masked R links → getD links a 0 + value < 4096
+      pub value-fits : Masked R links → getD links a 0 + value < 2 ^ 12
       value-fits M = rw e (link-small s (M .relation) (M .masks) (not-yet (M .relation) (M .masks)))
 
   -- both ways round

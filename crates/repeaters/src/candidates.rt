@@ -12,13 +12,13 @@ use routing_resources::MARKED;
 ghost use mathlib.Core.Path.{_≡_};
 ghost use Prim.Native.Nat.{_<_};
 ghost use lib.ListN.{length};
-ghost use Rattle.room.specs.Room.{Good, SmallPos, volume};
+ghost use Rattle.room.specs.Room.{maxSide, Good, SmallPos, volume};
 ghost use Rattle.repeaters.specs.Repeaters.{stepsBy, facingBy, facingOf, straight, fits};
 ghost use Rattle.repeaters.specs.Links.{linkedCells, PathReady};
 
 // Whether b is one more than a, and c is d.
 fn steps_by(a: usize, b: usize, c: usize, d: usize) -> bool
-    requires { ⌜ a < 64 ⌝ }
+    requires { ⌜ a < maxSide ⌝ }
     ensures { λ r. ⌜ r ≡ stepsBy a b c d ⌝ }
 {
     if a + 1 != b {
