@@ -25,12 +25,12 @@ pub record Waits (G : Graph) (known : List ℕ) (waiting : List Entry) (v : ℕ)
 
 -- an entry's cell is known, at no more than the entry's cost
 pub record Fair (G : Graph) (known : List ℕ) (e : Entry) : Type 0 where
-  pub reached : 0 < getD known (e .cell) 0
+  pub is-known : 0 < getD known (e .cell) 0
   pub high : getD known (e .cell) 0 + G .estimate (e .cell) ≤ suc (e .key)
 
 -- the move m of w offers no lower cost
 pub record Loose (known : List ℕ) (w : ℕ) (m : Move) : Type 0 where
-  pub there : 0 < getD known (m .to) 0
+  pub is-known : 0 < getD known (m .to) 0
   pub cheap : getD known (m .to) 0 ≤ getD known w 0 + m .cost
 
 -- `closed` marks the closed cells; the moves `due` of u, which is closed, are still to be tried
@@ -73,7 +73,7 @@ module _ {G : Graph} {closed ages : List ℕ} {u d : ℕ} {m : Move} {ms : List 
     where
       loose : (w : ℕ) (n : Move) → Loose (s .known) w n ⊎ ((w ≡ u) × In n (m ∷ ms)) → Loose (s .known) w n ⊎ ((w ≡ u) × In n ms)
       loose w n (inl l) = inl l
-      loose w n (inr (e, inl i)) = inl (rw (i, e) (record { there = f .0; cheap = omega (arith, N .now) }))
+      loose w n (inr (e, inl i)) = inl (rw (i, e) (record { is-known = f .0; cheap = omega (arith, N .now) }))
       loose w n (inr (e, inr i)) = inr (e, i)
 
   pub skip-mid : (0 < knownAt s (m .to)) × (knownAt s (m .to) ≤ suc (d + m .cost)) → Mid G closed ages u d ms s
@@ -132,8 +132,8 @@ module _ {G : Graph} {closed ages : List ℕ} {u d : ℕ} {m : Move} {ms : List 
 
         loose : (v : ℕ) (n : Move) → v ≢ m .to → Loose (s .known) v n ⊎ ((v ≡ u) × In n (m ∷ ms))
             → Loose (offered s d m) v n ⊎ ((v ≡ u) × In n ms)
-        loose v n k (inl l) = inl (record { there = low (n .to) (l .there) .0; cheap = omega (arith, low (n .to) (l .there), same v k, l .cheap) })
-        loose v n k (inr (e, inl i)) = inl (rw (i, e) (record { there = omega (arith, now-known); cheap = omega (arith, now-known, same u u-not-w, N .now) }))
+        loose v n k (inl l) = inl (record { is-known = low (n .to) (l .is-known) .0; cheap = omega (arith, low (n .to) (l .is-known), same v k, l .cheap) })
+        loose v n k (inr (e, inl i)) = inl (rw (i, e) (record { is-known = omega (arith, now-known); cheap = omega (arith, now-known, same u u-not-w, N .now) }))
         loose v n k (inr (e, inr i)) = inr (e, i)
 
         old : (v : ℕ) → v ≢ m .to → Waits G (s .known) (s .waiting) v
@@ -148,8 +148,8 @@ module _ {G : Graph} {closed ages : List ℕ} {u d : ℕ} {m : Move} {ms : List 
         waits v p o (miss n q) (miss k r) = old v n (B .waits v (omega arith) (omega arith))
 
         fair : (e : Entry) → In e ((push G u (m .to) (d + m .cost) s) .waiting) → Fair G (offered s d m) e
-        fair e (inl p) = rw p (record { reached = omega (arith, now-known); high = omega (arith, now-known) })
-        fair e (inr i) = let f = B .fair e i in record { reached = low (e .cell) (f .reached) .0; high = omega (arith, low (e .cell) (f .reached), f .high) }
+        fair e (inl p) = rw p (record { is-known = omega (arith, now-known); high = omega (arith, now-known) })
+        fair e (inr i) = let f = B .fair e i in record { is-known = low (e .cell) (f .is-known) .0; high = omega (arith, low (e .cell) (f .is-known), f .high) }
 
     pub push-mid : Mid G (set closed (m .to) 0) (set ages (m .to) (suc (s .serial))) u d ms (push G u (m .to) (d + m .cost) s)
     unfolding push
@@ -167,14 +167,14 @@ module _ (G : Graph) (u d : ℕ) where
   expand-loose [] s e all = expand-none G u d s
   expand-loose (m ∷ ms) s e all =
       let l = all m (inl refl) in
-      expand-skip G u d m ms s (no-cheaper _ _ (l .there) (omega (arith, l .cheap))) ∙ expand-loose ms s e (λ n i. all n (inr i))
+      expand-skip G u d m ms s (no-cheaper _ _ (l .is-known) (omega (arith, l .cheap))) ∙ expand-loose ms s e (λ n i. all n (inr i))
 
   entered-loose : (ms : List Move) (l : List ℕ) (s : State) → knownAt s u ≡ suc d → ((m : Move) → In m ms → Loose (s .known) u m) → entered G u d ms s l ≡ l
   unfolding entered
   entered-loose [] l s e all = refl
   entered-loose (m ∷ ms) l s e all =
       let k = all m (inl refl) in
-      rw (no-cheaper (d + m .cost) (knownAt s (m .to)) (k .there) (omega (arith, k .cheap)), entered) (entered-loose ms l s e (λ n i. all n (inr i)))
+      rw (no-cheaper (d + m .cost) (knownAt s (m .to)) (k .is-known) (omega (arith, k .cheap)), entered) (entered-loose ms l s e (λ n i. all n (inr i)))
 
 -- ---- a taking
 
@@ -185,13 +185,13 @@ all-loose B v m c i = elim (B .loose v m c i) [ inl l ↦ l | inr r ↦ absurd (
 
 module _ {G : Graph} {closed ages : List ℕ} {w : ℕ} {s : State} {t : Taken} (B : Base G closed ages w [] s) (k : Taking (s .waiting) t) where
   pub taken-known : knownAt s (t .next .cell) ≡ suc (costOf s (t .next .cell))
-  taken-known = sym (suc-pred-eq-of-pos (B .fair (t .next) (k .from) .reached))
+  taken-known = sym (suc-pred-eq-of-pos (B .fair (t .next) (k .from) .is-known))
 
   -- the entry taken of an open cell is that of its known cost: an older one has a higher key
   pub taken-fresh : getD closed (t .next .cell) 0 ≡ 0 → suc (t .next .key) ≡ knownAt s (t .next .cell) + G .estimate (t .next .cell)
   taken-fresh o =
       let f = B .fair (t .next) (k .from) in
-      let W = B .waits (t .next .cell) (f .reached) o in
+      let W = B .waits (t .next .cell) (f .is-known) o in
       omega (arith, k .low (W .entry) (W .there), W .fresh, f .high)
 
   left-waits : (v : ℕ) → v ≢ t .next .cell → Waits G (s .known) (s .waiting) v → Waits G (s .known) (t .left) v
@@ -221,7 +221,7 @@ module _ {G : Graph} {closed ages : List ℕ} {w : ℕ} {s : State} {t : Taken} 
     again-entered l = entered-loose G _ _ (G .moves (t .next .cell)) l (oneMoreExpanded s (t .left)) taken-known (λ m i. all-loose B (t .next .cell) m c i)
 
   pub taken-in : t .next .cell < G .size
-  taken-in = omega (arith, in-reach (s .known) (t .next .cell) (B .fair (t .next) (k .from) .reached), B .linked .known-long)
+  taken-in = omega (arith, in-reach (s .known) (t .next .cell) (B .fair (t .next) (k .from) .is-known), B .linked .known-long)
 
   pub mark-taken : (v : ℕ) → AfterStore closed (t .next .cell) 1 v
   mark-taken v = after closed (t .next .cell) 1 v (omega (arith, taken-in, B .closed-long))
@@ -240,7 +240,7 @@ module _ {G : Graph} {closed ages : List ℕ} {w : ℕ} {s : State} {t : Taken} 
     }
       where
         closed-known : (v : ℕ) → 0 < getD (set closed (t .next .cell) 1) v 0 → AfterStore closed (t .next .cell) 1 v → 0 < knownAt s v
-        closed-known v c (hit e q) = rw e (B .fair (t .next) (k .from) .reached)
+        closed-known v c (hit e q) = rw e (B .fair (t .next) (k .from) .is-known)
         closed-known v c (miss n q) = B .closed-known v (omega arith)
 
         loose : (v : ℕ) (m : Move) → 0 < getD (set closed (t .next .cell) 1) v 0 → In m (G .moves v) → AfterStore closed (t .next .cell) 1 v
@@ -266,5 +266,5 @@ first-base {G} S = record {
   closed-known = λ v c. absurd (omega (arith, zeros (G .size) v));
   loose = λ v m c i. absurd (omega (arith, zeros (G .size) v));
   waits = λ v p o. let a = start-alone S v p in record { entry = _; there = inl refl; at = sym (a .0); fresh = omega (arith, a .1, ap (G .estimate) (a .0)) };
-  fair = λ e. elim [ inl p ↦ rw p (record { reached = omega (arith, first-linked S .start-known); high = omega (arith, first-linked S .start-known) }) | inr i ↦ absurd i ];
+  fair = λ e. elim [ inl p ↦ rw p (record { is-known = omega (arith, first-linked S .start-known); high = omega (arith, first-linked S .start-known) }) | inr i ↦ absurd i ];
 }

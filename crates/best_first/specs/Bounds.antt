@@ -25,7 +25,7 @@ use Rattle.best_first.specs.Predecessors.{lowered, start-placed, start-a
 -- an entry's cell is known, and its key is in range: a move of the dearest for each known cell but one
 record Fits (G : Graph) (dearest : ℕ) (known : List ℕ) (e : Entry) : Type 0 where
   cell-in : e .cell < G .size
-  reached : 0 < getD known (e .cell) 0
+  is-known : 0 < getD known (e .cell) 0
   low : e .key + dearest ≤ dearest * nonzeros known + G .estimate (e .cell)
 
 -- as `Bounded` of Statements, but with the cells counted that are known yet, and with the moves `due` still to be tried
@@ -66,7 +66,7 @@ module _ {G : Graph} {degree dearest : ℕ} (S : Sound G degree dearest) where
     cost = λ v. cost v (eq-zero-or-pos (knownAt s v));
     previous-in = A .previous-in;
     cell-in = λ e i. A .fits e i .cell-in;
-    cell-known = λ e i. A .fits e i .reached;
+    cell-known = λ e i. A .fits e i .is-known;
     key = λ e i. omega (arith, A .fits e i .low, most);
     balance = A .balance;
     serial = omega (arith, A .serial);
@@ -156,12 +156,12 @@ module _ {G : Graph} {degree dearest : ℕ} (S : Sound G degree dearest) where
           previous v (miss n q) = omega (arith, A .sane .previous-in v)
 
           fits : (e : Entry) → In e ((push G u (m .to) (d + m .cost) s) .waiting) → Fits G dearest (offered s d m) e
-          fits e (inl p) = rw p (record { cell-in = to-in; reached = omega (arith, getD-set-same (s .known) (m .to) (suc (d + m .cost)) 0 to-placed); low = omega (arith, more) })
+          fits e (inl p) = rw p (record { cell-in = to-in; is-known = omega (arith, getD-set-same (s .known) (m .to) (suc (d + m .cost)) 0 to-placed); low = omega (arith, more) })
           fits e (inr i) =
               let o = A .sane .fits e i in
               record {
                 cell-in = o .cell-in;
-                reached = lowered (s .known) (m .to) (suc (d + m .cost)) (e .cell) to-placed (omega arith) gain (o .reached) .0;
+                is-known = lowered (s .known) (m .to) (suc (d + m .cost)) (e .cell) to-placed (omega arith) gain (o .is-known) .0;
                 low = omega (arith, o .low, rises);
               }
 
@@ -184,7 +184,7 @@ module _ {G : Graph} {degree dearest : ℕ} (S : Sound G degree dearest) where
       balance = omega (arith, A .balance, k .len);
       serial = rw mul-suc (omega (arith, A .serial, S .few (t .next .cell)));
     };
-    now = sym (suc-pred-eq-of-pos (A .fits (t .next) (k .from) .reached));
+    now = sym (suc-pred-eq-of-pos (A .fits (t .next) (k .from) .is-known));
     lawful = λ m i. i;
   }
 
@@ -195,7 +195,7 @@ module _ {G : Graph} {degree dearest : ℕ} (S : Sound G degree dearest) where
     previous-long = first-linked S .previous-long;
     low = λ v p. rw (one, mul-suc) (omega (arith, start-alone S v p));
     previous-in = λ v. omega (arith, zeros (G .size) v);
-    fits = λ e. elim [ inl p ↦ rw p (record { cell-in = S .start-in; reached = omega (arith, first-linked S .start-known); low = rw (one, mul-suc) (omega arith) }) | inr i ↦ absurd i ];
+    fits = λ e. elim [ inl p ↦ rw p (record { cell-in = S .start-in; is-known = omega (arith, first-linked S .start-known); low = rw (one, mul-suc) (omega arith) }) | inr i ↦ absurd i ];
     balance = refl;
     serial = zero-le;
   }

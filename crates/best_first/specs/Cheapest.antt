@@ -14,13 +14,13 @@ use Rattle.best_first.specs.Base.{Base, all-loose, taken-fresh}
 
 -- x is known at no more than a (costs with 1 added)
 record Here (s : State) (x a : ℕ) : Type 0 where
-  reached : 0 < knownAt s x
+  is-known : 0 < knownAt s x
   cheap : knownAt s x ≤ a
 
 -- an open cell waits whose key is no more than x's would be at cost a; costs stand with 1 added
 record Ahead (G : Graph) (closed : List ℕ) (s : State) (x a : ℕ) : Type 0 where
   cell : ℕ
-  reached : 0 < knownAt s cell
+  is-known : 0 < knownAt s cell
   is-open : getD closed cell 0 ≡ 0
   near : knownAt s cell + G .estimate cell ≤ a + G .estimate x
 
@@ -29,7 +29,7 @@ module _ {G : Graph} (K : Consistent G) {closed ages : List ℕ} {w : ℕ} {s : 
   unfolding GraphStep
   one-on x v c a st (inr h) = inr (record {
     cell = h .cell;
-    reached = h .reached;
+    is-known = h .is-known;
     is-open = h .is-open;
     near = omega (arith, h .near, K .falls x (st .0) (st .1), st .3, ap (G .estimate) (st .2));
   })
@@ -38,13 +38,13 @@ module _ {G : Graph} (K : Consistent G) {closed ages : List ℕ} {w : ℕ} {s : 
       go : (getD closed x 0 ≡ 0) ⊎ (0 < getD closed x 0) → Here s v (a + c) ⊎ Ahead G closed s v (a + c)
       go (inl o) = inr (record {
         cell = x;
-        reached = h .reached;
+        is-known = h .is-known;
         is-open = o;
         near = omega (arith, h .cheap, K .falls x (st .0) (st .1), st .3, ap (G .estimate) (st .2));
       })
       go (inr p) =
           let l = all-loose B x (st .0) p (st .1) in
-          inl (record { reached = rw (st .2) at (l .there); cheap = omega (arith, l .cheap, h .cheap, st .3, ap (knownAt s) (st .2)) })
+          inl (record { is-known = rw (st .2) at (l .is-known); cheap = omega (arith, l .cheap, h .cheap, st .3, ap (knownAt s) (st .2)) })
 
   all-on : (l : List ℕ) (x t d a : ℕ) → Way G x l t d → Here s x a ⊎ Ahead G closed s x a → Here s t (a + d) ⊎ Ahead G closed s t (a + d)
   all-on [] x t d a W n = rw (W .1, add-zero, ← W .0) n
@@ -52,7 +52,7 @@ module _ {G : Graph} (K : Consistent G) {closed ages : List ℕ} {w : ℕ} {s : 
 
   pub cheapest : {t : Taken} → Taking (s .waiting) t → t .next .cell ≡ G .goal → Cheapest G (costOf s (G .goal))
   cheapest {t} k e l d W =
-      go (all-on l (G .start) (G .goal) d 1 W (inl (record { reached = omega (arith, B .linked .start-known); cheap = omega (arith, B .linked .start-known) })))
+      go (all-on l (G .start) (G .goal) d 1 W (inl (record { is-known = omega (arith, B .linked .start-known); cheap = omega (arith, B .linked .start-known) })))
     where
       fresh : suc (t .next .key) ≡ knownAt s (G .goal)
       fresh =
@@ -62,5 +62,5 @@ module _ {G : Graph} (K : Consistent G) {closed ages : List ℕ} {w : ℕ} {s : 
       go : Here s (G .goal) (1 + d) ⊎ Ahead G closed s (G .goal) (1 + d) → pred (knownAt s (G .goal)) ≤ d
       go (inl h) = omega (arith, h .cheap)
       go (inr h) =
-          let Q = B .waits (h .cell) (h .reached) (h .is-open) in
+          let Q = B .waits (h .cell) (h .is-known) (h .is-open) in
           omega (arith, fresh, Q .fresh, k .low (Q .entry) (Q .there), h .near, K .goal-zero)

@@ -43,4 +43,4 @@ module _ {G : Graph} {degree dearest : ℕ} (S : Sound G degree dearest) {pushed
 
       leaves : (v : ℕ) (m : Move) → In m (G .moves v) → 0 < knownAt s v → (getD (H .closed) v 0 ≡ 0) ⊎ (0 < getD (H .closed) v 0) → 0 < knownAt s (m .to)
       leaves v m i p (inl o) = absurd (none (H .base .waits v p o))
-      leaves v m i p (inr c) = all-loose (H .base) v m c i .there
+      leaves v m i p (inr c) = all-loose (H .base) v m c i .is-known

@@ -26,7 +26,7 @@ pub record Link (G : Graph) (ages known previous : List ℕ) (v : ℕ) : Type 0 
   pub noted : getD previous v 0 ≡ suc by
   pub lawful : In move (G .moves by)
   pub leads-to : move .to ≡ v
-  pub reached : 0 < getD known by 0
+  pub is-known : 0 < getD known by 0
   pub adds : getD known by 0 + move .cost ≤ getD known v 0
   pub older : getD known by 0 ≡ getD known v 0 → getD ages by 0 < getD ages v 0
 
@@ -74,7 +74,7 @@ module _ {G : Graph} {degree dearest : ℕ} (S : Sound G degree dearest) {ages k
     noted = ap (λ (n : ℕ). getD (set previous (m .to) (suc u)) n 0) e ∙ getD-set-same previous (m .to) (suc u) 0 (omega (arith, to-in, L .known-long, L .previous-long));
     lawful = lawful;
     leads-to = sym e;
-    reached = omega (arith, same-u);
+    is-known = omega (arith, same-u);
     adds = omega (arith, same-u);
     older = λ z. omega (
       arith,
@@ -98,18 +98,18 @@ module _ {G : Graph} {degree dearest : ℕ} (S : Sound G degree dearest) {ages k
         noted = getD-set-other previous (m .to) v (suc u) 0 n ∙ k .noted;
         lawful = k .lawful;
         leads-to = k .leads-to;
-        reached = low .0;
+        is-known = low .0;
         adds = omega (arith, low, k .adds);
         older = older (after known (m .to) x (k .by) to-in) gain;
       })
         where
           low : (0 < getD (set known (m .to) x) (k .by) 0) × (getD (set known (m .to) x) (k .by) 0 ≤ getD known (k .by) 0)
-          low = lowered known (m .to) x (k .by) to-in (omega arith) gain (k .reached)
+          low = lowered known (m .to) x (k .by) to-in (omega arith) gain (k .is-known)
 
           -- the cell before v has become cheaper, or is as it was
           older : AfterStore known (m .to) x (k .by) → Gain x (getD known (m .to) 0) → getD (set known (m .to) x) (k .by) 0 ≡ getD (set known (m .to) x) v 0
               → getD (set ages (m .to) (suc serial)) (k .by) 0 < getD (set ages (m .to) (suc serial)) v 0
-          older (hit e r) (inl z) s = absurd (omega (arith, k .reached, ap (λ (n : ℕ). getD known n 0) e))
+          older (hit e r) (inl z) s = absurd (omega (arith, k .is-known, ap (λ (n : ℕ). getD known n 0) e))
           older (hit e r) (inr l) s = absurd (omega (arith, k .adds, ap (λ (n : ℕ). getD known n 0) e))
           older (miss d r) g s = omega (
             arith,

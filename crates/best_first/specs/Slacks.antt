@@ -61,7 +61,7 @@ record Last (G : Graph) (k : ℕ) (Z : Slacks G k) (top : ℕ) (pushed : List �
   move : Move
   lawful : In move (G .moves by)
   leads-to : move .to ≡ v
-  reached : 0 < knownAt s v
+  is-known : 0 < knownAt s v
   near : knownAt s v + G .estimate by ≤ suc top + move .cost
   used : times (eqb v) pushed + slot Z by move ≤ k
 
@@ -86,7 +86,7 @@ module _ {G : Graph} {degree dearest : ℕ} (S : Sound G degree dearest) (K : Co
   lower : (L : Last G k Z top pushed s (m .to)) → slot Z u m < slot Z (L .by) (L .move)
   unfolding slack
   lower L = slot-order Z u (L .by) m (L .move) (due-lawful M) (sym (L .leads-to)) (elim gain [
-    | inl z ↦ absurd (omega (arith, L .reached))
+    | inl z ↦ absurd (omega (arith, L .is-known))
     | inr l ↦ omega (arith, L .near, ap (G .estimate) (L .leads-to), K .falls u m (due-lawful M), K .falls (L .by) (L .move) (L .lawful))
   ])
 
@@ -97,7 +97,7 @@ module _ {G : Graph} {degree dearest : ℕ} (S : Sound G degree dearest) (K : Co
     move = m;
     lawful = due-lawful M;
     leads-to = refl;
-    reached = omega (arith, now-known M S gain);
+    is-known = omega (arith, now-known M S gain);
     near = omega (arith, now-known M S gain);
     used = elim c [ inl z ↦ omega (arith, here, slot-below Z u m (due-lawful M)) | inr L ↦ omega (arith, here, lower L, L .used) ];
   }
@@ -127,7 +127,7 @@ module _ {G : Graph} {degree dearest : ℕ} (S : Sound G degree dearest) (K : Co
             move = L .move;
             lawful = L .lawful;
             leads-to = L .leads-to;
-            reached = omega (arith, L .reached);
+            is-known = omega (arith, L .is-known);
             near = omega (arith, L .near);
             used = omega (arith, L .used, away v n);
           })
@@ -171,7 +171,7 @@ module _ {G : Graph} {k : ℕ} (Z : Slacks G k) where
         move = L .move;
         lawful = L .lawful;
         leads-to = L .leads-to;
-        reached = L .reached;
+        is-known = L .is-known;
         near = omega (arith, L .near);
         used = L .used;
       })

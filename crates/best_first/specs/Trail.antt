@@ -80,10 +80,10 @@ module _ {G : Graph} {ages known previous : List ℕ} {serial : ℕ} (L : Linked
             }
         go (inr k) ih =
             let low : weight (k .by) < weight v = link-falls k in
-            let by-in : k .by < G .size = omega (arith, in-reach known (k .by) (k .reached), L .known-long) in
+            let by-in : k .by < G .size = omega (arith, in-reach known (k .by) (k .is-known), L .known-long) in
             let by-up : Up previous (k .by) (G .goal) = up-more (k .by) up (k .noted) in
             let exact = loose (k .by) by-up (λ e. omega (arith, ap weight e)) (k .move) (k .lawful) in
-            let T = ih (k .by) (v ∷ rest) (k .move .cost + r) (omega (arith, below-more (k .by) (weight v) by-in low)) (omega arith) (k .reached) by-up
+            let T = ih (k .by) (v ∷ rest) (k .move .cost + r) (omega (arith, below-more (k .by) (weight v) by-in low)) (omega arith) (k .is-known) by-up
             (k .move .cost, r, unfold GraphStep in (k .move, k .lawful, k .leads-to, refl), W, refl)
             (omega (arith, k .adds, exact, ap (λ (x : ℕ). getD known x 0) (k .leads-to))) in
             record { rest = T .rest; begins = trace-back n previous v (k .by) rest (k .noted) ∙ T .begins; way = T .way }

@@ -24,7 +24,7 @@ use Rattle.best_first.specs.Induction.{Invariant, Holds, invariant-holds
 use Rattle.best_first.specs.Trail.{Up, here, above, goal-trail}
 
 record Open (closed known : List ℕ) (v : ℕ) : Type 0 where
-  reached : 0 < getD known v 0
+  is-known : 0 < getD known v 0
   unmarked : getD closed v 0 ≡ 0
 
 abbrev key : Graph → List ℕ → ℕ → ℕ
@@ -58,24 +58,24 @@ up-falls {G} {ages} {known} {previous} L {a} (above {x} {y} e up) p = go (L .lin
     go (inl o) ih = absurd (omega (arith, o .no-previous))
     go (inr k) ih =
         let q : k .by ≡ y = omega (arith, k .noted) in
-        omega (arith, ih (rw q at (k .reached)), k .adds, ap (λ (n : ℕ). getD known n 0) q)
+        omega (arith, ih (rw q at (k .is-known)), k .adds, ap (λ (n : ℕ). getD known n 0) q)
 
 -- ---- a taking of an open cell
 
 module _ {G : Graph} {closed ages : List ℕ} {w : ℕ} {s : State} {t : Taken} (B : Base G closed ages w [] s) (T : Hanging G closed (s .known) (s .previous)) (k : Taking (s .waiting) t)
     (o : getD closed (t .next .cell) 0 ≡ 0) where
   u-open : Open closed (s .known) (t .next .cell)
-  u-open = record { reached = B .fair (t .next) (k .from) .reached; unmarked = o }
+  u-open = record { is-known = B .fair (t .next) (k .from) .is-known; unmarked = o }
 
   least-key : (y : ℕ) → Open closed (s .known) y → key G (s .known) (t .next .cell) ≤ key G (s .known) y
-  least-key y O = let W = B .waits y (O .reached) (O .unmarked) in omega (arith, W .fresh, k .low (W .entry) (W .there), taken-fresh B k o)
+  least-key y O = let W = B .waits y (O .is-known) (O .unmarked) in omega (arith, W .fresh, k .low (W .entry) (W .there), taken-fresh B k o)
 
   still : (y : ℕ) → Open (set closed (t .next .cell) 1) (s .known) y → Open closed (s .known) y
   still y O = go (mark-taken B k y)
     where
       go : AfterStore closed (t .next .cell) 1 y → Open closed (s .known) y
       go (hit e q) = absurd (omega (arith, O .unmarked))
-      go (miss n q) = record { reached = O .reached; unmarked = sym q ∙ O .unmarked }
+      go (miss n q) = record { is-known = O .is-known; unmarked = sym q ∙ O .unmarked }
 
   -- the cells before u are closed: an open one would have been taken
   up-closed : (v : ℕ) → Up (s .previous) v (t .next .cell) → v ≢ t .next .cell → 0 < getD closed v 0
@@ -83,7 +83,7 @@ module _ {G : Graph} {closed ages : List ℕ} {w : ℕ} {s : State} {t : Taken} 
     where
       go : (getD closed v 0 ≡ 0) ⊎ (0 < getD closed v 0) → 0 < getD closed v 0
       go (inl z) =
-          let O : Open closed (s .known) v = record { reached = up-falls (B .linked) up (u-open .reached) .0; unmarked = z } in
+          let O : Open closed (s .known) v = record { is-known = up-falls (B .linked) up (u-open .is-known) .0; unmarked = z } in
           absurd (omega (arith, least-key v O, T .nearer v (t .next .cell) O u-open n up))
       go (inr c) = c
 
@@ -170,7 +170,7 @@ module _ {G : Graph} {degree dearest : ℕ} (S : Sound G degree dearest) {closed
 
   was-open : (v : ℕ) → v ≢ m .to → Open (set closed (m .to) 0) (offered s d m) v → Open closed (s .known) v
   was-open v n O = record {
-    reached = rw (same M S gain v n) at (O .reached);
+    is-known = rw (same M S gain v n) at (O .is-known);
     unmarked = sym (same-mark v n) ∙ O .unmarked;
   }
 
@@ -185,12 +185,12 @@ module _ {G : Graph} {degree dearest : ℕ} (S : Sound G degree dearest) {closed
   w-nearer x O n up = go gain (eq-zero-or-pos (getD closed (m .to) 0))
     where
       w-known : 0 < knownAt s (m .to)
-      w-known = up-falls (M .base .linked) up (O .reached) .0
+      w-known = up-falls (M .base .linked) up (O .is-known) .0
 
       go : Gain (suc (d + m .cost)) (knownAt s (m .to)) → (getD closed (m .to) 0 ≡ 0) ⊎ (0 < getD closed (m .to) 0)
           → key G (offered s d m) (m .to) < key G (s .known) x
       go (inl z) c = absurd (omega (arith, w-known))
-      go (inr l) (inl o) = omega (arith, now-known M S gain, T .nearer (m .to) x (record { reached = w-known; unmarked = o }) O (λ e. n (sym e)) up)
+      go (inr l) (inl o) = omega (arith, now-known M S gain, T .nearer (m .to) x (record { is-known = w-known; unmarked = o }) O (λ e. n (sym e)) up)
       go (inr l) (inr c) = omega (arith, now-known M S gain, T .inner (m .to) x c free O up)
 
   nearer : Nearer G (set closed (m .to) 0) (offered s d m) (set (s .previous) (m .to) (suc u))
@@ -264,7 +264,7 @@ tree {G} S = record {
   During = λ closed u d due pushed s. HangingMid G u closed (s .known) (s .previous);
   Full = λ pushed. Unit {0};
   begins = record {
-    nearer = λ a x O P n up. absurd (n (start-alone S a (O .reached) .0 ∙ sym (start-alone S x (P .reached) .0)));
+    nearer = λ a x O P n up. absurd (n (start-alone S a (O .is-known) .0 ∙ sym (start-alone S x (P .is-known) .0)));
     between = λ v x y c O P up f. absurd (omega (arith, zeros (G .size) v));
   };
   again = λ B T k c. T;
@@ -281,13 +281,13 @@ pub taken-lawful : {G : Graph} {degree dearest : ℕ} → Sound G degree dearest
     → t .next .cell ≡ G .goal → Lawful G (trace (G .size) (s .previous) (G .goal) []) (costOf s (G .goal))
 unfolding tree
 taken-lawful {G} S {l} {s} {t} R k e =
-    goal-trail (H .base .linked) (λ a up n m i. loose a up n m i (eq-zero-or-pos (getD (H .closed) a 0))) (S .goal-in) (goal-open .reached)
+    goal-trail (H .base .linked) (λ a up n m i. loose a up n m i (eq-zero-or-pos (getD (H .closed) a 0))) (S .goal-in) (goal-open .is-known)
   where
     H : Holds (tree S) l s
     H = invariant-holds S (tree S) R
 
     goal-open : Open (H .closed) (s .known) (G .goal)
-    goal-open = record { reached = rw e at (H .base .fair (t .next) (k .from) .reached); unmarked = H .base .goal-open }
+    goal-open = record { is-known = rw e at (H .base .fair (t .next) (k .from) .is-known); unmarked = H .base .goal-open }
 
     unmarked : getD (H .closed) (t .next .cell) 0 ≡ 0
     unmarked = ap (λ (n : ℕ). getD (H .closed) n 0) e ∙ H .base .goal-open
@@ -296,7 +296,7 @@ taken-lawful {G} S {l} {s} {t} R k e =
     loose : (a : ℕ) → Up (s .previous) a (G .goal) → a ≢ G .goal → (m : Move) → In m (G .moves a) → (getD (H .closed) a 0 ≡ 0) ⊎ (0 < getD (H .closed) a 0)
         → knownAt s (m .to) ≤ knownAt s a + m .cost
     loose a up n m i (inl o) =
-        let O : Open (H .closed) (s .known) a = record { reached = up-falls (H .base .linked) up (goal-open .reached) .0; unmarked = o } in
+        let O : Open (H .closed) (s .known) a = record { is-known = up-falls (H .base .linked) up (goal-open .is-known) .0; unmarked = o } in
         absurd (omega (
           arith,
           least-key (H .base) (H .besides) k unmarked a O,
