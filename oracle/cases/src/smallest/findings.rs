@@ -138,11 +138,9 @@ fn full_buffers() -> Vec<Point> {
         Point {
             name: "branch-buffer",
             says: "number 15 in program `route`",
-            input: Input::Job(serpentine()),
+            input: Input::Job(one_way()),
             sign: Sign::Job(overflows_branches),
-            fewer: Fewer::Open(
-                "16 branches of at most V + 1 cells overflow 16,384 from 1,024 cells on; no walk goes so far",
-            ),
+            fewer: Fewer::Open("1,500 cells are needed; no walk goes so far"),
         },
     ]
 }
@@ -176,15 +174,15 @@ fn steep() -> Job {
     job
 }
 
-/// A corridor of 1,025 cells to and fro, with the source at its beginning and all sinks at its end. All goals cost nothing,
-/// so each branch is the whole corridor.
-fn serpentine() -> Job {
-    let end = [34, 0, 0];
-    let mut job = default_job([35, 1, 56], &[wire(end, facing::SOUTH); MOST_SINKS]);
-    for x in (1..35).step_by(2) {
-        let open = if x % 4 == 1 { 55 } else { 0 };
-        let walls = (0..56).filter(|z| *z != open);
-        let walls = walls.map(|z| block(0, [x, 0, z], kind::SOLID));
+/// The Air cells are one way of 1,024 cells, with the source at its beginning and all sinks at its end; the rows of the text
+/// are x, and `#` is Solid. All goals cost nothing, so the first branch is the whole way and each other one all but a cell.
+fn one_way() -> Job {
+    let sink = wire([38, 0, 36], facing::NORTH);
+    let mut job = default_job([39, 1, 41], &[sink; MOST_SINKS]);
+    job.source = wire([0, 0, 2], facing::NONE);
+    for (x, row) in (0..).zip(include_str!("one_way.txt").lines()) {
+        let walls = (0..).zip(row.chars()).filter(|(_, cell)| *cell == '#');
+        let walls = walls.map(|(z, _)| block(0, [x, 0, z], kind::SOLID));
         job.blocks.extend(walls);
     }
     job.config.horizontal = 0;
