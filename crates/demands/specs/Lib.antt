@@ -6,5 +6,5 @@ pub mod Bridge
 pub mod Slackness
 pub mod Numbers
 pub mod TreeStatements
-pub mod TreeTheorems
 pub mod QueueLaws
+pub mod TreeTheorems
