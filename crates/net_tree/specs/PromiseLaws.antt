@@ -1,6 +1,6 @@
 -- The promise of `route_net_tree` determines everything.
 use mathlib.Core.Path.{_≡_, refl, sym, ap, _∙_}
-use mathlib.Core.Bool.{true, false}
+use mathlib.Core.Bool.{true}
 use mathlib.Core.List.{List}
 use Prim.Native.Nat.{ℕ}
 use Rattle.basics.specs.Tests.{never}
@@ -20,9 +20,6 @@ use Rattle.net_tree.specs.Answers.{Lent, TreeOutcome, jobOutcome, Comes,
 pub read-good : {sheet : List ℕ} {r : Reading} {J : Contents} → Read sheet r → Means sheet J → judged J ≡ judgement.Good → isGood (r .judgement) ≡ true
 read-good {sheet = sheet} {r = r} {J = J} p m g = rw (answers-meaning sheet J r m p, g)
 
-clash : {X : Type 0} → false ≡ true → X
-clash e = never (cc)
-
 module _ {sheet : List ℕ} (L : Lengths) where
   same-job : {J K : Contents} → Means sheet J → Means sheet K → {O Q : Outset} {kinds nodes blocked kinds′ nodes′ blocked′ : List ℕ}
       → OutsetOf J O kinds nodes blocked → OutsetOf K Q kinds′ nodes′ blocked′ → jobOutcome J L O kinds blocked ≡ jobOutcome K L Q kinds′ blocked′
@@ -35,13 +32,13 @@ module _ {sheet : List ℕ} (L : Lengths) where
 module _ {sheet : List ℕ} {L : Lengths} where
   pub comes-one : {o q : TreeOutcome} → Comes sheet L o → Comes sheet L q → o ≡ q
   comes-one (unread r p f e) (unread s q g d) = e ∙ rw (one-reading sheet r s p q) (sym d)
-  comes-one (unread r p f e) (unlent J m g b d) = clash (sym f ∙ read-good p m g)
-  comes-one (unread r p f e) (set-out J m g b O kinds nodes blocked s d) = clash (sym f ∙ read-good p m g)
-  comes-one (unlent J m g b e) (unread r p f d) = clash (sym f ∙ read-good p m g)
+  comes-one (unread r p f e) (unlent J m g b d) = never (cc (sym f ∙ read-good p m g))
+  comes-one (unread r p f e) (set-out J m g b O kinds nodes blocked s d) = never (cc (sym f ∙ read-good p m g))
+  comes-one (unlent J m g b e) (unread r p f d) = never (cc (sym f ∙ read-good p m g))
   comes-one (unlent J m g b e) (unlent K n h c d) = e ∙ sym d
-  comes-one (unlent J m g b e) (set-out K n h c O kinds nodes blocked s d) = clash (sym (rw (one-meaning sheet J K m n) at b) ∙ c)
-  comes-one (set-out J m g b O kinds nodes blocked s e) (unread r p f d) = clash (sym f ∙ read-good p m g)
-  comes-one (set-out J m g b O kinds nodes blocked s e) (unlent K n h c d) = clash (sym c ∙ (rw (one-meaning sheet J K m n) at b))
+  comes-one (unlent J m g b e) (set-out K n h c O kinds nodes blocked s d) = never (cc (sym (rw (one-meaning sheet J K m n) at b) ∙ c))
+  comes-one (set-out J m g b O kinds nodes blocked s e) (unread r p f d) = never (cc (sym f ∙ read-good p m g))
+  comes-one (set-out J m g b O kinds nodes blocked s e) (unlent K n h c d) = never (cc (sym c ∙ (rw (one-meaning sheet J K m n) at b)))
   comes-one (set-out J m g b O kinds nodes blocked s e) (set-out K n h c Q kinds′ nodes′ blocked′ t d) = e ∙ same-job L m n s t ∙ sym d
 
 -- ---- two results that keep the promise coincide: the answer, and every byte of lent memory

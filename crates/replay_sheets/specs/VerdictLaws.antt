@@ -1,16 +1,15 @@
 -- Laws of the verdict on an answer and lent memory.
 use mathlib.Core.Path.{_≡_, refl, _∙_}
-use mathlib.Core.Bool.{true, false, and-false}
+use mathlib.Core.Bool.{true, false}
 use mathlib.Core.List.{List, _++_}
-use Prim.Native.Nat.{ℕ, zero, suc, _+_, _≤_, _<_}
+use Prim.Native.Nat.{ℕ, _+_, _≤_, _<_}
 use native.Mathlib.Numerals.{add-one}
 use native.Mathlib.Omega.{arith}
-use lib.Dec.{eqb}
 use lib.ListN.{length, getD, take, drop, length-take}
 use lib.Seq.{length-take-le, getD-take, take-at}
-use borrow.Author.Tests.{eq-eqb, ne-eqb}
-use Rattle.basics.specs.Tests.{askSame, and-both, passed}
-use Rattle.basics.specs.Lists.{allBelow}
+use borrow.Author.Tests.{eq-eqb, eqb-true}
+use Rattle.basics.specs.Tests.{ask, and-both, passed}
+use Rattle.basics.specs.Lists.{allBelow, below-all}
 use Rattle.net_tree.specs.declared.Lengths.{Lengths}
 use Rattle.net_tree.specs.Answers.{Lent, lent, lengthsOf}
 use Rattle.stored.specs.Memory.{ownLength, Rubbish}
@@ -32,15 +31,8 @@ module _ (a b : List ℕ) where
   same-next k e h = rw add-one (and-both (eq-eqb (getD a k 0) (getD b k 0) h) e)
 
   pub same-never : (n k : ℕ) → k < n → (getD a k 0 ≡ getD b k 0 → ⊥) → sameBelow n a b ≡ false
-  unfolding sameBelow allBelow
-  same-never zero k h d = absurd (omega arith)
-  same-never (suc n) k h d = askSame k n here (λ other. later (same-never n k (omega (arith, other)) d))
-    where
-      here : k ≡ n → sameBelow (suc n) a b ≡ false
-      here e = let f = ne-eqb (getD a k 0) (getD b k 0) d in rw (← e, f)
-
-      later : sameBelow n a b ≡ false → sameBelow (suc n) a b ≡ false
-      later g = rw g (and-false (eqb (getD a n 0) (getD b n 0)))
+  unfolding sameBelow
+  same-never n k h d = ask (sameBelow n a b) (λ t. absurd (d (eqb-true _ _ (below-all _ n t k h)))) (λ f. f)
 
 -- ---- the fronts that are lent have the lengths asked for
 

@@ -6,7 +6,6 @@ use native.Mathlib.Nat.{mod-eq-of-lt, mod-lt, pow-suc, one-le-pow, pow-le-pow-ri
 use native.Mathlib.Numerals.{add-one, sub-one}
 use native.Mathlib.Omega.{arith}
 use lib.ListN.{length, take, drop, getD, drop-of-length-le}
-use lib.Seq.{drop-cons}
 use borrow.Author.Tests.{lt-ltb, le-ltb, eq-eqb, ne-eqb}
 use Rattle.basics.specs.Tests.{askLess, never}
 use Rattle.basics.specs.Lists.{drop-next}
@@ -131,7 +130,7 @@ module _ {out whole : List ℕ} {at : ℕ} (cells : List ℕ) (i : ℕ) {out′ 
 marked-next : (marks : List ℕ) (i : ℕ) → i < length marks
     → numbers (markedFrom i (drop i marks)) ≡ numbers (ifMarked (getD marks i 0) i) ++ numbers (markedFrom (i + 1) (drop (i + 1) marks))
 unfolding markedFrom
-marked-next marks i h = rw (add-one i, drop-cons marks i 0 h) (numbers-append (ifMarked (getD marks i 0) i) (markedFrom (suc i) (drop (suc i) marks)))
+marked-next marks i h = rw (drop-next marks i 0 h, add-one i) (numbers-append (ifMarked (getD marks i 0) i) (markedFrom (suc i) (drop (suc i) marks)))
 
 -- the marked cells are put, one after another
 module _ {out whole : List ℕ} {at : ℕ} (marks : List ℕ) (i : ℕ) {out′ : List ℕ} {end : ℕ} (g : PutSoFar out at whole (numbers (markedFrom i (drop i marks))) out′ end) where

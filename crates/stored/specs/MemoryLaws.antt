@@ -8,9 +8,9 @@ use native.Mathlib.Numerals.{add-one}
 use native.Mathlib.Omega.{arith}
 use lib.Dec.{eqb}
 use lib.ListN.{length, getD, set, drop, drop-of-length-le, length-set}
-use lib.Seq.{ext-getD, drop-cons}
+use lib.Seq.{ext-getD}
 use borrow.Author.Tests.{eq-eqb, ne-eqb}
-use Rattle.basics.specs.Lists.{front-written}
+use Rattle.basics.specs.Lists.{front-written, drop-next}
 use Rattle.stored.specs.Memory.{rubbish, Rubbish, allFrom}
 
 -- ---- filling with rubbish: the first i numbers are rubbish
@@ -43,7 +43,7 @@ pub record PassedSoFar (p : ℕ → ℕ → Bool) (l : List ℕ) (i : ℕ) : Typ
   pub rest : allFrom p i (drop i l) ≡ allFrom p 0 l
 
 all-from : (p : ℕ → ℕ → Bool) (l : List ℕ) (i : ℕ) → i < length l → allFrom p i (drop i l) ≡ (p i (getD l i 0) && allFrom p (i + 1) (drop (i + 1) l))
-all-from p l i h = rw add-one (ap (allFrom p i) (drop-cons l i 0 h))
+all-from p l i h = rw (drop-next l i 0 h, add-one i) refl
 
 module _ {p : ℕ → ℕ → Bool} {l : List ℕ} where
   pub passed-none : PassedSoFar p l 0
