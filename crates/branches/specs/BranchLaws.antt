@@ -5,13 +5,14 @@ use mathlib.Core.List.{List, [], _∷_, _++_, map, reverse, append-assoc, append
 use Prim.Native.Nat.{ℕ, zero, suc, _+_, _-_, _≤_, _<_}
 use native.Mathlib.Omega.{arith}
 use lib.Dec.{eqb}
-use lib.ListN.{length, getD, take, drop, set, length-append, length-drop, length-set, replicate, length-replicate, getD-replicate, take-append-drop, List·getD-append}
+use lib.ListN.{length, getD, take, drop, set, length-append, length-drop, length-map, length-set, replicate, length-replicate, getD-replicate, take-append-drop, List·getD-append, List·getD-map}
 use lib.Seq.{take-append-seam, take-append-le, split-at, set-split, take-suc, take-at, drop-at, take-length, length-take-le, getD-append-add, getD-set-same, getD-set-other}
 use Rattle.basics.specs.Tests.{ask, askSame, askLess}
 use Rattle.basics.specs.Lists.{In, joined}
+use Rattle.job_sheet.specs.Sheet.{maxSinks}
 use Rattle.ends.specs.declared.Tap.{Tap}
 use Rattle.branches.specs.declared.BranchLengths.{BranchLengths}
-use Rattle.branches.specs.Branches.{branchOf, allButLast, inserted, sum, lengthsIn, cutInto, SheetOrder, LengthsOf}
+use Rattle.branches.specs.Branches.{branchOf, allButLast, inserted, sum, branchLengths, lengthsIn, cutInto, SheetOrder, LengthsOf}
 use Rattle.branches.specs.LoopLaws.{sum-append}
 use Rattle.branches.specs.WriteLaws.{branch-long}
 use Rattle.routing_resources.specs.Marks.{CellsBelow}
@@ -173,6 +174,20 @@ joined-place bs each L (suc k) h =
     let j : joined (take (suc k) bs) ≡ joined (take k bs) ++ (getD bs k [] ++ []) = ap joined b ∙ joined-append (take k bs) (getD bs k [] ∷ []) in
     let l : length (getD bs k [] ++ []) ≡ length (getD bs k []) = ap length (append-nil (getD bs k [])) in
     omega (arith, ap length j, length-append (joined (take k bs)) (getD bs k [] ++ []), L .each-is k h, joined-place bs each L k (omega arith))
+
+-- the lengths that are given out with the branches are theirs
+pub lengths-theirs : (bs : List (List ℕ)) → LengthsOf bs (branchLengths bs .each)
+lengths-theirs bs =
+    let behind : List ℕ = replicate (maxSinks - length bs) 0 in
+    let long = length-map bs length in
+    record {
+      all = omega (arith, length-append (map length bs) behind, long);
+      each-is = λ i h. List·getD-append (map length bs) behind 0 i (rw long h) ∙ List·getD-map length bs i [];
+    }
+
+-- as many lengths as are counted
+pub lengths-count : (L : BranchLengths) → L .count ≤ length (L .each) → length (lengthsIn L) ≡ L .count
+lengths-count L h = length-take-le (L .count) (L .each) h
 
 -- all branches together
 pub lengths-sum : (bs : List (List ℕ)) (L : BranchLengths) → LengthsOf bs (L .each) → length bs ≡ L .count → sum (lengthsIn L) ≡ length (joined bs)

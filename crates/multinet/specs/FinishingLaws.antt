@@ -5,7 +5,7 @@ use Prim.Native.Nat.{ℕ, suc, _≤_, _<_}
 use native.Mathlib.Omega.{arith}
 use lib.Dec.{eqb}
 use lib.ListN.{length, getD, take, drop, length-map, length-replicate, take-append-drop, List·getD-map}
-use lib.Seq.{getD-take, length-take-le, ext-getD}
+use lib.Seq.{getD-take, ext-getD}
 use Rattle.basics.specs.Lists.{any, joined}
 use Rattle.room.specs.declared.Room.{Room}
 use Rattle.room.specs.Room.{volume}
@@ -17,7 +17,7 @@ use Rattle.ends.specs.Ends.{noTap, tapsIn}
 use Rattle.geometry.specs.Geometry.{standsIn}
 use Rattle.branches.specs.declared.BranchLengths.{BranchLengths}
 use Rattle.branches.specs.Branches.{lengthsIn, cutInto, branchesOf}
-use Rattle.branches.specs.BranchLaws.{below-append, lengths-sum, cut-joined}
+use Rattle.branches.specs.BranchLaws.{below-append, lengths-count, lengths-sum, cut-joined}
 use Rattle.repeaters.specs.Repeaters.{repeaterMarks}
 use Rattle.repeaters.specs.Masks.{Steps, AllSteps}
 use Rattle.repeaters.specs.Sinks.{Placeable}
@@ -56,7 +56,7 @@ all-below R (b ∷ bs) f = below-append (f 0 (omega arith)) (all-below R bs (λ 
 module _ {L : BranchLengths} {branches : List ℕ} {bs : List (List ℕ)} (H : BufferHolds L branches bs) where
   lengths-list : lengthsIn L ≡ map length bs
   lengths-list =
-      let n : length (lengthsIn L) ≡ L .count = length-take-le (L .count) (L .each) (omega (arith, H .count-is, H .lengths-are .all)) in
+      let n = lengths-count L (omega (arith, H .count-is, H .lengths-are .all)) in
       let m = length-map bs length in
       ext-getD 0 (lengthsIn L) (map length bs) (n ∙ sym (H .count-is) ∙ sym m)
       (λ i h. getD-take (L .count) (L .each) i 0 (omega (arith, n)) ∙ H .lengths-are .each-is i (omega (arith, n, H .count-is)) ∙ sym (List·getD-map length bs i []))

@@ -3,7 +3,7 @@
 use mathlib.Core.Path.{_≡_}
 use mathlib.Core.Bool.{Bool, true, false, _&&_}
 use mathlib.Core.List.{List, [], _∷_}
-use Prim.Native.Nat.{ℕ, _/_}
+use Prim.Native.Nat.{ℕ}
 use lib.Dec.{leb}
 use lib.ListN.{length}
 use Rattle.basics.specs.Tests.{either}
@@ -16,6 +16,7 @@ use Rattle.job_sheet.specs.declared.Judgement.the-variants as judgement
 use Rattle.job_sheet.specs.Sheet.{Contents, Means, Read, judged, isGood, numberOf}
 use Rattle.outset.specs.declared.Outset.{Outset}
 use Rattle.outset.specs.SetOut.{ready, numberBy, detailBy, OutsetOf}
+use Rattle.room_search.specs.Routing.{placesIn}
 use Rattle.branches.specs.Branches.{branchLengths, markedCount}
 use Rattle.multinet.specs.Tree.{Plot, Growth, grown, stopped, growthOf, repeatersOf}
 use Rattle.net_tree.specs.declared.Lengths.{Lengths}
@@ -59,7 +60,7 @@ unfoldable pub buffersGood : Room → Lengths → Bool
 buffersGood R L =
     every (leb (volume R))
     (L .occupied ∷ L .repeaters ∷ L .kinds ∷ L .blocked ∷ L .classes ∷ L .joinable ∷ L .known ∷ L .previous ∷ L .path ∷ L .best ∷ [])
-    && leb 1 (L .queue / 2)
+    && leb 1 (placesIn (L .queue))
 
 -- what a tree comes to: its branches in sheet order, and marks of the cells that it occupies and of its repeaters; or a number with its detail
 pub data TreeOutcome : Type 0 where
@@ -72,7 +73,7 @@ plotFor J L O kinds = record {
   room = J .room;
   config = J .config;
   kinds = kinds;
-  places = L .queue / 2;
+  places = placesIn (L .queue);
   buffer = L .branches;
   source = O .ends .source;
   taps = O .ends .taps;

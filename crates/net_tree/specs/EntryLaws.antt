@@ -3,7 +3,7 @@ use mathlib.Core.Path.{_≡_, refl, sym, ap, _∙_}
 use mathlib.Core.Logic.{inl, inr}
 use mathlib.Core.Bool.{true}
 use mathlib.Core.List.{List, [], _∷_}
-use Prim.Native.Nat.{ℕ, _/_, _≤_, _<_}
+use Prim.Native.Nat.{ℕ, _≤_, _<_}
 use lib.Dec.{leb}
 use lib.ListN.{length, take, replicate}
 use lib.Seq.{length-take-le}
@@ -17,6 +17,7 @@ use Rattle.routing_resources.specs.Marks.{noMarks}
 use Rattle.job_sheet.specs.declared.Job.{Job}
 use Rattle.job_sheet.specs.Sheet.{Contents}
 use Rattle.outset.specs.declared.Outset.{Outset}
+use Rattle.room_search.specs.Routing.{placesIn}
 use Rattle.net_tree.specs.declared.Lengths.{Lengths}
 use Rattle.net_tree.specs.declared.Answer.{Answer}
 use Rattle.net_tree.specs.Answers.{Lent, lent, lengthsOf, buffersGood, jobOutcome}
@@ -34,7 +35,7 @@ pub record LongEnough (n : ℕ) (L : Lengths) : Type 0 where
   pub previous-enough : n ≤ L .previous
   pub path-enough : n ≤ L .path
   pub best-room : n ≤ L .best
-  pub places-some : 0 < L .queue / 2
+  pub places-some : 0 < placesIn (L .queue)
 
 -- every buffer in the list fits
 all-fit : (n : ℕ) (l : List ℕ) → every (leb n) l ≡ true → (a : ℕ) → In a l → n ≤ a
@@ -45,7 +46,7 @@ unfolding buffersGood
 long-enough R L e =
     let l = L .occupied ∷ L .repeaters ∷ L .kinds ∷ L .blocked ∷ L .classes ∷ L .joinable ∷ L .known ∷ L .previous ∷ L .path ∷ L .best ∷ [] in
     let all = every (leb (volume R)) l in
-    let fit = all-fit (volume R) l (and-left all (leb 1 (L .queue / 2)) e) in
+    let fit = all-fit (volume R) l (and-left all (leb 1 (placesIn (L .queue))) e) in
     record {
       occupied-room = fit _ (inl refl);
       repeaters-room = fit _ (inr (inl refl));
@@ -57,7 +58,7 @@ long-enough R L e =
       previous-enough = fit _ (inr (inr (inr (inr (inr (inr (inr (inl refl))))))));
       path-enough = fit _ (inr (inr (inr (inr (inr (inr (inr (inr (inl refl)))))))));
       best-room = fit _ (inr (inr (inr (inr (inr (inr (inr (inr (inr (inl refl))))))))));
-      places-some = leb-true 1 (L .queue / 2) (and-right all (leb 1 (L .queue / 2)) e);
+      places-some = leb-true 1 (placesIn (L .queue)) (and-right all (leb 1 (placesIn (L .queue))) e);
     }
 
 module _ {sheet : List ℕ} {job : Job} {B : Lent} (A : Lendable sheet job B) where

@@ -4,7 +4,7 @@ use mathlib.Core.List.{List, [], _∷_, _++_, map}
 use Prim.Native.Nat.{ℕ, zero, suc, _-_, _≤_, _<_}
 use native.Mathlib.Omega.{arith}
 use lib.Dec.{eqb}
-use lib.ListN.{length, getD, drop, replicate, length-map, take-append-drop, List·getD-append, List·getD-map}
+use lib.ListN.{length, getD, drop, replicate, length-map, take-append-drop}
 use lib.Seq.{ext-getD}
 use Rattle.basics.specs.Tests.{askLess}
 use Rattle.basics.specs.Zeros.{drop-zeros, zeros}
@@ -17,6 +17,7 @@ use Rattle.job_sheet.specs.Sheet.{maxSinks}
 use Rattle.ends.specs.declared.Taps.{Taps}
 use Rattle.branches.specs.declared.BranchLengths.{BranchLengths}
 use Rattle.branches.specs.Branches.{branchLengths, markedCount}
+use Rattle.branches.specs.BranchLaws.{lengths-theirs}
 use Rattle.multinet.specs.declared.Stop.{Stop}
 use Rattle.multinet.specs.declared.Stop.the-variants.{QueueFull, NoGoal, BufferFull}
 use Rattle.multinet.specs.declared.GrowthEnd.{GrowthEnd}
@@ -32,9 +33,6 @@ use Rattle.net_tree.specs.Answers.{Lent, refused, outcomeOf, answerOf}
 use Rattle.net_tree.specs.Entry.{Harvestable, Harvested, Growable, TreeGrown, refusedBy, Gatherable, Gathered, ended-early, in-whole}
 
 -- ---- lists
-
-map-at : (bs : List (List ℕ)) (tail : List ℕ) (i : ℕ) → i < length bs → getD (map length bs ++ tail) i 0 ≡ length (getD bs i [])
-map-at bs tail i h = List·getD-append (map length bs) tail 0 i (rw (length-map bs length) h) ∙ List·getD-map length bs i []
 
 behind-map : (bs : List (List ℕ)) (n i : ℕ) → length bs ≤ i → _≡_ {A = ℕ} (getD (map length bs ++ replicate n 0) i 0) 0
 behind-map [] n i h = zeros n i
@@ -135,7 +133,7 @@ module _ {P : Plot} {B : Lent} (A : Growable P B) where
           each-are =
               ext-getD 0 (g .lengths .each) (map length bs ++ replicate (maxSinks - length bs) 0) (all-in .each-long ∙ sym wide)
               (λ i h. askLess i (length bs)
-              (λ q. all-in .lengths-are .each-is i q ∙ sym (map-at bs (replicate (maxSinks - length bs) 0) i q))
+              (λ q. all-in .lengths-are .each-is i q ∙ sym (lengths-theirs bs .each-is i q))
               (λ q. all-in .each-none i (omega (arith, q, all-in .sprouted .count-is)) ∙ sym (behind-map bs (maxSinks - length bs) i q)))
 
       branches-are : branches ≡ filled (joined bs) (B .branches)

@@ -2,7 +2,7 @@
 use mathlib.Core.Path.{_≡_, refl, sym, ap, subst, _∙_}
 use mathlib.Core.Bool.{true, false}
 use mathlib.Core.List.{List}
-use Prim.Native.Nat.{ℕ, _/_, _<_}
+use Prim.Native.Nat.{ℕ, _<_}
 use native.Mathlib.Omega.{arith}
 use lib.ListN.{length, getD, length-replicate}
 use Rattle.basics.specs.Tests.{never}
@@ -24,6 +24,7 @@ use Rattle.outset.specs.declared.Outset.{Outset}
 use Rattle.outset.specs.Outset.{blockedAtOutset}
 use Rattle.outset.specs.SetOut.{readyBy, ready, numberBy, detailBy, OutsetAsked, OutsetOf, SetOut}
 use Rattle.outset.specs.SetOutLaws.{ready-placed, same-ends, sinks-in, good-room, sinks-within, good-ends}
+use Rattle.room_search.specs.Routing.{placesIn}
 use Rattle.multinet.specs.Tree.{Plot, growthOf}
 use Rattle.multinet.specs.Growing.{Near, SoundPlot}
 use Rattle.multinet.specs.NearLaws.{taps-near}
@@ -91,7 +92,7 @@ module _ {sheet : List ℕ} {job : Job} (A : Accepted sheet job) {O : Outset} {k
       room = job .room;
       config = job .config;
       kinds = kinds;
-      places = L .queue / 2;
+      places = placesIn (L .queue);
       buffer = L .branches;
       source = O .ends .source;
       taps = O .ends .taps;
@@ -102,13 +103,13 @@ module _ {sheet : List ℕ} {job : Job} (A : Accepted sheet job) {O : Outset} {k
       room = sym (use-of .room-is) i;
       config = sym (use-of .config-is) i;
       kinds = kinds;
-      places = L .queue / 2;
+      places = placesIn (L .queue);
       buffer = L .branches;
       source = O .ends .source;
       taps = O .ends .taps;
     }
 
-    job-sound : 0 < L .queue / 2 → SoundPlot jobPlot
+    job-sound : 0 < placesIn (L .queue) → SoundPlot jobPlot
     job-sound h = record { good = good-room A; config-good = use-of .config-good; kinds-long = kinds-long; places-some = h; net = good-ends A (O .placement) ends-are r; near = near }
 
     told-outcome : jobOutcome told L O kinds blocked ≡ outcomeOf jobPlot (growthOf jobPlot blocked)

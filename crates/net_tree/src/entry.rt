@@ -209,7 +209,7 @@ pub fn route_net_tree(
     if !judgement.is_good() {
         return refuse(judgement.number(), 0);
     }
-    let lengths = Lengths {
+    let lent_lengths = Lengths {
         branches: branches.len(),
         occupied: occupied.len(),
         repeaters: repeaters.len(),
@@ -224,7 +224,7 @@ pub fn route_net_tree(
         queue: queue.len(),
     };
     let job = reading.job;
-    if !lent_enough(job.room, lengths) {
+    if !lent_enough(job.room, lent_lengths) {
         return refuse(6, 0);
     }
     route_lent(

@@ -3,7 +3,7 @@ use mathlib.Core.Path.{_≡_, refl, sym, ap}
 use mathlib.Core.Logic.{_⊎_, inl, inr, _≢_}
 use mathlib.Core.Bool.{true}
 use mathlib.Core.List.{List}
-use Prim.Native.Nat.{ℕ, _+_, _/_, _^_, _≤_, _<_}
+use Prim.Native.Nat.{ℕ, _+_, _^_, _≤_, _<_}
 use native.Mathlib.Numerals.{add-one}
 use native.Mathlib.Omega.{arith}
 use lib.ListN.{length, getD, set}
@@ -15,6 +15,7 @@ use Rattle.room_search.specs.declared.Line.{Line}
 use Rattle.room_search.specs.declared.MovesTried.the-variants.{On, Full}
 use Rattle.room_search.specs.Held.{packed, held}
 use Rattle.room_search.specs.HeldLaws.{pushed-entries, length-entries}
+use Rattle.room_search.specs.Routing.{placesIn}
 use Rattle.room_search.specs.TriedMoves.{placesOf, HeapReady, Offered}
 
 module _ (u v c estimate : ℕ) (known previous queue : List ℕ) (line : Line) (R : HeapReady queue line) where
@@ -44,7 +45,7 @@ module _ (u v c estimate : ℕ) (known previous queue : List ℕ) (line : Line) 
         → Offered u v c estimate known previous queue line (On (record { waiting = line .waiting + 1; serial = line .serial + 1 })) (set known v (c + 1)) (set previous v (u + 1)) queue′
     unfolding held push
     offer-pushed queue′ r s w l P = record {
-      readied = (record { heap = rw (add-one (line .waiting)) (P .order); fits = omega (arith, ap (λ (n : ℕ). n / 2) l) }, omega arith);
+      readied = (record { heap = rw (add-one (line .waiting)) (P .order); fits = omega (arith, ap placesIn l) }, omega arith);
       goes = λ A m ms e f g q p T.
           trying-push (A .sound) T (rw (f, g) is-lower) (omega (arith, p, length-entries queue (line .waiting))) _ (record {
             known = rw (f, g, add-one);

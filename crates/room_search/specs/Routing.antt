@@ -2,7 +2,7 @@
 -- `bestFirst` over that graph. Definitions alone.
 use mathlib.Core.Bool.{Bool, true, false, _||_}
 use mathlib.Core.List.{List, [], _∷_, _++_}
-use Prim.Native.Nat.{ℕ, _+_, _*_}
+use Prim.Native.Nat.{ℕ, _+_, _*_, _/_}
 use lib.Dec.{eqb}
 use lib.ListN.{getD}
 use Rattle.basics.specs.Tests.{either}
@@ -15,6 +15,10 @@ use Rattle.room.specs.Room.{volume, moves, neighbour, beneath, distance, flat}
 use Rattle.room.specs.Units.{air, solid, transparent, redstoneWire, redstoneBlock}
 use Rattle.best_first.specs.Search
 use Rattle.best_first.specs.Search.{Graph, Answer, bestFirst}
+
+-- a queue of so many numbers holds half as many places: two numbers a place
+abbrev pub placesIn : ℕ → ℕ
+placesIn longs = longs / 2
 
 -- What one search is over: a room, what steps cost in it and how many cells may be expanded, the kind of each cell (one for each
 -- number below V), the two ends, and the places of the queue

@@ -1,7 +1,7 @@
 -- The takings one after another: the invariant of the search's loop, its beginning and its ends.
 use mathlib.Core.Path.{_≡_, refl, sym, ap, _∙_}
 use mathlib.Core.List.{List, [], _∷_}
-use Prim.Native.Nat.{ℕ, _+_, _-_, _*_, _/_, _≤_, _<_, _^_}
+use Prim.Native.Nat.{ℕ, _+_, _-_, _*_, _≤_, _<_, _^_}
 use native.Mathlib.Nat.{mul-le-mul}
 use native.Mathlib.Omega.{arith}
 use lib.ListN.{length, getD, set, replicate}
@@ -20,7 +20,7 @@ use Rattle.room_search.specs.declared.Line.{Line}
 use Rattle.room_search.specs.declared.Spot.{Spot}
 use Rattle.room_search.specs.declared.Outcome.{Outcome}
 use Rattle.room_search.specs.declared.AfterTaking.the-variants.{GoesOn, Ended}
-use Rattle.room_search.specs.Routing.{estimateOf, graphOf}
+use Rattle.room_search.specs.Routing.{placesIn, estimateOf, graphOf}
 use Rattle.room_search.specs.Held.{entriesIn, held}
 use Rattle.room_search.specs.HeldLaws.{pushed-entries}
 use Rattle.room_search.specs.GraphLaws.{dearest, sound, dearest-most}
@@ -74,7 +74,7 @@ running-first {R} {C} {classes} {known} {previous} {queue₀} {start} {goal} F q
 }
   where
     some : 1 ≤ placesOf queue
-    some = omega (arith, F .places-some, ap (λ (n : ℕ). n / 2) same)
+    some = omega (arith, F .places-some, ap placesIn same)
 
     first : Same (record { key = estimateOf (distanceAt (start .at) (goal .at)); serial = 0; cell = start .cell } ∷ []) (entriesIn queue 1)
     first =

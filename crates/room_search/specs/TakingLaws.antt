@@ -2,7 +2,7 @@
 use mathlib.Core.Path.{_≡_, sym, ap, _∙_}
 use mathlib.Core.Logic.{_≢_}
 use mathlib.Core.List.{List, [], _++_, append-nil}
-use Prim.Native.Nat.{ℕ, suc, _+_, _-_, _/_, _≤_, _<_, _^_}
+use Prim.Native.Nat.{ℕ, suc, _+_, _-_, _≤_, _<_, _^_}
 use native.Mathlib.Numerals.{add-one, sub-one}
 use native.Mathlib.Omega.{arith}
 use lib.ListN.{length, getD}
@@ -20,7 +20,7 @@ use Rattle.room_search.specs.declared.Spot.{Spot}
 use Rattle.room_search.specs.declared.MovesTried.the-variants.{On, Full}
 use Rattle.room_search.specs.declared.Outcome.the-variants.{Arrived, LimitPassed, QueueFull}
 use Rattle.room_search.specs.declared.AfterTaking.the-variants.{GoesOn, Ended}
-use Rattle.room_search.specs.Routing.{movesBy, graphOf}
+use Rattle.room_search.specs.Routing.{placesIn, movesBy, graphOf}
 use Rattle.room_search.specs.Held.{entriesIn, held}
 use Rattle.room_search.specs.HeldLaws.{takenEntry, taken-entries}
 use Rattle.room_search.specs.GraphLaws.{dearest, sound}
@@ -58,7 +58,7 @@ module _ (R : Room) (C : RouterConfig) (classes known previous queue : List ℕ)
     from-placed = P;
     cost-most = omega (arith, T .costs cell);
     serial-most = T .serial-most;
-    ready = record { heap = K .order; fits = omega (arith, T .ready .fits, ap (λ (n : ℕ). n / 2) same) };
+    ready = record { heap = K .order; fits = omega (arith, T .ready .fits, ap placesIn same) };
   }
 
   pub taking-goal : cell ≡ goal .cell → TakingCame R C classes known previous queue line expanded goal (Ended (Arrived (record { 0 = expanded }))) known previous queue′
@@ -103,7 +103,7 @@ module _ (R : Room) (C : RouterConfig) (classes known previous queue : List ℕ)
         unfolding expansion held
         fitting = record {
           start = start;
-          graph-is = ap (λ (p : ℕ). graphOf R C (λ v. getD classes v 0) start (goal .cell) p) (ap (λ (n : ℕ). n / 2) (sym same));
+          graph-is = ap (λ (p : ℕ). graphOf R C (λ v. getD classes v 0) start (goal .cell) p) (ap placesIn (sym same));
           cell-is = sym here;
           cost-is = sym (sub-one (getD known cell 0));
         }

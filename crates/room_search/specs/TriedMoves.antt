@@ -2,7 +2,7 @@
 -- moves goes on from the slices as they were to the slices as they are.
 use mathlib.Core.Path.{_≡_}
 use mathlib.Core.List.{List, [], _∷_, _++_}
-use Prim.Native.Nat.{ℕ, _+_, _/_, _^_, _≤_, _<_}
+use Prim.Native.Nat.{ℕ, _+_, _^_, _≤_, _<_}
 use lib.ListN.{length, getD}
 use Rattle.room.specs.declared.Room.{Room}
 use Rattle.room.specs.declared.Move.{Move}
@@ -18,12 +18,12 @@ use Rattle.room_search.specs.declared.Line.{Line}
 use Rattle.room_search.specs.declared.Spot.{Spot}
 use Rattle.room_search.specs.declared.MovesTried.{MovesTried}
 use Rattle.room_search.specs.declared.MovesTried.the-variants.{On, Full}
-use Rattle.room_search.specs.Routing.{movesBy, graphOf}
+use Rattle.room_search.specs.Routing.{placesIn, movesBy, graphOf}
 use Rattle.room_search.specs.Held.{held}
 
--- two numbers a place
+-- the places of a queue
 abbrev pub placesOf : List ℕ → ℕ
-placesOf queue = length queue / 2
+placesOf queue = placesIn (length queue)
 
 -- no known cost is higher: 16,383 times the dearest step with a new support
 abbrev pub maxKnown : ℕ

@@ -3,7 +3,7 @@
 use mathlib.Core.Path.{_≡_}
 use mathlib.Core.Bool.{Bool, _&&_}
 use mathlib.Core.List.{List, []}
-use Prim.Native.Nat.{ℕ, _/_}
+use Prim.Native.Nat.{ℕ}
 use lib.Dec.{leb, ltb, eqb}
 use lib.ListN.{length}
 use Rattle.basics.specs.Tests.{either}
@@ -21,9 +21,9 @@ use Rattle.routing.specs.declared.Refusal.the-variants.{Sides, Config, B
 use Rattle.routing.specs.declared.Lengths.{Lengths}
 use Rattle.routing.specs.declared.Judgement.{Judgement}
 use Rattle.routing.specs.declared.Judgement.the-variants.{Fit, Unfit}
-use Rattle.room_search.specs.Routing.{Task, routeable, searched}
+use Rattle.room_search.specs.Routing.{Task, placesIn, routeable, searched}
 
--- what is handed over; of the lent buffers only their lengths count. A place of the queue takes two numbers
+-- what is handed over; of the lent buffers only their lengths count
 pub record Input : Type 0 where
   pub room : Room
   pub config : RouterConfig
@@ -32,15 +32,19 @@ pub record Input : Type 0 where
   pub goal : ℕ
   pub lengths : Lengths
 
+-- a search between two ends, with so many places in its queue
+abbrev pub taskIn : Room → RouterConfig → List ℕ → ℕ → ℕ → ℕ → Task
+taskIn R C kinds start goal places = record { room = R; config = C; kinds = kinds; start = start; goal = goal; places = places }
+
 -- the task that is searched
 abbrev pub taskOf : Input → Task
-taskOf I = record { room = I .room; config = I .config; kinds = I .kinds; start = I .start; goal = I .goal; places = I .lengths .queue / 2 }
+taskOf I = taskIn (I .room) (I .config) (I .kinds) (I .start) (I .goal) (placesIn (I .lengths .queue))
 
 -- number 6: "kinds not exactly V, an output or work buffer under V (branch buffer and queue exempt), queue of length 0"
 unfoldable pub buffersGood : Room → List ℕ → Lengths → Bool
 buffersGood R kinds L =
     eqb (length kinds) (volume R)
-    && (leb (volume R) (L .path) && (leb (volume R) (L .known) && (leb (volume R) (L .previous) && (leb (volume R) (L .classes) && leb 1 (L .queue / 2)))))
+    && (leb (volume R) (L .path) && (leb (volume R) (L .known) && (leb (volume R) (L .previous) && (leb (volume R) (L .classes) && leb 1 (placesIn (L .queue))))))
 
 -- number 4: "a search's ends are cell numbers, outside when V or more"
 unfoldable pub endsInside : Room → ℕ → ℕ → Bool

@@ -2,7 +2,7 @@
 use mathlib.Core.Path.{_≡_}
 use mathlib.Core.Bool.{true}
 use mathlib.Core.List.{List, [], _++_}
-use Prim.Native.Nat.{ℕ, _/_, _≤_, _<_, pred}
+use Prim.Native.Nat.{ℕ, _≤_, _<_, pred}
 use lib.ListN.{length, getD, drop}
 use Rattle.room.specs.declared.Room.{Room}
 use Rattle.room.specs.declared.RouterConfig.{RouterConfig}
@@ -19,14 +19,9 @@ use Rattle.routing.specs.declared.Route.{Route}
 use Rattle.routing.specs.declared.EndsFit.{EndsFit}
 use Rattle.routing.specs.declared.EndsFit.the-variants.{Good as EndsGood, Bad as EndsBad}
 use Rattle.routing.specs.declared.Answer.{Answer}
-use Rattle.room_search.specs.Routing.{Task, routeableKind, graph, searched}
-use Rattle.room_search.specs.TriedMoves.{placesOf}
+use Rattle.room_search.specs.Routing.{Task, placesIn, routeableKind, graph, searched}
 use Rattle.room_search.specs.Takings.{OutcomeTold, Searchable}
 use Rattle.routing.specs.Answers.{answered, cellsOf}
-
--- the task of a search over that queue
-abbrev pub searchTask : Room → RouterConfig → List ℕ → ℕ → ℕ → List ℕ → Task
-searchTask R C kinds start goal queue = record { room = R; config = C; kinds = kinds; start = start; goal = goal; places = placesOf queue }
 
 -- what an input has that no number from 2 to 6 refuses, with work memory of exactly V cells
 pub record RoomSearchable (R : Room) (C : RouterConfig) (kinds : List ℕ) (start goal : ℕ) (known previous classes queue : List ℕ) : Type 0 where
@@ -65,7 +60,7 @@ pub record Admitted (R : Room) (C : RouterConfig) (kinds : List ℕ) (start goal
   pub known-enough : volume R ≤ L .known
   pub previous-enough : volume R ≤ L .previous
   pub classes-enough : volume R ≤ L .classes
-  pub places-some : 0 < L .queue / 2
+  pub places-some : 0 < placesIn (L .queue)
 
 -- a search's answer, its path in the cleared output, and all work memory cleared
 pub record Fitted (a : search.Answer) (path known previous classes queue : List ℕ) (r : Answer) (path′ known′ previous′ classes′ queue′ : List ℕ) : Type 0 where

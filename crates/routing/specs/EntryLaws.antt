@@ -19,15 +19,16 @@ use Rattle.room_search.specs.declared.Outcome.the-variants.{Arrived}
 use Rattle.room_search.specs.Routing.{Task, graphOf, searched}
 use Rattle.room_search.specs.Classes.{Plain, withEnd}
 use Rattle.room_search.specs.SameGraphLaws.{ends-length, ends-graph}
+use Rattle.room_search.specs.TriedMoves.{placesOf}
 use Rattle.room_search.specs.Takings.{SearchRan, spotOf, Searchable}
-use Rattle.routing.specs.Entry.{searchTask, SearchFound, RouteWritten, Admitted, RoomSearchable}
-use Rattle.routing.specs.Answers.{lengthsOf, answered, cellsOf}
+use Rattle.routing.specs.Entry.{SearchFound, RouteWritten, Admitted, RoomSearchable}
+use Rattle.routing.specs.Answers.{taskIn, lengthsOf, answered, cellsOf}
 
 -- with the classes filled in, the search can run; what it comes to is what the definition says
 module _ {R : Room} {C : RouterConfig} {kinds : List ℕ} {start goal : ℕ} {known previous classes₀ queue : List ℕ}
     (S : RoomSearchable R C kinds start goal known previous classes₀ queue) {classes : List ℕ} (P : Plain R kinds classes) where
   abbrev T : Task
-  T = searchTask R C kinds start goal queue
+  T = taskIn R C kinds start goal (placesOf queue)
 
   pub classed-searchable : Searchable R C (withEnd R kinds goal (withEnd R kinds start classes)) known previous queue start goal
   classed-searchable = record {

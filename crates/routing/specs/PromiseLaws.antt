@@ -2,7 +2,7 @@
 use mathlib.Core.Path.{_≡_, refl, sym, ap, _∙_}
 use mathlib.Core.Bool.{true, false, _&&_}
 use mathlib.Core.List.{List}
-use Prim.Native.Nat.{ℕ, _/_}
+use Prim.Native.Nat.{ℕ}
 use native.Mathlib.Nat.{sub-zero}
 use lib.Dec.{leb, ltb, eqb}
 use lib.ListN.{length, getD}
@@ -24,10 +24,11 @@ use Rattle.routing.specs.declared.Judgement.the-variants.{Fit, Unfit}
 use Rattle.routing.specs.declared.EndsFit.the-variants.{Good as EndsGood, Bad as EndsBad}
 use Rattle.routing.specs.declared.Answer.{Answer}
 use Rattle.routing.specs.declared.Answer.the-variants.{Refused, NotRouteable}
-use Rattle.room_search.specs.Routing.{routeableKind, routeable, searched}
+use Rattle.room_search.specs.Routing.{placesIn, routeableKind, routeable, searched}
+use Rattle.room_search.specs.TriedMoves.{placesOf}
 use Rattle.room_search.specs.SearchEndLaws.{start-is-end, goal-is-end}
-use Rattle.routing.specs.Answers.{Input, taskOf, buffersGood, endsInside, judged, answered, fitAnswer, answerOf, refusalNumber, numberOf, cellsOf, cellsFor, Promise, input, lengthsOf}
-use Rattle.routing.specs.Entry.{endsFit, Admitted, Fitted, searchTask}
+use Rattle.routing.specs.Answers.{Input, taskIn, taskOf, buffersGood, endsInside, judged, answered, fitAnswer, answerOf, refusalNumber, numberOf, cellsOf, cellsFor, Promise, input, lengthsOf}
+use Rattle.routing.specs.Entry.{endsFit, Admitted, Fitted}
 
 -- ---- an input that is judged fit
 
@@ -61,7 +62,7 @@ module _ {R : Room} {C : RouterConfig} {kinds : List ℕ} {start goal : ℕ} {L 
   admitted e =
       let p = fit-passed e in
       let b : (eqb (length kinds) (volume R)
-      && (leb (volume R) (L .path) && (leb (volume R) (L .known) && (leb (volume R) (L .previous) && (leb (volume R) (L .classes) && leb 1 (L .queue / 2)))))) ≡ true = p .buffers in
+      && (leb (volume R) (L .path) && (leb (volume R) (L .known) && (leb (volume R) (L .previous) && (leb (volume R) (L .classes) && leb 1 (placesIn (L .queue))))))) ≡ true = p .buffers in
       let i : (ltb start (volume R) && ltb goal (volume R)) ≡ true = p .ends in
       record {
         good = good R (p .sides);
@@ -159,7 +160,7 @@ module _ (R : Room) (C : RouterConfig) (kinds : List ℕ) (start goal : ℕ) (pa
 
     -- the defined search
     pub promise-searched : (r : Answer) {path′ known′ previous′ classes′ queue′ : List ℕ} → EndsGood ≡ endsFit kinds start goal
-        → Fitted (searched (searchTask R C kinds start goal queue)) path known previous classes queue r path′ known′ previous′ classes′ queue′
+        → Fitted (searched (taskIn R C kinds start goal (placesOf queue))) path known previous classes queue r path′ known′ previous′ classes′ queue′
         → Promise I path known previous classes queue r path′ known′ previous′ classes′ queue′
     promise-searched r e F =
         let is = both-free e in

@@ -6,9 +6,10 @@ ghost use Rattle.room_search.specs.Takings.{Showable};
 ghost use Rattle.lent.specs.Lent.{Cleared};
 ghost use Rattle.trace.specs.Traces.{PreviousInside};
 ghost use Rattle.room.specs.Room.{maxVolume};
-ghost use Rattle.routing.specs.Answers.{input, lengthsOf, Promise};
-ghost use Rattle.routing.specs.Entry.{RoomSearchable, SearchFound, searchTask, RouteShown, RouteWritten, endsFit, Admitted, Fitted};
+ghost use Rattle.routing.specs.Answers.{input, taskIn, lengthsOf, Promise};
+ghost use Rattle.routing.specs.Entry.{RoomSearchable, SearchFound, RouteShown, RouteWritten, endsFit, Admitted, Fitted};
 ghost use Rattle.room_search.specs.Routing.{searched};
+ghost use Rattle.room_search.specs.TriedMoves.{placesOf};
 use crate::Answer;
 use crate::EndsFit;
 use crate::Judgement;
@@ -38,7 +39,7 @@ fn search_room(
     queue: &mut [u64],
 ) -> Outcome
     requires { ⌜ RoomSearchable room config (now kinds) start goal (now known) (now previous) (now classes) (now queue) ⌝ }
-    ensures { λ r. ⌜ SearchFound (searchTask room config (now (kinds .entry)) start goal (now (queue .entry))) r (now (known .exit)) (now (previous .exit)) ⌝ }
+    ensures { λ r. ⌜ SearchFound (taskIn room config (now (kinds .entry)) start goal (placesOf (now (queue .entry)))) r (now (known .exit)) (now (previous .exit)) ⌝ }
 {
     fill_classes(room, kinds, classes);
     make_end(room, kinds, classes, start);
@@ -128,7 +129,7 @@ fn answer_fit(
     queue: &mut [u64],
 ) -> Answer
     requires { ⌜ Admitted room config (now kinds) start goal (lengthsOf (now path) (now known) (now previous) (now classes) (now queue)) ⌝ }
-    ensures { λ r. ⌜ Fitted (searched (searchTask room config (now (kinds .entry)) start goal (now (queue .entry)))) (now (path .entry)) (now (known .entry)) (now (previous .entry)) (now (classes .entry)) (now (queue .entry)) r (now (path .exit)) (now (known .exit)) (now (previous .exit)) (now (classes .exit)) (now (queue .exit)) ⌝ }
+    ensures { λ r. ⌜ Fitted (searched (taskIn room config (now (kinds .entry)) start goal (placesOf (now (queue .entry))))) (now (path .entry)) (now (known .entry)) (now (previous .entry)) (now (classes .entry)) (now (queue .entry)) r (now (path .exit)) (now (known .exit)) (now (previous .exit)) (now (classes .exit)) (now (queue .exit)) ⌝ }
 {
     let cells = room.volume();
     let outcome = search_room(

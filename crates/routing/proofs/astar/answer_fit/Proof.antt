@@ -2,12 +2,13 @@
 use native.Mathlib.Omega.{arith}
 use mathlib.Core.Path.{refl, sym, ap, _∙_}
 use lib.ListN.{length}
-use Rattle.routing.specs.Entry.{searchTask}
+use Rattle.routing.specs.Answers.{taskIn}
 use Rattle.routing.specs.EntryLaws.{again, again-length, emptied-whole, searchable}
 use borrow.Author.Needs.{needs}
 use Rattle.routing.proofs.astar.answer_fit.Statement.{statement}
 use Rattle.room_search.specs.TakeAllLaws.{told-showable}
 use Rattle.room_search.specs.Routing.{graphOf, graph, searched}
+use Rattle.room_search.specs.TriedMoves.{placesOf}
 use lib.Seq.{length-take-le}
 use Rattle.basics.specs.Zeros.{cleared-to}
 use Rattle.routing.proofs.astar.answer_fit.Tie as tie
@@ -53,7 +54,7 @@ slice-aggregate-answer-of-2 c = let s = c .before .before .before .before .befor
 
 answer-of-requires : tie.Need-answer-of-requires
 unfolding graphOf
-answer-of-requires c κs = let s = c .before .before .before .before .before .before .before .before .before .before .before .before .before .before .before .before .before .before .before .before .before .before .before .before .before .before .before in let a = s .args in let p = s .pre in let v = c .before .before .before .before .before .before .before .before .before .before .before .before .before .before .before .before .before .before .before .before .volume .result in let e = c .before .before .before .before .before .before .before .before .before .before .before .before .before .before .before .before .before .before .before .before .volume .ensures in let K = (c .before .before .before .before .before .before .before .before .before .before .before .before .before .before .before .search-room .last .1 .1 .1 .1 .1 .0) in let Q = (c .before .before .before .before .before .before .before .before .before .before .before .before .before .before .before .search-room .last .1 .1 .1 .1 .1 .1 .0) in let kk = again K (a .known .now) v (c .before .before .before .before .before .before .before .before .before .before .before .before .before .before .before .search-room .kept .1 .1 .1 .1 .1 .0) (rw e (p .known-enough)) in let qq = again Q (a .previous .now) v (c .before .before .before .before .before .before .before .before .before .before .before .before .before .before .before .search-room .kept .1 .1 .1 .1 .1 .1 .0) (rw e (p .previous-enough)) in let kl = (c .before .before .before .before .before .before .before .before .before .before .before .before .before .before .before .search-room .kept .1 .1 .1 .1 .1 .0) ∙ length-take-le v (a .known .now) (rw e (p .known-enough)) in let ql = (c .before .before .before .before .before .before .before .before .before .before .before .before .before .before .before .search-room .kept .1 .1 .1 .1 .1 .1 .0) ∙ length-take-le v (a .previous .now) (rw e (p .previous-enough)) in let F = c .before .before .before .before .before .before .before .before .before .before .before .before .before .before .before .search-room .ensures in let T = searchTask (a .room) (a .config) (a .kinds .now) (a .start) (a .goal) (a .queue .now) in let long = ap length qq ∙ ql in ((rw (long, e) (p .goal-in), rw (long, e) (p .good .few), ap length kk ∙ kl ∙ sym long, rw (long, e) (omega (arith, p .path-enough, c .before .before .before .before .before .clear-words .kept .0))), (cleared-to (sym (c .before .before .before .before .before .clear-words .kept .0)) (c .before .before .before .before .before .clear-words .ensures), rw (kk, qq) (told-showable (graph T) (searched T) (c .before .before .before .before .before .before .before .before .before .before .before .before .before .before .before .search-room .result) K Q (ql ∙ e) (F .told))))
+answer-of-requires c κs = let s = c .before .before .before .before .before .before .before .before .before .before .before .before .before .before .before .before .before .before .before .before .before .before .before .before .before .before .before in let a = s .args in let p = s .pre in let v = c .before .before .before .before .before .before .before .before .before .before .before .before .before .before .before .before .before .before .before .before .volume .result in let e = c .before .before .before .before .before .before .before .before .before .before .before .before .before .before .before .before .before .before .before .before .volume .ensures in let K = (c .before .before .before .before .before .before .before .before .before .before .before .before .before .before .before .search-room .last .1 .1 .1 .1 .1 .0) in let Q = (c .before .before .before .before .before .before .before .before .before .before .before .before .before .before .before .search-room .last .1 .1 .1 .1 .1 .1 .0) in let kk = again K (a .known .now) v (c .before .before .before .before .before .before .before .before .before .before .before .before .before .before .before .search-room .kept .1 .1 .1 .1 .1 .0) (rw e (p .known-enough)) in let qq = again Q (a .previous .now) v (c .before .before .before .before .before .before .before .before .before .before .before .before .before .before .before .search-room .kept .1 .1 .1 .1 .1 .1 .0) (rw e (p .previous-enough)) in let kl = (c .before .before .before .before .before .before .before .before .before .before .before .before .before .before .before .search-room .kept .1 .1 .1 .1 .1 .0) ∙ length-take-le v (a .known .now) (rw e (p .known-enough)) in let ql = (c .before .before .before .before .before .before .before .before .before .before .before .before .before .before .before .search-room .kept .1 .1 .1 .1 .1 .1 .0) ∙ length-take-le v (a .previous .now) (rw e (p .previous-enough)) in let F = c .before .before .before .before .before .before .before .before .before .before .before .before .before .before .before .search-room .ensures in let T = taskIn (a .room) (a .config) (a .kinds .now) (a .start) (a .goal) (placesOf (a .queue .now)) in let long = ap length qq ∙ ql in ((rw (long, e) (p .goal-in), rw (long, e) (p .good .few), ap length kk ∙ kl ∙ sym long, rw (long, e) (omega (arith, p .path-enough, c .before .before .before .before .before .clear-words .kept .0))), (cleared-to (sym (c .before .before .before .before .before .clear-words .kept .0)) (c .before .before .before .before .before .clear-words .ensures), rw (kk, qq) (told-showable (graph T) (searched T) (c .before .before .before .before .before .before .before .before .before .before .before .before .before .before .before .search-room .result) K Q (ql ∙ e) (F .told))))
 
 clear-work-requires : tie.Need-clear-work-requires
 clear-work-requires c κs = search needs
@@ -74,7 +75,7 @@ same-length-5 : tie.Need-same-length-5
 same-length-5 c = search needs
 
 returns : tie.Need-returns
-returns c = let s = c .before .before .before .before .before .before .before .before .before .before .before .before .before .before .before .before .before .before .before .before .before .before .before .before .before .before .before .before .before .before .before .before .before .before .before .before .before .before .before .before .before .before .before in let a = s .args in let p = s .pre in let v = c .before .before .before .before .before .before .before .before .before .before .before .before .before .before .before .before .before .before .before .before .before .before .before .before .before .before .before .before .before .before .before .before .before .before .before .before .volume .result in let e = c .before .before .before .before .before .before .before .before .before .before .before .before .before .before .before .before .before .before .before .before .before .before .before .before .before .before .before .before .before .before .before .before .before .before .before .before .volume .ensures in let K = (c .before .before .before .before .before .before .before .before .before .before .before .before .before .before .before .before .before .before .before .before .before .before .before .before .before .before .before .before .before .before .before .search-room .last .1 .1 .1 .1 .1 .0) in let Q = (c .before .before .before .before .before .before .before .before .before .before .before .before .before .before .before .before .before .before .before .before .before .before .before .before .before .before .before .before .before .before .before .search-room .last .1 .1 .1 .1 .1 .1 .0) in let kk = again K (a .known .now) v (c .before .before .before .before .before .before .before .before .before .before .before .before .before .before .before .before .before .before .before .before .before .before .before .before .before .before .before .before .before .before .before .search-room .kept .1 .1 .1 .1 .1 .0) (rw e (p .known-enough)) in let qq = again Q (a .previous .now) v (c .before .before .before .before .before .before .before .before .before .before .before .before .before .before .before .before .before .before .before .before .before .before .before .before .before .before .before .before .before .before .before .search-room .kept .1 .1 .1 .1 .1 .1 .0) (rw e (p .previous-enough)) in let kl = (c .before .before .before .before .before .before .before .before .before .before .before .before .before .before .before .before .before .before .before .before .before .before .before .before .before .before .before .before .before .before .before .search-room .kept .1 .1 .1 .1 .1 .0) ∙ length-take-le v (a .known .now) (rw e (p .known-enough)) in let ql = (c .before .before .before .before .before .before .before .before .before .before .before .before .before .before .before .before .before .before .before .before .before .before .before .before .before .before .before .before .before .before .before .search-room .kept .1 .1 .1 .1 .1 .1 .0) ∙ length-take-le v (a .previous .now) (rw e (p .previous-enough)) in let F = c .before .before .before .before .before .before .before .before .before .before .before .before .before .before .before .before .before .before .before .before .before .before .before .before .before .before .before .before .before .before .before .search-room .ensures in let T = searchTask (a .room) (a .config) (a .kinds .now) (a .start) (a .goal) (a .queue .now) in let S = c .before .before .before .before .before .before .before .before .before .before .before .before .before .before .before .answer-of .ensures .shows T (sym (ap length qq ∙ ql ∙ e)) refl (rw (kk, qq) F) in record { answer = S .0; path-is = rw (c .before .before .before .before .before .before .before .before .before .before .before .before .before .before .before .before .before .before .before .before .before .clear-words .kept .0) at (S .1); known-is = emptied-whole (c .before .before .before .before .before .before .before .before .before .before .before .before .before .before .before .before .before .before .before .before .before .before .before .before .before .before .before .before .before .before .before .search-room .last .1 .1 .1 .1 .1 .0) (a .known .now) v (c .before .before .before .before .before .before .before .before .before .before .before .before .before .before .before .before .before .before .before .before .before .before .before .before .before .before .before .before .before .before .before .search-room .kept .1 .1 .1 .1 .1 .0) _ (c .before .before .before .before .before .before .before .before .clear-work .ensures .0); previous-is = emptied-whole (c .before .before .before .before .before .before .before .before .before .before .before .before .before .before .before .before .before .before .before .before .before .before .before .before .before .before .before .before .before .before .before .search-room .last .1 .1 .1 .1 .1 .1 .0) (a .previous .now) v (c .before .before .before .before .before .before .before .before .before .before .before .before .before .before .before .before .before .before .before .before .before .before .before .before .before .before .before .before .before .before .before .search-room .kept .1 .1 .1 .1 .1 .1 .0) _ (c .before .before .before .before .before .before .before .before .clear-work .ensures .1); classes-is = emptied-whole (c .before .before .before .before .before .before .before .before .before .before .before .before .before .before .before .before .before .before .before .before .before .before .before .before .before .before .before .before .before .before .before .search-room .last .1 .1 .1 .1 .1 .1 .1 .0) (a .classes .now) v (c .before .before .before .before .before .before .before .before .before .before .before .before .before .before .before .before .before .before .before .before .before .before .before .before .before .before .before .before .before .before .before .search-room .kept .1 .1 .1 .1 .1 .1 .1 .0) _ (c .before .before .before .before .before .before .before .before .clear-work .ensures .2); queue-is = cleared-to (c .before .before .before .before .before .before .before .before .before .before .before .before .before .before .before .before .before .before .before .before .before .before .before .before .before .before .before .before .before .before .before .search-room .kept .1 .1 .1 .1 .1 .1 .1 .1 .0) (c .before .before .before .before .before .before .before .before .clear-work .ensures .3) }
+returns c = let s = c .before .before .before .before .before .before .before .before .before .before .before .before .before .before .before .before .before .before .before .before .before .before .before .before .before .before .before .before .before .before .before .before .before .before .before .before .before .before .before .before .before .before .before in let a = s .args in let p = s .pre in let v = c .before .before .before .before .before .before .before .before .before .before .before .before .before .before .before .before .before .before .before .before .before .before .before .before .before .before .before .before .before .before .before .before .before .before .before .before .volume .result in let e = c .before .before .before .before .before .before .before .before .before .before .before .before .before .before .before .before .before .before .before .before .before .before .before .before .before .before .before .before .before .before .before .before .before .before .before .before .volume .ensures in let K = (c .before .before .before .before .before .before .before .before .before .before .before .before .before .before .before .before .before .before .before .before .before .before .before .before .before .before .before .before .before .before .before .search-room .last .1 .1 .1 .1 .1 .0) in let Q = (c .before .before .before .before .before .before .before .before .before .before .before .before .before .before .before .before .before .before .before .before .before .before .before .before .before .before .before .before .before .before .before .search-room .last .1 .1 .1 .1 .1 .1 .0) in let kk = again K (a .known .now) v (c .before .before .before .before .before .before .before .before .before .before .before .before .before .before .before .before .before .before .before .before .before .before .before .before .before .before .before .before .before .before .before .search-room .kept .1 .1 .1 .1 .1 .0) (rw e (p .known-enough)) in let qq = again Q (a .previous .now) v (c .before .before .before .before .before .before .before .before .before .before .before .before .before .before .before .before .before .before .before .before .before .before .before .before .before .before .before .before .before .before .before .search-room .kept .1 .1 .1 .1 .1 .1 .0) (rw e (p .previous-enough)) in let kl = (c .before .before .before .before .before .before .before .before .before .before .before .before .before .before .before .before .before .before .before .before .before .before .before .before .before .before .before .before .before .before .before .search-room .kept .1 .1 .1 .1 .1 .0) ∙ length-take-le v (a .known .now) (rw e (p .known-enough)) in let ql = (c .before .before .before .before .before .before .before .before .before .before .before .before .before .before .before .before .before .before .before .before .before .before .before .before .before .before .before .before .before .before .before .search-room .kept .1 .1 .1 .1 .1 .1 .0) ∙ length-take-le v (a .previous .now) (rw e (p .previous-enough)) in let F = c .before .before .before .before .before .before .before .before .before .before .before .before .before .before .before .before .before .before .before .before .before .before .before .before .before .before .before .before .before .before .before .search-room .ensures in let T = taskIn (a .room) (a .config) (a .kinds .now) (a .start) (a .goal) (placesOf (a .queue .now)) in let S = c .before .before .before .before .before .before .before .before .before .before .before .before .before .before .before .answer-of .ensures .shows T (sym (ap length qq ∙ ql ∙ e)) refl (rw (kk, qq) F) in record { answer = S .0; path-is = rw (c .before .before .before .before .before .before .before .before .before .before .before .before .before .before .before .before .before .before .before .before .before .clear-words .kept .0) at (S .1); known-is = emptied-whole (c .before .before .before .before .before .before .before .before .before .before .before .before .before .before .before .before .before .before .before .before .before .before .before .before .before .before .before .before .before .before .before .search-room .last .1 .1 .1 .1 .1 .0) (a .known .now) v (c .before .before .before .before .before .before .before .before .before .before .before .before .before .before .before .before .before .before .before .before .before .before .before .before .before .before .before .before .before .before .before .search-room .kept .1 .1 .1 .1 .1 .0) _ (c .before .before .before .before .before .before .before .before .clear-work .ensures .0); previous-is = emptied-whole (c .before .before .before .before .before .before .before .before .before .before .before .before .before .before .before .before .before .before .before .before .before .before .before .before .before .before .before .before .before .before .before .search-room .last .1 .1 .1 .1 .1 .1 .0) (a .previous .now) v (c .before .before .before .before .before .before .before .before .before .before .before .before .before .before .before .before .before .before .before .before .before .before .before .before .before .before .before .before .before .before .before .search-room .kept .1 .1 .1 .1 .1 .1 .0) _ (c .before .before .before .before .before .before .before .before .clear-work .ensures .1); classes-is = emptied-whole (c .before .before .before .before .before .before .before .before .before .before .before .before .before .before .before .before .before .before .before .before .before .before .before .before .before .before .before .before .before .before .before .search-room .last .1 .1 .1 .1 .1 .1 .1 .0) (a .classes .now) v (c .before .before .before .before .before .before .before .before .before .before .before .before .before .before .before .before .before .before .before .before .before .before .before .before .before .before .before .before .before .before .before .search-room .kept .1 .1 .1 .1 .1 .1 .1 .0) _ (c .before .before .before .before .before .before .before .before .clear-work .ensures .2); queue-is = cleared-to (c .before .before .before .before .before .before .before .before .before .before .before .before .before .before .before .before .before .before .before .before .before .before .before .before .before .before .before .before .before .before .before .search-room .kept .1 .1 .1 .1 .1 .1 .1 .1 .0) (c .before .before .before .before .before .before .before .before .clear-work .ensures .3) }
 
 pub answer-fit-spec : {M : Type 1} → statement M
 answer-fit-spec =
