@@ -4,10 +4,11 @@ use mathlib.Core.List.{List, _++_}
 use Prim.Native.Nat.{ℕ, _+_, _-_, _≤_, _<_}
 use native.Mathlib.Omega.{arith}
 use lib.ListN.{length, take, drop, getD, drop-of-length-le}
-use lib.Seq.{drop-drop, getD-take, length-take-le}
+use lib.Seq.{drop-drop, getD-take}
 use Rattle.basics.specs.Lists.{drop-next}
 use Rattle.branches.specs.declared.BranchLengths.{BranchLengths}
 use Rattle.branches.specs.Branches.{sum, lengthsIn, cutInto, branchesOf, Branched}
+use Rattle.branches.specs.BranchLaws.{lengths-count}
 use Rattle.route.specs.Lines.{netLine, branchLine, branchLines, repeatersLine, treeText}
 use Rattle.route.specs.Marked.{marked}
 use Rattle.route.specs.Putting.{Put, Fits, PutSoFar}
@@ -47,8 +48,8 @@ module _ {out : List ℕ} {at : ℕ} {whole cells lengths : List ℕ} where
 
 -- the lengths of the branches
 module _ {cells : List ℕ} {lengths : BranchLengths} (B : Branched lengths cells) where
-  pub lengths-count : length (lengthsIn lengths) ≡ lengths .count
-  lengths-count = length-take-le (lengths .count) (lengths .each) (omega (arith, B .few, B .whole))
+  pub branched-count : length (lengthsIn lengths) ≡ lengths .count
+  branched-count = lengths-count lengths (omega (arith, B .few, B .whole))
 
   pub length-at : (k : ℕ) → k < lengths .count → getD (lengths .each) k 0 ≡ getD (lengthsIn lengths) k 0
   length-at k h = sym (getD-take (lengths .count) (lengths .each) k 0 h)

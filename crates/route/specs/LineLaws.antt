@@ -10,7 +10,7 @@ use borrow.Author.Tests.{lt-ltb, le-ltb, eq-eqb, ne-eqb}
 use Rattle.basics.specs.Tests.{askLess, never}
 use Rattle.basics.specs.Lists.{drop-next}
 use Rattle.io.specs.Digits.{digits, glyph, Fewest}
-use Rattle.route.specs.Lines.{decimalWithin, decimal, number, numbers, line}
+use Rattle.route.specs.Lines.{decimalWithin, decimal, spaced, spacedAll, line}
 use Rattle.route.specs.Putting.{Put, Fits, PutSoFar}
 use Rattle.route.specs.PutLaws.{both, then-fits, first-fits, putting-on, putting-done, putting-fits}
 use Rattle.route.specs.Marked.{ifMarked, markedFrom}
@@ -55,45 +55,45 @@ written-decimal k n text h f e = e ∙ fewest-decimal 20 k n (few-digits k n h f
 
 -- a number: a space, then its digits
 module _ (n : ℕ) {out : List ℕ} {at : ℕ} {out1 : List ℕ} {e1 : ℕ} (p : Put out at (32 ∷ []) out1 e1) {text : List ℕ} (e : text ≡ decimal n) where
-  pub digits-fit : Fits out at (number n) → Fits out1 e1 text
+  pub digits-fit : Fits out at (spaced n) → Fits out1 e1 text
   digits-fit f = rw e (then-fits p f)
 
-  pub number-put : {out2 : List ℕ} {e2 : ℕ} → Put out1 e1 text out2 e2 → Put out at (number n) out2 e2
-  number-put q = both p (rw e at q)
+  pub spaced-put : {out2 : List ℕ} {e2 : ℕ} → Put out1 e1 text out2 e2 → Put out at (spaced n) out2 e2
+  spaced-put q = both p (rw e at q)
 
 -- ---- lines of pieces
 
 -- a word and a list of numbers
 module _ (word ns : List ℕ) {out : List ℕ} {at : ℕ} {out1 : List ℕ} {e1 : ℕ} (p : Put out at word out1 e1) where
-  pub listed-fit : Fits out at (line word ns) → Fits out1 e1 (numbers ns)
+  pub listed-fit : Fits out at (line word ns) → Fits out1 e1 (spacedAll ns)
   listed-fit f = first-fits (10 ∷ []) (then-fits p f)
 
-  pub line-end-fits : {out2 : List ℕ} {e2 : ℕ} → Fits out at (line word ns) → Put out1 e1 (numbers ns) out2 e2 → Fits out2 e2 (10 ∷ [])
+  pub line-end-fits : {out2 : List ℕ} {e2 : ℕ} → Fits out at (line word ns) → Put out1 e1 (spacedAll ns) out2 e2 → Fits out2 e2 (10 ∷ [])
   line-end-fits f q = then-fits q (then-fits p f)
 
-  pub line-put : {out2 out3 : List ℕ} {e2 e3 : ℕ} → Put out1 e1 (numbers ns) out2 e2 → Put out2 e2 (10 ∷ []) out3 e3 → Put out at (line word ns) out3 e3
+  pub line-put : {out2 out3 : List ℕ} {e2 e3 : ℕ} → Put out1 e1 (spacedAll ns) out2 e2 → Put out2 e2 (10 ∷ []) out3 e3 → Put out at (line word ns) out3 e3
   line-put q r = both p (both q r)
 
 -- a word and two numbers
-pair : (word : List ℕ) (a b : ℕ) → line word (a ∷ b ∷ []) ≡ word ++ (number a ++ (number b ++ (10 ∷ [])))
-unfolding numbers
-pair word a b = rw (append-nil (decimal b), append-assoc (decimal a) (number b) (10 ∷ [])) refl
+pair : (word : List ℕ) (a b : ℕ) → line word (a ∷ b ∷ []) ≡ word ++ (spaced a ++ (spaced b ++ (10 ∷ [])))
+unfolding spacedAll
+pair word a b = rw (append-nil (decimal b), append-assoc (decimal a) (spaced b) (10 ∷ [])) refl
 
 module _ (word : List ℕ) (a b : ℕ) {out : List ℕ} {at : ℕ} {out1 : List ℕ} {e1 : ℕ} (p : Put out at word out1 e1) where
-  pair-rest : Fits out at (line word (a ∷ b ∷ [])) → Fits out1 e1 (number a ++ (number b ++ (10 ∷ [])))
+  pair-rest : Fits out at (line word (a ∷ b ∷ [])) → Fits out1 e1 (spaced a ++ (spaced b ++ (10 ∷ [])))
   pair-rest f = then-fits p (rw (pair word a b) at f)
 
-  pub pair-first-fits : Fits out at (line word (a ∷ b ∷ [])) → Fits out1 e1 (number a)
-  pair-first-fits f = first-fits (number b ++ (10 ∷ [])) (pair-rest f)
+  pub pair-first-fits : Fits out at (line word (a ∷ b ∷ [])) → Fits out1 e1 (spaced a)
+  pair-first-fits f = first-fits (spaced b ++ (10 ∷ [])) (pair-rest f)
 
-  module _ {out2 : List ℕ} {e2 : ℕ} (q : Put out1 e1 (number a) out2 e2) where
-    pair-last : Fits out at (line word (a ∷ b ∷ [])) → Fits out2 e2 (number b ++ (10 ∷ []))
+  module _ {out2 : List ℕ} {e2 : ℕ} (q : Put out1 e1 (spaced a) out2 e2) where
+    pair-last : Fits out at (line word (a ∷ b ∷ [])) → Fits out2 e2 (spaced b ++ (10 ∷ []))
     pair-last f = then-fits q (pair-rest f)
 
-    pub pair-second-fits : Fits out at (line word (a ∷ b ∷ [])) → Fits out2 e2 (number b)
+    pub pair-second-fits : Fits out at (line word (a ∷ b ∷ [])) → Fits out2 e2 (spaced b)
     pair-second-fits f = first-fits (10 ∷ []) (pair-last f)
 
-    module _ {out3 : List ℕ} {e3 : ℕ} (r : Put out2 e2 (number b) out3 e3) where
+    module _ {out3 : List ℕ} {e3 : ℕ} (r : Put out2 e2 (spaced b) out3 e3) where
       pub pair-end-fits : Fits out at (line word (a ∷ b ∷ [])) → Fits out3 e3 (10 ∷ [])
       pair-end-fits f = then-fits r (pair-last f)
 
@@ -102,57 +102,57 @@ module _ (word : List ℕ) (a b : ℕ) {out : List ℕ} {at : ℕ} {out1 : List 
 
 -- ---- the loops
 
-numbers-append : (xs ys : List ℕ) → numbers (xs ++ ys) ≡ numbers xs ++ numbers ys
-unfolding numbers
-numbers-append [] ys = refl
-numbers-append (x ∷ xs) ys = ap (λ l. number x ++ l) (numbers-append xs ys) ∙ sym (append-assoc (number x) (numbers xs) (numbers ys))
+spaced-append : (xs ys : List ℕ) → spacedAll (xs ++ ys) ≡ spacedAll xs ++ spacedAll ys
+unfolding spacedAll
+spaced-append [] ys = refl
+spaced-append (x ∷ xs) ys = ap (λ l. spaced x ++ l) (spaced-append xs ys) ∙ sym (append-assoc (spaced x) (spacedAll xs) (spacedAll ys))
 
-numbers-next : (cells : List ℕ) (i : ℕ) → i < length cells → numbers (drop i cells) ≡ number (getD cells i 0) ++ numbers (drop (i + 1) cells)
-unfolding numbers
-numbers-next cells i h = ap numbers (drop-next cells i 0 h)
+spaced-next : (cells : List ℕ) (i : ℕ) → i < length cells → spacedAll (drop i cells) ≡ spaced (getD cells i 0) ++ spacedAll (drop (i + 1) cells)
+unfolding spacedAll
+spaced-next cells i h = ap spacedAll (drop-next cells i 0 h)
 
 -- cells are put, one after another
-module _ {out whole : List ℕ} {at : ℕ} (cells : List ℕ) (i : ℕ) {out′ : List ℕ} {end : ℕ} (g : PutSoFar out at whole (numbers (drop i cells)) out′ end) where
+module _ {out whole : List ℕ} {at : ℕ} (cells : List ℕ) (i : ℕ) {out′ : List ℕ} {end : ℕ} (g : PutSoFar out at whole (spacedAll (drop i cells)) out′ end) where
   module _ (h : i < length cells) {n : ℕ} (e : n ≡ getD cells i 0) where
-    next-cell : PutSoFar out at whole (number n ++ numbers (drop (i + 1) cells)) out′ end
-    next-cell = rw e (rw (numbers-next cells i h) at g)
+    next-cell : PutSoFar out at whole (spaced n ++ spacedAll (drop (i + 1) cells)) out′ end
+    next-cell = rw e (rw (spaced-next cells i h) at g)
 
-    pub cell-fits : Fits out at whole → Fits out′ end (number n)
-    cell-fits f = putting-fits (numbers (drop (i + 1) cells)) next-cell f
+    pub cell-fits : Fits out at whole → Fits out′ end (spaced n)
+    cell-fits f = putting-fits (spacedAll (drop (i + 1) cells)) next-cell f
 
-    pub cells-on : {out″ : List ℕ} {end′ : ℕ} → Put out′ end (number n) out″ end′ → PutSoFar out at whole (numbers (drop (i + 1) cells)) out″ end′
+    pub cells-on : {out″ : List ℕ} {end′ : ℕ} → Put out′ end (spaced n) out″ end′ → PutSoFar out at whole (spacedAll (drop (i + 1) cells)) out″ end′
     cells-on p = putting-on next-cell p
 
   pub cells-done : length cells ≤ i → Put out at whole out′ end
-  unfolding numbers
+  unfolding spacedAll
   cells-done h = putting-done (rw (drop-of-length-le cells h) at g)
 
 marked-next : (marks : List ℕ) (i : ℕ) → i < length marks
-    → numbers (markedFrom i (drop i marks)) ≡ numbers (ifMarked (getD marks i 0) i) ++ numbers (markedFrom (i + 1) (drop (i + 1) marks))
+    → spacedAll (markedFrom i (drop i marks)) ≡ spacedAll (ifMarked (getD marks i 0) i) ++ spacedAll (markedFrom (i + 1) (drop (i + 1) marks))
 unfolding markedFrom
-marked-next marks i h = rw (drop-next marks i 0 h, add-one i) (numbers-append (ifMarked (getD marks i 0) i) (markedFrom (suc i) (drop (suc i) marks)))
+marked-next marks i h = rw (drop-next marks i 0 h, add-one i) (spaced-append (ifMarked (getD marks i 0) i) (markedFrom (suc i) (drop (suc i) marks)))
 
 -- the marked cells are put, one after another
-module _ {out whole : List ℕ} {at : ℕ} (marks : List ℕ) (i : ℕ) {out′ : List ℕ} {end : ℕ} (g : PutSoFar out at whole (numbers (markedFrom i (drop i marks))) out′ end) where
+module _ {out whole : List ℕ} {at : ℕ} (marks : List ℕ) (i : ℕ) {out′ : List ℕ} {end : ℕ} (g : PutSoFar out at whole (spacedAll (markedFrom i (drop i marks))) out′ end) where
   module _ (h : i < length marks) where
-    next-mark : PutSoFar out at whole (numbers (ifMarked (getD marks i 0) i) ++ numbers (markedFrom (i + 1) (drop (i + 1) marks))) out′ end
+    next-mark : PutSoFar out at whole (spacedAll (ifMarked (getD marks i 0) i) ++ spacedAll (markedFrom (i + 1) (drop (i + 1) marks))) out′ end
     next-mark = rw (marked-next marks i h) at g
 
-    pub mark-fits : Fits out at whole → Fits out′ end (numbers (ifMarked (getD marks i 0) i))
-    mark-fits f = putting-fits (numbers (markedFrom (i + 1) (drop (i + 1) marks))) next-mark f
+    pub mark-fits : Fits out at whole → Fits out′ end (spacedAll (ifMarked (getD marks i 0) i))
+    mark-fits f = putting-fits (spacedAll (markedFrom (i + 1) (drop (i + 1) marks))) next-mark f
 
-    pub marks-on : {out″ : List ℕ} {end′ : ℕ} → Put out′ end (numbers (ifMarked (getD marks i 0) i)) out″ end′
-        → PutSoFar out at whole (numbers (markedFrom (i + 1) (drop (i + 1) marks))) out″ end′
+    pub marks-on : {out″ : List ℕ} {end′ : ℕ} → Put out′ end (spacedAll (ifMarked (getD marks i 0) i)) out″ end′
+        → PutSoFar out at whole (spacedAll (markedFrom (i + 1) (drop (i + 1) marks))) out″ end′
     marks-on p = putting-on next-mark p
 
   pub marks-done : length marks ≤ i → Put out at whole out′ end
-  unfolding numbers markedFrom
+  unfolding spacedAll markedFrom
   marks-done h = putting-done (rw (drop-of-length-le marks h) at g)
 
-pub if-unmarked : (mark cell : ℕ) → (mark ≡ 1 → ⊥) → numbers (ifMarked mark cell) ≡ []
-unfolding numbers
+pub if-unmarked : (mark cell : ℕ) → (mark ≡ 1 → ⊥) → spacedAll (ifMarked mark cell) ≡ []
+unfolding spacedAll
 if-unmarked mark cell h = rw (ne-eqb mark 1 h) refl
 
-pub if-marked : (mark cell : ℕ) → mark ≡ 1 → numbers (ifMarked mark cell) ≡ number cell
-unfolding numbers
-if-marked mark cell h = rw (eq-eqb mark 1 h) (append-nil (number cell))
+pub if-marked : (mark cell : ℕ) → mark ≡ 1 → spacedAll (ifMarked mark cell) ≡ spaced cell
+unfolding spacedAll
+if-marked mark cell h = rw (eq-eqb mark 1 h) (append-nil (spaced cell))

@@ -26,19 +26,19 @@ decimalWithin (suc most) n = either (ltb n 10) (digit n ∷ []) (decimalWithin m
 abbrev pub decimal : ℕ → List ℕ
 decimal n = decimalWithin 20 n
 
--- after a space
-abbrev pub number : ℕ → List ℕ
-number n = 32 ∷ decimal n
+-- a number after a space
+abbrev pub spaced : ℕ → List ℕ
+spaced n = 32 ∷ decimal n
 
-unfoldable pub numbers : List ℕ → List ℕ
-numbers [] = []
-numbers (n ∷ ns) = number n ++ numbers ns
+unfoldable pub spacedAll : List ℕ → List ℕ
+spacedAll [] = []
+spacedAll (n ∷ ns) = spaced n ++ spacedAll ns
 
 -- ---- lines
 
 -- a word, numbers, and the line's end
 abbrev pub line : List ℕ → List ℕ → List ℕ
-line word ns = word ++ (numbers ns ++ (10 ∷ []))
+line word ns = word ++ (spacedAll ns ++ (10 ∷ []))
 
 -- `net`, `branch`, `repeaters` and `refused` in ASCII
 abbrev pub netWord : List ℕ

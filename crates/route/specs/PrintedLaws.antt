@@ -20,15 +20,15 @@ use Rattle.job_sheet.specs.declared.Judgement.the-variants.{Good, Sheet, Sides,
 use Rattle.job_sheet.specs.Sheet.{Contents, Means, Read, meaning, nothing, bytesBy, rest, numberOf, maxSinks}
 use Rattle.job_sheet.specs.Theorems.{number-one}
 use Rattle.branches.specs.declared.BranchLengths.{BranchLengths}
-use Rattle.branches.specs.Branches.{sum, lengthsIn, cutInto, branchesOf, Branched}
-use Rattle.branches.specs.BranchLaws.{cut-joined}
+use Rattle.branches.specs.Branches.{sum, branchLengths, lengthsIn, cutInto, branchesOf, Branched}
+use Rattle.branches.specs.BranchLaws.{lengths-theirs, lengths-sum, cut-joined}
 use Rattle.net_tree.specs.declared.Lengths.{Lengths}
 use Rattle.net_tree.specs.declared.Answer.{Answer}
 use Rattle.net_tree.specs.declared.Ended.{Ended}
 use Rattle.net_tree.specs.declared.Ended.the-variants.{Routed, Refused}
 use Rattle.net_tree.specs.Answers.{Lent, TreeOutcome, routed, refused, Comes, Promise, answerOf, lentAfter, lengthsOf, lent}
 use Rattle.net_tree.specs.PromiseLaws.{comes-one}
-use Rattle.route.specs.Lines.{decimalWithin, number, numbers, line, netWord, branchWord, repeatersWord, refusedWord, netLine, branchLine, branchLines, repeatersLine, refusedLine, treeText, endedText, answerText}
+use Rattle.route.specs.Lines.{decimalWithin, spaced, spacedAll, line, netWord, branchWord, repeatersWord, refusedWord, netLine, branchLine, branchLines, repeatersLine, refusedLine, treeText, endedText, answerText}
 use Rattle.route.specs.Marked.{ifMarked, markedFrom, marked}
 use Rattle.route.specs.Putting.{Put, Fits}
 use Rattle.route.specs.BranchCountLaws.{few-branches}
@@ -98,13 +98,13 @@ decimal-length zero n = omega arith
 decimal-length (suc most) n =
     ask (ltb n 10) (λ t. rw t (omega arith)) (λ f. rw f (omega (arith, length-append (decimalWithin most (n / 10)) ((48 + n % 10) ∷ []), decimal-length most (n / 10))))
 
-numbers-length : (ns : List ℕ) → length (numbers ns) ≤ 21 * length ns
-unfolding numbers
-numbers-length [] = omega arith
-numbers-length (n ∷ ns) = omega (arith, length-append (number n) (numbers ns), decimal-length 20 n, numbers-length ns)
+spaced-length : (ns : List ℕ) → length (spacedAll ns) ≤ 21 * length ns
+unfolding spacedAll
+spaced-length [] = omega arith
+spaced-length (n ∷ ns) = omega (arith, length-append (spaced n) (spacedAll ns), decimal-length 20 n, spaced-length ns)
 
 line-length : (word ns : List ℕ) → length (line word ns) ≤ length word + 1 + 21 * length ns
-line-length word ns = omega (arith, length-append word (numbers ns ++ (10 ∷ [])), length-append (numbers ns) (10 ∷ []), numbers-length ns)
+line-length word ns = omega (arith, length-append word (spacedAll ns ++ (10 ∷ [])), length-append (spacedAll ns) (10 ∷ []), spaced-length ns)
 
 branch-lines-length : (cells ns : List ℕ) → length (branchLines (cutInto ns cells)) ≤ 7 * length ns + 21 * sum ns
 unfolding cutInto sum
@@ -151,11 +151,6 @@ answer-length A {cells} B marks = ended-length (A .ended)
 
 -- ---- from the promise of `route_net_tree` to the lines
 
-sum-lengths : (bs : List (List ℕ)) → sum (map length bs) ≡ length (joined bs)
-unfolding sum
-sum-lengths [] = refl
-sum-lengths (b ∷ bs) = ap (λ n. length b + n) (sum-lengths bs) ∙ sym (length-append b (joined bs))
-
 outcome-branched : (o : TreeOutcome) {sheet : List ℕ} {L : Lengths} → Comes sheet L o → (B : Lent) → Branched (answerOf o .lengths) (lentAfter o B .branches)
 unfolding sum
 outcome-branched (routed bs occupied repeaters) c B =
@@ -165,8 +160,7 @@ outcome-branched (routed bs occupied repeaters) c B =
       whole = padded-long (map length bs) maxSinks (length bs) 0 (length-map bs length) few;
       within = omega (
         arith,
-        ap sum (lengths-are bs (replicate (maxSinks - length bs) 0)),
-        sum-lengths bs,
+        lengths-sum bs (branchLengths bs) (lengths-theirs bs) refl,
         length-append (joined bs) (replicate (length (B .branches) - length (joined bs)) 0),
       );
     }

@@ -4,7 +4,7 @@ use net_tree::Answer;
 use net_tree::Ended;
 use room::as_long;
 ghost use Rattle.branches.specs.Branches.{branchesOf, Branched};
-ghost use Rattle.route.specs.Lines.{number, numbers, netLine, branchLine, branchLines, repeatersLine, refusedLine, treeText, answerText};
+ghost use Rattle.route.specs.Lines.{spaced, spacedAll, netLine, branchLine, branchLines, repeatersLine, refusedLine, treeText, answerText};
 ghost use Rattle.route.specs.Putting.{Put, Fits};
 ghost use Rattle.route.specs.Marked.{ifMarked, marked};
 
@@ -23,8 +23,8 @@ fn put_bytes(out: &mut [u8], at: usize, bytes: &[u8]) -> usize
 
 // A space, then a number in decimal.
 fn put_number(out: &mut [u8], at: usize, n: u64) -> usize
-    requires { ⌜ Fits (now out) at (number n) ⌝ }
-    ensures { λ r. ⌜ Put (now (out .entry)) at (number n) (now (out .exit)) r ⌝ }
+    requires { ⌜ Fits (now out) at (spaced n) ⌝ }
+    ensures { λ r. ⌜ Put (now (out .entry)) at (spaced n) (now (out .exit)) r ⌝ }
 {
     let mut digits = [0u8; 20];
     let count = io::decimal(n, &mut digits);
@@ -33,8 +33,8 @@ fn put_number(out: &mut [u8], at: usize, n: u64) -> usize
 }
 
 fn put_cells(out: &mut [u8], at: usize, cells: &[u32]) -> usize
-    requires { ⌜ Fits (now out) at (numbers (now cells)) ⌝ }
-    ensures { λ r. ⌜ Put (now (out .entry)) at (numbers (now (cells .entry))) (now (out .exit)) r ⌝ }
+    requires { ⌜ Fits (now out) at (spacedAll (now cells)) ⌝ }
+    ensures { λ r. ⌜ Put (now (out .entry)) at (spacedAll (now (cells .entry))) (now (out .exit)) r ⌝ }
 {
     let mut end = at;
     let mut i: usize = 0;
@@ -47,8 +47,8 @@ fn put_cells(out: &mut [u8], at: usize, cells: &[u32]) -> usize
 
 // A cell's number, if it is marked.
 fn put_if_marked(out: &mut [u8], at: usize, mark: u8, cell: usize) -> usize
-    requires { ⌜ Fits (now out) at (numbers (ifMarked mark cell)) ⌝ }
-    ensures { λ r. ⌜ Put (now (out .entry)) at (numbers (ifMarked mark cell)) (now (out .exit)) r ⌝ }
+    requires { ⌜ Fits (now out) at (spacedAll (ifMarked mark cell)) ⌝ }
+    ensures { λ r. ⌜ Put (now (out .entry)) at (spacedAll (ifMarked mark cell)) (now (out .exit)) r ⌝ }
 {
     if mark != routing_resources::MARKED {
         return at;
@@ -58,8 +58,8 @@ fn put_if_marked(out: &mut [u8], at: usize, mark: u8, cell: usize) -> usize
 
 // The marked cells, ascending.
 fn put_marked(out: &mut [u8], at: usize, marks: &[u8]) -> usize
-    requires { ⌜ Fits (now out) at (numbers (marked (now marks))) ⌝ }
-    ensures { λ r. ⌜ Put (now (out .entry)) at (numbers (marked (now (marks .entry)))) (now (out .exit)) r ⌝ }
+    requires { ⌜ Fits (now out) at (spacedAll (marked (now marks))) ⌝ }
+    ensures { λ r. ⌜ Put (now (out .entry)) at (spacedAll (marked (now (marks .entry)))) (now (out .exit)) r ⌝ }
 {
     let mut end = at;
     let mut cell: usize = 0;

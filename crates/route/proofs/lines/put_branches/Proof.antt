@@ -6,7 +6,7 @@ use mathlib.Core.Path.{refl}
 use lib.ListN.{getD, drop}
 use Rattle.branches.specs.Branches.{lengthsIn, branchesOf}
 use Rattle.route.specs.Lines.{branchLines}
-use Rattle.route.specs.BranchLineLaws.{Branching, branching-begun, next-within, branch-fits, branching-on, branching-done, lengths-count, length-at, part-is}
+use Rattle.route.specs.BranchLineLaws.{Branching, branching-begun, next-within, branch-fits, branching-on, branching-done, branched-count, length-at, part-is}
 use Rattle.route.proofs.lines.put_branches.Statement.{statement}
 use Rattle.route.proofs.lines.put_branches.Tie as tie
 
@@ -26,7 +26,7 @@ element-copy-out-to : tie.Need-element-copy-out-to Inv-loop μ-loop
 element-copy-out-to c = omega (arith, c .before .before .before .before .pre .0 .few)
 
 add-to : tie.Need-add-to Inv-loop μ-loop
-add-to c = omega (arith, next-within (c .before .before .loop .inv) (omega (arith, lengths-count (c .before .before .before .before .before .pre .0))) (length-at (c .before .before .before .before .before .pre .0) (c .before .before .loop .k) (omega arith)))
+add-to c = omega (arith, next-within (c .before .before .loop .inv) (omega (arith, branched-count (c .before .before .before .before .before .pre .0))) (length-at (c .before .before .before .before .before .pre .0) (c .before .before .loop .k) (omega arith)))
 
 mul-put-branch : tie.Need-mul-put-branch Inv-loop μ-loop
 mul-put-branch c = search needs
@@ -38,10 +38,10 @@ part-put-branch-start : tie.Need-part-put-branch-start Inv-loop μ-loop
 part-put-branch-start c = search needs
 
 part-put-branch-end : tie.Need-part-put-branch-end Inv-loop μ-loop
-part-put-branch-end c = omega (arith, next-within (c .before .before .before .loop .inv) (omega (arith, lengths-count (c .before .before .before .before .before .before .pre .0))) (length-at (c .before .before .before .before .before .before .pre .0) (c .before .before .before .loop .k) (omega arith)))
+part-put-branch-end c = omega (arith, next-within (c .before .before .before .loop .inv) (omega (arith, branched-count (c .before .before .before .before .before .before .pre .0))) (length-at (c .before .before .before .before .before .before .pre .0) (c .before .before .before .loop .k) (omega arith)))
 
 put-branch-requires : tie.Need-put-branch-requires Inv-loop μ-loop
-put-branch-requires c κs = branch-fits (c .before .before .before .before .loop .inv) (omega (arith, lengths-count (c .before .before .before .before .before .before .before .pre .0))) (length-at (c .before .before .before .before .before .before .before .pre .0) (c .before .before .before .before .loop .k) (omega arith)) (part-is (c .before .before .before .before .loop .from) (getD (c .before .before .before .before .before .before .before .args .t4 .each) (c .before .before .before .before .loop .k) 0) (drop (c .before .before .before .before .loop .from) (c .before .before .before .before .before .before .before .args .cells .now))) (c .before .before .before .before .before .before .before .pre .1)
+put-branch-requires c κs = branch-fits (c .before .before .before .before .loop .inv) (omega (arith, branched-count (c .before .before .before .before .before .before .before .pre .0))) (length-at (c .before .before .before .before .before .before .before .pre .0) (c .before .before .before .before .loop .k) (omega arith)) (part-is (c .before .before .before .before .loop .from) (getD (c .before .before .before .before .before .before .before .args .t4 .each) (c .before .before .before .before .loop .k) 0) (drop (c .before .before .before .before .loop .from) (c .before .before .before .before .before .before .before .args .cells .now))) (c .before .before .before .before .before .before .before .pre .1)
 
 add-k : tie.Need-add-k Inv-loop μ-loop
 add-k c = search needs
@@ -50,13 +50,13 @@ loop-less : tie.Need-loop-less Inv-loop μ-loop
 loop-less c = search needs
 
 loop-again : tie.Need-loop-again Inv-loop μ-loop
-loop-again c = branching-on (c .before .before .before .before .before .before .before .loop .inv) (omega (arith, lengths-count (c .before .before .before .before .before .before .before .before .before .before .pre .0))) (length-at (c .before .before .before .before .before .before .before .before .before .before .pre .0) (c .before .before .before .before .before .before .before .loop .k) (omega arith)) (part-is (c .before .before .before .before .before .before .before .loop .from) (getD (c .before .before .before .before .before .before .before .before .before .before .args .t4 .each) (c .before .before .before .before .before .before .before .loop .k) 0) (drop (c .before .before .before .before .before .before .before .loop .from) (c .before .before .before .before .before .before .before .before .before .before .args .cells .now))) (c .before .before .put-branch .ensures)
+loop-again c = branching-on (c .before .before .before .before .before .before .before .loop .inv) (omega (arith, branched-count (c .before .before .before .before .before .before .before .before .before .before .pre .0))) (length-at (c .before .before .before .before .before .before .before .before .before .before .pre .0) (c .before .before .before .before .before .before .before .loop .k) (omega arith)) (part-is (c .before .before .before .before .before .before .before .loop .from) (getD (c .before .before .before .before .before .before .before .before .before .before .args .t4 .each) (c .before .before .before .before .before .before .before .loop .k) 0) (drop (c .before .before .before .before .before .before .before .loop .from) (c .before .before .before .before .before .before .before .before .before .before .args .cells .now))) (c .before .before .put-branch .ensures)
 
 same-length : tie.Need-same-length Inv-loop μ-loop
 same-length c = c .before .loop .inv .going .put .same
 
 returns : tie.Need-returns Inv-loop μ-loop
-returns c = branching-done (c .before .loop .inv) (omega (arith, lengths-count (c .before .before .before .before .pre .0)))
+returns c = branching-done (c .before .loop .inv) (omega (arith, branched-count (c .before .before .before .before .pre .0)))
 
 pub put-branches-spec : {M : Type 1} → statement M
 put-branches-spec =

@@ -2,7 +2,7 @@
 use borrow.Author.Needs.{needs}
 use Prim.Native.Nat.{_-_}
 use lib.ListN.{length, drop}
-use Rattle.route.specs.Lines.{numbers}
+use Rattle.route.specs.Lines.{spacedAll}
 use Rattle.route.specs.Putting.{PutSoFar}
 use Rattle.route.specs.PutLaws.{putting-begun}
 use Rattle.route.specs.LineLaws.{cell-fits, cells-on, cells-done}
@@ -10,7 +10,7 @@ use Rattle.route.proofs.lines.put_cells.Statement.{statement}
 use Rattle.route.proofs.lines.put_cells.Tie as tie
 
 abbrev Inv-loop : tie.InvT-loop
-Inv-loop out₀ at cells end₀ i₀ out end i = PutSoFar out₀ at (numbers cells) (numbers (drop i cells)) out end
+Inv-loop out₀ at cells end₀ i₀ out end i = PutSoFar out₀ at (spacedAll cells) (spacedAll (drop i cells)) out end
 
 abbrev μ-loop : tie.MeasureT-loop
 μ-loop out₀ at cells end₀ i₀ out end i = length cells - i

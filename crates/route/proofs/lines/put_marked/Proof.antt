@@ -2,7 +2,7 @@
 use borrow.Author.Needs.{needs}
 use Prim.Native.Nat.{_-_}
 use lib.ListN.{length, drop}
-use Rattle.route.specs.Lines.{numbers}
+use Rattle.route.specs.Lines.{spacedAll}
 use Rattle.route.specs.Marked.{markedFrom, marked}
 use Rattle.route.specs.Putting.{PutSoFar}
 use Rattle.route.specs.PutLaws.{putting-begun}
@@ -11,7 +11,7 @@ use Rattle.route.proofs.lines.put_marked.Statement.{statement}
 use Rattle.route.proofs.lines.put_marked.Tie as tie
 
 abbrev Inv-loop : tie.InvT-loop
-Inv-loop out₀ at marks end₀ cell₀ out end cell = PutSoFar out₀ at (numbers (marked marks)) (numbers (markedFrom cell (drop cell marks))) out end
+Inv-loop out₀ at marks end₀ cell₀ out end cell = PutSoFar out₀ at (spacedAll (marked marks)) (spacedAll (markedFrom cell (drop cell marks))) out end
 
 abbrev μ-loop : tie.MeasureT-loop
 μ-loop out₀ at marks end₀ cell₀ out end cell = length marks - cell

@@ -1,6 +1,6 @@
 -- `put_number` meets its contract: a space, then the digits that `io::decimal` writes.
 use borrow.Author.Needs.{needs}
-use Rattle.route.specs.LineLaws.{written-decimal, digits-fit, number-put}
+use Rattle.route.specs.LineLaws.{written-decimal, digits-fit, spaced-put}
 use Rattle.route.proofs.lines.put_number.Statement.{statement}
 use Rattle.route.proofs.lines.put_number.Tie as tie
 
@@ -26,7 +26,7 @@ same-length : tie.Need-same-length
 same-length c = search needs
 
 returns : tie.Need-returns
-returns c = number-put (c .before .before .before .before .before .before .before .before .before .before .before .before .before .args .n) (c .before .before .before .before .before .before .before .put-bytes .ensures) (written-decimal _ _ _ (search needs) (c .before .before .before .before .before .before .before .before .before .before .decimal .ensures .1 .0) (c .before .before .before .before .before .before .before .before .before .before .decimal .ensures .1 .1)) (c .before .before .put-bytes2 .ensures)
+returns c = spaced-put (c .before .before .before .before .before .before .before .before .before .before .before .before .before .args .n) (c .before .before .before .before .before .before .before .put-bytes .ensures) (written-decimal _ _ _ (search needs) (c .before .before .before .before .before .before .before .before .before .before .decimal .ensures .1 .0) (c .before .before .before .before .before .before .before .before .before .before .decimal .ensures .1 .1)) (c .before .before .put-bytes2 .ensures)
 
 pub put-number-spec : {M : Type 1} → statement M
 put-number-spec =
