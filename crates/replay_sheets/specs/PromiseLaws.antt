@@ -85,7 +85,7 @@ size-one sheet most x y (accepted j A c l) (accepted k B d m) =
 module _ (sheet : List ℕ) (A : Asked) (S : Told) (cells covered marks : List ℕ) (longs : ℕ) where
   narrows-one : (Z : Size) → Determines (Narrows sheet A Z S cells covered marks longs)
   narrows-one Z x y N M =
-      let g = narrowed-one {ran = RanWith sheet A Z S cells covered marks longs} (λ queue. ran-one sheet S _ cells covered marks (lentLengths (Z .cells) (A .branch) queue) longs) (A .places) (N .gap) (M .gap) (N .narrowed) (M .narrowed) in
+      let g = narrowed-one {ran = RanWith sheet A Z S cells covered marks longs} (λ queue. ran-one sheet S _ cells covered marks (lentLengths (Z .cells) (A .branches) queue) longs) (A .places) (N .gap) (M .gap) (N .narrowed) (M .narrowed) in
       N .says ∙ ap (λ G. G .agreed) g ∙ sym (M .says)
 
   agrees-one : (comparison : ℕ) → Determines (AgreesIn comparison sheet A S cells covered marks longs)

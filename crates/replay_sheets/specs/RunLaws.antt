@@ -5,8 +5,8 @@ use Rattle.stored.specs.Runs.{longerBy, cellsMore, queueMore}
 use Rattle.replay_sheets.specs.declared.sheets.Asked.{Asked}
 use Rattle.replay_sheets.specs.Runs.{branchMore, lentLengths, longerLengths}
 
-pub longer-lent : (A : Asked) (number : ℕ) {cells branch places more queue : ℕ} → cells ≡ cellsMore (A .lent) number
-    → branch ≡ branchMore (A .branch) number → places ≡ A .places * 2 → more ≡ queueMore number
-    → queue ≡ longerBy places more → lentLengths cells branch queue ≡ longerLengths A number
+pub longer-lent : (A : Asked) (number : ℕ) {cells branches places more queue : ℕ} → cells ≡ cellsMore (A .lent) number
+    → branches ≡ branchMore (A .branches) number → places ≡ A .places * 2 → more ≡ queueMore number
+    → queue ≡ longerBy places more → lentLengths cells branches queue ≡ longerLengths A number
 unfolding longerLengths
 longer-lent A number p q r s t = rw (p, q, t, r, s)

@@ -44,26 +44,26 @@ leastQueue = 4
 -- ---- lengths
 
 abbrev pub lentLengths : ℕ → ℕ → ℕ → LentLengths
-lentLengths cells branch queue = record { cells = cells; branch = branch; queue = queue }
+lentLengths cells branches queue = record { cells = cells; branches = branches; queue = queue }
 
 -- number 15 hangs on the length of the branch buffer
 unfoldable pub branchMore : ℕ → ℕ → ℕ
-branchMore branch number = either (eqb number 15) branch (longerBy branch 100)
+branchMore branches number = either (eqb number 15) branches (longerBy branches 100)
 
 -- longer buffers that change no answer. Numbers 6, 13 and 15 hang on lengths
 unfoldable pub longerLengths : Asked → ℕ → LentLengths
 longerLengths A number =
     lentLengths
     (cellsMore (A .lent) number)
-    (branchMore (A .branch) number)
+    (branchMore (A .branches) number)
     (longerBy (A .places * 2) (queueMore number))
 
 -- a branch buffer that is exactly full, one cell short, or as it is stored
 unfoldable pub branchBuffer : ℕ → ℕ → ℕ → ℕ
-branchBuffer comparison branch total = either (eqb comparison branchFull) total (either (eqb comparison branchShort) (total - 1) branch)
+branchBuffer comparison branches total = either (eqb comparison branchFull) total (either (eqb comparison branchShort) (total - 1) branches)
 
 unfoldable pub lengthsFor : ℕ → Asked → ℕ → Told → LentLengths
-lengthsFor comparison A cells S = either (eqb comparison longerBuffers) (longerLengths A (S .number)) (lentLengths cells (branchBuffer comparison (A .branch) (S .total)) (A .places * 2))
+lengthsFor comparison A cells S = either (eqb comparison longerBuffers) (longerLengths A (S .number)) (lentLengths cells (branchBuffer comparison (A .branches) (S .total)) (A .places * 2))
 
 -- ---- what a run must come to
 
@@ -85,7 +85,7 @@ dueIn comparison S = either (leb comparison longerBuffers) true (either (eqb (S 
 -- a run with a queue of so many numbers; where that is too short, a detail up to the node limit
 abbrev pub RanWith : List ℕ → Asked → Size → Told → (cells covered marks : List ℕ) → ℕ → ℕ → Verdict → Type 0
 RanWith sheet A Z S cells covered marks longs queue v =
-    Ran sheet (lentLengths (Z .cells) (A .branch) queue) S (record { number = 13; most = Z .limit }) cells covered marks longs v
+    Ran sheet (lentLengths (Z .cells) (A .branches) queue) S (record { number = 13; most = Z .limit }) cells covered marks longs v
 
 -- every run gives the stored answer, or the number of a queue that is full
 pub record Narrows (sheet : List ℕ) (A : Asked) (Z : Size) (S : Told) (cells covered marks : List ℕ) (longs : ℕ) (r : Bool) : Type 0 where

@@ -18,8 +18,8 @@ use Rattle.replay_sheets.specs.Sheets.{Left, left, refusalOf, treeOf, tr
 
 module _ (F : List ℕ) where
   module _ (at : ℕ) where
-    pub asked-by : {places branch lent : ℕ} → places ≡ wordAt F at → branch ≡ wordBehind F at 4 → lent ≡ wordBehind F at 8
-        → _≡_ {A = Asked} (record { places = places; branch = branch; lent = lent }) (askedAt F at)
+    pub asked-by : {places branches lent : ℕ} → places ≡ wordAt F at → branches ≡ wordBehind F at 4 → lent ≡ wordBehind F at 8
+        → _≡_ {A = Asked} (record { places = places; branches = branches; lent = lent }) (askedAt F at)
     unfolding askedAt
     asked-by e b l = rw (e, b, l)
 

@@ -10,7 +10,7 @@ use Rattle.basics.specs.Tests.{either}
 use Rattle.branches.specs.declared.BranchLengths.{BranchLengths}
 use Rattle.branches.specs.Branches.{branchLengths}
 use Rattle.stored.specs.Memory.{ownLength}
-use Rattle.stored.specs.FilePlaces.{past, byteAt, cellAt, wordAt, byteBehind, wordBehind}
+use Rattle.stored.specs.FilePlaces.{past, byteAt, cellFrom, wordAt, byteBehind, wordBehind}
 use Rattle.replay_sheets.specs.declared.sheets.Asked.{Asked}
 use Rattle.replay_sheets.specs.declared.sheets.SheetPart.{SheetPart}
 use Rattle.replay_sheets.specs.declared.sheets.Told.{Told}
@@ -23,7 +23,7 @@ letters = 0x44525431
 
 -- the lengths that a sheet comes with
 unfoldable pub askedAt : List ℕ → ℕ → Asked
-askedAt F at = record { places = wordAt F at; branch = wordBehind F at 4; lent = wordBehind F at 8 }
+askedAt F at = record { places = wordAt F at; branches = wordBehind F at 4; lent = wordBehind F at 8 }
 
 abbrev pub sheetPart : ℕ → ℕ → ℕ → SheetPart
 sheetPart from length end = record { from = from; end = end; whole = leb length (end - from) }
@@ -33,9 +33,6 @@ unfoldable pub sheetAt : List ℕ → ℕ → SheetPart
 sheetAt F at = sheetPart (past F at 16) (wordBehind F at 12) (past F (past F at 16) (wordBehind F at 12))
 
 -- ---- cells that stand behind one another
-
-abbrev pub cellFrom : List ℕ → ℕ → ℕ → ℕ
-cellFrom F from k = cellAt F (past F from (k * 2))
 
 -- marks on the first n of them
 unfoldable pub marksOf : List ℕ → ℕ → ℕ → List ℕ → List ℕ

@@ -1,28 +1,26 @@
 -- How the replayed sheets are counted.
 use mathlib.Core.Bool.{Bool, true, false}
 use mathlib.Core.List.{List}
-use Prim.Native.Nat.{ℕ, _+_}
+use Prim.Native.Nat.{ℕ}
 use lib.Dec.{eqb, ltb}
 use lib.ListN.{getD, set, replicate}
 use Rattle.basics.specs.Tests.{either}
+use Rattle.stored.specs.Runs.{sumOf}
 use Rattle.replay_sheets.specs.declared.tallies.Tally.{Tally}
-
-unfoldable pub oneMore : ℕ → ℕ
-oneMore count = either (ltb count 4000000000) (count + 1) count
 
 -- the number at a place changed, where there is one among n
 unfoldable pub changedAt : (ℕ → ℕ) → ℕ → List ℕ → ℕ → List ℕ
 changedAt change n l place = either (ltb place n) (set l place (change (getD l place 0))) l
 
 abbrev pub oneMoreAt : ℕ → List ℕ → ℕ → List ℕ
-oneMoreAt n counts place = changedAt oneMore n counts place
+oneMoreAt n counts place = changedAt (λ count. sumOf count 1) n counts place
 
 -- the first sheet that differs, 0 being none
 unfoldable pub firstOf : ℕ → ℕ → ℕ
 firstOf first sheet = either (eqb first 0) sheet first
 
 abbrev pub firstAt : List ℕ → ℕ → ℕ → List ℕ
-firstAt kinds comparison sheet = changedAt (λ first. firstOf first sheet) 5 kinds comparison
+firstAt firsts comparison sheet = changedAt (λ first. firstOf first sheet) 5 firsts comparison
 
 abbrev pub nothingYet : Tally
 nothingYet = record { sheets = 0; met = replicate 16 0; compared = replicate 5 0; differ = replicate 5 0; first = replicate 5 0 }
@@ -30,7 +28,7 @@ nothingYet = record { sheets = 0; met = replicate 16 0; compared = replicate 5 0
 -- one sheet more, which has this number
 abbrev pub oneSheetMore : Tally → ℕ → Tally
 oneSheetMore t number =
-    record { sheets = oneMore (t .sheets); met = oneMoreAt 16 (t .met) number; compared = t .compared; differ = t .differ; first = t .first }
+    record { sheets = sumOf (t .sheets) 1; met = oneMoreAt 16 (t .met) number; compared = t .compared; differ = t .differ; first = t .first }
 
 -- the last sheet, in this comparison
 abbrev pub counted : Tally → ℕ → Bool → Tally

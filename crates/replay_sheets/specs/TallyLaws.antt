@@ -5,8 +5,9 @@ use mathlib.Core.List.{List}
 use Prim.Native.Nat.{ℕ, _≤_, _<_}
 use lib.ListN.{getD, set}
 use borrow.Author.Tests.{lt-ltb, le-ltb}
+use Rattle.stored.specs.Runs.{sumOf}
 use Rattle.replay_sheets.specs.declared.tallies.Tally.{Tally}
-use Rattle.replay_sheets.specs.Tallies.{oneMore, changedAt, oneMoreAt, firstAt, oneSheetMore, counted}
+use Rattle.replay_sheets.specs.Tallies.{changedAt, oneMoreAt, firstAt, oneSheetMore, counted}
 
 module _ (change : ℕ → ℕ) (l : List ℕ) (place : ℕ) {n : ℕ} where
   pub changed-in : {x : ℕ} → place < n → x ≡ change (getD l place 0) → set l place x ≡ changedAt change n l place
@@ -18,7 +19,7 @@ module _ (change : ℕ → ℕ) (l : List ℕ) (place : ℕ) {n : ℕ} where
   changed-beyond h = rw (le-ltb place n h)
 
 module _ (t : Tally) where
-  pub met-by : (number : ℕ) {sheets : ℕ} {counts : List ℕ} → sheets ≡ oneMore (t .sheets) → counts ≡ oneMoreAt 16 (t .met) number
+  pub met-by : (number : ℕ) {sheets : ℕ} {counts : List ℕ} → sheets ≡ sumOf (t .sheets) 1 → counts ≡ oneMoreAt 16 (t .met) number
       → _≡_ {A = Tally} (record { sheets = sheets; met = counts; compared = t .compared; differ = t .differ; first = t .first }) (oneSheetMore t number)
   met-by number p q = λ i. record { sheets = p i; met = q i; compared = t .compared; differ = t .differ; first = t .first }
 

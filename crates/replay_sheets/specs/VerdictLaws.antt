@@ -37,9 +37,9 @@ module _ (a b : List ℕ) where
 -- ---- the fronts that are lent have the lengths asked for
 
 module _ (N : LentLengths) (queue : ℕ) (e : memoryFits N queue ≡ true) where
-  pub fits-branch : N .branch ≤ ownLength
+  pub fits-branches : N .branches ≤ ownLength
   unfolding memoryFits
-  fits-branch = search passed
+  fits-branches = search passed
 
   pub fits-cells : N .cells ≤ ownLength
   unfolding memoryFits
@@ -69,13 +69,13 @@ spoiled-front n spoiled queue h e R = rw (take-at spoiled (drop n queue) n (e �
 
 abbrev pub fronts : LentLengths → (words bytes queue : List ℕ) → Lent
 fronts N words bytes queue =
-    lent (take (N .branch) words) (take (N .cells) bytes) (take (N .cells) bytes) (take (N .cells) bytes) (take (N .cells) bytes) (take (N .cells) bytes)
+    lent (take (N .branches) words) (take (N .cells) bytes) (take (N .cells) bytes) (take (N .cells) bytes) (take (N .cells) bytes) (take (N .cells) bytes)
     (take (N .cells) bytes) (take (N .cells) words) (take (N .cells) words) (take (N .cells) words) (take (N .cells) words) (take (N .queue) queue)
 
 module _ (N : LentLengths) {words bytes : List ℕ} (W : OwnRubbish words) (B : OwnRubbish bytes) (queue : List ℕ) where
   pub fronts-rubbish : Rubbish (take (N .queue) queue) → AllRubbish (fronts N words bytes queue)
   fronts-rubbish Q = let w = front-rubbish W (N .cells) in let b = front-rubbish B (N .cells) in record {
-    branches-spoiled = front-rubbish W (N .branch);
+    branches-spoiled = front-rubbish W (N .branches);
     occupied-spoiled = b;
     repeaters-spoiled = b;
     kinds-spoiled = b;
@@ -91,7 +91,7 @@ module _ (N : LentLengths) {words bytes : List ℕ} (W : OwnRubbish words) (B : 
 
   pub fronts-by : (longs : ℕ) → memoryFits N longs ≡ true → N .queue ≤ length queue → lengthsOf (fronts N words bytes queue) ≡ lengthsBy N
   fronts-by longs e h =
-      let f = front-long W (N .branch) (fits-branch N longs e) in
+      let f = front-long W (N .branches) (fits-branches N longs e) in
       let w = front-long W (N .cells) (fits-cells N longs e) in
       let b = front-long B (N .cells) (fits-cells N longs e) in
       let q = length-take-le (N .queue) queue h in

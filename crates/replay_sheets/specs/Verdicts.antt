@@ -120,11 +120,11 @@ pub record OwnRubbish (s : List ℕ) : Type 0 where
 
 -- lengths that the program's own memory has, with a queue so long
 unfoldable pub memoryFits : LentLengths → ℕ → Bool
-memoryFits N queue = leb (N .branch) ownLength && leb (N .cells) ownLength && leb (N .queue) queue
+memoryFits N queue = leb (N .branches) ownLength && leb (N .cells) ownLength && leb (N .queue) queue
 
 abbrev pub lengthsBy : LentLengths → Lengths
 lengthsBy N = record {
-  branches = N .branch;
+  branches = N .branches;
   occupied = N .cells;
   repeaters = N .cells;
   kinds = N .cells;

@@ -81,13 +81,13 @@ fn smaller(a: usize, b: usize) -> usize
     if a < b { a } else { b }
 }
 
-fn branch_more(branch: usize, number: u32) -> usize
-    ensures { λ r. ⌜ r ≡ branchMore branch number ⌝ }
+fn branch_more(branches: usize, number: u32) -> usize
+    ensures { λ r. ⌜ r ≡ branchMore branches number ⌝ }
 {
     if number == 15 {
-        branch
+        branches
     } else {
-        longer(branch, 100)
+        longer(branches, 100)
     }
 }
 
@@ -97,7 +97,7 @@ fn longer_lengths(asked: Asked, number: u32) -> LentLengths
 {
     LentLengths {
         cells: cells_more(asked.lent, number),
-        branch: branch_more(asked.branch, number),
+        branches: branch_more(asked.branches, number),
         queue: longer(twice(asked.places), queue_more(number)),
     }
 }
@@ -108,8 +108,8 @@ fn one_less(count: usize) -> usize
     if count == 0 { 0 } else { count - 1 }
 }
 
-fn branch_buffer(comparison: usize, branch: usize, total: usize) -> usize
-    ensures { λ r. ⌜ r ≡ branchBuffer comparison branch total ⌝ }
+fn branch_buffer(comparison: usize, branches: usize, total: usize) -> usize
+    ensures { λ r. ⌜ r ≡ branchBuffer comparison branches total ⌝ }
 {
     if comparison == BRANCH_FULL {
         return total;
@@ -117,7 +117,7 @@ fn branch_buffer(comparison: usize, branch: usize, total: usize) -> usize
     if comparison == BRANCH_SHORT {
         return one_less(total);
     }
-    branch
+    branches
 }
 
 // The lengths of a comparison, whose buffers of a number a cell have so many unless they are longer ones.
@@ -129,7 +129,7 @@ fn lengths_for(comparison: usize, asked: Asked, cells: usize, told: Told) -> Len
     }
     LentLengths {
         cells,
-        branch: branch_buffer(comparison, asked.branch, told.total),
+        branches: branch_buffer(comparison, asked.branches, told.total),
         queue: twice(asked.places),
     }
 }
@@ -186,7 +186,7 @@ fn narrow_once(
     let places = middle(gap.full, gap.enough);
     let lent = LentLengths {
         cells: size.cells,
-        branch: asked.branch,
+        branches: asked.branches,
         queue: twice(places),
     };
     let shortage = Shortage {

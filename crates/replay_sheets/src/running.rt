@@ -17,7 +17,7 @@ ghost use Rattle.replay_sheets.specs.Verdicts.{OwnRubbish, AllRubbish, J
 // The lengths at which buffers are lent: those of a number a cell, the branch buffer, and the queue.
 pub struct LentLengths {
     pub cells: usize,
-    pub branch: usize,
+    pub branches: usize,
     pub queue: usize,
 }
 
@@ -110,7 +110,7 @@ fn run_judged(
 fn memory_fits(lent: LentLengths, longs: usize) -> bool
     ensures { λ r. ⌜ r ≡ memoryFits lent longs ⌝ }
 {
-    if OWN_LENGTH < lent.branch {
+    if OWN_LENGTH < lent.branches {
         return false;
     }
     if OWN_LENGTH < lent.cells {
@@ -156,7 +156,7 @@ pub fn run_sheet(
         cells,
         covered,
         marks,
-        &mut branches[..lent.branch],
+        &mut branches[..lent.branches],
         &mut occupied[..lent.cells],
         &mut repeaters[..lent.cells],
         &mut kinds[..lent.cells],

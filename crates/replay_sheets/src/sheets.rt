@@ -23,7 +23,7 @@ const NOT_READ: u32 = 16;
 // The lengths that a sheet comes with: the queue's places, the cells of the branch buffer, and the length of each other buffer.
 pub struct Asked {
     pub places: u32,
-    pub branch: usize,
+    pub branches: usize,
     pub lent: usize,
 }
 
@@ -63,7 +63,7 @@ pub fn asked_at(file: &[u8], at: usize) -> Asked
 {
     Asked {
         places: word_at(file, at),
-        branch: size_behind(file, at, 4),
+        branches: size_behind(file, at, 4),
         lent: size_behind(file, at, 8),
     }
 }

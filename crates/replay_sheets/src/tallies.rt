@@ -1,6 +1,7 @@
 // What is counted of the sheets that have been replayed.
 ghost use mathlib.Core.Path.{_≡_};
-ghost use Rattle.replay_sheets.specs.Tallies.{oneMore, oneMoreAt, firstOf, firstAt, nothingYet, oneSheetMore, counted};
+ghost use Rattle.replay_sheets.specs.Tallies.{oneMoreAt, firstOf, firstAt, nothingYet, oneSheetMore, counted};
+use stored::runs::add;
 
 // How many sheets there are, and how many have each number; for each kind of comparison how many were compared, how many of them
 // differ, and which is the first that does (counted from 1, 0 for none).
@@ -12,31 +13,24 @@ pub struct Tally {
     pub first: [u32; 5],
 }
 
-// A count stays where it is, far above all that a file holds, rather than wrap.
-fn one_more(count: u32) -> u32
-    ensures { λ r. ⌜ r ≡ oneMore count ⌝ }
-{
-    if count < 4000000000 { count + 1 } else { count }
-}
-
 fn one_more_met(met: [u32; 16], number: usize) -> [u32; 16]
     ensures { λ r. ⌜ r ≡ oneMoreAt 16 met number ⌝ }
 {
     let mut counts = met;
     if number < 16 {
-        counts[number] = one_more(counts[number]);
+        counts[number] = add(counts[number], 1);
     }
     counts
 }
 
-fn one_more_of(kinds: [u32; 5], comparison: usize) -> [u32; 5]
-    ensures { λ r. ⌜ r ≡ oneMoreAt 5 kinds comparison ⌝ }
+fn one_more_of(counts: [u32; 5], comparison: usize) -> [u32; 5]
+    ensures { λ r. ⌜ r ≡ oneMoreAt 5 counts comparison ⌝ }
 {
-    let mut counts = kinds;
+    let mut after = counts;
     if comparison < 5 {
-        counts[comparison] = one_more(counts[comparison]);
+        after[comparison] = add(after[comparison], 1);
     }
-    counts
+    after
 }
 
 fn first_of(first: u32, sheet: u32) -> u32
@@ -45,14 +39,14 @@ fn first_of(first: u32, sheet: u32) -> u32
     if first == 0 { sheet } else { first }
 }
 
-fn first_at(kinds: [u32; 5], comparison: usize, sheet: u32) -> [u32; 5]
-    ensures { λ r. ⌜ r ≡ firstAt kinds comparison sheet ⌝ }
+fn first_at(firsts: [u32; 5], comparison: usize, sheet: u32) -> [u32; 5]
+    ensures { λ r. ⌜ r ≡ firstAt firsts comparison sheet ⌝ }
 {
-    let mut first = kinds;
+    let mut after = firsts;
     if comparison < 5 {
-        first[comparison] = first_of(first[comparison], sheet);
+        after[comparison] = first_of(after[comparison], sheet);
     }
-    first
+    after
 }
 
 pub fn nothing_yet() -> Tally
@@ -76,7 +70,7 @@ pub fn one_sheet_more(tally: Tally, number: u32) -> Tally
     let differ = tally.differ;
     let first = tally.first;
     Tally {
-        sheets: one_more(tally.sheets),
+        sheets: add(tally.sheets, 1),
         met: one_more_met(before, number as usize),
         compared,
         differ,

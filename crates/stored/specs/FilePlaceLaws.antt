@@ -6,7 +6,7 @@ use native.Mathlib.Nat.{le-of-suc-le-suc, not-suc-le-zero, min-eq-left, min-eq-r
 use native.Mathlib.Omega.{arith}
 use lib.ListN.{length, getD, List·getD-eq-default}
 use Rattle.basics.specs.Tests.{askLess}
-use Rattle.stored.specs.FilePlaces.{past, byteAt, cellAt, cellsFrom}
+use Rattle.stored.specs.FilePlaces.{past, byteAt, cellAt, cellFrom, cellsFrom}
 
 module _ (file : List ℕ) where
   past-in : (at bytes : ℕ) → at + bytes ≤ length file → past file at bytes ≡ at + bytes
@@ -45,7 +45,7 @@ module _ (file : List ℕ) where
       (λ h. ap (λ x. past file x b) (past-in at a (omega (arith, h))) ∙ regrouped at a b)
       (λ h. ap (λ x. past file x b) (past-out at a h) ∙ (past-out (length file) b (omega arith) ∙ sym (past-out at (a + b) (omega (arith, h)))))
 
-  pub cells-at : (at n k : ℕ) → k < n → getD (cellsFrom file at n) k 0 ≡ cellAt file (past file at (k * 2))
+  pub cells-at : (at n k : ℕ) → k < n → getD (cellsFrom file at n) k 0 ≡ cellFrom file at k
   unfolding cellsFrom
   cells-at at zero k h = absurd (not-suc-le-zero h)
   cells-at at (suc n) zero h = sym (cell-here at)

@@ -35,6 +35,10 @@ countIn letters file = either (eqb (wordAt file 0) letters) (wordBehind file 0 4
 abbrev pub firstPlace : List ℕ → ℕ
 firstPlace file = past file 0 8
 
+-- the k-th of cells that stand behind one another
+abbrev pub cellFrom : List ℕ → ℕ → ℕ → ℕ
+cellFrom file at k = cellAt file (past file at (k * 2))
+
 -- so many cells, each behind the one before it
 unfoldable pub cellsFrom : List ℕ → ℕ → ℕ → List ℕ
 cellsFrom file at zero = []

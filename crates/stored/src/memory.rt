@@ -108,12 +108,12 @@ pub fn bytes_hold(kept: bool, expected: &[u8], s: &[u8]) -> bool
 pub fn words_hold(kept: bool, expected: &[u32], s: &[u32]) -> bool
     ensures { λ r. ⌜ r ≡ holds kept (now (expected .entry)) (now (s .entry)) ⌝ }
 {
-    let mut word: usize = 0;
-    while word < s.len() {
-        if s[word] != word_due(kept, expected, word) {
+    let mut i: usize = 0;
+    while i < s.len() {
+        if s[i] != word_due(kept, expected, i) {
             return false;
         }
-        word += 1;
+        i += 1;
     }
     true
 }
@@ -121,12 +121,12 @@ pub fn words_hold(kept: bool, expected: &[u32], s: &[u32]) -> bool
 pub fn cells_hold(kept: bool, file: &[u8], at: usize, count: u32, s: &[u32]) -> bool
     ensures { λ r. ⌜ r ≡ holds kept (cellsFrom (now (file .entry)) at count) (now (s .entry)) ⌝ }
 {
-    let mut cell: usize = 0;
-    while cell < s.len() {
-        if s[cell] != cell_due(kept, file, at, count, cell) {
+    let mut i: usize = 0;
+    while i < s.len() {
+        if s[i] != cell_due(kept, file, at, count, i) {
             return false;
         }
-        cell += 1;
+        i += 1;
     }
     true
 }

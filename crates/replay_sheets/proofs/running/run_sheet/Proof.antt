@@ -3,7 +3,7 @@ use mathlib.Core.Path.{refl, sym, _∙_}
 use lib.Seq.{length-take-le, length-front}
 use Rattle.replay_sheets.specs.Verdicts.{too-long}
 use Rattle.basics.specs.Tests.{test-fails, test-passes}
-use Rattle.replay_sheets.specs.VerdictLaws.{fits-branch, fits-cells, fits-queue, fits-again, front-fits, front-long, fronts-rubbish, fronts-by, ran-at}
+use Rattle.replay_sheets.specs.VerdictLaws.{fits-branches, fits-cells, fits-queue, fits-again, front-fits, front-long, fronts-rubbish, fronts-by, ran-at}
 use borrow.Author.Needs.{needs}
 use Rattle.replay_sheets.proofs.running.run_sheet.Statement.{statement}
 use Rattle.replay_sheets.proofs.running.run_sheet.Tie as tie
@@ -24,10 +24,10 @@ rubbish-bytes-requires : tie.Need-rubbish-bytes-requires
 rubbish-bytes-requires c κs = search needs
 
 array-borrow-prefix-branches : tie.Need-array-borrow-prefix-branches
-array-borrow-prefix-branches c = front-fits (c .before .rubbish-words .ensures) _ (fits-branch _ _ (test-passes (c .before .before .before .before .before .before .before .memory-fits .ensures) (c .before .before .before .before .before .before .if1 .left)))
+array-borrow-prefix-branches c = front-fits (c .before .rubbish-words .ensures) _ (fits-branches _ _ (test-passes (c .before .before .before .before .before .before .before .memory-fits .ensures) (c .before .before .before .before .before .before .if1 .left)))
 
 slice-aggregate-run-judged : tie.Need-slice-aggregate-run-judged
-slice-aggregate-run-judged c = sym (front-long (c .before .before .rubbish-words .ensures) _ (fits-branch _ _ (test-passes (c .before .before .before .before .before .before .before .before .memory-fits .ensures) (c .before .before .before .before .before .before .before .if1 .left))))
+slice-aggregate-run-judged c = sym (front-long (c .before .before .rubbish-words .ensures) _ (fits-branches _ _ (test-passes (c .before .before .before .before .before .before .before .before .memory-fits .ensures) (c .before .before .before .before .before .before .before .if1 .left))))
 
 array-borrow-prefix-occupied : tie.Need-array-borrow-prefix-occupied
 array-borrow-prefix-occupied c = front-fits (c .before .rubbish-bytes .ensures) _ (fits-cells _ _ (test-passes (c .before .before .before .before .before .before .before .before .memory-fits .ensures) (c .before .before .before .before .before .before .before .if1 .left)))

@@ -14,11 +14,11 @@ array-read-first-of c = search needs
 first-of-requires : tie.Need-first-of-requires
 first-of-requires c κs = search needs
 
-mul-first : tie.Need-mul-first
-mul-first c = search needs
+mul-after : tie.Need-mul-after
+mul-after c = search needs
 
-array-write-first : tie.Need-array-write-first
-array-write-first c = search needs
+array-write-after : tie.Need-array-write-after
+array-write-after c = search needs
 
 returns : tie.Need-returns
 returns c = changed-in (λ first. firstOf first (c .before .before .args .sheet)) _ _ (c .before .if1 .taken) (c .first-of .ensures)
@@ -33,7 +33,7 @@ first-at-spec =
     mul-first-of
     array-read-first-of
     first-of-requires
-    mul-first
-    array-write-first
+    mul-after
+    array-write-after
     returns
     returns-2)

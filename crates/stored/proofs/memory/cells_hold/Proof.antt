@@ -9,10 +9,10 @@ use Rattle.stored.proofs.memory.cells_hold.Statement.{statement}
 use Rattle.stored.proofs.memory.cells_hold.Tie as tie
 
 abbrev Inv-loop : tie.InvT-loop
-Inv-loop kept file at count s cell₀ cell = PassedSoFar (isDue kept (cellsFrom file at count)) s cell
+Inv-loop kept file at count s i₀ i = PassedSoFar (isDue kept (cellsFrom file at count)) s i
 
 abbrev μ-loop : tie.MeasureT-loop
-μ-loop kept file at count s cell₀ cell = length s - cell
+μ-loop kept file at count s i₀ i = length s - i
 
 loop-holds : tie.Need-loop-holds Inv-loop μ-loop
 loop-holds c = passed-none
@@ -30,8 +30,8 @@ returns : tie.Need-returns Inv-loop μ-loop
 unfolding holds
 returns c = passed-failed (c .before .before .before .before .loop .inv) (c .before .before .before .loop-test .taken) (not-due (c .before .cell-due .ensures) (c .if1 .taken))
 
-add-cell : tie.Need-add-cell Inv-loop μ-loop
-add-cell c = search needs
+add-i : tie.Need-add-i Inv-loop μ-loop
+add-i c = search needs
 
 loop-less : tie.Need-loop-less Inv-loop μ-loop
 loop-less c = search needs
@@ -54,7 +54,7 @@ cells-hold-spec =
     shared-slice-read-if1
     cell-due-requires
     returns
-    add-cell
+    add-i
     loop-less
     loop-again
     returns-2)

@@ -8,10 +8,10 @@ use Rattle.stored.proofs.memory.words_hold.Statement.{statement}
 use Rattle.stored.proofs.memory.words_hold.Tie as tie
 
 abbrev Inv-loop : tie.InvT-loop
-Inv-loop kept expected s word₀ word = PassedSoFar (isDue kept expected) s word
+Inv-loop kept expected s i₀ i = PassedSoFar (isDue kept expected) s i
 
 abbrev μ-loop : tie.MeasureT-loop
-μ-loop kept expected s word₀ word = length s - word
+μ-loop kept expected s i₀ i = length s - i
 
 loop-holds : tie.Need-loop-holds Inv-loop μ-loop
 loop-holds c = passed-none
@@ -29,8 +29,8 @@ returns : tie.Need-returns Inv-loop μ-loop
 unfolding holds
 returns c = passed-failed (c .before .before .before .before .loop .inv) (c .before .before .before .loop-test .taken) (not-due (c .before .word-due .ensures) (c .if1 .taken))
 
-add-word : tie.Need-add-word Inv-loop μ-loop
-add-word c = search needs
+add-i : tie.Need-add-i Inv-loop μ-loop
+add-i c = search needs
 
 loop-less : tie.Need-loop-less Inv-loop μ-loop
 loop-less c = search needs
@@ -53,7 +53,7 @@ words-hold-spec =
     shared-slice-read-if1
     word-due-requires
     returns
-    add-word
+    add-i
     loop-less
     loop-again
     returns-2)
