@@ -16,7 +16,7 @@ use Rattle.replay.specs.declared.compare.LentLengths.{LentLengths}
 use Rattle.replay.specs.declared.searches.Stored.{Stored}
 use Rattle.replay.specs.declared.replay.Stand.{Stand}
 use Rattle.replay.specs.Verdicts.{LentMemory, memory, AllRubbish, lengthsOfMemory, verdictOf, Judged, Ran, too-long, judged}
-use Rattle.replay.specs.Runs.{lentLengths, storedLengths, longerLengths, tally, SameTwice, RanWith, ReplayedOne, differs, twice-alone, narrowed, oneFurther, Next, past-difference, replayed, Replayed}
+use Rattle.replay.specs.Runs.{lentLengths, storedLengths, longerLengths, agreement, SameTwice, RanWith, ReplayedOne, differs, twice-alone, narrowed, oneFurther, Next, past-difference, replayed, Replayed}
 
 -- ---- a run
 
@@ -79,7 +79,7 @@ module _ (file : List ℕ) (longs : ℕ) where
   one-one S x y (narrowed T m G M runs q e) (twice-alone U n f) = never (cc (sym n ∙ m))
   one-one S x y (narrowed T m G M runs q e) (narrowed U n H N runs′ r f) =
       let g = narrowed-one {ran = RanWith file longs S} (λ queue. ran-one S _ _ _ (lentLengths (S .lent) queue)) (S .places) G H M N in
-      e ∙ ap (λ k. tally k (G .agreed)) q ∙ ap (λ K. tally (sumOf 2 (K .runs)) (K .agreed)) g ∙ ap (λ k. tally k (H .agreed)) (sym r) ∙ sym f
+      e ∙ ap (λ k. agreement k (G .agreed)) q ∙ ap (λ K. agreement (sumOf 2 (K .runs)) (K .agreed)) g ∙ ap (λ k. agreement k (H .agreed)) (sym r) ∙ sym f
 
   next-one : (O : Stand) → Determines (Next file longs O)
   next-one O x y (past-difference a e) (past-difference b f) = e ∙ sym f
@@ -87,8 +87,8 @@ module _ (file : List ℕ) (longs : ℕ) where
   next-one O x y (replayed a S s T t e) (past-difference b f) = never (cc (sym b ∙ a))
   next-one O x y (replayed a S s T t e) (replayed b S′ s′ T′ t′ f) =
       let same-stored : S ≡ S′ = s ∙ sym s′ in
-      let same-tally : T ≡ T′ = one-one S′ T T′ (rw same-stored at t) t′ in
-      e ∙ ap (λ X. oneFurther O (X .next) T) same-stored ∙ ap (oneFurther O (S′ .next)) same-tally ∙ sym f
+      let same-agreement : T ≡ T′ = one-one S′ T T′ (rw same-stored at t) t′ in
+      e ∙ ap (λ X. oneFurther O (X .next) T) same-stored ∙ ap (oneFurther O (S′ .next)) same-agreement ∙ sym f
 
   pub coincide : Determines (Replayed file longs)
   coincide x y P Q = rounds-one (λ k. next-one) _ x y (P .searches) (Q .searches)

@@ -13,7 +13,7 @@ use Rattle.stored.specs.declared.runs.Verdict.{Verdict}
 use Rattle.stored.specs.declared.runs.Gap.{Gap}
 use Rattle.replay.specs.Searches.{storedAt}
 use Rattle.replay.specs.Verdicts.{RanIn}
-use Rattle.replay.specs.Runs.{lentLengths, storedLengths, longerLengths, SameTwice, RanWith, isNarrowed, tally, ReplayedOne, differs, twice-alone, narrowed, oneMore, numberedFrom}
+use Rattle.replay.specs.Runs.{lentLengths, storedLengths, longerLengths, SameTwice, RanWith, isNarrowed, agreement, ReplayedOne, differs, twice-alone, narrowed, oneMore, numberedFrom}
 
 pub longer-lent : (S : Stored) {cells places more queue : ℕ} → cells ≡ cellsMore (S .lent) (S .told .number) → places ≡ S .places * 2
     → more ≡ queueMore (S .told .number) → queue ≡ longerBy places more → lentLengths cells queue ≡ longerLengths S
@@ -32,15 +32,15 @@ module _ {file : List ℕ} {longs : ℕ} {S : Stored} where
     second-decides t h = let g = sym d ∙ t in record { exact = v; longer = w; at-exact = rw e at p; at-longer = rw f at (rw l at q); both = rw g h }
 
   module _ {b : Bool} (T : SameTwice file longs S b) where
-    pub one-differs : not b ≡ true → ReplayedOne file longs S (tally 0 false)
+    pub one-differs : not b ≡ true → ReplayedOne file longs S (agreement 0 false)
     one-differs n = let e = not-true b n in differs (rw e at T) refl
 
     module _ (n : not b ≡ false) {m : Bool} (e : m ≡ isNarrowed S) where
-      pub one-twice : not m ≡ true → ReplayedOne file longs S (tally 2 true)
+      pub one-twice : not m ≡ true → ReplayedOne file longs S (agreement 2 true)
       one-twice l = let t = not-false b n in twice-alone (rw t at T) (test-fails e l) refl
 
       pub one-narrowed : not m ≡ false → {left : ℕ} → left ≡ longs → {G : Gap} → Narrowed (RanWith file left S) (S .places) G → {runs : ℕ} → runs ≡ sumOf 2 (G .runs)
-          → ReplayedOne file longs S (tally runs (G .agreed))
+          → ReplayedOne file longs S (agreement runs (G .agreed))
       one-narrowed l e′ {G} N {runs} s = let t = not-false b n in narrowed (rw t at T) (test-passes e l) G (rw e′ at N) runs s refl
 
 -- ---- counting a number: so many records are passed, and what the rest comes to is the whole

@@ -12,7 +12,7 @@ use Rattle.replay.specs.declared.searches.Stored.{Stored}
 use Rattle.stored.specs.declared.runs.Verdict.{Verdict}
 use Rattle.replay.specs.declared.compare.LentLengths.{LentLengths}
 use Rattle.stored.specs.declared.runs.Gap.{Gap}
-use Rattle.replay.specs.declared.replay.Tally.{Tally}
+use Rattle.replay.specs.declared.replay.Agreement.{Agreement}
 use Rattle.replay.specs.declared.replay.Stand.{Stand}
 use Rattle.replay.specs.Searches.{storedAt, letters}
 use Rattle.replay.specs.Verdicts.{RanIn}
@@ -51,19 +51,19 @@ isNarrowed S = either (ltb 200 (S .lent)) false (either (eqb (S .told .number) 0
 
 -- ---- a stored search
 
-abbrev pub tally : ℕ → Bool → Tally
-tally runs agreed = record { runs = runs; agreed = agreed }
+abbrev pub agreement : ℕ → Bool → Agreement
+agreement runs agreed = record { runs = runs; agreed = agreed }
 
-pub data ReplayedOne (file : List ℕ) (longs : ℕ) (S : Stored) (r : Tally) : Type 0 where
-  differs : SameTwice file longs S false → r ≡ tally 0 false → ReplayedOne file longs S r
-  twice-alone : SameTwice file longs S true → isNarrowed S ≡ false → r ≡ tally 2 true → ReplayedOne file longs S r
+pub data ReplayedOne (file : List ℕ) (longs : ℕ) (S : Stored) (r : Agreement) : Type 0 where
+  differs : SameTwice file longs S false → r ≡ agreement 0 false → ReplayedOne file longs S r
+  twice-alone : SameTwice file longs S true → isNarrowed S ≡ false → r ≡ agreement 2 true → ReplayedOne file longs S r
   narrowed : SameTwice file longs S true → isNarrowed S ≡ true → (G : Gap) → Narrowed (RanWith file longs S) (S .places) G → (runs : ℕ) → runs ≡ sumOf 2 (G .runs)
-      → r ≡ tally runs (G .agreed) → ReplayedOne file longs S r
+      → r ≡ agreement runs (G .agreed) → ReplayedOne file longs S r
 
 -- ---- the file
 
 -- one search further, to the place behind it; none further than one that differs
-unfoldable pub oneFurther : Stand → ℕ → Tally → Stand
+unfoldable pub oneFurther : Stand → ℕ → Agreement → Stand
 oneFurther O next T =
     either (T .agreed)
     (record { at = next; searches = sumOf (O .searches) 1; runs = sumOf (O .runs) (T .runs); agreed = true })
@@ -71,7 +71,7 @@ oneFurther O next T =
 
 pub data Next (file : List ℕ) (longs : ℕ) (O r : Stand) : Type 0 where
   past-difference : O .agreed ≡ false → r ≡ O → Next file longs O r
-  replayed : O .agreed ≡ true → (S : Stored) → S ≡ storedAt file (O .at) → (T : Tally) → ReplayedOne file longs S T
+  replayed : O .agreed ≡ true → (S : Stored) → S ≡ storedAt file (O .at) → (T : Agreement) → ReplayedOne file longs S T
       → r ≡ oneFurther O (S .next) T → Next file longs O r
 
 abbrev pub noneYet : List ℕ → Stand

@@ -11,7 +11,7 @@ use crate::replay::count_number;
 use crate::replay::replay;
 use libc::STDOUT_FILENO;
 
-fn print_count(word: &[u8], count: u32) {
+fn print_count_line(word: &[u8], count: u32) {
     io::write_all(STDOUT_FILENO, word);
     io::print_decimal(STDOUT_FILENO, count as u64);
     io::write_all(STDOUT_FILENO, b"\n");
@@ -24,7 +24,7 @@ fn print_number(number: u32, count: u32) {
     }
     io::write_all(STDOUT_FILENO, b"number ");
     io::print_decimal(STDOUT_FILENO, number as u64);
-    print_count(b": ", count);
+    print_count_line(b": ", count);
 }
 
 fn print_numbers(file: &[u8]) {
@@ -36,24 +36,24 @@ fn print_numbers(file: &[u8]) {
 }
 
 fn print_agreed(file: &[u8], stand: Stand) {
-    print_count(b"searches ", stand.searches);
+    print_count_line(b"searches ", stand.searches);
     print_numbers(file);
-    print_count(b"comparisons ", stand.runs);
+    print_count_line(b"comparisons ", stand.runs);
     io::write_all(STDOUT_FILENO, b"all agree\n");
 }
 
 // A file that has not come to its end is told as such before all else: what was read of it says nothing of the rest.
 fn print_outcome(file: &[u8], ended: bool, stand: Stand) {
     if !ended {
-        print_count(b"the file does not end after search ", stand.searches);
+        print_count_line(b"the file does not end after search ", stand.searches);
         return;
     }
     if !stand.agreed {
-        print_count(b"differs at search ", stand.searches);
+        print_count_line(b"differs at search ", stand.searches);
         return;
     }
     if stand.at != file.len() {
-        print_count(b"the file does not end after search ", stand.searches);
+        print_count_line(b"the file does not end after search ", stand.searches);
         return;
     }
     print_agreed(file, stand);

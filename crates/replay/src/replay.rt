@@ -22,7 +22,8 @@ ghost use Rattle.stored.specs.Runs.{Halved, Narrowed};
 ghost use Rattle.replay.specs.Runs.{storedLengths, longerLengths, SameTwice};
 ghost use Rattle.replay.specs.Runs.{RanWith, isNarrowed, ReplayedOne, oneFurther, Next, Replayed, oneMore, timesNumbered};
 
-struct Tally {
+// How many runs of one search agreed, and whether all did.
+struct Agreement {
     runs: u32,
     agreed: bool,
 }
@@ -117,33 +118,33 @@ fn is_narrowed(stored: Stored) -> bool
     number == 12
 }
 
-fn replay_one(file: &[u8], stored: Stored, queue: &mut [u64]) -> Tally
+fn replay_one(file: &[u8], stored: Stored, queue: &mut [u64]) -> Agreement
     ensures { λ r. ⌜ ReplayedOne (now (file .entry)) (length (now (queue .entry))) stored r ⌝ }
 {
     if !same_twice(file, stored, queue) {
-        return Tally {
+        return Agreement {
             runs: 0,
             agreed: false,
         };
     }
     if !is_narrowed(stored) {
-        return Tally {
+        return Agreement {
             runs: 2,
             agreed: true,
         };
     }
     let gap = narrow(file, stored, queue);
-    Tally {
+    Agreement {
         runs: add(2, gap.runs),
         agreed: gap.agreed,
     }
 }
 
 // One search further, to the place behind it, unless it differs.
-fn one_further(stand: Stand, next: usize, tally: Tally) -> Stand
-    ensures { λ r. ⌜ r ≡ oneFurther stand next tally ⌝ }
+fn one_further(stand: Stand, next: usize, agreement: Agreement) -> Stand
+    ensures { λ r. ⌜ r ≡ oneFurther stand next agreement ⌝ }
 {
-    if !tally.agreed {
+    if !agreement.agreed {
         return Stand {
             at: stand.at,
             searches: stand.searches,
@@ -154,7 +155,7 @@ fn one_further(stand: Stand, next: usize, tally: Tally) -> Stand
     Stand {
         at: next,
         searches: add(stand.searches, 1),
-        runs: add(stand.runs, tally.runs),
+        runs: add(stand.runs, agreement.runs),
         agreed: true,
     }
 }
@@ -167,8 +168,8 @@ fn replay_next(file: &[u8], stand: Stand, queue: &mut [u64]) -> Stand
         return stand;
     }
     let stored = stored_at(file, stand.at);
-    let tally = replay_one(file, stored, queue);
-    one_further(stand, stored.next, tally)
+    let agreement = replay_one(file, stored, queue);
+    one_further(stand, stored.next, agreement)
 }
 
 // All stored searches in their order, up to the first that differs.
