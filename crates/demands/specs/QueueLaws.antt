@@ -26,9 +26,9 @@ use Rattle.demands.specs.Theorems as one-search
 -- ---- one search
 
 -- a search between two cells of the room that may be entered
-pub ready : (T : Task) → Good (T .room) → T .start < volume (T .room) → T .goal < volume (T .room)
+pub posed : (T : Task) → Good (T .room) → T .start < volume (T .room) → T .goal < volume (T .room)
     → routeable T (T .start) ≡ true → routeable T (T .goal) ≡ true → Posed T
-ready T G start-in goal-in s g = record { good = G; start-in = start-in; goal-in = goal-in; start-free = s; goal-free = g }
+posed T G start-in goal-in s g = record { good = G; start-in = start-in; goal-in = goal-in; start-free = s; goal-free = g }
 
 pub search-not-full : (T : Task) → Good (T .room) → T .start < volume (T .room) → T .goal < volume (T .room) → Priced (T .config)
     → 5 * (volume (T .room) - 1) ≤ T .places → (x : ℕ) → searchedFor T ≢ full x
@@ -45,7 +45,7 @@ search-not-full T G start-in goal-in D wide x e =
     go s g (route path cost y) w q = never (cc)
     go s g (no-route y) w q = never (cc)
     go s g (limit-passed y) w q = never (cc)
-    go s g (queue-full y) w q = one-search.never-full (ready T G start-in goal-in s g) D wide y w
+    go s g (queue-full y) w q = one-search.never-full (posed T G start-in goal-in s g) D wide y w
 
 -- ---- all goals of a sink
 

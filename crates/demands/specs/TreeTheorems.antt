@@ -39,14 +39,14 @@ use Rattle.net_tree.specs.SheetTrees.{TreeOf}
 use Rattle.net_tree.specs.SheetTreeLaws.{tree-of}
 use Rattle.demands.specs.Statements.{Posed, Priced, Ample, NoLawfulWay}
 use Rattle.demands.specs.Theorems.{route-lawful, route-cheapest, no-route-true, settled}
-use Rattle.demands.specs.QueueLaws.{ready, search-not-full}
+use Rattle.demands.specs.QueueLaws.{posed, search-not-full}
 use Rattle.demands.specs.TreeStatements.{SearchMeans, RouteMeans, GoalEnds, no-way, conflict-stays, attempts-over, BranchMeans, TreeMeans, AnswerMeans}
 
 -- ---- one search
 
 module _ (T : Task) (G : Good (T .room)) (start-in : T .start < volume (T .room)) (goal-in : T .goal < volume (T .room)) where
-  found-ready : (path : List ℕ) (cost : ℕ) → searchedFor T ≡ found path cost → Posed T
-  found-ready path cost e = let F = found-by T path cost e in ready T G start-in goal-in (F .start-free) (F .goal-free)
+  found-posed : (path : List ℕ) (cost : ℕ) → searchedFor T ≡ found path cost → Posed T
+  found-posed path cost e = let F = found-by T path cost e in posed T G start-in goal-in (F .start-free) (F .goal-free)
 
   -- an end that is not routeable leaves no lawful way
   no-start : routeable T (T .start) ≡ false → NoLawfulWay T
@@ -60,18 +60,18 @@ module _ (T : Task) (G : Good (T .room)) (start-in : T .start < volume (T .room)
     unfolding searchedFor
     failed-search e =
         ask (routeable T (T .start))
-        (λ s. ask (routeable T (T .goal)) (λ g. go s g (searched T) refl (rw (s, g) at e) (settled (ready T G start-in goal-in s g) D A)) no-end)
+        (λ s. ask (routeable T (T .goal)) (λ g. go s g (searched T) refl (rw (s, g) at e) (settled (posed T G start-in goal-in s g) D A)) no-end)
         no-start
       where
         go : routeable T (T .start) ≡ true → routeable T (T .goal) ≡ true → (a : Answer) → searched T ≡ a → trialOf a ≡ failed → Decided a → NoLawfulWay T
         go s g (route path cost x) w q d = never (cc)
-        go s g (no-route x) w q d = no-route-true (ready T G start-in goal-in s g) w
+        go s g (no-route x) w q d = no-route-true (posed T G start-in goal-in s g) w
 
   -- what is proved of one search is proved of each search that a goal is tried by
   pub search-means : SearchMeans T
   search-means = record {
-    found-lawful = λ path cost e. let F = found-by T path cost e in route-lawful (found-ready path cost e) (F .is);
-    found-cheapest = λ D path cost e. let F = found-by T path cost e in route-cheapest (found-ready path cost e) D (F .is);
+    found-lawful = λ path cost e. let F = found-by T path cost e in route-lawful (found-posed path cost e) (F .is);
+    found-cheapest = λ D path cost e. let F = found-by T path cost e in route-cheapest (found-posed path cost e) D (F .is);
     failed-true = λ D A e. failed-search D A e;
     never-full = λ D A x e. search-not-full T G start-in goal-in D (omega (arith, A .queue-wide)) x e;
   }

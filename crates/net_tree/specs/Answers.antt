@@ -23,7 +23,7 @@ use Rattle.net_tree.specs.declared.Lengths.{Lengths}
 use Rattle.net_tree.specs.declared.Answer.{Answer}
 use Rattle.net_tree.specs.declared.Ended.the-variants.{Routed, Refused}
 
--- what is lent: three outputs, and nine buffers of work memory. A place of the queue takes two numbers
+-- what is lent: three outputs, and nine buffers of work memory
 pub record Lent : Type 0 where
   pub branches : List ℕ
   pub occupied : List ℕ

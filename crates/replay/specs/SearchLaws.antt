@@ -40,10 +40,10 @@ module _ (file : List ℕ) (at : ℕ) where
   pub told-by : {number detail cost expanded count cells : ℕ} → number ≡ byteBehind file at 0 → detail ≡ wordBehind file at 1
       → cost ≡ wordBehind file at 5 → expanded ≡ wordBehind file at 9 → count ≡ wordBehind file at 13 → cells ≡ past file at 17
       → _≡_ {A = Told}
-      (record { number = number; detail = detail; cost = cost; expanded = expanded; length = count; «cells_at» = cells })
+      (record { number = number; detail = detail; cost = cost; expanded = expanded; length = count; from = cells })
       (toldAt file at)
   unfolding toldAt
-  told-by p q r s t u = λ i. record { number = p i; detail = q i; cost = r i; expanded = s i; length = t i; «cells_at» = u i }
+  told-by p q r s t u = λ i. record { number = p i; detail = q i; cost = r i; expanded = s i; length = t i; from = u i }
 
   pub stored-by : {place : ℕ} → place ≡ answerPlace file at → {room : Room} {config : RouterConfig} {start goal places lent kinds count : ℕ}
       {told : Told} {next : ℕ} → room ≡ roomAt file at → config ≡ configAt file at → start ≡ wordBehind file at 19 → goal ≡ wordBehind file at 23
@@ -57,7 +57,7 @@ module _ (file : List ℕ) (at : ℕ) where
         goal = goal;
         places = places;
         lent = lent;
-        «kinds_at» = kinds;
+        from = kinds;
         count = count;
         told = told;
         next = next;
@@ -74,7 +74,7 @@ module _ (file : List ℕ) (at : ℕ) where
         goal = p3 i;
         places = p4 i;
         lent = p5 i;
-        «kinds_at» = p6 i;
+        from = p6 i;
         count = p7 i;
         told = t i;
         next = n i;

@@ -30,7 +30,7 @@ toldAt file at = record {
   cost = wordBehind file at 5;
   expanded = wordBehind file at 9;
   length = wordBehind file at 13;
-  «cells_at» = past file at 17;
+  from = past file at 17;
 }
 
 -- behind the answer's cells, of two bytes each
@@ -50,7 +50,7 @@ storedAt file at = record {
   goal = wordBehind file at 23;
   places = wordBehind file at 27;
   lent = wordBehind file at 31;
-  «kinds_at» = past file at 39;
+  from = past file at 39;
   count = wordBehind file at 35;
   told = toldAt file (answerPlace file at);
   next = endOf file (answerPlace file at);
@@ -61,10 +61,10 @@ unfoldable pub bytesHeld : List ℕ → ℕ → ℕ → List ℕ
 bytesHeld file at bytes = either (leb (at + bytes) (length file)) (take bytes (drop at file)) []
 
 abbrev pub kindsIn : List ℕ → Stored → List ℕ
-kindsIn file S = bytesHeld file (S .«kinds_at») (S .count)
+kindsIn file S = bytesHeld file (S .from) (S .count)
 
 abbrev pub cellsIn : List ℕ → Told → List ℕ
-cellsIn file T = cellsFrom file (T .«cells_at») (T .length)
+cellsIn file T = cellsFrom file (T .from) (T .length)
 
 -- the letters that the file begins with: DRS1
 abbrev pub letters : ℕ

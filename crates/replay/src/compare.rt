@@ -137,7 +137,7 @@ fn judge(
 ) -> Verdict
     ensures { λ r. ⌜ r ≡ verdictOf told (cellsIn (now (file .entry)) told) answer (memory (now (path .entry)) (now (known .entry)) (now (previous .entry)) (now (classes .entry)) (now (queue .entry))) ⌝ }
 {
-    let at = told.cells_at;
+    let at = told.from;
     if same_answer(answer, told) {
         let kept = !lent::touches(told.number);
         let count = told.length;
@@ -246,7 +246,7 @@ pub fn run_stored(file: &[u8], stored: Stored, lent: LentLengths, queue: &mut [u
     let mut known = [0u32; OWN_LENGTH];
     let mut previous = [0u32; OWN_LENGTH];
     let mut classes = [0u8; OWN_LENGTH];
-    let kinds = part(file, stored.kinds_at, stored.count);
+    let kinds = part(file, stored.from, stored.count);
     run_lent(
         stored,
         lent,

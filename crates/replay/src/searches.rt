@@ -14,17 +14,17 @@ use stored::runs::twice;
 // The letters that the file begins with: DRS1.
 pub const LETTERS: u32 = 0x44525331;
 
-// The answer that is stored. The path's cells, as many as its length, stay in the file, at this place.
+// The answer that is stored. The path's cells, as many as its length, stay in the file, from this place on.
 pub struct Told {
     pub number: u32,
     pub detail: usize,
     pub cost: u32,
     pub expanded: u32,
     pub length: u32,
-    pub cells_at: usize,
+    pub from: usize,
 }
 
-// A stored search: what is handed over, the answer, and the place behind it. The kinds, of this count, stay in the file, at this place.
+// A stored search: what is handed over, the answer, and the place behind it. The kinds, of this count, stay in the file, from this place on.
 pub struct Stored {
     pub room: Room,
     pub config: RouterConfig,
@@ -32,7 +32,7 @@ pub struct Stored {
     pub goal: usize,
     pub places: u32,
     pub lent: usize,
-    pub kinds_at: usize,
+    pub from: usize,
     pub count: usize,
     pub told: Told,
     pub next: usize,
@@ -68,7 +68,7 @@ fn told_at(file: &[u8], at: usize) -> Told
         cost: word_behind(file, at, 5),
         expanded: word_behind(file, at, 9),
         length: word_behind(file, at, 13),
-        cells_at: past(file, at, 17),
+        from: past(file, at, 17),
     }
 }
 
@@ -100,7 +100,7 @@ pub fn stored_at(file: &[u8], at: usize) -> Stored
         goal: size_behind(file, at, 23),
         places: word_behind(file, at, 27),
         lent: size_behind(file, at, 31),
-        kinds_at: past(file, at, 39),
+        from: past(file, at, 39),
         count: size_behind(file, at, 35),
         told: told_at(file, answer_at),
         next: end_of(file, answer_at),

@@ -22,7 +22,7 @@ use Rattle.replay_sheets.specs.declared.replay.Size.{Size}
 use Rattle.replay_sheets.specs.declared.replay.Stand.{Stand}
 use Rattle.replay_sheets.specs.declared.sheets.Asked.{Asked}
 use Rattle.replay_sheets.specs.declared.sheets.Told.{Told}
-use Rattle.replay_sheets.specs.Tallies.{counted}
+use Rattle.replay_sheets.specs.Tallies.{oneComparisonMore}
 use Rattle.replay_sheets.specs.Verdicts.{AllRubbish, verdictOf, Judged, Ran, too-long, judged}
 use Rattle.replay_sheets.specs.Runs.{SizeOf, refused, accepted, lentLengths, lengthsFor, agreedBy, RanWith, Narrows, AgreesIn, least-queue, one-run}
 use Rattle.replay_sheets.specs.Replays.{InComparison, left-out, compared-in, InComparisons, Next, Replayed}
@@ -102,7 +102,7 @@ module _ (sheet : List ℕ) (A : Asked) (S : Told) (cells covered marks : List �
   comparison-one comparison t x y (left-out a e) (left-out b f) = e ∙ sym f
   comparison-one comparison t x y (left-out a e) (compared-in b agreed g f) = never (cc (sym a ∙ b))
   comparison-one comparison t x y (compared-in a agreed g e) (left-out b f) = never (cc (sym b ∙ a))
-  comparison-one comparison t x y (compared-in a agreed g e) (compared-in b agreed′ g′ f) = e ∙ ap (counted t comparison) (agrees-one comparison agreed agreed′ g g′) ∙ sym f
+  comparison-one comparison t x y (compared-in a agreed g e) (compared-in b agreed′ g′ f) = e ∙ ap (oneComparisonMore t comparison) (agrees-one comparison agreed agreed′ g g′) ∙ sym f
 
   comparisons-one : (t : Tally) → Determines (InComparisons sheet A S cells covered marks longs t)
   comparisons-one t = rounds-one comparison-one 5

@@ -12,14 +12,14 @@ use Rattle.replay_sheets.specs.declared.tallies.Tally.{Tally}
 use Rattle.replay_sheets.specs.declared.replay.Stand.{Stand}
 use Rattle.replay_sheets.specs.declared.sheets.Asked.{Asked}
 use Rattle.replay_sheets.specs.declared.sheets.Told.{Told}
-use Rattle.replay_sheets.specs.Tallies.{nothingYet, oneSheetMore, counted}
+use Rattle.replay_sheets.specs.Tallies.{nothingYet, oneSheetMore, oneComparisonMore}
 use Rattle.replay_sheets.specs.Runs.{dueIn, AgreesIn}
 use Rattle.replay_sheets.specs.Sheets.{letters, askedAt, sheetOf, answerLeft, toldOf}
 
 -- a sheet in one comparison, if it is due
 pub data InComparison (comparison : ℕ) (sheet : List ℕ) (A : Asked) (S : Told) (cells covered marks : List ℕ) (longs : ℕ) (t r : Tally) : Type 0 where
   left-out : dueIn comparison S ≡ false → r ≡ t → InComparison comparison sheet A S cells covered marks longs t r
-  compared-in : dueIn comparison S ≡ true → (agreed : Bool) → AgreesIn comparison sheet A S cells covered marks longs agreed → r ≡ counted t comparison agreed
+  compared-in : dueIn comparison S ≡ true → (agreed : Bool) → AgreesIn comparison sheet A S cells covered marks longs agreed → r ≡ oneComparisonMore t comparison agreed
       → InComparison comparison sheet A S cells covered marks longs t r
 
 -- one sheet more, in each of the five

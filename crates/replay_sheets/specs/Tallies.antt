@@ -31,10 +31,10 @@ oneSheetMore t number =
     record { sheets = sumOf (t .sheets) 1; met = oneMoreAt 16 (t .met) number; compared = t .compared; differ = t .differ; first = t .first }
 
 -- the last sheet, in this comparison
-abbrev pub counted : Tally → ℕ → Bool → Tally
-counted t comparison true =
+abbrev pub oneComparisonMore : Tally → ℕ → Bool → Tally
+oneComparisonMore t comparison true =
     record { sheets = t .sheets; met = t .met; compared = oneMoreAt 5 (t .compared) comparison; differ = t .differ; first = t .first }
-counted t comparison false =
+oneComparisonMore t comparison false =
     record {
       sheets = t .sheets;
       met = t .met;

@@ -10,8 +10,8 @@ use crate::sheets::asked_at;
 use crate::sheets::sheet_at;
 use crate::sheets::told_if;
 use crate::tallies::Tally;
-use crate::tallies::counted;
 use crate::tallies::nothing_yet;
+use crate::tallies::one_comparison_more;
 use crate::tallies::one_sheet_more;
 use stored::file_places::count_in;
 use stored::file_places::first_place;
@@ -267,7 +267,7 @@ fn replay_comparison(
         return tally;
     }
     let agreed = agrees_in(comparison, sheet, asked, told, cells, covered, marks, queue);
-    counted(tally, comparison, agreed)
+    one_comparison_more(tally, comparison, agreed)
 }
 
 // A sheet in each comparison.

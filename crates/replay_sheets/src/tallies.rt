@@ -1,6 +1,6 @@
 // What is counted of the sheets that have been replayed.
 ghost use mathlib.Core.Path.{_≡_};
-ghost use Rattle.replay_sheets.specs.Tallies.{oneMoreAt, firstOf, firstAt, nothingYet, oneSheetMore, counted};
+ghost use Rattle.replay_sheets.specs.Tallies.{oneMoreAt, firstOf, firstAt, nothingYet, oneSheetMore, oneComparisonMore};
 use stored::runs::add;
 
 // How many sheets there are, and how many have each number; for each kind of comparison how many were compared, how many of them
@@ -79,8 +79,8 @@ pub fn one_sheet_more(tally: Tally, number: u32) -> Tally
 }
 
 // The last sheet, in this comparison.
-pub fn counted(tally: Tally, comparison: usize, agreed: bool) -> Tally
-    ensures { λ r. ⌜ r ≡ counted tally comparison agreed ⌝ }
+pub fn one_comparison_more(tally: Tally, comparison: usize, agreed: bool) -> Tally
+    ensures { λ r. ⌜ r ≡ oneComparisonMore tally comparison agreed ⌝ }
 {
     let met = tally.met;
     let before = tally.compared;

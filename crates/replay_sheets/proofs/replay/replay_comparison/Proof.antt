@@ -15,16 +15,16 @@ returns c = left-out (test-fails (c .before .due-in .ensures) (c .if1 .taken)) r
 agrees-in-requires : tie.Need-agrees-in-requires
 agrees-in-requires c κs = search needs
 
-counted-requires : tie.Need-counted-requires
-counted-requires c κs = search needs
+one-comparison-more-requires : tie.Need-one-comparison-more-requires
+one-comparison-more-requires c κs = search needs
 
 same-length : tie.Need-same-length
 same-length c = search needs
 
 returns-2 : tie.Need-returns-2
-returns-2 c = compared-in (test-passes (c .before .before .before .before .before .before .due-in .ensures) (c .before .before .before .before .before .if1 .left)) _ (c .before .before .before .agrees-in .ensures) (c .counted .ensures)
+returns-2 c = compared-in (test-passes (c .before .before .before .before .before .before .due-in .ensures) (c .before .before .before .before .before .if1 .left)) _ (c .before .before .before .agrees-in .ensures) (c .one-comparison-more .ensures)
 
 pub replay-comparison-spec : {M : Type 1} → statement M
 replay-comparison-spec =
     tie.close
-    (tie.spec due-in-requires returns agrees-in-requires counted-requires same-length returns-2)
+    (tie.spec due-in-requires returns agrees-in-requires one-comparison-more-requires same-length returns-2)

@@ -1,8 +1,8 @@
--- `counted` meets its contract, whether the sheet agrees or not.
+-- `one_comparison_more` meets its contract, whether the sheet agrees or not.
 use Rattle.replay_sheets.specs.TallyLaws.{compared-agreed, compared-differing}
 use borrow.Author.Needs.{needs}
-use Rattle.replay_sheets.proofs.tallies.counted.Statement.{statement}
-use Rattle.replay_sheets.proofs.tallies.counted.Tie as tie
+use Rattle.replay_sheets.proofs.tallies.one_comparison_more.Statement.{statement}
+use Rattle.replay_sheets.proofs.tallies.one_comparison_more.Tie as tie
 
 one-more-of-requires : tie.Need-one-more-of-requires
 one-more-of-requires c κs = search needs
@@ -22,8 +22,8 @@ first-at-requires c κs = search needs
 returns-2 : tie.Need-returns-2
 returns-2 c = compared-differing _ _ (c .before .before .one-more-of2 .ensures) (c .before .before .before .if1 .left) (c .before .one-more-of3 .ensures) (c .first-at .ensures)
 
-pub counted-spec : {M : Type 1} → statement M
-counted-spec =
+pub one-comparison-more-spec : {M : Type 1} → statement M
+one-comparison-more-spec =
     tie.close
     (tie.spec
     one-more-of-requires
