@@ -255,7 +255,7 @@ module _ {G : Graph} {closed ages : List ℕ} {w : ℕ} {s : State} {t : Taken} 
     pub anew-mid : Mid G (set closed (t .next .cell) 1) ages (t .next .cell) (costOf s (t .next .cell)) (G .moves (t .next .cell)) (oneMoreExpanded s (t .left))
     anew-mid = record { base = anew-base; now = taken-known; done = omega (arith, getD-set-same closed (t .next .cell) 1 0 (omega (arith, taken-in, B .closed-long))); lawful = λ m i. i }
 
--- ---- the outset: the start waits
+-- ---- the first state: the start waits
 
 pub first-base : {G : Graph} {degree dearest : ℕ} → Sound G degree dearest → Base G (replicate (G .size) 0) (replicate (G .size) 0) 0 [] (firstState G)
 unfolding firstState

@@ -197,7 +197,7 @@ take-all-both G (suc b) s t A L = go (taking-both G s t A L) (λ x y X Y. take-a
         on-both (on s″) full e f z = absurd z
         on-both (on s″) (on t″) e f z = take-all-on G s u s′ p b s″ e ∙ ih s″ t″ (z .0) (z .1) ∙ sym (take-all-on G t u t′ q b t″ (own (on t″) f))
 
--- ---- what a run says of an entry popped
+-- ---- what all takings come to, by the entry taken out
 
 module _ (G : Graph) (s : State) (r : Entry) (q : List Entry) (A : Apart s) (P : TakenOut (s .waiting) r q) where
   pub out-goal : (b : ℕ) → r .cell ≡ G .goal → takeAll G b s ≡ arrived G s

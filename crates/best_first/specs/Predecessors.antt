@@ -132,7 +132,7 @@ module _ {G : Graph} {degree dearest : ℕ} (S : Sound G degree dearest) {ages k
       young v (hit e q) = omega arith
       young v (miss n q) = omega (arith, L .young v)
 
--- ---- the outset
+-- ---- the first state
 
 module _ {G : Graph} {degree dearest : ℕ} (S : Sound G degree dearest) where
   pub start-placed : G .start < length {A = ℕ} (replicate (G .size) 0)

@@ -1,4 +1,4 @@
--- Laws of the masks: their bits, and that joining cells adds to the relation that they hold.
+-- Laws of the masks: their bits, and that linking cells adds to the relation that they hold.
 use mathlib.Core.Path.{_≡_, refl, sym, ap, _∙_}
 use mathlib.Core.Bool.{Bool, true, false, _&&_, _||_, or-assoc, or-comm}
 use mathlib.Core.List.{List}
@@ -244,14 +244,14 @@ module _ {R : Room} {a b : ℕ} (s : Step R a b) (p : ℕ → ℕ → Bool) wher
             ∙ M .bits u h ∙ mask-same 12 (isLink R p u) (isLink R (withLink a b p) u) (λ k l. same-bits u k d));
       }
 
--- ---- cells are joined one after the other
+-- ---- cells are linked one after the other
 
 pub masked-none : {R : Room} {links : List ℕ} → links ≡ replicate (volume R) 0 → Masked R links
 masked-none {R} e = record { relation = λ u v. false; masks = rw e (masks-none R) }
 
 module _ {R : Room} where
-  pub masked-joined : {more : ℕ → ℕ → Bool} {links links′ : List ℕ} → Masked R links → NowLinked R more links links′ → Masked R links′
-  masked-joined {more} M J = record { relation = λ u v. more u v || M .relation u v; masks = J .goes (M .relation) (M .masks) }
+  pub masked-linked : {more : ℕ → ℕ → Bool} {links links′ : List ℕ} → Masked R links → NowLinked R more links links′ → Masked R links′
+  masked-linked {more} M J = record { relation = λ u v. more u v || M .relation u v; masks = J .goes (M .relation) (M .masks) }
 
   module _ {a b : ℕ} (s : Step R a b) {links : List ℕ} (value : ℕ) (e : value ≡ 2 ^ stepIndex R a b) where
     test-set : (p : ℕ → ℕ → Bool) → Masks R p links → getD links a 0 / value % 2 ≡ bit (p a b)

@@ -1,4 +1,4 @@
--- The masks of a tree: which relation they hold, and what joining two cells does to it.
+-- The masks of a tree: which relation they hold, and what linking two cells does to it.
 use mathlib.Core.Path.{_≡_}
 use mathlib.Core.Bool.{Bool, _&&_, _||_}
 use mathlib.Core.List.{List, [], _∷_}

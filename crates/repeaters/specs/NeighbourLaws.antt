@@ -259,7 +259,7 @@ module _ {R : Room} (G : Good R) where
     linked-neighbours : linkedCells R links ≡ treeNeighbours branches (volume R)
     linked-neighbours = fun-ext (λ u. askLess u (volume R) (near u) (far u))
 
--- cells joined from none on are those of the branches
-pub tree-joined : {R : Room} → Good R → (branches : List (List ℕ)) → AllSteps R branches → {start links : List ℕ} → start ≡ replicate (volume R) 0
+-- cells linked from none on are those of the branches
+pub tree-linked : {R : Room} → Good R → (branches : List (List ℕ)) → AllSteps R branches → {start links : List ℕ} → start ≡ replicate (volume R) 0
     → NowLinked R (neighbouring branches) start links → linkedCells R links ≡ treeNeighbours branches (volume R)
-tree-joined {R} G branches S e J = linked-neighbours G branches S _ (masks-same (λ u v. or-false (neighbouring branches u v)) (J .goes (λ u v. false) (rw e (masks-none R))))
+tree-linked {R} G branches S e J = linked-neighbours G branches S _ (masks-same (λ u v. or-false (neighbouring branches u v)) (J .goes (λ u v. false) (rw e (masks-none R))))

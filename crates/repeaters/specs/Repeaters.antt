@@ -156,12 +156,12 @@ module _ (limit : ℕ) (fit : ℕ → Bool) (path : List ℕ) where
       either (repeaterAt path (w .marks) (w .place)) (walk (w .marks) (w .place) (w .place + 1))
       (either (ltb (w .reset + limit) (w .place)) (resume path w (candidate fit (w .reset) (w .place + 1))) (walk (w .marks) (w .reset) (w .place + 1)))
 
-  -- at most n steps, while the walk is on the path: the repeaters that it then leaves
+  -- at most n strides, while the walk is on the path: the repeaters that it then leaves
   unfoldable pub strides : ℕ → RunWalk → List ℕ
   strides zero w = w .marks
   strides (suc n) w = elim (ltb (w .place) (length path)) [ true ↦ strides n (stride w) | false ↦ w .marks ]
 
-  -- each step goes on or moves the reset on: so many are enough. "At first the source" is the reset
+  -- each stride goes on or moves the reset on: so many are enough. "At first the source" is the reset
   unfoldable pub run : List ℕ → List ℕ
   run marks = strides ((length path + 1) * (length path + 1)) (walk marks 0 1)
 

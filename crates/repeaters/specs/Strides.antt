@@ -1,4 +1,4 @@
--- A walk along a path as the code holds it, and what one step of it comes to.
+-- A walk along a path as the code holds it, and what one stride of it comes to.
 use mathlib.Core.Path.{_≡_}
 use mathlib.Core.Bool.{Bool}
 use mathlib.Core.List.{List}
@@ -12,7 +12,7 @@ pub record Walking (fit : ℕ → Bool) (s : Stride) : Type 0 where
   pub past : s .reset < s .place
   pub known : s .latest ≡ candidate fit (s .reset) (s .place)
 
--- at most so many steps are left; it falls with each: the reset moves on, or the place does
+-- at most so many strides are left; it falls with each: the reset moves on, or the place does
 unfoldable pub stridesLeft : List ℕ → Stride → ℕ
 stridesLeft path s = (length path - s .reset) * (length path + 1) + (length path - s .place)
 

@@ -268,7 +268,7 @@ fn memory_holds(
 }
 
 // Whether every buffer holds zeros alone.
-fn memory_emptied(
+fn memory_cleared(
     branches: &[u32],
     occupied: &[u8],
     repeaters: &[u8],
@@ -353,7 +353,7 @@ pub fn judge(
     if !short_answer(answer, shortage) {
         return Verdict::Other;
     }
-    full_if(memory_emptied(
+    full_if(memory_cleared(
         branches,
         occupied,
         repeaters,

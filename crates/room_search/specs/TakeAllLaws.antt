@@ -47,7 +47,7 @@ arena F = record {
   goal-placed = F .goal-placed;
 }
 
--- the search from the outset comes to the same as from here; of the queue as it was at first only the length counts
+-- the search from its first state comes to the same as from here; of the queue as it was at first only the length counts
 pub record Running (R : Room) (C : RouterConfig) (classes queue₀ : List ℕ) (start : ℕ) (goal : Spot) (known previous queue : List ℕ) (line : Line)
     (expanded : ℕ) : Type 0 where
   pub going : Going (graphIn R C classes start (goal .cell) queue₀) (C .limit .0) (bestFirst (graphIn R C classes start (goal .cell) queue₀) (C .limit .0))

@@ -30,12 +30,12 @@ use Rattle.room_search.specs.Takings.{graphIn, Takeable, TakingCame}
 module _ (R : Room) (C : RouterConfig) (classes known previous queue : List ℕ) (line : Line) (expanded : ℕ) (goal : Spot)
     (T : Takeable R C classes known previous queue line goal) (cell : ℕ) (queue′ : List ℕ) (c : cell < 2 ^ 64) (K : EntryTaken queue (line .waiting) cell queue′)
     (same : length queue′ ≡ length queue) where
-  popped : TakenOut (entriesIn queue (line .waiting)) (takenEntry queue cell) (entriesIn queue′ (line .waiting - 1))
-  popped = taken-entries queue (line .waiting) cell queue′ c K
+  was-taken-out : TakenOut (entriesIn queue (line .waiting)) (takenEntry queue cell) (entriesIn queue′ (line .waiting - 1))
+  was-taken-out = taken-entries queue (line .waiting) cell queue′ c K
 
   taken-in : (cell < volume R) × (0 < getD known cell 0)
   unfolding takenEntry
-  taken-in = T .cells (takenEntry queue cell) (taken-out-taking popped .from)
+  taken-in = T .cells (takenEntry queue cell) (taken-out-taking was-taken-out .from)
 
   pub taken-inside : cell < volume R
   taken-inside = taken-in .0
@@ -65,7 +65,7 @@ module _ (R : Room) (C : RouterConfig) (classes known previous queue : List ℕ)
   unfolding held graphOf takenEntry
   taking-goal e = record {
     goes = λ start answer s I. record {
-      is = going-goal I popped e;
+      is = going-goal I was-taken-out e;
       previous-inside = going-bounded (sound R C (λ v. getD classes v 0) start (goal .cell) (placesOf queue) s (T .goal-placed .inside)) I .previous-in;
       reached = rw (← e) cell-known;
     };
@@ -75,7 +75,7 @@ module _ (R : Room) (C : RouterConfig) (classes known previous queue : List ℕ)
     pub taking-limit : C .limit .0 ≤ expanded
         → TakingCame R C classes known previous queue line expanded goal (Ended (LimitPassed (record { 0 = expanded + 1 }))) known previous queue′
     unfolding held graphOf takenEntry
-    taking-limit h = record { goes = λ start answer s I. going-limit I popped away h ∙ ap search.limit-passed (sym (add-one expanded)) }
+    taking-limit h = record { goes = λ start answer s I. going-limit I was-taken-out away h ∙ ap search.limit-passed (sym (add-one expanded)) }
 
     module _ (more : expanded < C .limit .0) (from : Spot) (here : from .cell ≡ cell) where
       -- the search that tries the moves of the cell taken
@@ -110,7 +110,7 @@ module _ (R : Room) (C : RouterConfig) (classes known previous queue : List ℕ)
 
         stage : Stage expansion (movesBy R C (λ v. getD classes v 0) (from .cell) (moves ++ [])) known previous queue′ lineLeft
         unfolding expansion held graphOf takenEntry
-        stage = rw (append-nil, here) (going-try I popped away more (expansion .sound))
+        stage = rw (append-nil, here) (going-try I was-taken-out away more (expansion .sound))
 
       module _ {known′ previous′ queue″ : List ℕ} where
         pub taking-full : MovesCame (setting R C classes goal queue′ from (getD known cell 0 - 1)) moves known previous queue′ lineLeft Full known′ previous′ queue″
@@ -118,7 +118,7 @@ module _ (R : Room) (C : RouterConfig) (classes known previous queue : List ℕ)
         unfolding expansion held graphOf takenEntry
         taking-full U = record {
           goes = λ start answer s I.
-              going-full I popped away more (U .goes (expansion start answer s I) (fitting start answer s I) [] (stage start answer s I))
+              going-full I was-taken-out away more (U .goes (expansion start answer s I) (fitting start answer s I) [] (stage start answer s I))
               ∙ ap search.queue-full (sym (add-one expanded));
         }
 
@@ -127,7 +127,7 @@ module _ (R : Room) (C : RouterConfig) (classes known previous queue : List ℕ)
         unfolding expansion held graphOf takenEntry movesBy
         taking-on next U = record {
           goes = λ start answer s I. (
-            rw add-one (going-on I popped away more (expansion start answer s I .sound)
+            rw add-one (going-on I was-taken-out away more (expansion start answer s I .sound)
                 (U .goes (expansion start answer s I) (fitting start answer s I) [] (stage start answer s I))),
             U .readied .0,
           );

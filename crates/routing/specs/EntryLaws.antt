@@ -78,8 +78,8 @@ module _ (front whole : List ℕ) (v : ℕ) (kept : length front ≡ length (tak
   pub again-length : v ≤ length whole → v ≡ length (take v (front ++ drop v whole))
   again-length h = sym (ap length (again h) ∙ kept ∙ length-take-le v whole h)
 
-  pub emptied-whole : (after : List ℕ) → after ≡ replicate (length (front ++ drop v whole)) 0 → Cleared whole after
-  emptied-whole after e = cleared-to (length-front whole front v kept) e
+  pub cleared-whole : (after : List ℕ) → after ≡ replicate (length (front ++ drop v whole)) 0 → Cleared whole after
+  cleared-whole after e = cleared-to (length-front whole front v kept) e
 
 pub searchable : {R : Room} {C : RouterConfig} {kinds : List ℕ} {start goal : ℕ} (path known previous classes queue : List ℕ) {v : ℕ}
     → Admitted R C kinds start goal (lengthsOf path known previous classes queue) → v ≡ volume R

@@ -78,20 +78,20 @@ pub record MarkedSoFar (byte : ℕ) (rest : ℕ → ℕ → Bool) (start marks :
 pub marking-none : (byte : ℕ) (rest : ℕ → ℕ → Bool) (start : List ℕ) → MarkedSoFar byte rest start start 0
 marking-none byte rest start = record { long = refl; left = refl }
 
-module _ {byte : ℕ} {rest : ℕ → ℕ → Bool} {start marks : List ℕ} {k : ℕ} (turn : MarkedSoFar byte rest start marks k) where
+module _ {byte : ℕ} {rest : ℕ → ℕ → Bool} {start marks : List ℕ} {k : ℕ} (so-far : MarkedSoFar byte rest start marks k) where
   pub marking-next : (p : ℕ → Bool) {marks′ : List ℕ} → marks′ ≡ withByte byte p marks → ((v : ℕ) → rest k v ≡ p v || rest (k + 1) v)
       → MarkedSoFar byte rest start marks′ (k + 1)
   marking-next p e s = record {
-    long = ap length e ∙ with-length byte p marks ∙ turn .long;
+    long = ap length e ∙ with-length byte p marks ∙ so-far .long;
     left =
         ap (withByte byte (rest (k + 1))) e
         ∙ with-or byte p (rest (k + 1)) marks
         ∙ with-same byte _ _ marks (λ v h. sym (s v))
-        ∙ turn .left;
+        ∙ so-far .left;
   }
 
   pub marking-last : ((v : ℕ) → rest k v ≡ false) → marks ≡ withByte byte (rest 0) start
-  marking-last n = sym (with-none byte (rest k) marks (λ v h. n v)) ∙ turn .left
+  marking-last n = sym (with-none byte (rest k) marks (λ v h. n v)) ∙ so-far .left
 
 -- a loop that marks, one record after another, each cell for which a test of the record passes: the cells of the records from the k-th on
 abbrev pub restOf : {X : Type 0} → (ℕ → X → Bool) → List X → ℕ → ℕ → Bool
@@ -101,13 +101,13 @@ module _ {X : Type 0} (test : ℕ → X → Bool) (xs : List X) where
   from-here : (k : ℕ) (d : X) → k < length xs → (v : ℕ) → restOf test xs k v ≡ test v (getD xs k d) || restOf test xs (k + 1) v
   from-here k d h v = ap (any (test v)) (drop-next xs k d h)
 
-  module _ {byte : ℕ} {start marks : List ℕ} {k : ℕ} (turn : MarkedSoFar byte (restOf test xs) start marks k) where
+  module _ {byte : ℕ} {start marks : List ℕ} {k : ℕ} (so-far : MarkedSoFar byte (restOf test xs) start marks k) where
     pub marking-on : (d x : X) → x ≡ getD xs k d → k < length xs → {marks′ : List ℕ} → marks′ ≡ withByte byte (λ v. test v x) marks
         → MarkedSoFar byte (restOf test xs) start marks′ (k + 1)
-    marking-on d x s h e = marking-next turn (λ v. test v x) e (λ v. from-here k d h v ∙ ap (λ y. test v y || restOf test xs (k + 1) v) (sym s))
+    marking-on d x s h e = marking-next so-far (λ v. test v x) e (λ v. from-here k d h v ∙ ap (λ y. test v y || restOf test xs (k + 1) v) (sym s))
 
     pub marking-all : length xs ≤ k → marks ≡ withByte byte (λ v. any (test v) xs) start
-    marking-all h = marking-last turn (λ v. ap (any (test v)) (drop-of-length-le xs h))
+    marking-all h = marking-last so-far (λ v. ap (any (test v)) (drop-of-length-le xs h))
 
 -- what is marked afterwards
 module _ (p : ℕ → Bool) (ms : List ℕ) (v : ℕ) (h : v < length ms) where

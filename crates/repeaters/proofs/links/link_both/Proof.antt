@@ -1,5 +1,5 @@
 -- `link_both` meets its contract: the step goes both ways.
-use Rattle.repeaters.specs.MaskLaws.{step-back, masked-joined, linked-both}
+use Rattle.repeaters.specs.MaskLaws.{step-back, masked-linked, linked-both}
 use borrow.Author.Needs.{needs}
 use Rattle.repeaters.proofs.links.link_both.Statement.{statement}
 use Rattle.repeaters.proofs.links.link_both.Tie as tie
@@ -8,7 +8,7 @@ link-requires : tie.Need-link-requires
 link-requires c κs = (c .before .before .pre .0, (step-back (c .before .before .pre .1 .0) (c .before .before .pre .0), c .before .before .pre .1 .1))
 
 link-requires-2 : tie.Need-link-requires-2
-link-requires-2 c κs = (c .before .before .before .before .before .before .pre .0, (c .before .before .before .before .before .before .pre .1 .0, masked-joined (c .before .before .before .before .before .before .pre .1 .1) (c .before .before .before .link .ensures)))
+link-requires-2 c κs = (c .before .before .before .before .before .before .pre .0, (c .before .before .before .before .before .before .pre .1 .0, masked-linked (c .before .before .before .before .before .before .pre .1 .1) (c .before .before .before .link .ensures)))
 
 same-length : tie.Need-same-length
 same-length c = search needs

@@ -5,7 +5,7 @@ use Prim.Native.Nat.{_-_}
 use lib.ListN.{length}
 use Rattle.repeaters.specs.MaskLaws.{adding-masked, masked-none}
 use Rattle.repeaters.specs.AdjacencyLaws.{LayingLinks, laying-none, laying-next, laying-all, branch-within, branch-laid}
-use Rattle.repeaters.specs.NeighbourLaws.{tree-joined}
+use Rattle.repeaters.specs.NeighbourLaws.{tree-linked}
 use borrow.Author.Needs.{needs}
 use Rattle.repeaters.proofs.links.tree_adjacency.Statement.{statement}
 use Rattle.repeaters.proofs.links.tree_adjacency.Tie as tie
@@ -56,7 +56,7 @@ same-length : tie.Need-same-length Inv-loop μ-loop
 same-length c = c .before .loop .inv .0
 
 returns : tie.Need-returns Inv-loop μ-loop
-returns c = tree-joined (c .before .before .before .before .pre .0) _ (c .before .before .before .before .pre .1 .0 .steps) (c .before .before .before .before .pre .1 .1) (laying-all (c .before .before .before .before .pre .1 .0) (c .before .loop .inv .1) (c .loop-test .left))
+returns c = tree-linked (c .before .before .before .before .pre .0) _ (c .before .before .before .before .pre .1 .0 .steps) (c .before .before .before .before .pre .1 .1) (laying-all (c .before .before .before .before .pre .1 .0) (c .before .loop .inv .1) (c .loop-test .left))
 
 pub tree-adjacency-spec : {M : Type 1} → statement M
 tree-adjacency-spec =

@@ -29,15 +29,15 @@ returns-2 : tie.Need-returns-2
 unfolding verdictOf
 returns-2 c = rw (sym (c .before .before .before .same-answer .ensures) ∙ c .before .before .if1 .left, test-fails (c .before .short-answer .ensures) (c .if2 .taken))
 
-memory-emptied-requires : tie.Need-memory-emptied-requires
-memory-emptied-requires c κs = search needs
+memory-cleared-requires : tie.Need-memory-cleared-requires
+memory-cleared-requires c κs = search needs
 
 full-if-requires : tie.Need-full-if-requires
 full-if-requires c κs = search needs
 
 returns-3 : tie.Need-returns-3
 unfolding verdictOf
-returns-3 c = rw (sym (c .before .before .before .before .before .same-answer .ensures) ∙ c .before .before .before .before .if1 .left, test-passes (c .before .before .before .short-answer .ensures) (c .before .before .if2 .left), ← (c .before .memory-emptied .ensures)) (c .full-if .ensures)
+returns-3 c = rw (sym (c .before .before .before .before .before .same-answer .ensures) ∙ c .before .before .before .before .if1 .left, test-passes (c .before .before .before .short-answer .ensures) (c .before .before .if2 .left), ← (c .before .memory-cleared .ensures)) (c .full-if .ensures)
 
 pub judge-spec : {M : Type 1} → statement M
 judge-spec =
@@ -50,6 +50,6 @@ judge-spec =
     returns
     short-answer-requires
     returns-2
-    memory-emptied-requires
+    memory-cleared-requires
     full-if-requires
     returns-3)

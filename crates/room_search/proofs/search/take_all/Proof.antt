@@ -1,4 +1,4 @@
--- `take_all` meets its contract. The loop's invariant: the search from here comes to the same as from the outset.
+-- `take_all` meets its contract. The loop's invariant: the search from here comes to the same as from its first state.
 use native.Mathlib.Omega.{arith}
 use borrow.Author.Needs.{needs}
 use mathlib.Core.Path.{_≡_, refl, ap, _∙_}

@@ -3,7 +3,7 @@ use native.Mathlib.Omega.{arith}
 use mathlib.Core.Path.{refl, sym, ap, _∙_}
 use lib.ListN.{length}
 use Rattle.routing.specs.Answers.{taskIn}
-use Rattle.routing.specs.EntryLaws.{again, again-length, emptied-whole, searchable}
+use Rattle.routing.specs.EntryLaws.{again, again-length, cleared-whole, searchable}
 use borrow.Author.Needs.{needs}
 use Rattle.routing.proofs.astar.answer_fit.Statement.{statement}
 use Rattle.room_search.specs.TakeAllLaws.{told-showable}
@@ -75,7 +75,7 @@ same-length-5 : tie.Need-same-length-5
 same-length-5 c = search needs
 
 returns : tie.Need-returns
-returns c = let s = c .before .before .before .before .before .before .before .before .before .before .before .before .before .before .before .before .before .before .before .before .before .before .before .before .before .before .before .before .before .before .before .before .before .before .before .before .before .before .before .before .before .before .before in let a = s .args in let p = s .pre in let v = c .before .before .before .before .before .before .before .before .before .before .before .before .before .before .before .before .before .before .before .before .before .before .before .before .before .before .before .before .before .before .before .before .before .before .before .before .volume .result in let e = c .before .before .before .before .before .before .before .before .before .before .before .before .before .before .before .before .before .before .before .before .before .before .before .before .before .before .before .before .before .before .before .before .before .before .before .before .volume .ensures in let K = (c .before .before .before .before .before .before .before .before .before .before .before .before .before .before .before .before .before .before .before .before .before .before .before .before .before .before .before .before .before .before .before .search-room .last .1 .1 .1 .1 .1 .0) in let Q = (c .before .before .before .before .before .before .before .before .before .before .before .before .before .before .before .before .before .before .before .before .before .before .before .before .before .before .before .before .before .before .before .search-room .last .1 .1 .1 .1 .1 .1 .0) in let kk = again K (a .known .now) v (c .before .before .before .before .before .before .before .before .before .before .before .before .before .before .before .before .before .before .before .before .before .before .before .before .before .before .before .before .before .before .before .search-room .kept .1 .1 .1 .1 .1 .0) (rw e (p .known-enough)) in let qq = again Q (a .previous .now) v (c .before .before .before .before .before .before .before .before .before .before .before .before .before .before .before .before .before .before .before .before .before .before .before .before .before .before .before .before .before .before .before .search-room .kept .1 .1 .1 .1 .1 .1 .0) (rw e (p .previous-enough)) in let kl = (c .before .before .before .before .before .before .before .before .before .before .before .before .before .before .before .before .before .before .before .before .before .before .before .before .before .before .before .before .before .before .before .search-room .kept .1 .1 .1 .1 .1 .0) ∙ length-take-le v (a .known .now) (rw e (p .known-enough)) in let ql = (c .before .before .before .before .before .before .before .before .before .before .before .before .before .before .before .before .before .before .before .before .before .before .before .before .before .before .before .before .before .before .before .search-room .kept .1 .1 .1 .1 .1 .1 .0) ∙ length-take-le v (a .previous .now) (rw e (p .previous-enough)) in let F = c .before .before .before .before .before .before .before .before .before .before .before .before .before .before .before .before .before .before .before .before .before .before .before .before .before .before .before .before .before .before .before .search-room .ensures in let T = taskIn (a .room) (a .config) (a .kinds .now) (a .start) (a .goal) (placesOf (a .queue .now)) in let S = c .before .before .before .before .before .before .before .before .before .before .before .before .before .before .before .answer-of .ensures .shows T (sym (ap length qq ∙ ql ∙ e)) refl (rw (kk, qq) F) in record { answer = S .0; path-is = rw (c .before .before .before .before .before .before .before .before .before .before .before .before .before .before .before .before .before .before .before .before .before .clear-words .kept .0) at (S .1); known-is = emptied-whole (c .before .before .before .before .before .before .before .before .before .before .before .before .before .before .before .before .before .before .before .before .before .before .before .before .before .before .before .before .before .before .before .search-room .last .1 .1 .1 .1 .1 .0) (a .known .now) v (c .before .before .before .before .before .before .before .before .before .before .before .before .before .before .before .before .before .before .before .before .before .before .before .before .before .before .before .before .before .before .before .search-room .kept .1 .1 .1 .1 .1 .0) _ (c .before .before .before .before .before .before .before .before .clear-work .ensures .0); previous-is = emptied-whole (c .before .before .before .before .before .before .before .before .before .before .before .before .before .before .before .before .before .before .before .before .before .before .before .before .before .before .before .before .before .before .before .search-room .last .1 .1 .1 .1 .1 .1 .0) (a .previous .now) v (c .before .before .before .before .before .before .before .before .before .before .before .before .before .before .before .before .before .before .before .before .before .before .before .before .before .before .before .before .before .before .before .search-room .kept .1 .1 .1 .1 .1 .1 .0) _ (c .before .before .before .before .before .before .before .before .clear-work .ensures .1); classes-is = emptied-whole (c .before .before .before .before .before .before .before .before .before .before .before .before .before .before .before .before .before .before .before .before .before .before .before .before .before .before .before .before .before .before .before .search-room .last .1 .1 .1 .1 .1 .1 .1 .0) (a .classes .now) v (c .before .before .before .before .before .before .before .before .before .before .before .before .before .before .before .before .before .before .before .before .before .before .before .before .before .before .before .before .before .before .before .search-room .kept .1 .1 .1 .1 .1 .1 .1 .0) _ (c .before .before .before .before .before .before .before .before .clear-work .ensures .2); queue-is = cleared-to (c .before .before .before .before .before .before .before .before .before .before .before .before .before .before .before .before .before .before .before .before .before .before .before .before .before .before .before .before .before .before .before .search-room .kept .1 .1 .1 .1 .1 .1 .1 .1 .0) (c .before .before .before .before .before .before .before .before .clear-work .ensures .3) }
+returns c = let s = c .before .before .before .before .before .before .before .before .before .before .before .before .before .before .before .before .before .before .before .before .before .before .before .before .before .before .before .before .before .before .before .before .before .before .before .before .before .before .before .before .before .before .before in let a = s .args in let p = s .pre in let v = c .before .before .before .before .before .before .before .before .before .before .before .before .before .before .before .before .before .before .before .before .before .before .before .before .before .before .before .before .before .before .before .before .before .before .before .before .volume .result in let e = c .before .before .before .before .before .before .before .before .before .before .before .before .before .before .before .before .before .before .before .before .before .before .before .before .before .before .before .before .before .before .before .before .before .before .before .before .volume .ensures in let K = (c .before .before .before .before .before .before .before .before .before .before .before .before .before .before .before .before .before .before .before .before .before .before .before .before .before .before .before .before .before .before .before .search-room .last .1 .1 .1 .1 .1 .0) in let Q = (c .before .before .before .before .before .before .before .before .before .before .before .before .before .before .before .before .before .before .before .before .before .before .before .before .before .before .before .before .before .before .before .search-room .last .1 .1 .1 .1 .1 .1 .0) in let kk = again K (a .known .now) v (c .before .before .before .before .before .before .before .before .before .before .before .before .before .before .before .before .before .before .before .before .before .before .before .before .before .before .before .before .before .before .before .search-room .kept .1 .1 .1 .1 .1 .0) (rw e (p .known-enough)) in let qq = again Q (a .previous .now) v (c .before .before .before .before .before .before .before .before .before .before .before .before .before .before .before .before .before .before .before .before .before .before .before .before .before .before .before .before .before .before .before .search-room .kept .1 .1 .1 .1 .1 .1 .0) (rw e (p .previous-enough)) in let kl = (c .before .before .before .before .before .before .before .before .before .before .before .before .before .before .before .before .before .before .before .before .before .before .before .before .before .before .before .before .before .before .before .search-room .kept .1 .1 .1 .1 .1 .0) ∙ length-take-le v (a .known .now) (rw e (p .known-enough)) in let ql = (c .before .before .before .before .before .before .before .before .before .before .before .before .before .before .before .before .before .before .before .before .before .before .before .before .before .before .before .before .before .before .before .search-room .kept .1 .1 .1 .1 .1 .1 .0) ∙ length-take-le v (a .previous .now) (rw e (p .previous-enough)) in let F = c .before .before .before .before .before .before .before .before .before .before .before .before .before .before .before .before .before .before .before .before .before .before .before .before .before .before .before .before .before .before .before .search-room .ensures in let T = taskIn (a .room) (a .config) (a .kinds .now) (a .start) (a .goal) (placesOf (a .queue .now)) in let S = c .before .before .before .before .before .before .before .before .before .before .before .before .before .before .before .answer-of .ensures .shows T (sym (ap length qq ∙ ql ∙ e)) refl (rw (kk, qq) F) in record { answer = S .0; path-is = rw (c .before .before .before .before .before .before .before .before .before .before .before .before .before .before .before .before .before .before .before .before .before .clear-words .kept .0) at (S .1); known-is = cleared-whole (c .before .before .before .before .before .before .before .before .before .before .before .before .before .before .before .before .before .before .before .before .before .before .before .before .before .before .before .before .before .before .before .search-room .last .1 .1 .1 .1 .1 .0) (a .known .now) v (c .before .before .before .before .before .before .before .before .before .before .before .before .before .before .before .before .before .before .before .before .before .before .before .before .before .before .before .before .before .before .before .search-room .kept .1 .1 .1 .1 .1 .0) _ (c .before .before .before .before .before .before .before .before .clear-work .ensures .0); previous-is = cleared-whole (c .before .before .before .before .before .before .before .before .before .before .before .before .before .before .before .before .before .before .before .before .before .before .before .before .before .before .before .before .before .before .before .search-room .last .1 .1 .1 .1 .1 .1 .0) (a .previous .now) v (c .before .before .before .before .before .before .before .before .before .before .before .before .before .before .before .before .before .before .before .before .before .before .before .before .before .before .before .before .before .before .before .search-room .kept .1 .1 .1 .1 .1 .1 .0) _ (c .before .before .before .before .before .before .before .before .clear-work .ensures .1); classes-is = cleared-whole (c .before .before .before .before .before .before .before .before .before .before .before .before .before .before .before .before .before .before .before .before .before .before .before .before .before .before .before .before .before .before .before .search-room .last .1 .1 .1 .1 .1 .1 .1 .0) (a .classes .now) v (c .before .before .before .before .before .before .before .before .before .before .before .before .before .before .before .before .before .before .before .before .before .before .before .before .before .before .before .before .before .before .before .search-room .kept .1 .1 .1 .1 .1 .1 .1 .0) _ (c .before .before .before .before .before .before .before .before .clear-work .ensures .2); queue-is = cleared-to (c .before .before .before .before .before .before .before .before .before .before .before .before .before .before .before .before .before .before .before .before .before .before .before .before .before .before .before .before .before .before .before .search-room .kept .1 .1 .1 .1 .1 .1 .1 .1 .0) (c .before .before .before .before .before .before .before .before .clear-work .ensures .3) }
 
 pub answer-fit-spec : {M : Type 1} → statement M
 answer-fit-spec =

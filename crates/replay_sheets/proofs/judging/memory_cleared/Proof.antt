@@ -1,7 +1,7 @@
--- `memory_emptied` meets its contract: nothing is expected anywhere.
+-- `memory_cleared` meets its contract: nothing is expected anywhere.
 use borrow.Author.Needs.{needs}
-use Rattle.replay_sheets.proofs.judging.memory_emptied.Statement.{statement}
-use Rattle.replay_sheets.proofs.judging.memory_emptied.Tie as tie
+use Rattle.replay_sheets.proofs.judging.memory_cleared.Statement.{statement}
+use Rattle.replay_sheets.proofs.judging.memory_cleared.Tie as tie
 
 slice-aggregate-memory-holds : tie.Need-slice-aggregate-memory-holds
 slice-aggregate-memory-holds c = search needs
@@ -18,8 +18,8 @@ memory-holds-requires c κs = search needs
 returns : tie.Need-returns
 returns c = c .memory-holds .ensures
 
-pub memory-emptied-spec : {M : Type 1} → statement M
-memory-emptied-spec =
+pub memory-cleared-spec : {M : Type 1} → statement M
+memory-cleared-spec =
     tie.close
     (tie.spec
     slice-aggregate-memory-holds
