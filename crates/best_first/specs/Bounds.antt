@@ -23,7 +23,7 @@ use Rattle.best_first.specs.Orders.{Alike}
 use Rattle.best_first.specs.Predecessors.{lowered, start-placed, start-alone, first-linked}
 
 -- an entry's cell is known, and its key is in range: a move of the dearest for each known cell but one
-record Fits (G : Graph) (dearest : ℕ) (known : List ℕ) (e : Entry) : Type 0 where
+record EntryFits (G : Graph) (dearest : ℕ) (known : List ℕ) (e : Entry) : Type 0 where
   cell-in : e .cell < G .size
   is-known : 0 < getD known (e .cell) 0
   low : e .key + dearest ≤ dearest * nonzeros known + G .estimate (e .cell)
@@ -34,7 +34,7 @@ pub record Sane (G : Graph) (degree dearest : ℕ) (due : List Move) (s : State)
   pub previous-long : length (s .previous) ≡ G .size
   low : (v : ℕ) → 0 < knownAt s v → knownAt s v + dearest ≤ suc (dearest * nonzeros (s .known))
   pub previous-in : (v : ℕ) → getD (s .previous) v 0 ≤ G .size
-  fits : (e : Entry) → In e (s .waiting) → Fits G dearest (s .known) e
+  fits : (e : Entry) → In e (s .waiting) → EntryFits G dearest (s .known) e
   pub balance : s .expanded + length (s .waiting) ≡ suc (s .serial)
   pub serial : s .serial + length due ≤ degree * s .expanded
 
@@ -155,7 +155,7 @@ module _ {G : Graph} {degree dearest : ℕ} (S : Sound G degree dearest) where
           previous v (hit e q) = omega (arith, in-reach (s .known) u (omega (arith, A .now)), A .sane .known-long)
           previous v (miss n q) = omega (arith, A .sane .previous-in v)
 
-          fits : (e : Entry) → In e ((push G u (m .to) (d + m .cost) s) .waiting) → Fits G dearest (offered s d m) e
+          fits : (e : Entry) → In e ((push G u (m .to) (d + m .cost) s) .waiting) → EntryFits G dearest (offered s d m) e
           fits e (inl p) = rw p (record { cell-in = to-in; is-known = omega (arith, getD-set-same (s .known) (m .to) (suc (d + m .cost)) 0 to-placed); low = omega (arith, more) })
           fits e (inr i) =
               let o = A .sane .fits e i in

@@ -102,7 +102,7 @@ module _ (G : Graph) (s : State) where
 
 -- nothing waits, or the goal is taken, or a cell is to be expanded
 pub data TakeCases (G : Graph) (s : State) : Type 0 where
-  nothing : s .waiting ≡ [] → takeOne G s ≡ ends (no-route (s .expanded)) → TakeCases G s
+  none-waits : s .waiting ≡ [] → takeOne G s ≡ ends (no-route (s .expanded)) → TakeCases G s
   goal-taken : (t : Taken) → Taking (s .waiting) t → t .next .cell ≡ G .goal → takeOne G s ≡ ends (arrived G s) → TakeCases G s
   goes-on : (t : Taken) → Taking (s .waiting) t → t .next .cell ≢ G .goal → takeOne G s ≡ expands (t .next .cell) (oneMoreExpanded s (t .left)) → TakeCases G s
 
@@ -110,7 +110,7 @@ pub take-cases : (G : Graph) (s : State) → TakeCases G s
 take-cases G s = go (s .waiting) refl
   where
     go : (w : List Entry) → s .waiting ≡ w → TakeCases G s
-    go [] q = nothing q (take-none G s q)
+    go [] q = none-waits q (take-none G s q)
     go (e ∷ es) q =
         let k : Taking (s .waiting) (least e es) = rw q (taking e es) in
         askSame (least e es .next .cell) (G .goal)

@@ -130,15 +130,15 @@ module _ (G : Graph) (s : State) (r : Entry) (q : List Entry) (A : Apart s) (P :
       go [] f = absurd (omega (arith, P .same .many, ap length f))
       go (x ∷ xs) f = take-goal G s x xs f (ap (λ (y : Entry). y .cell) (taken-out-next x xs r q (rw f at (A .distinct)) (rw f at P)) ∙ e)
 
-  record Left : Type 0 where
+  record LeftWaiting : Type 0 where
     left : List Entry
     goes : takeOne G s ≡ expands (r .cell) (oneMoreExpanded s left)
     same : Same left q
 
-  taking-on-out : r .cell ≢ G .goal → Left
+  taking-on-out : r .cell ≢ G .goal → LeftWaiting
   taking-on-out n = go (s .waiting) refl
     where
-      go : (w : List Entry) → s .waiting ≡ w → Left
+      go : (w : List Entry) → s .waiting ≡ w → LeftWaiting
       go [] f = absurd (omega (arith, P .same .many, ap length f))
       go (x ∷ xs) f =
           let e : least x xs .next ≡ r = taken-out-next x xs r q (rw f at (A .distinct)) (rw f at P) in
@@ -169,7 +169,7 @@ taking-both G s t A L = go (t .waiting) refl
         same-answer : arrived G s ≡ arrived G t
         same-answer = cc (L .previous, L .known, L .expanded)
 
-        left-apart : (k : Left G s (least x xs .next) (least x xs .left) A P) → Apart (oneMoreExpanded s (k .left))
+        left-apart : (k : LeftWaiting G s (least x xs .next) (least x xs .left) A P) → Apart (oneMoreExpanded s (k .left))
         left-apart k =
             alike-apart (expanded-alike s s _ _ (alike-refl s) (same-sym (k .same))) (expanded-apart s _ _ A P)
 
@@ -204,7 +204,7 @@ module _ (G : Graph) (s : State) (r : Entry) (q : List Entry) (A : Apart s) (P :
   out-goal b e = take-all-ends G s b _ (taking-goal-out G s r q A P e)
 
   module _ (away : r .cell ≢ G .goal) where
-    K : Left G s r q A P
+    K : LeftWaiting G s r q A P
     K = taking-on-out G s r q A P away
 
     pub out-limit : takeAll G zero s ≡ limit-passed (suc (s .expanded))

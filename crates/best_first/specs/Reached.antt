@@ -10,7 +10,7 @@ use borrow.Author.Tests.{ltb-true, ltb-false}
 use Rattle.basics.specs.Tests.{ask}
 use Rattle.best_first.specs.Search.{Graph, Move, State, Taken, Pushed, full, on, expand, push, cheaper, Answer, no-route, limit-passed, queue-full, arrived, takeAll, firstState, bestFirst}
 use Rattle.best_first.specs.Statements.{Taking, knownAt, outcome, entered, enteredBy, Reached, at-first, then, pushedBy, pushes}
-use Rattle.best_first.specs.Equations.{cheaper-true, cheaper-false, expand-skip, expand-push, expand-full, TakeCases, nothing, goal-taken, goes-on, take-cases, take-all-ends, take-all-limit, take-all-full, take-all-on, Gain}
+use Rattle.best_first.specs.Equations.{cheaper-true, cheaper-false, expand-skip, expand-push, expand-full, TakeCases, none-waits, goal-taken, goes-on, take-cases, take-all-ends, take-all-limit, take-all-full, take-all-on, Gain}
 
 -- how a search ends at node limit n, and the cells that it pushed
 pub data Ending (G : Graph) (n : ℕ) : Answer → List ℕ → Type 0 where
@@ -62,14 +62,14 @@ module _ (G : Graph) (n : ℕ) where
   all-end zero l s R e = go (take-cases G s)
     where
       go : TakeCases G s → Ending G n (takeAll G zero s) l
-      go (nothing q t) = rw (take-all-ends G s zero _ t) (empty R q)
+      go (none-waits q t) = rw (take-all-ends G s zero _ t) (empty R q)
       go (goal-taken k T q t) = rw (take-all-ends G s zero _ t) (arrives k R T q)
       go (goes-on k T q t) = rw (take-all-limit G s _ _ t) (passes k R T q (omega arith))
   all-end (suc b) l s R e = go (take-cases G s) (λ l′ s′. all-end b l′ s′)
     where
       go : TakeCases G s → ((l′ : List ℕ) (s′ : State) → Reached G l′ s′ → s′ .expanded + b ≡ n → Ending G n (takeAll G b s′) (pushedBy G b s′ l′))
           → Ending G n (takeAll G (suc b) s) (pushedBy G (suc b) s l)
-      go (nothing q t) ih = rw (take-all-ends G s (suc b) _ t) (rw (t, pushedBy) (empty R q))
+      go (none-waits q t) ih = rw (take-all-ends G s (suc b) _ t) (rw (t, pushedBy) (empty R q))
       go (goal-taken k T q t) ih = rw (take-all-ends G s (suc b) _ t) (rw (t, pushedBy) (arrives k R T q))
       go (goes-on k T q t) ih = out _ refl
         where

@@ -56,7 +56,7 @@ module _ {G : Graph} {k : ℕ} (Z : Slacks G k) where
 
 -- the last push into v: by `move` out of `by`, whose key was no more than the last key taken (`near`); the pushes into v so far and the slot of that
 -- move make k at most (`used`)
-record Last (G : Graph) (k : ℕ) (Z : Slacks G k) (top : ℕ) (pushed : List ℕ) (s : State) (v : ℕ) : Type 0 where
+record LastPush (G : Graph) (k : ℕ) (Z : Slacks G k) (top : ℕ) (pushed : List ℕ) (s : State) (v : ℕ) : Type 0 where
   by : ℕ
   move : Move
   lawful : In move (G .moves by)
@@ -66,7 +66,7 @@ record Last (G : Graph) (k : ℕ) (Z : Slacks G k) (top : ℕ) (pushed : List �
   used : times (eqb v) pushed + slot Z by move ≤ k
 
 pub record Slotted (G : Graph) (k : ℕ) (Z : Slacks G k) (top : ℕ) (pushed : List ℕ) (s : State) : Type 0 where
-  last : (v : ℕ) → (times (eqb v) pushed ≡ 0) ⊎ Last G k Z top pushed s v
+  last : (v : ℕ) → (times (eqb v) pushed ≡ 0) ⊎ LastPush G k Z top pushed s v
   start-never : times (eqb (G .start)) pushed ≡ 0
   whole : length pushed ≤ sumBelow (G .size) (λ v. times (eqb v) pushed)
 
@@ -83,14 +83,14 @@ module _ {G : Graph} {degree dearest : ℕ} (S : Sound G degree dearest) (K : Co
   away v n = rw (ne-eqb v (m .to) n) (omega arith)
 
   -- the slack is less than that of the push before
-  lower : (L : Last G k Z top pushed s (m .to)) → slot Z u m < slot Z (L .by) (L .move)
+  lower : (L : LastPush G k Z top pushed s (m .to)) → slot Z u m < slot Z (L .by) (L .move)
   unfolding slack
   lower L = slot-order Z u (L .by) m (L .move) (due-lawful M) (sym (L .leads-to)) (elim gain [
     | inl z ↦ absurd (omega (arith, L .is-known))
     | inr l ↦ omega (arith, L .near, ap (G .estimate) (L .leads-to), K .falls u m (due-lawful M), K .falls (L .by) (L .move) (L .lawful))
   ])
 
-  new : (times (eqb (m .to)) pushed ≡ 0) ⊎ Last G k Z top pushed s (m .to) → Last G k Z top (m .to ∷ pushed) (push G u (m .to) (d + m .cost) s) (m .to)
+  new : (times (eqb (m .to)) pushed ≡ 0) ⊎ LastPush G k Z top pushed s (m .to) → LastPush G k Z top (m .to ∷ pushed) (push G u (m .to) (d + m .cost) s) (m .to)
   unfolding push
   new c = record {
     by = u;
@@ -117,8 +117,8 @@ module _ {G : Graph} {degree dearest : ℕ} (S : Sound G degree dearest) (K : Co
       more v (there e q) = rw (← e) (omega (arith, here, single-most (m .to) 1 (m .to)))
       more v (elsewhere n q) = omega (arith, away v (λ e. n (sym e)))
 
-      last : (v : ℕ) → v ≢ m .to → (times (eqb v) pushed ≡ 0) ⊎ Last G k Z top pushed s v
-          → (times (eqb v) (m .to ∷ pushed) ≡ 0) ⊎ Last G k Z top (m .to ∷ pushed) (push G u (m .to) (d + m .cost) s) v
+      last : (v : ℕ) → v ≢ m .to → (times (eqb v) pushed ≡ 0) ⊎ LastPush G k Z top pushed s v
+          → (times (eqb v) (m .to ∷ pushed) ≡ 0) ⊎ LastPush G k Z top (m .to ∷ pushed) (push G u (m .to) (d + m .cost) s) v
       last v n (inl z) = inl (away v n ∙ z)
       last v n (inr L) =
           let q : getD (offered s d m) v 0 ≡ knownAt s v = same M S gain v n in
@@ -164,7 +164,7 @@ module _ {G : Graph} {k : ℕ} (Z : Slacks G k) where
   later : {top next : ℕ} {pushed : List ℕ} {s : State} (left : List Entry) → top ≤ next → Slotted G k Z top pushed s → Slotted G k Z next pushed (oneMoreExpanded s left)
   later {top} {next} {pushed} {s} left h A = record { last = λ v. last v (A .last v); start-never = A .start-never; whole = A .whole }
     where
-      last : (v : ℕ) → (times (eqb v) pushed ≡ 0) ⊎ Last G k Z top pushed s v → (times (eqb v) pushed ≡ 0) ⊎ Last G k Z next pushed (oneMoreExpanded s left) v
+      last : (v : ℕ) → (times (eqb v) pushed ≡ 0) ⊎ LastPush G k Z top pushed s v → (times (eqb v) pushed ≡ 0) ⊎ LastPush G k Z next pushed (oneMoreExpanded s left) v
       last v (inl z) = inl z
       last v (inr L) = inr (record {
         by = L .by;

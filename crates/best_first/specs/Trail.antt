@@ -23,11 +23,11 @@ use Rattle.best_first.specs.Predecessors.{Linked, Link, Origin}
 -- a is x, or before x on the way back
 pub data Up (previous : List ℕ) (a : ℕ) : ℕ → Type 0 where
   here : {x : ℕ} → x ≡ a → Up previous a x
-  above : {x y : ℕ} → getD previous x 0 ≡ suc y → Up previous a y → Up previous a x
+  further-up : {x y : ℕ} → getD previous x 0 ≡ suc y → Up previous a y → Up previous a x
 
 up-more : {previous : List ℕ} {a x : ℕ} (b : ℕ) → Up previous a x → getD previous a 0 ≡ suc b → Up previous b x
-up-more {previous} b (here e) f = above (ap (λ (n : ℕ). getD previous n 0) e ∙ f) (here refl)
-up-more b (above q r) f = above q (up-more b r f)
+up-more {previous} b (here e) f = further-up (ap (λ (n : ℕ). getD previous n 0) e ∙ f) (here refl)
+up-more b (further-up q r) f = further-up q (up-more b r f)
 
 module _ {G : Graph} {ages known previous : List ℕ} {serial : ℕ} (L : Linked G ages known previous serial) where
   -- by cost, then by age

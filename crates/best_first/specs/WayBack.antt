@@ -21,7 +21,7 @@ use Rattle.best_first.specs.Equations.{Gain, no-gain, offered}
 use Rattle.best_first.specs.Predecessors.{Linked, Link, Origin, start-alone}
 use Rattle.best_first.specs.Base.{Base, Mid, due-lawful, still-closed, same, now-known, all-loose, taken-fresh, mark-taken}
 use Rattle.best_first.specs.Induction.{Invariant, Holds, invariant-holds}
-use Rattle.best_first.specs.Trail.{Up, here, above, goal-trail}
+use Rattle.best_first.specs.Trail.{Up, here, further-up, goal-trail}
 
 record Open (closed known : List ℕ) (v : ℕ) : Type 0 where
   is-known : 0 < getD known v 0
@@ -51,7 +51,7 @@ record HangingMid (G : Graph) (u : ℕ) (closed known previous : List ℕ) : Typ
 up-falls : {G : Graph} {ages known previous : List ℕ} {serial : ℕ} → Linked G ages known previous serial → {a x : ℕ} → Up previous a x → 0 < getD known x 0
     → (0 < getD known a 0) × (getD known a 0 ≤ getD known x 0)
 up-falls {G} {ages} {known} {previous} L (here e) p = omega (arith, ap (λ (n : ℕ). getD known n 0) e)
-up-falls {G} {ages} {known} {previous} L {a} (above {x} {y} e up) p = go (L .link x p) (up-falls L up)
+up-falls {G} {ages} {known} {previous} L {a} (further-up {x} {y} e up) p = go (L .link x p) (up-falls L up)
   where
     go : Origin G previous x ⊎ Link G ages known previous x → (0 < getD known y 0 → (0 < getD known a 0) × (getD known a 0 ≤ getD known y 0))
         → (0 < getD known a 0) × (getD known a 0 ≤ getD known x 0)
@@ -122,14 +122,14 @@ module _ (previous : List ℕ) (w u : ℕ) (w-in : w < length previous) (free : 
   -- a way back in the new tree is one in the old, or goes by way of w and u
   up-split : {a x : ℕ} → Up (set previous w (suc u)) a x → Up previous a x ⊎ (Up previous w x × Up (set previous w (suc u)) a u)
   up-split (here e) = inl (here e)
-  up-split {a} (above {x} {y} e up) = go (ℕ-discrete x w) (up-split up)
+  up-split {a} (further-up {x} {y} e up) = go (ℕ-discrete x w) (up-split up)
     where
       go : Dec (x ≡ w) → Up previous a y ⊎ (Up previous w y × Up (set previous w (suc u)) a u) → Up previous a x ⊎ (Up previous w x × Up (set previous w (suc u)) a u)
       go (yes q) ih =
           let f : y ≡ u = omega (arith, new q) in
           inr (here q, rw f at up)
-      go (no n) (inl r) = inl (above (sym (old x n) ∙ e) r)
-      go (no n) (inr r) = inr (above (sym (old x n) ∙ e) (r .0), r .1)
+      go (no n) (inl r) = inl (further-up (sym (old x n) ∙ e) r)
+      go (no n) (inr r) = inr (further-up (sym (old x n) ∙ e) (r .0), r .1)
 
   -- u is where it was
   up-same : {a : ℕ} → Up (set previous w (suc u)) a u → Up previous a u
@@ -137,17 +137,17 @@ module _ (previous : List ℕ) (w u : ℕ) (w-in : w < length previous) (free : 
 
   up-stays : {a x : ℕ} → Up previous a x → (Up previous w x → ⊥) → Up (set previous w (suc u)) a x
   up-stays (here e) f = here e
-  up-stays (above {x} {y} e up) f = above (old x (λ q. f (here q)) ∙ e) (up-stays up (λ r. f (above e r)))
+  up-stays (further-up {x} {y} e up) f = further-up (old x (λ q. f (here q)) ∙ e) (up-stays up (λ r. f (further-up e r)))
 
   -- what was before x is still, if it is before u too
   up-still : {a x : ℕ} → Up (set previous w (suc u)) a u → Up previous a x → Up (set previous w (suc u)) a x
   up-still r (here e) = here e
-  up-still r (above {x} e up) = let ih = up-still r up in askSame x w (λ q. above (new q) r) (λ n. above (old x n ∙ e) ih)
+  up-still r (further-up {x} e up) = let ih = up-still r up in askSame x w (λ q. further-up (new q) r) (λ n. further-up (old x n ∙ e) ih)
 
   -- what is before w is w or before u
   up-new : {a x : ℕ} → x ≡ w → a ≢ x → Up (set previous w (suc u)) a x → Up (set previous w (suc u)) a u
   up-new q n (here e) = absurd (n (sym e))
-  up-new q n (above {x} {y} e up) =
+  up-new q n (further-up {x} {y} e up) =
       let f : y ≡ u = omega (arith, new q) in
       rw f at up
 
@@ -238,7 +238,7 @@ module _ {G : Graph} {degree dearest : ℕ} (S : Sound G degree dearest) {closed
       outer v y up O f =
           let r = up-same (s .previous) (m .to) u w-in free up in
           askSame y (m .to)
-          (λ q. absurd (f (above (new (s .previous) (m .to) u w-in free q) up)))
+          (λ q. absurd (f (further-up (new (s .previous) (m .to) u w-in free q) up)))
           (λ q. omega (
             arith,
             T .outer v y r (was-open y q O) (λ p. f (up-still (s .previous) (m .to) u w-in free up p)),

@@ -22,7 +22,7 @@ use Rattle.job_sheet.specs.Places.{noBlock, blocksIn}
 use Rattle.job_sheet.specs.RecordLaws.{blocks-long}
 use Rattle.blocks.specs.declared.Placement.{Placement}
 use Rattle.blocks.specs.declared.Placement.the-variants.{RepeatAt}
-use Rattle.blocks.specs.Blocks.{blockCell, ofBlock, tabulated, recordCell, recordNode, Repeat, NotAfter, Placing, placed, repeated, BlocksLaid}
+use Rattle.blocks.specs.Blocks.{blockCell, ofBlock, tabulated, recordCell, recordNode, Repeat, NotAfter, Placing, each-its-own, one-repeated, BlocksLaid}
 
 -- ---- a table has one entry for each number
 
@@ -123,10 +123,10 @@ same-place R bs i j (inr h) (inr k) = omega (arith, h .1, k .1)
 
 module _ {R : Room} {bs : List Block} where
   placing-one : {n : ℕ} {r s : Placement} → Placing R bs n r → Placing R bs n s → r ≡ s
-  placing-one (placed free e) (placed free′ e′) = cc
-  placing-one (placed free e) (repeated i at least e′) = absurd (free i at)
-  placing-one (repeated i at least e) (placed free e′) = absurd (free i at)
-  placing-one (repeated i at least e) (repeated j at′ least′ e′) = e ∙ ap RepeatAt (same-place R bs i j (least j at′) (least′ i at)) ∙ sym e′
+  placing-one (each-its-own free e) (each-its-own free′ e′) = cc
+  placing-one (each-its-own free e) (one-repeated i at least e′) = absurd (free i at)
+  placing-one (one-repeated i at least e) (each-its-own free e′) = absurd (free i at)
+  placing-one (one-repeated i at least e) (one-repeated j at′ least′ e′) = e ∙ ap RepeatAt (same-place R bs i j (least j at′) (least′ i at)) ∙ sym e′
 
 -- two results of `place_blocks` coincide: the answer, and the final bytes of both buffers
 pub record Result : Type 0 where

@@ -71,8 +71,8 @@ NotAfter R bs i j = (recordNode bs i < recordNode bs j) ⊎ ((recordNode bs i �
 
 -- what the first n records come to: each has a cell of its own, or "cell of the repeat: of all [repeats] the one of least node, then least cell"
 pub data Placing (R : Room) (bs : List Block) (n : ℕ) (r : Placement) : Type 0 where
-  placed : ((i : ℕ) → Repeat R bs n i → ⊥) → r ≡ Placed → Placing R bs n r
-  repeated : (i : ℕ) → Repeat R bs n i → ((j : ℕ) → Repeat R bs n j → NotAfter R bs i j) → r ≡ RepeatAt (recordCell R bs i) → Placing R bs n r
+  each-its-own : ((i : ℕ) → Repeat R bs n i → ⊥) → r ≡ Placed → Placing R bs n r
+  one-repeated : (i : ℕ) → Repeat R bs n i → ((j : ℕ) → Repeat R bs n j → NotAfter R bs i j) → r ≡ RepeatAt (recordCell R bs i) → Placing R bs n r
 
 -- what a buffer of the room holds in the end: this, or zeros, as "7 to 15 leave every lent writable buffer zero"
 abbrev pub leftBy : Placement → Room → List ℕ → List ℕ

@@ -15,7 +15,7 @@ use Rattle.room.specs.Units.{air}
 use Rattle.job_sheet.specs.declared.Block.{Block}
 use Rattle.job_sheet.specs.Places.{noBlock}
 use Rattle.blocks.specs.declared.Placement.the-variants.{Placed, RepeatAt}
-use Rattle.blocks.specs.Blocks.{kindOf, nodeOf, kindsOf, nodesOf, recordCell, recordNode, recordKind, Repeat, NotAfter, Placing, placed, repeated, BlocksLaid}
+use Rattle.blocks.specs.Blocks.{kindOf, nodeOf, kindsOf, nodesOf, recordCell, recordNode, recordKind, Repeat, NotAfter, Placing, each-its-own, one-repeated, BlocksLaid}
 use Rattle.blocks.specs.Laying.{lesserKept, perNode, numbered, repeatNumber, BlockAdded, Noted, no-block, of-block, RepeatFound, no-repeat, of-repeat, Kept}
 use Rattle.blocks.specs.BlockLaws.{less-or-same, tabulated-is, OfCell, of-record, of-none, of-cell, of-its-cell}
 
@@ -85,29 +85,29 @@ module _ (known one-more v : ℕ) where
     old-repeats h = rw (ne-eqb known 0 some, le-ltb known one-more h)
 
 -- none, or that of the new block, or that of a block of the least node so far
-data Made (known node v n : ℕ) : Type 0 where
-  none-made : known ≡ 0 → n ≡ 0 → Made known node v n
-  by-new : 1 ≤ known → known ≤ node + 1 → n ≡ numbered node v → Made known node v n
-  by-old : (least : ℕ) → known ≡ least + 1 → node < least → n ≡ numbered least v → Made known node v n
+data RepeatMade (known node v n : ℕ) : Type 0 where
+  none-made : known ≡ 0 → n ≡ 0 → RepeatMade known node v n
+  by-new : 1 ≤ known → known ≤ node + 1 → n ≡ numbered node v → RepeatMade known node v n
+  by-old : (least : ℕ) → known ≡ least + 1 → node < least → n ≡ numbered least v → RepeatMade known node v n
 
-made : (known node v : ℕ) → Made known node v (repeatNumber known (node + 1) v)
-made known node v =
+repeat-made : (known node v : ℕ) → RepeatMade known node v (repeatNumber known (node + 1) v)
+repeat-made known node v =
     askSame known 0 (λ e. none-made e (no-repeat-number known (node + 1) v e)) some
   where
-    some : (known ≡ 0 → ⊥) → Made known node v (repeatNumber known (node + 1) v)
+    some : (known ≡ 0 → ⊥) → RepeatMade known node v (repeatNumber known (node + 1) v)
     some is =
         askLess known (node + 1)
         (λ h. by-new (omega (arith, is)) (omega arith) (omega (arith, new-repeats known (node + 1) v is h)))
         (λ h. old h (old-repeats known (node + 1) v is h))
       where
-        old : node + 1 ≤ known → repeatNumber known (node + 1) v ≡ numbered (known - 1) v → Made known node v (repeatNumber known (node + 1) v)
+        old : node + 1 ≤ known → repeatNumber known (node + 1) v ≡ numbered (known - 1) v → RepeatMade known node v (repeatNumber known (node + 1) v)
         old h e =
             askSame known (node + 1)
             (λ same. by-new (omega (arith, is)) (omega arith) (omega (arith, e)))
             (λ d. by-old (known - 1) (omega arith) (omega (arith, d)) e)
 
 -- no more than that of any block of the cell whose node is neither below the new one nor below the least
-made-least : {known node v n : ℕ} → Made known node v n → (x : ℕ) → 1 ≤ known → known ≤ x + 1 → node ≤ x → (1 ≤ n) × (n ≤ numbered x v)
+made-least : {known node v n : ℕ} → RepeatMade known node v n → (x : ℕ) → 1 ≤ known → known ≤ x + 1 → node ≤ x → (1 ≤ n) × (n ≤ numbered x v)
 made-least (none-made e z) x h k l = (omega arith, omega arith)
 made-least (by-new s t e) x h k l = (omega arith, omega arith)
 made-least (by-old least e t z) x h k l = (omega arith, omega arith)
@@ -242,9 +242,9 @@ module _ (R : Room) (bs : List Block) (k : ℕ) where
 
     -- while nothing repeats, no block so far takes the new block's cell
     not-known : found-now ≡ 0 → (found ≡ 0) × (known ≡ 0)
-    not-known z = go (lesser-is found new) (made known (recordNode bs k) here)
+    not-known z = go (lesser-is found new) (repeat-made known (recordNode bs k) here)
       where
-        go : LesserKept found new found-now → Made known (recordNode bs k) here new → (found ≡ 0) × (known ≡ 0)
+        go : LesserKept found new found-now → RepeatMade known (recordNode bs k) here new → (found ≡ 0) × (known ≡ 0)
         go l (none-made e n) = (none (l .to-first), e)
           where
             none : (1 ≤ found → (1 ≤ found-now) × (found-now ≤ found)) → found ≡ 0
@@ -262,7 +262,7 @@ module _ (R : Room) (bs : List Block) (k : ℕ) where
     repeat-more : RepeatFound R bs (k + 1) found-now
     repeat-more = go (lesser-is found new .one-of) (K .repeat)
       where
-        fresh : found-now ≡ new → Made known (recordNode bs k) here new → Noted R bs k here known → RepeatFound R bs (k + 1) found-now
+        fresh : found-now ≡ new → RepeatMade known (recordNode bs k) here new → Noted R bs k here known → RepeatFound R bs (k + 1) found-now
         fresh e (none-made z n) t = no-repeat (e ∙ n)
         fresh e (by-new a b n) (no-block z) = absurd (omega arith)
         fresh e (by-new a b n) (of-block h l c m) =
@@ -274,7 +274,7 @@ module _ (R : Room) (bs : List Block) (k : ℕ) where
         go : (found-now ≡ found) ⊎ (found-now ≡ new) → RepeatFound R bs k found → RepeatFound R bs (k + 1) found-now
         go (inl e) (no-repeat z) = no-repeat (e ∙ z)
         go (inl e) (of-repeat i r n) = of-repeat i (more r) (e ∙ n)
-        go (inr e) f = fresh e (made known (recordNode bs k) here) (K .noted here cell-in)
+        go (inr e) f = fresh e (repeat-made known (recordNode bs k) here) (K .noted here cell-in)
 
     least-repeat-more : (j : ℕ) → Repeat R bs (k + 1) j → (1 ≤ found-now) × (found-now ≤ numbered (recordNode bs j) (recordCell R bs j))
     least-repeat-more j r = go (repeat-of-more j r)
@@ -289,10 +289,10 @@ module _ (R : Room) (bs : List Block) (k : ℕ) where
             (l .0, omega arith)
         go (is-new h l e c n) =
             let a = known-least h l c in
-            rw e (bound (recordNode bs k) here refl (made-least (made known (recordNode bs k) here) (recordNode bs k) (a .0) (omega arith) (omega arith)))
+            rw e (bound (recordNode bs k) here refl (made-least (repeat-made known (recordNode bs k) here) (recordNode bs k) (a .0) (omega arith) (omega arith)))
         go (held-by-new l c n) =
             let a = known-least j l c in
-            bound (recordNode bs j) (recordCell R bs j) (sym c) (made-least (made known (recordNode bs k) here) (recordNode bs j) (a .0) (a .1) (omega arith))
+            bound (recordNode bs j) (recordCell R bs j) (sym c) (made-least (repeat-made known (recordNode bs k) here) (recordNode bs j) (a .0) (a .1) (omega arith))
 
     kept-more : Kept R bs (k + 1) kinds-now nodes-now found-now
     kept-more = record {
@@ -320,14 +320,14 @@ module _ {R : Room} {bs : List Block} {kinds nodes : List ℕ} {found : ℕ} whe
     nothing-repeats z i r = omega (arith, z, K .least-repeat i r .0)
 
     kept-placed : found ≡ 0 → Placing R bs n Placed
-    kept-placed z = placed (nothing-repeats z) refl
+    kept-placed z = each-its-own (nothing-repeats z) refl
 
     kept-repeated : (found ≡ 0 → ⊥) → ((i : ℕ) → i < n → recordCell R bs i < perNode) → Placing R bs n (RepeatAt ((found - 1) % perNode))
     kept-repeated some small = go (K .repeat)
       where
         go : RepeatFound R bs n found → Placing R bs n (RepeatAt ((found - 1) % perNode))
         go (no-repeat z) = absurd (some z)
-        go (of-repeat i r e) = repeated i r first (ap RepeatAt cell)
+        go (of-repeat i r e) = one-repeated i r first (ap RepeatAt cell)
           where
             first : (j : ℕ) → Repeat R bs n j → NotAfter R bs i j
             first j q =

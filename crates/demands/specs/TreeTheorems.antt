@@ -34,7 +34,7 @@ use Rattle.multinet.specs.GrowingLaws.{sink-now, other-turn}
 use Rattle.net_tree.specs.declared.Lengths.{Lengths}
 use Rattle.net_tree.specs.declared.Answer as trees
 use Rattle.net_tree.specs.declared.Ended.the-variants.{Routed, Refused}
-use Rattle.net_tree.specs.Answers.{Lent, lengthsOf, plotFor, TreeOutcome, routed, refused, Comes, answerOf, lentAfter, Promise}
+use Rattle.net_tree.specs.Answers.{Lent, lengthsOf, plotFor, TreeOutcome, routed, no-tree, Comes, answerOf, lentAfter, Promise}
 use Rattle.net_tree.specs.SheetTrees.{TreeOf}
 use Rattle.net_tree.specs.SheetTreeLaws.{tree-of}
 use Rattle.demands.specs.Statements.{Posed, Priced, Ample, NoLawfulWay}
@@ -240,4 +240,4 @@ answer-means {sheet} {B} {r} {B′} K {cells} {marks} e = go (K .outcome) (K .co
       lent-is = l;
       means = tree-branches (tree-of c);
     }
-    go (refused number detail) c a l = let z : Refused number detail ≡ Routed cells marks = sym (ap (λ x. x .ended) a) ∙ e in never (cc)
+    go (no-tree number detail) c a l = let z : Refused number detail ≡ Routed cells marks = sym (ap (λ x. x .ended) a) ∙ e in never (cc)

@@ -12,7 +12,7 @@ use Rattle.net_tree.specs.declared.Answer.{Answer}
 use Rattle.net_tree.specs.declared.Ended.{Ended}
 use Rattle.net_tree.specs.declared.Ended.the-variants.{Routed, Refused}
 use Rattle.net_tree.specs.declared.Lengths.{Lengths}
-use Rattle.net_tree.specs.Answers.{Lent, lengthsOf, TreeOutcome, refused, Comes, answerOf, lentAfter}
+use Rattle.net_tree.specs.Answers.{Lent, lengthsOf, TreeOutcome, no-tree, Comes, answerOf, lentAfter}
 
 -- the values: the detail, how many branches, occupied cells and repeaters there are, then sixteen lengths
 abbrev pub valueCount : ℕ
@@ -57,8 +57,8 @@ pub record ShortNumber (sheet : List ℕ) (number : ℕ) : Type 0 where
 
 -- what comes of a sheet, where this many values are lent
 pub data TreeComes (sheet : List ℕ) (L : Lengths) (values : ℕ) (o : TreeOutcome) : Type 0 where
-  short : values < valueCount → (number : ℕ) → ShortNumber sheet number → o ≡ refused number 0 → TreeComes sheet L values o
-  told : valueCount ≤ values → Comes sheet L o → TreeComes sheet L values o
+  too-few-values : values < valueCount → (number : ℕ) → ShortNumber sheet number → o ≡ no-tree number 0 → TreeComes sheet L values o
+  enough-values : valueCount ≤ values → Comes sheet L o → TreeComes sheet L values o
 
 -- the promise of `dustroute_tree`
 pub record TreeExported (sheet : List ℕ) (B : Lent) (values : List ℕ) (r : ℕ) (B′ : Lent) (values′ : List ℕ) : Type 0 where

@@ -16,10 +16,10 @@ use Rattle.job_sheet.specs.Sheet.{isGood, numberOf}
 use Rattle.job_sheet.specs.Theorems.{coincide as one-reading}
 use Rattle.net_tree.specs.declared.Answer.{Answer}
 use Rattle.net_tree.specs.declared.Lengths.{Lengths}
-use Rattle.net_tree.specs.Answers.{Lent, TreeOutcome, refused, answerOf, lentAfter, Promise}
+use Rattle.net_tree.specs.Answers.{Lent, TreeOutcome, no-tree, answerOf, lentAfter, Promise}
 use Rattle.net_tree.specs.PromiseLaws.{comes-one}
 use Rattle.net_tree.specs.LentLaws.{unread-touches-none}
-use Rattle.dustroute.specs.TreeExport.{valueCount, numberTold, valuesAfter, ShortNumber, TreeComes, short, told, TreeExported}
+use Rattle.dustroute.specs.TreeExport.{valueCount, numberTold, valuesAfter, ShortNumber, TreeComes, too-few-values, enough-values, TreeExported}
 
 -- ---- four values over a cleared buffer, and the lengths written to the part behind them
 
@@ -44,8 +44,8 @@ module _ {sheet : List ℕ} {B : Lent} {values : List ℕ} where
   tree-short {r = r} h n =
       let e = short-small (n .reading .judgement) r (n .number-is) in
       record {
-        outcome = refused r 0;
-        comes = short h r n refl;
+        outcome = no-tree r 0;
+        comes = too-few-values h r n refl;
         number = refl;
         lent-is = rw e refl;
         values-is = rw e refl;
@@ -56,7 +56,7 @@ module _ {sheet : List ℕ} {B : Lent} {values : List ℕ} where
       → Promise sheet B a B′ → r ≡ numberTold a → values′ ≡ valuesAfter a values → TreeExported sheet B values r B′ values′
   tree-told h P n v = record {
     outcome = P .outcome;
-    comes = told h (P .comes);
+    comes = enough-values h (P .comes);
     number = n ∙ ap numberTold (P .answer);
     lent-is = P .lent-is;
     values-is = v ∙ ap (λ a. valuesAfter a values) (P .answer);
@@ -68,10 +68,10 @@ short-one : {sheet : List ℕ} {m n : ℕ} → ShortNumber sheet m → ShortNumb
 short-one {sheet = sheet} p q = p .number-is ∙ rw (one-reading sheet (p .reading) (q .reading) (p .read) (q .read)) (sym (q .number-is))
 
 tree-comes-one : {sheet : List ℕ} {L : Lengths} {values : ℕ} {o q : TreeOutcome} → TreeComes sheet L values o → TreeComes sheet L values q → o ≡ q
-tree-comes-one (short h m s e) (short k n t d) = e ∙ ap (λ x. refused x 0) (short-one s t) ∙ sym d
-tree-comes-one (short h m s e) (told k c) = absurd (omega arith)
-tree-comes-one (told h c) (short k n t d) = absurd (omega arith)
-tree-comes-one (told h c) (told k d) = comes-one c d
+tree-comes-one (too-few-values h m s e) (too-few-values k n t d) = e ∙ ap (λ x. no-tree x 0) (short-one s t) ∙ sym d
+tree-comes-one (too-few-values h m s e) (enough-values k c) = absurd (omega arith)
+tree-comes-one (enough-values h c) (too-few-values k n t d) = absurd (omega arith)
+tree-comes-one (enough-values h c) (enough-values k d) = comes-one c d
 
 pub record Result : Type 0 where
   pub number : ℕ

@@ -40,11 +40,19 @@ sourceEnd R e = withoutApproach (terminalOf R (e .at) (e .port) (e .facing))
 unfoldable pub sinkEnd : Room → Endpoint → Realized
 sinkEnd R e = realizedOf R (e .at) (e .port) (e .facing)
 
--- the number that is due for an end, 0 for none: 8 for "BlockPower without horizontal facing", 9 for "terminal or approach outside"
+-- 8: "BlockPower without horizontal facing"
+abbrev pub withoutFacing : ℕ
+withoutFacing = 8
+
+-- 9: "terminal or approach outside"
+abbrev pub endOutside : ℕ
+endOutside = 9
+
+-- the number that is due for an end, 0 for none
 abbrev pub dueFor : Realized → ℕ
 dueFor (Realized.At terminal approach) = 0
-dueFor Realized.NoFacing = 8
-dueFor Realized.Outside = 9
+dueFor Realized.NoFacing = withoutFacing
+dueFor Realized.Outside = endOutside
 
 -- "0 source, k-th sink k": one more than the place of the first end for which that number is due, counted on from `place`; 0 where there is none
 unfoldable pub firstDue : ℕ → ℕ → List Realized → ℕ
@@ -91,7 +99,7 @@ faultBy zero zero = Good
 
 -- number 8 or 9 with its detail, or neither
 unfoldable pub faultOf : Room → Endpoint → List Endpoint → Fault
-faultOf R source sinks = faultBy (firstDue 8 0 (endsAt R source sinks)) (firstDue 9 0 (endsAt R source sinks))
+faultOf R source sinks = faultBy (firstDue withoutFacing 0 (endsAt R source sinks)) (firstDue endOutside 0 (endsAt R source sinks))
 
 -- the ends of one net: what `realize_ends` promises
 unfoldable pub endsOf : Room → Endpoint → List Endpoint → Ends

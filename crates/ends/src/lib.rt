@@ -23,6 +23,11 @@ pub struct Taps {
     pub taps: [Tap; MAX_SINKS],
 }
 
+// The numbers that can be due for an end: BlockPower without horizontal facing, terminal or approach outside.
+pub const WITHOUT_FACING: u32 = 8;
+
+pub const END_OUTSIDE: u32 = 9;
+
 // Number 8 or 9 with its detail, 0 for the source and k for the k-th sink; or neither.
 pub enum Fault {
     Good,
@@ -62,7 +67,7 @@ fn sink_end(room: Room, sink: Endpoint) -> Realized
 }
 
 // The number that is due for an end, 0 for none.
-fn due_for(end: Realized) -> usize
+fn due_for(end: Realized) -> u32
     ensures { λ r. ⌜ r ≡ dueFor end ⌝ }
 {
     match end {
@@ -70,13 +75,13 @@ fn due_for(end: Realized) -> usize
             terminal: _,
             approach: _,
         } => 0,
-        Realized::NoFacing => 8,
-        Realized::Outside => 9,
+        Realized::NoFacing => WITHOUT_FACING,
+        Realized::Outside => END_OUTSIDE,
     }
 }
 
 // One more than the place of the first end for which that number is due, 0 for none.
-fn first_due(room: Room, source: Endpoint, sinks: Sinks, number: usize) -> usize
+fn first_due(room: Room, source: Endpoint, sinks: Sinks, number: u32) -> usize
     requires { ⌜ Good room ⌝ }
     requires { ⌜ Within room (source .at) ⌝ }
     requires { ⌜ SinkList room sinks ⌝ }
@@ -157,11 +162,11 @@ fn fault_of(room: Room, source: Endpoint, sinks: Sinks) -> Fault
     requires { ⌜ SinkList room sinks ⌝ }
     ensures { λ r. ⌜ r ≡ faultOf room source (sinksIn sinks) ⌝ }
 {
-    let unfaced = first_due(room, source, sinks, 8);
+    let unfaced = first_due(room, source, sinks, WITHOUT_FACING);
     if 0 < unfaced {
         return Fault::NoFacing(unfaced - 1);
     }
-    let outside = first_due(room, source, sinks, 9);
+    let outside = first_due(room, source, sinks, END_OUTSIDE);
     if 0 < outside {
         return Fault::Outside(outside - 1);
     }

@@ -82,7 +82,7 @@ module _ (R : Room) (G : Good R) (conducts : ℕ → Bool) where
   -- ---- the least along the path
 
   -- n is the least upper cell of a pair with a cell of the path, or `start` where none is less
-  record Least (path : List ℕ) (start n : ℕ) : Type 0 where
+  record LeastUpper (path : List ℕ) (start n : ℕ) : Type 0 where
     most : n ≤ start
     least : (cell w : ℕ) → In cell path → pairWith R conducts cell ≡ Inside w → n ≤ w
     upper : n < start → upperOfPair R conducts n ≡ true
@@ -102,7 +102,7 @@ module _ (R : Room) (G : Good R) (conducts : ℕ → Bool) where
   lesser-upper Outside n f h = absurd (omega arith)
 
   -- one cell more, at the path's front
-  least-more : (x : ℕ) (xs : List ℕ) (start n : ℕ) → x < volume R → conducts x ≡ true → Least xs (lesserPlace (pairWith R conducts x) start) n → Least (x ∷ xs) start n
+  least-more : (x : ℕ) (xs : List ℕ) (start n : ℕ) → x < volume R → conducts x ≡ true → LeastUpper xs (lesserPlace (pairWith R conducts x) start) n → LeastUpper (x ∷ xs) start n
   least-more x xs start n x-in c rest = record { most = omega (arith, rest .most, lesser-most (pairWith R conducts x) start); least = one; upper = two }
     where
       next : ℕ
@@ -119,7 +119,7 @@ module _ (R : Room) (G : Good R) (conducts : ℕ → Bool) where
           let s : n ≡ next = omega (arith, rest .most, f) in
           rw s (lesser-upper (pairWith R conducts x) start (pair-upper x x-in c) (omega arith)))
 
-  least-along : (path : List ℕ) (start : ℕ) → ((v : ℕ) → In v path → v < volume R) → ((v : ℕ) → In v path → conducts v ≡ true) → Least path start (leastUpper R conducts path start)
+  least-along : (path : List ℕ) (start : ℕ) → ((v : ℕ) → In v path → v < volume R) → ((v : ℕ) → In v path → conducts v ≡ true) → LeastUpper path start (leastUpper R conducts path start)
   unfolding along
   least-along [] start cells c = record { most = omega arith; least = λ cell w i e. absurd i; upper = λ h. absurd (omega arith) }
   least-along (x ∷ xs) start cells c =
@@ -137,7 +137,7 @@ module _ (R : Room) (G : Good R) (conducts : ℕ → Bool) where
       n : ℕ
       n = leastUpper R conducts path (volume R)
 
-      l : Least path (volume R) n
+      l : LeastUpper path (volume R) n
       l = least-along path (volume R) cells (on .conducting)
 
       reached : (v : ℕ) → v < volume R → upperOfPair R conducts v ≡ true → (cell : ℕ) → In cell path → ((v ≡ cell) ⊎ (beneath R v ≡ Inside cell)) → n ≤ v

@@ -90,7 +90,7 @@ module _ (S : Site) (start : ℕ) (blocked : List ℕ) where
       askSame goal n (λ q. rw q (both .1)) (λ d. below-failed n (both .0) goal (omega (arith, h, d)))
 
   -- of the goals below n, this one's route is kept
-  record Kept (n : ℕ) (path : List ℕ) (cost : ℕ) : Type 0 where
+  record KeptBelow (n : ℕ) (path : List ℕ) (cost : ℕ) : Type 0 where
     goal : ℕ
     goal-below : goal < n
     its-route : triedGoal S start blocked goal ≡ found path cost
@@ -100,7 +100,7 @@ module _ (S : Site) (start : ℕ) (blocked : List ℕ) where
   module _ (n : ℕ) where
     -- the last goal's route, where none before it has one as cheap
     last-kept : (path : List ℕ) (cost : ℕ) → triedGoal S start blocked n ≡ found path cost
-        → ((other : ℕ) → other < n → (path′ : List ℕ) (cost′ : ℕ) → triedGoal S start blocked other ≡ found path′ cost′ → cost < cost′) → Kept (suc n) path cost
+        → ((other : ℕ) → other < n → (path′ : List ℕ) (cost′ : ℕ) → triedGoal S start blocked other ≡ found path′ cost′ → cost < cost′) → KeptBelow (suc n) path cost
     last-kept path cost t above = record { goal = n; goal-below = omega arith; its-route = t; least = least; first = above }
       where
         least : (other : ℕ) → other < suc n → (path′ : List ℕ) (cost′ : ℕ) → triedGoal S start blocked other ≡ found path′ cost′ → cost ≤ cost′
@@ -110,29 +110,29 @@ module _ (S : Site) (start : ℕ) (blocked : List ℕ) where
             (λ d. omega (arith, above other (omega (arith, h, d)) path′ cost′ r))
 
     -- the route kept before, where the last goal has none that is cheaper
-    still-kept : {path : List ℕ} {cost : ℕ} → Kept n path cost
-        → ((path′ : List ℕ) (cost′ : ℕ) → triedGoal S start blocked n ≡ found path′ cost′ → cost ≤ cost′) → Kept (suc n) path cost
+    still-kept : {path : List ℕ} {cost : ℕ} → KeptBelow n path cost
+        → ((path′ : List ℕ) (cost′ : ℕ) → triedGoal S start blocked n ≡ found path′ cost′ → cost ≤ cost′) → KeptBelow (suc n) path cost
     still-kept {path} {cost} K none = record { goal = K .goal; goal-below = omega (arith, K .goal-below); its-route = K .its-route; least = least; first = K .first }
       where
         least : (other : ℕ) → other < suc n → (path′ : List ℕ) (cost′ : ℕ) → triedGoal S start blocked other ≡ found path′ cost′ → cost ≤ cost′
         least other h path′ cost′ r =
             askSame other n (λ q. none path′ cost′ (rw q at r)) (λ d. K .least other (omega (arith, h, d)) path′ cost′ r)
 
-  below-kept : (n : ℕ) (path : List ℕ) (cost : ℕ) → bestBelow n S start blocked ≡ found path cost → Kept n path cost
+  below-kept : (n : ℕ) (path : List ℕ) (cost : ℕ) → bestBelow n S start blocked ≡ found path cost → KeptBelow n path cost
   unfolding bestBelow cheaperRoute
   below-kept zero path cost e = never (cc)
   below-kept (suc n) path cost e = go (bestBelow n S start blocked) refl (triedGoal S start blocked n) refl e (below-kept n)
     where
       go : (a : Trial) → bestBelow n S start blocked ≡ a → (b : Trial) → triedGoal S start blocked n ≡ b → cheaperRoute a b ≡ found path cost
-          → ((path′ : List ℕ) (cost′ : ℕ) → bestBelow n S start blocked ≡ found path′ cost′ → Kept n path′ cost′) → Kept (suc n) path cost
+          → ((path′ : List ℕ) (cost′ : ℕ) → bestBelow n S start blocked ≡ found path′ cost′ → KeptBelow n path′ cost′) → KeptBelow (suc n) path cost
       go (full x) u b t q earlier = never (cc)
       go failed u b t q earlier = last-kept n path cost (t ∙ q) (λ other h path′ cost′ r. never (cc (sym r ∙ below-failed n u other h)))
       go (found p c) u (found p′ c′) t q earlier = ask (ltb c′ c) (λ y. later-one y (same-path p′ path c′ cost (rw y at q))) (λ f. earlier-one f (same-path p path c cost (rw f at q)))
         where
-          later-one : ltb c′ c ≡ true → (p′ ≡ path) × (c′ ≡ cost) → Kept (suc n) path cost
+          later-one : ltb c′ c ≡ true → (p′ ≡ path) × (c′ ≡ cost) → KeptBelow (suc n) path cost
           later-one y s = last-kept n path cost (rw (← s .0, ← s .1) t) (λ other h l d r. omega (arith, s .1, ltb-true c′ c y, earlier p c u .least other h l d r))
 
-          earlier-one : ltb c′ c ≡ false → (p ≡ path) × (c ≡ cost) → Kept (suc n) path cost
+          earlier-one : ltb c′ c ≡ false → (p ≡ path) × (c ≡ cost) → KeptBelow (suc n) path cost
           earlier-one f s = still-kept n (earlier path cost (rw (← s .0, ← s .1) u)) (λ l d r. omega (arith, s .1, ltb-false c′ c f, same-path p′ l c′ d (sym t ∙ r) .1))
       go (found p c) u failed t q earlier = still-kept n (earlier path cost (u ∙ q)) (λ l d r. never (cc (sym t ∙ r)))
       go (found p c) u (full x) t q earlier = never (cc)
@@ -141,7 +141,7 @@ module _ (S : Site) (start : ℕ) (blocked : List ℕ) where
   unfolding routeToTree triedGoal
   tree-joins path cost e = go (below-kept (volume (S .room)) path cost e)
     where
-      go : Kept (volume (S .room)) path cost → RouteJoins S blocked start path cost
+      go : KeptBelow (volume (S .room)) path cost → RouteJoins S blocked start path cost
       go K =
           ask (isMarked (S .joinable) (K .goal))
           (λ t. record {

@@ -15,7 +15,7 @@ use Rattle.job_sheet.specs.declared.Job.{Job}
 use Rattle.job_sheet.specs.declared.Reading.{Reading}
 use Rattle.job_sheet.specs.declared.Judgement.{Judgement}
 use Rattle.job_sheet.specs.declared.Judgement.the-variants.{Sheet}
-use Rattle.job_sheet.specs.Sheet.{Contents, Means, isGood, judged, endpointSize, sinksOf, layoutOf, jobOf, refused, Read, meaning, nothing, sidesPlace, configPlace}
+use Rattle.job_sheet.specs.Sheet.{Contents, Means, isGood, judged, endpointSize, sinksOf, layoutOf, jobOf, refused, Read, meaning, means-nothing, sidesPlace, configPlace}
 use Rattle.job_sheet.specs.Places.{roomIn, configIn, endpointIn, endpointsIn, layoutIn, contentsIn, shapeHolds, shaped, Shaped}
 use Rattle.job_sheet.specs.RecordLaws.{Bytes, many-long}
 use Rattle.job_sheet.specs.LayoutLaws.{layout-back, shaped-back, bytes-forth}
@@ -89,4 +89,4 @@ module _ (s : List ℕ) (b : Bytes s) (S : Shaped s) where
   read-accepted v j g job e = meaning (contentsIn s) shaped-means (rw (← j, g) (λ i. record { judgement = good-is v g i; job = e i }))
 
 pub read-nothing : (s : List ℕ) → shaped s ≡ false → (r : Reading) → r ≡ refused Sheet → Read s r
-read-nothing s f r e = nothing (λ J m. let p : shaped s ≡ true = shaped-passes s (means-shaped s J m) in never (cc)) e
+read-nothing s f r e = means-nothing (λ J m. let p : shaped s ≡ true = shaped-passes s (means-shaped s J m) in never (cc)) e

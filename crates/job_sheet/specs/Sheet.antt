@@ -293,4 +293,4 @@ answer J = either (isGood (judged J)) (accepted J) (refused (judged J))
 -- r is right for the sheet: it answers what the sheet means, or number 1 where it means nothing
 pub data Read (sheet : List ℕ) (r : Reading) : Type 0 where
   meaning : (J : Contents) → Means sheet J → r ≡ answer J → Read sheet r
-  nothing : ((J : Contents) → Means sheet J → ⊥) → r ≡ refused Sheet → Read sheet r
+  means-nothing : ((J : Contents) → Means sheet J → ⊥) → r ≡ refused Sheet → Read sheet r

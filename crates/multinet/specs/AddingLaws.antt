@@ -13,7 +13,7 @@ use Rattle.ends.specs.declared.Tap.{Tap}
 use Rattle.branches.specs.declared.BranchLengths.{BranchLengths}
 use Rattle.branches.specs.Branches.{branchOf, allButLast, inserted}
 use Rattle.branches.specs.BranchLaws.{branch-some, branch-below, but-last-below, branch-at, but-last-at}
-use Rattle.multinet.specs.Adding.{Addable, BranchAdded, beforeSink, usedBy, BranchPlaceable, BranchPlaced, buffer-full, placed}
+use Rattle.multinet.specs.Adding.{Addable, BranchAdded, beforeSink, usedBy, BranchPlaceable, BranchPlaced, buffer-full, is-placed}
 use Rattle.multinet.specs.declared.Turned.the-variants.{Grown, Stopped}
 use Rattle.multinet.specs.declared.Stop.the-variants.{BufferFull}
 
@@ -76,4 +76,4 @@ module _ {R : Room} {k : ℕ} {L : BranchLengths} {tap : Tap} {path branches joi
 
   pub branch-placed : {branches′ joinable′ blocked′ : List ℕ} → BranchAdded R at used tap path branches joinable blocked branches′ joinable′ blocked′
       → BranchPlaced R k L tap path branches joinable blocked (Grown k len) branches′ joinable′ blocked′
-  branch-placed b = placed (rw (u, l) at fits) (rw l refl) (rw (a, u) at b)
+  branch-placed b = is-placed (rw (u, l) at fits) (rw l refl) (rw (a, u) at b)

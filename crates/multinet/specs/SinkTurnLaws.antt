@@ -20,7 +20,7 @@ use Rattle.branches.specs.LoopLaws.{sum-most}
 use Rattle.multinet.specs.declared.Turned.{Turned}
 use Rattle.multinet.specs.declared.Turned.the-variants.{Stopped}
 use Rattle.multinet.specs.declared.Stop.the-variants.{QueueFull, NoGoal}
-use Rattle.multinet.specs.Adding.{beforeSink, usedBy, BranchPlaceable, BranchPlaced, buffer-full, placed}
+use Rattle.multinet.specs.Adding.{beforeSink, usedBy, BranchPlaceable, BranchPlaced, buffer-full, is-placed}
 use Rattle.multinet.specs.Tree.{Plot, tapAt, siteAt, sinkNow}
 use Rattle.multinet.specs.StepLaws.{steps-by-place}
 use Rattle.multinet.specs.Growing.{SoundPlot, RouteKnown, Growing}
@@ -136,7 +136,7 @@ module _ {P : Plot} {turn : ℕ} {L : BranchLengths} {joinable blocked classes k
           came = λ o s G. rw is (sink-buffer-full (A .sound) G (A .turn-in) k e (trial (A .sound) G (A .count-is) k e (A .turn-in) T) (take n best′) (cost .0) is-found
               (omega (arith, m, over, used-is (A .sound) G (A .count-is) k e (A .turn-in))));
         }
-        came-placed m j b (placed fits is D) = record {
+        came-placed m j b (is-placed fits is D) = record {
           came = λ o s G.
               let w = route-known (A .sound) G (A .count-is) k e (A .turn-in) T (take n best′) (cost .0) is-found in
               let u = used-is (A .sound) G (A .count-is) k e (A .turn-in) in

@@ -65,7 +65,7 @@ buffersGood R L =
 -- what a tree comes to: its branches in sheet order, and marks of the cells that it occupies and of its repeaters; or a number with its detail
 pub data TreeOutcome : Type 0 where
   routed : (branches : List (List ℕ)) (occupied repeaters : List ℕ) → TreeOutcome
-  refused : (number detail : ℕ) → TreeOutcome
+  no-tree : (number detail : ℕ) → TreeOutcome
 
 -- what the tree of a job that is set out grows over
 abbrev pub plotFor : Contents → Lengths → Outset → List ℕ → Plot
@@ -82,19 +82,19 @@ plotFor J L O kinds = record {
 -- a grown tree with its repeaters, or the number that stopped the growth
 abbrev pub outcomeOf : Plot → Growth → TreeOutcome
 outcomeOf P (grown T) = routed (T .branches) (T .occupied) (repeatersOf P T)
-outcomeOf P (stopped number detail) = refused number detail
+outcomeOf P (stopped number detail) = no-tree number detail
 
 -- "7, all of 8, all of 9, then per sink 13 or 14, then 15", of a job that is set out
 unfoldable pub jobOutcome : Contents → Lengths → Outset → List ℕ → List ℕ → TreeOutcome
 jobOutcome J L O kinds blocked =
     either (ready O)
     (outcomeOf (plotFor J L O kinds) (growthOf (plotFor J L O kinds) blocked))
-    (refused (numberBy (O .placement) (O .ends .fault)) (detailBy (O .placement) (O .ends .fault)))
+    (no-tree (numberBy (O .placement) (O .ends .fault)) (detailBy (O .placement) (O .ends .fault)))
 
 -- "A tree checks 1, 2, 3, then record by record 4 before 5, then 6, 7, ..": what comes of a sheet
 pub data Comes (sheet : List ℕ) (L : Lengths) (o : TreeOutcome) : Type 0 where
-  unread : (r : Reading) → Read sheet r → isGood (r .judgement) ≡ false → o ≡ refused (numberOf (r .judgement)) 0 → Comes sheet L o
-  unlent : (J : Contents) → Means sheet J → judged J ≡ judgement.Good → buffersGood (J .room) L ≡ false → o ≡ refused 6 0 → Comes sheet L o
+  unread : (r : Reading) → Read sheet r → isGood (r .judgement) ≡ false → o ≡ no-tree (numberOf (r .judgement)) 0 → Comes sheet L o
+  unlent : (J : Contents) → Means sheet J → judged J ≡ judgement.Good → buffersGood (J .room) L ≡ false → o ≡ no-tree 6 0 → Comes sheet L o
   set-out : (J : Contents) → Means sheet J → judged J ≡ judgement.Good → buffersGood (J .room) L ≡ true
       → (O : Outset) (kinds nodes blocked : List ℕ) → OutsetOf J O kinds nodes blocked → o ≡ jobOutcome J L O kinds blocked
       → Comes sheet L o
@@ -104,27 +104,27 @@ pub data Comes (sheet : List ℕ) (L : Lengths) (o : TreeOutcome) : Type 0 where
 -- the counts of the marked cells, and the branches' lengths; a refusal has no branches
 abbrev pub answerOf : TreeOutcome → Answer
 answerOf (routed bs occupied repeaters) = record { ended = Routed (markedCount occupied) (markedCount repeaters); lengths = branchLengths bs }
-answerOf (refused number detail) = record { ended = Refused number detail; lengths = branchLengths [] }
+answerOf (no-tree number detail) = record { ended = Refused number detail; lengths = branchLengths [] }
 
 -- its number, 0 for a tree
 abbrev pub numberFor : TreeOutcome → ℕ
 numberFor (routed bs occupied repeaters) = 0
-numberFor (refused number detail) = number
+numberFor (no-tree number detail) = number
 
 -- ---- the lent buffers
 
 -- what the outputs get: the branches' cells in sheet order, the marks of what they occupy, the repeaters' marks; nothing after a refusal
 abbrev pub branchesFor : TreeOutcome → List ℕ
 branchesFor (routed bs occupied repeaters) = joined bs
-branchesFor (refused number detail) = []
+branchesFor (no-tree number detail) = []
 
 abbrev pub occupiedFor : TreeOutcome → List ℕ
 occupiedFor (routed bs occupied repeaters) = occupied
-occupiedFor (refused number detail) = []
+occupiedFor (no-tree number detail) = []
 
 abbrev pub repeatersFor : TreeOutcome → List ℕ
 repeatersFor (routed bs occupied repeaters) = repeaters
-repeatersFor (refused number detail) = []
+repeatersFor (no-tree number detail) = []
 
 -- "Numbers 1 to 6 touch nothing; 7 to 15 leave every lent writable buffer zero. A success writes the answer, zeros behind it, and zeroes work memory."
 abbrev pub lentAfter : TreeOutcome → Lent → Lent

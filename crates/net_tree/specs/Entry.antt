@@ -28,14 +28,14 @@ use Rattle.multinet.specs.Finishing.{Finishable, Finished}
 use Rattle.net_tree.specs.declared.Answer.{Answer}
 use Rattle.net_tree.specs.declared.Ended.{Ended}
 use Rattle.net_tree.specs.declared.Ended.the-variants.{Routed, Refused}
-use Rattle.net_tree.specs.Answers.{Lent, lengthsOf, buffersGood, TreeOutcome, routed, refused, outcomeOf, jobOutcome, answerOf}
+use Rattle.net_tree.specs.Answers.{Lent, lengthsOf, buffersGood, TreeOutcome, routed, no-tree, outcomeOf, jobOutcome, answerOf}
 use Rattle.multinet.specs.SinkTurns.{stopNumber, stopDetail}
 
 -- what the outputs hold: the answer and zeros behind it; after a number, whatever it was that they held when it was due
 abbrev pub OutputsHold : TreeOutcome → (branches branches′ occupied′ repeaters′ : List ℕ) → Type 0
 OutputsHold (routed bs occupied repeaters) branches branches′ occupied′ repeaters′ =
     (branches′ ≡ filled (joined bs) branches) × (occupied′ ≡ occupied) × (repeaters′ ≡ repeaters)
-OutputsHold (refused number detail) branches branches′ occupied′ repeaters′ = 6 < number
+OutputsHold (no-tree number detail) branches branches′ occupied′ repeaters′ = 6 < number
 
 -- a grown tree in the buffer, cleared outputs, and work memory of exactly V cells
 pub record Harvestable (R : Room) (source : ℕ) (taps : Taps) (L : BranchLengths) (branches occupied repeaters classes known previous path : List ℕ) : Type 0 where
@@ -49,7 +49,7 @@ pub record Harvested (R : Room) (source : ℕ) (taps : Taps) (L : BranchLengths)
 
 -- the number that ended the growth
 abbrev pub refusedBy : Stop → TreeOutcome
-refusedBy stop = refused (stopNumber stop) (stopDetail stop)
+refusedBy stop = no-tree (stopNumber stop) (stopDetail stop)
 
 -- a growth that can be harvested if it is whole
 pub record Gatherable (R : Room) (source : ℕ) (taps : Taps) (g : GrownBranches) (branches occupied repeaters classes known previous path : List ℕ) : Type 0 where

@@ -29,7 +29,7 @@ use Rattle.multinet.specs.SinkTurns.{Plantable, EndTold, GrowthTold}
 use Rattle.multinet.specs.Finishing.{BufferHolds, Finishable}
 use Rattle.net_tree.specs.declared.Answer.{Answer}
 use Rattle.net_tree.specs.declared.Ended.the-variants.{Routed}
-use Rattle.net_tree.specs.Answers.{Lent, refused, outcomeOf, answerOf}
+use Rattle.net_tree.specs.Answers.{Lent, no-tree, outcomeOf, answerOf}
 use Rattle.net_tree.specs.Entry.{Harvestable, Harvested, Growable, TreeGrown, refusedBy, Gatherable, Gathered, ended-early, in-whole}
 
 -- ---- lists
@@ -65,7 +65,7 @@ module _ {P : Plot} {B : Lent} (A : Growable P B) where
     best-long = A .best-long;
   }
 
-  stopped-grown : {number detail : ℕ} → growthOf P (B .blocked) ≡ stopped number detail → 6 < number → {r : Answer} → r ≡ answerOf (refused number detail)
+  stopped-grown : {number detail : ℕ} → growthOf P (B .blocked) ≡ stopped number detail → 6 < number → {r : Answer} → r ≡ answerOf (no-tree number detail)
       → {branches occupied repeaters : List ℕ} → TreeGrown P B r branches occupied repeaters
   stopped-grown e h a = record { answer = a ∙ rw e; outputs = rw e h }
 

@@ -31,7 +31,7 @@ use Rattle.multinet.specs.NearLaws.{taps-near}
 use Rattle.multinet.specs.SinkTurns.{plotOf}
 use Rattle.net_tree.specs.declared.Lengths.{Lengths}
 use Rattle.net_tree.specs.declared.Answer.{Answer}
-use Rattle.net_tree.specs.Answers.{Lent, lent, lengthsOf, buffersGood, refused, plotFor, outcomeOf, jobOutcome, answerOf}
+use Rattle.net_tree.specs.Answers.{Lent, lent, lengthsOf, buffersGood, no-tree, plotFor, outcomeOf, jobOutcome, answerOf}
 use Rattle.net_tree.specs.Entry.{Growable, TreeGrown, Routable, JobRouted}
 use Rattle.net_tree.specs.EntryLaws.{long-enough}
 
@@ -134,7 +134,7 @@ module _ {sheet : List ℕ} {job : Job} {B : Lent} (A : Routable sheet job B) wh
     set-for = S .is (A .accepted .contents) (A .accepted .means)
 
     -- number 7, 8 or 9
-    pub job-refused : readyBy (O .placement) (O .ends .fault) ≡ false → {r : Answer} → r ≡ answerOf (refused (numberBy (O .placement) (O .ends .fault)) (detailBy (O .placement) (O .ends .fault)))
+    pub job-refused : readyBy (O .placement) (O .ends .fault) ≡ false → {r : Answer} → r ≡ answerOf (no-tree (numberBy (O .placement) (O .ends .fault)) (detailBy (O .placement) (O .ends .fault)))
         → {branches occupied repeaters : List ℕ} → JobRouted sheet B r branches occupied repeaters
     unfolding jobOutcome
     job-refused f a = record {
@@ -142,7 +142,7 @@ module _ {sheet : List ℕ} {job : Job} {B : Lent} (A : Routable sheet job B) wh
       kinds = kinds;
       nodes = nodes;
       blocked = blocked;
-      outcome = refused (numberBy (O .placement) (O .ends .fault)) (detailBy (O .placement) (O .ends .fault));
+      outcome = no-tree (numberBy (O .placement) (O .ends .fault)) (detailBy (O .placement) (O .ends .fault));
       is-set = S .is;
       comes = λ J m. rw f;
       answer = a;

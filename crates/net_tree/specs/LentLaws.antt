@@ -19,7 +19,7 @@ use Rattle.job_sheet.specs.Sheet.{Read, isGood, numberOf}
 use Rattle.job_sheet.specs.Accepted.{Accepted}
 use Rattle.job_sheet.specs.Theorems.{usable}
 use Rattle.net_tree.specs.declared.Answer.{Answer}
-use Rattle.net_tree.specs.Answers.{Lent, lent, lengthsOf, buffersGood, TreeOutcome, routed, refused, jobOutcome, Comes, unread, unlent, set-out, answerOf, numberFor, branchesFor, occupiedFor, repeatersFor, lentAfter, Promise}
+use Rattle.net_tree.specs.Answers.{Lent, lent, lengthsOf, buffersGood, TreeOutcome, routed, no-tree, jobOutcome, Comes, unread, unlent, set-out, answerOf, numberFor, branchesFor, occupiedFor, repeatersFor, lentAfter, Promise}
 use Rattle.net_tree.specs.Entry.{OutputsHold, Lendable, OutputsClear, FrontRouted, settledBy}
 use Rattle.net_tree.specs.EntryLaws.{enough}
 
@@ -76,7 +76,7 @@ module _ {sheet : List ℕ} {job : Job} {B : Lent} (A : Lendable sheet job B) {b
 
     touched : (o : TreeOutcome) → OutputsHold o branches branches′ (F .occupied-front) (F .repeaters-front) → touches (numberFor o) ≡ true
     touched (routed bs marks repeating) w = refl
-    touched (refused number detail) w = high w
+    touched (no-tree number detail) w = high w
 
     -- marks in front of a cleared buffer
     marks-behind : (before : List ℕ) {zeros : List ℕ} (marks : List ℕ) {after : List ℕ} → Cleared before zeros → volume (job .room) ≤ length before
@@ -111,7 +111,7 @@ module _ {sheet : List ℕ} {job : Job} {B : Lent} (A : Lendable sheet job B) {b
             sr ∙ ap (λ x. settledBy (x .ended) repeaters′) a
             ∙ marks-behind (B .repeaters) repeating er (enough A .repeaters-room) (F .repeaters-is ∙ ap (λ l. l ++ drop (volume (job .room)) repeaters) (w .2)) kr;
       }
-      outputs (refused number detail) a w = record {
+      outputs (no-tree number detail) a w = record {
         branches-are = sb ∙ ap (λ x. settledBy (x .ended) branches′) a ∙ refused-after w (B .branches) branches′ kb eb;
         occupied-are = so ∙ ap (λ x. settledBy (x .ended) occupied′) a ∙ refused-after w (B .occupied) occupied′ ko eo;
         repeaters-are = sr ∙ ap (λ x. settledBy (x .ended) repeaters′) a ∙ refused-after w (B .repeaters) repeaters′ kr er;
@@ -164,18 +164,18 @@ unread-touches-none judgement.Position e = refl
 unread-touches-none judgement.Code e = refl
 
 -- numbers 1 to 5
-pub promise-unread : {sheet : List ℕ} {B : Lent} {reading : Reading} → Read sheet reading → isGood (reading .judgement) ≡ false → {r : Answer} → r ≡ answerOf (refused (numberOf (reading .judgement)) 0) → Promise sheet B r B
+pub promise-unread : {sheet : List ℕ} {B : Lent} {reading : Reading} → Read sheet reading → isGood (reading .judgement) ≡ false → {r : Answer} → r ≡ answerOf (no-tree (numberOf (reading .judgement)) 0) → Promise sheet B r B
 promise-unread {B = B} {reading = reading} p f a = record {
-  outcome = refused (numberOf (reading .judgement)) 0;
+  outcome = no-tree (numberOf (reading .judgement)) 0;
   comes = unread reading p f refl;
   answer = a;
-  lent-is = small-stays B (refused (numberOf (reading .judgement)) 0) (unread-touches-none (reading .judgement) f);
+  lent-is = small-stays B (no-tree (numberOf (reading .judgement)) 0) (unread-touches-none (reading .judgement) f);
 }
 
 -- number 6
-pub promise-unlent : {sheet : List ℕ} {B : Lent} {job : Job} → Accepted sheet job → buffersGood (job .room) (lengthsOf B) ≡ false → {r : Answer} → r ≡ answerOf (refused 6 0) → Promise sheet B r B
+pub promise-unlent : {sheet : List ℕ} {B : Lent} {job : Job} → Accepted sheet job → buffersGood (job .room) (lengthsOf B) ≡ false → {r : Answer} → r ≡ answerOf (no-tree 6 0) → Promise sheet B r B
 promise-unlent {sheet = sheet} {B = B} {job = job} A f a = record {
-  outcome = refused 6 0;
+  outcome = no-tree 6 0;
   comes = unlent (A .contents) (A .means) (A .good) (ap (λ R. buffersGood R (lengthsOf B)) (sym (usable sheet job A .room-is)) ∙ f) refl;
   answer = a;
   lent-is = refl;

@@ -14,13 +14,13 @@ ghost use Prim.Native.Nat.{_<_};
 ghost use lib.Dec.{eqb};
 ghost use lib.ListN.{length};
 ghost use Rattle.routing_resources.specs.Marks.{markedBy, noMarks};
-ghost use Rattle.net_tree.specs.Answers.{answerOf, refused, lent};
+ghost use Rattle.net_tree.specs.Answers.{answerOf, no-tree, lent};
 ghost use Rattle.multinet.specs.SinkTurns.{plotOf};
 ghost use Rattle.net_tree.specs.Entry.{Harvestable, Harvested, refusedBy, Gatherable, Gathered, Growable, TreeGrown, Routable, JobRouted};
 
 // A refusal carries no branches.
 pub fn refuse(number: u32, detail: usize) -> Answer
-    ensures { λ r. ⌜ r ≡ answerOf (refused number detail) ⌝ }
+    ensures { λ r. ⌜ r ≡ answerOf (no-tree number detail) ⌝ }
 {
     Answer {
         ended: Ended::Refused { number, detail },

@@ -13,7 +13,7 @@ use Rattle.job_sheet.specs.Accepted.{Accepted}
 use Rattle.blocks.specs.declared.Placement.{Placement}
 use Rattle.blocks.specs.Blocks.{kindsOf, nodesOf, BlocksLaid}
 use Rattle.ends.specs.declared.Fault.{Fault}
-use Rattle.ends.specs.Ends.{endsOf}
+use Rattle.ends.specs.Ends.{withoutFacing, endOutside, endsOf}
 use Rattle.outset.specs.declared.Outset.{Outset}
 use Rattle.outset.specs.Outset.{blockedAtOutset}
 
@@ -31,8 +31,8 @@ ready r = readyBy (r .placement) (r .ends .fault)
 abbrev pub numberBy : Placement → Fault → ℕ
 numberBy (Placement.RepeatAt cell) fault = 7
 numberBy Placement.Placed Fault.Good = 0
-numberBy Placement.Placed (Fault.NoFacing place) = 8
-numberBy Placement.Placed (Fault.Outside place) = 9
+numberBy Placement.Placed (Fault.NoFacing place) = withoutFacing
+numberBy Placement.Placed (Fault.Outside place) = endOutside
 
 abbrev pub detailBy : Placement → Fault → ℕ
 detailBy (Placement.RepeatAt cell) fault = cell

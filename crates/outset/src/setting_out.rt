@@ -30,8 +30,8 @@ pub fn number_by(placement: Placement, fault: Fault) -> u32
     }
     match fault {
         Fault::Good => 0,
-        Fault::NoFacing(_) => 8,
-        Fault::Outside(_) => 9,
+        Fault::NoFacing(_) => ends::WITHOUT_FACING,
+        Fault::Outside(_) => ends::END_OUTSIDE,
     }
 }
 

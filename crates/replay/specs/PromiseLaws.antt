@@ -15,8 +15,8 @@ use Rattle.stored.specs.MemoryLaws.{rubbish-one}
 use Rattle.replay.specs.declared.compare.LentLengths.{LentLengths}
 use Rattle.replay.specs.declared.searches.Stored.{Stored}
 use Rattle.replay.specs.declared.replay.Stand.{Stand}
-use Rattle.replay.specs.Verdicts.{LentMemory, memory, AllRubbish, lengthsOfMemory, verdictOf, Judged, Ran, too-long, judged}
-use Rattle.replay.specs.Runs.{lentLengths, storedLengths, longerLengths, agreement, SameTwice, RanWith, ReplayedOne, differs, twice-alone, narrowed, oneFurther, Next, past-difference, replayed, Replayed}
+use Rattle.replay.specs.Verdicts.{LentMemory, memory, AllRubbish, lengthsOfMemory, verdictOf, Judged, Ran, too-long, fits-memory}
+use Rattle.replay.specs.Runs.{lentLengths, storedLengths, longerLengths, agreement, SameTwice, RanWith, ReplayedOne, differs, twice-alone, then-narrowed, oneFurther, Next, past-difference, replayed, Replayed}
 
 -- ---- a run
 
@@ -55,9 +55,9 @@ judged-one S kinds cells L x y J K =
 
 ran-one : (S : Stored) (kinds cells : List ℕ) (L : Lengths) (N : LentLengths) → Determines (Ran S kinds cells L N)
 ran-one S kinds cells L N x y (too-long a e) (too-long b f) = e ∙ sym f
-ran-one S kinds cells L N x y (too-long a e) (judged b J) = never (cc (sym a ∙ b))
-ran-one S kinds cells L N x y (judged a J) (too-long b f) = never (cc (sym b ∙ a))
-ran-one S kinds cells L N x y (judged a J) (judged b K) = judged-one S kinds cells _ x y J K
+ran-one S kinds cells L N x y (too-long a e) (fits-memory b J) = never (cc (sym a ∙ b))
+ran-one S kinds cells L N x y (fits-memory a J) (too-long b f) = never (cc (sym b ∙ a))
+ran-one S kinds cells L N x y (fits-memory a J) (fits-memory b K) = judged-one S kinds cells _ x y J K
 
 -- ---- a stored search, and the file
 
@@ -71,13 +71,13 @@ module _ (file : List ℕ) (longs : ℕ) where
   one-one : (S : Stored) → Determines (ReplayedOne file longs S)
   one-one S x y (differs T e) (differs U f) = e ∙ sym f
   one-one S x y (differs T e) (twice-alone U n f) = never (cc (twice-one S _ _ T U))
-  one-one S x y (differs T e) (narrowed U n H N runs r f) = never (cc (twice-one S _ _ T U))
+  one-one S x y (differs T e) (then-narrowed U n H N runs r f) = never (cc (twice-one S _ _ T U))
   one-one S x y (twice-alone T m e) (differs U f) = never (cc (twice-one S _ _ U T))
   one-one S x y (twice-alone T m e) (twice-alone U n f) = e ∙ sym f
-  one-one S x y (twice-alone T m e) (narrowed U n H N runs r f) = never (cc (sym m ∙ n))
-  one-one S x y (narrowed T m G M runs q e) (differs U f) = never (cc (twice-one S _ _ U T))
-  one-one S x y (narrowed T m G M runs q e) (twice-alone U n f) = never (cc (sym n ∙ m))
-  one-one S x y (narrowed T m G M runs q e) (narrowed U n H N runs′ r f) =
+  one-one S x y (twice-alone T m e) (then-narrowed U n H N runs r f) = never (cc (sym m ∙ n))
+  one-one S x y (then-narrowed T m G M runs q e) (differs U f) = never (cc (twice-one S _ _ U T))
+  one-one S x y (then-narrowed T m G M runs q e) (twice-alone U n f) = never (cc (sym n ∙ m))
+  one-one S x y (then-narrowed T m G M runs q e) (then-narrowed U n H N runs′ r f) =
       let g = narrowed-one {ran = RanWith file longs S} (λ queue. ran-one S _ _ _ (lentLengths (S .lent) queue)) (S .places) G H M N in
       e ∙ ap (λ k. agreement k (G .agreed)) q ∙ ap (λ K. agreement (sumOf 2 (K .runs)) (K .agreed)) g ∙ ap (λ k. agreement k (H .agreed)) (sym r) ∙ sym f
 

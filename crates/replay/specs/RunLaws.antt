@@ -13,7 +13,7 @@ use Rattle.stored.specs.declared.runs.Verdict.{Verdict}
 use Rattle.stored.specs.declared.runs.Gap.{Gap}
 use Rattle.replay.specs.Searches.{storedAt}
 use Rattle.replay.specs.Verdicts.{RanIn}
-use Rattle.replay.specs.Runs.{lentLengths, storedLengths, longerLengths, SameTwice, RanWith, isNarrowed, agreement, ReplayedOne, differs, twice-alone, narrowed, oneMore, numberedFrom}
+use Rattle.replay.specs.Runs.{lentLengths, storedLengths, longerLengths, SameTwice, RanWith, isNarrowed, agreement, ReplayedOne, differs, twice-alone, then-narrowed, oneMore, numberedFrom}
 
 pub longer-lent : (S : Stored) {cells places more queue : ℕ} → cells ≡ cellsMore (S .lent) (S .told .number) → places ≡ S .places * 2
     → more ≡ queueMore (S .told .number) → queue ≡ longerBy places more → lentLengths cells queue ≡ longerLengths S
@@ -41,7 +41,7 @@ module _ {file : List ℕ} {longs : ℕ} {S : Stored} where
 
       pub one-narrowed : not m ≡ false → {left : ℕ} → left ≡ longs → {G : Gap} → Narrowed (RanWith file left S) (S .places) G → {runs : ℕ} → runs ≡ sumOf 2 (G .runs)
           → ReplayedOne file longs S (agreement runs (G .agreed))
-      one-narrowed l e′ {G} N {runs} s = let t = not-false b n in narrowed (rw t at T) (test-passes e l) G (rw e′ at N) runs s refl
+      one-narrowed l e′ {G} N {runs} s = let t = not-false b n in then-narrowed (rw t at T) (test-passes e l) G (rw e′ at N) runs s refl
 
 -- ---- counting a number: so many records are passed, and what the rest comes to is the whole
 

@@ -57,7 +57,7 @@ agreement runs agreed = record { runs = runs; agreed = agreed }
 pub data ReplayedOne (file : List ℕ) (longs : ℕ) (S : Stored) (r : Agreement) : Type 0 where
   differs : SameTwice file longs S false → r ≡ agreement 0 false → ReplayedOne file longs S r
   twice-alone : SameTwice file longs S true → isNarrowed S ≡ false → r ≡ agreement 2 true → ReplayedOne file longs S r
-  narrowed : SameTwice file longs S true → isNarrowed S ≡ true → (G : Gap) → Narrowed (RanWith file longs S) (S .places) G → (runs : ℕ) → runs ≡ sumOf 2 (G .runs)
+  then-narrowed : SameTwice file longs S true → isNarrowed S ≡ true → (G : Gap) → Narrowed (RanWith file longs S) (S .places) G → (runs : ℕ) → runs ≡ sumOf 2 (G .runs)
       → r ≡ agreement runs (G .agreed) → ReplayedOne file longs S r
 
 -- ---- the file

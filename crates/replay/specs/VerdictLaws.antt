@@ -11,7 +11,7 @@ use Rattle.replay.specs.declared.searches.Stored.{Stored}
 use Rattle.stored.specs.declared.runs.Verdict.{Verdict}
 use Rattle.replay.specs.declared.compare.LentLengths.{LentLengths}
 use Rattle.replay.specs.Searches.{kindsIn, cellsIn}
-use Rattle.replay.specs.Verdicts.{verdictOf, LentMemory, AllRubbish, Promised, Judged, lengthsBy, memoryFits, Ran, judged, own, RanIn}
+use Rattle.replay.specs.Verdicts.{verdictOf, LentMemory, AllRubbish, Promised, Judged, lengthsBy, memoryFits, Ran, fits-memory, own, RanIn}
 
 -- ---- a run, judged
 
@@ -32,7 +32,7 @@ module _ {S : Stored} {kinds cells : List ℕ} {L : Lengths} {r : Verdict} where
 
   -- the fronts that are lent have the lengths asked for
   pub ran-at : {O : Lengths} {N : LentLengths} → memoryFits O N ≡ true → Judged S kinds cells L r → L ≡ lengthsBy N → Ran S kinds cells O N r
-  ran-at f J e = judged f (record {
+  ran-at f J e = fits-memory f (record {
     lent-before = J .lent-before;
     lent-after = J .lent-after;
     answer = J .answer;

@@ -107,7 +107,7 @@ memoryFits L N =
 -- a run at these lengths, in the front of buffers; lengths that a buffer does not have are no run, and something else
 pub data Ran (S : Stored) (kinds cells : List ℕ) (L : Lengths) (N : LentLengths) (r : Verdict) : Type 0 where
   too-long : memoryFits L N ≡ false → r ≡ Other → Ran S kinds cells L N r
-  judged : memoryFits L N ≡ true → Judged S kinds cells (lengthsBy N) r → Ran S kinds cells L N r
+  fits-memory : memoryFits L N ≡ true → Judged S kinds cells (lengthsBy N) r → Ran S kinds cells L N r
 
 -- the program's own buffers, with a queue of so many numbers
 abbrev pub own : ℕ → Lengths

@@ -23,8 +23,8 @@ use Rattle.replay_sheets.specs.declared.replay.Stand.{Stand}
 use Rattle.replay_sheets.specs.declared.sheets.Asked.{Asked}
 use Rattle.replay_sheets.specs.declared.sheets.Told.{Told}
 use Rattle.replay_sheets.specs.Tallies.{oneComparisonMore}
-use Rattle.replay_sheets.specs.Verdicts.{AllRubbish, verdictOf, Judged, Ran, too-long, judged}
-use Rattle.replay_sheets.specs.Runs.{SizeOf, refused, accepted, lentLengths, lengthsFor, agreedBy, RanWith, Narrows, AgreesIn, least-queue, one-run}
+use Rattle.replay_sheets.specs.Verdicts.{AllRubbish, verdictOf, Judged, Ran, too-long, fits-memory}
+use Rattle.replay_sheets.specs.Runs.{SizeOf, sheet-refused, sheet-accepted, lentLengths, lengthsFor, agreedBy, RanWith, Narrows, AgreesIn, least-queue, one-run}
 use Rattle.replay_sheets.specs.Replays.{InComparison, left-out, compared-in, InComparisons, Next, Replayed}
 
 -- ---- a run
@@ -60,9 +60,9 @@ module _ (sheet : List ℕ) (S : Told) (F : Shortage) (cells covered marks : Lis
 
   ran-one : (N : LentLengths) (longs : ℕ) → Determines (Ran sheet N S F cells covered marks longs)
   ran-one N longs x y (too-long a e) (too-long b f) = e ∙ sym f
-  ran-one N longs x y (too-long a e) (judged b J) = never (cc (sym a ∙ b))
-  ran-one N longs x y (judged a J) (too-long b f) = never (cc (sym b ∙ a))
-  ran-one N longs x y (judged a J) (judged b K) = judged-one _ x y J K
+  ran-one N longs x y (too-long a e) (fits-memory b J) = never (cc (sym a ∙ b))
+  ran-one N longs x y (fits-memory a J) (too-long b f) = never (cc (sym b ∙ a))
+  ran-one N longs x y (fits-memory a J) (fits-memory b K) = judged-one _ x y J K
 
 -- ---- a sheet's size
 
@@ -73,10 +73,10 @@ size : {a b c d : ℕ} → a ≡ b → c ≡ d → _≡_ {A = Size} (record { ce
 size p q = λ i. record { cells = p i; limit = q i }
 
 size-one : (sheet : List ℕ) (most : ℕ) → Determines (SizeOf sheet most)
-size-one sheet most x y (refused r p f c l) (refused s q g d m) = size (c ∙ sym d) (l ∙ sym m)
-size-one sheet most x y (refused r p f c l) (accepted j A d m) = never (cc (sym f ∙ read-good p (A .means) (A .good)))
-size-one sheet most x y (accepted j A c l) (refused r p f d m) = never (cc (sym f ∙ read-good p (A .means) (A .good)))
-size-one sheet most x y (accepted j A c l) (accepted k B d m) =
+size-one sheet most x y (sheet-refused r p f c l) (sheet-refused s q g d m) = size (c ∙ sym d) (l ∙ sym m)
+size-one sheet most x y (sheet-refused r p f c l) (sheet-accepted j A d m) = never (cc (sym f ∙ read-good p (A .means) (A .good)))
+size-one sheet most x y (sheet-accepted j A c l) (sheet-refused r p f d m) = never (cc (sym f ∙ read-good p (A .means) (A .good)))
+size-one sheet most x y (sheet-accepted j A c l) (sheet-accepted k B d m) =
     let e = one-job A B in
     size (c ∙ ap (λ job. min most (volume (job .room))) e ∙ sym d) (l ∙ ap (λ job. job .config .limit .0) e ∙ sym m)
 

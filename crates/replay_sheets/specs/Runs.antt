@@ -24,8 +24,8 @@ use Rattle.replay_sheets.specs.Verdicts.{Ran}
 
 -- V, or the stored length where that is shorter, and the node limit
 pub data SizeOf (sheet : List ℕ) (lent : ℕ) (r : Size) : Type 0 where
-  refused : (reading : Reading) → Read sheet reading → isGood (reading .judgement) ≡ false → r .cells ≡ lent → r .limit ≡ 0 → SizeOf sheet lent r
-  accepted : (job : Job) → Accepted sheet job → r .cells ≡ min lent (volume (job .room)) → r .limit ≡ job .config .limit .0 → SizeOf sheet lent r
+  sheet-refused : (reading : Reading) → Read sheet reading → isGood (reading .judgement) ≡ false → r .cells ≡ lent → r .limit ≡ 0 → SizeOf sheet lent r
+  sheet-accepted : (job : Job) → Accepted sheet job → r .cells ≡ min lent (volume (job .room)) → r .limit ≡ job .config .limit .0 → SizeOf sheet lent r
 
 -- ---- the comparisons, beside buffers of exactly V cells
 

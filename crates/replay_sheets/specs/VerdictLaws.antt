@@ -17,7 +17,7 @@ use Rattle.replay_sheets.specs.declared.sheets.Told.{Told}
 use Rattle.replay_sheets.specs.declared.judging.Shortage.{Shortage}
 use Rattle.stored.specs.declared.runs.Verdict.{Verdict}
 use Rattle.replay_sheets.specs.declared.running.LentLengths.{LentLengths}
-use Rattle.replay_sheets.specs.Verdicts.{sameBelow, AllRubbish, Judged, OwnRubbish, memoryFits, lengthsBy, Ran, judged}
+use Rattle.replay_sheets.specs.Verdicts.{sameBelow, AllRubbish, Judged, OwnRubbish, memoryFits, lengthsBy, Ran, fits-memory}
 
 -- ---- the same numbers at the first places
 
@@ -112,7 +112,7 @@ module _ (N : LentLengths) {words bytes : List ℕ} (W : OwnRubbish words) (B : 
 
 pub ran-at : {sheet : List ℕ} {L : Lengths} {S : Told} {F : Shortage} {cells covered marks : List ℕ} {r : Verdict} (N : LentLengths) (longs : ℕ)
     → memoryFits N longs ≡ true → Judged sheet L S F cells covered marks r → L ≡ lengthsBy N → Ran sheet N S F cells covered marks longs r
-ran-at N longs h J e = judged h (record {
+ran-at N longs h J e = fits-memory h (record {
   lent-before = J .lent-before;
   lent-after = J .lent-after;
   answer = J .answer;

@@ -141,4 +141,4 @@ lengthsBy N = record {
 -- a run at these lengths, with a queue so long; lengths that the program's own memory does not have are no run, and something else
 pub data Ran (sheet : List ℕ) (N : LentLengths) (S : Told) (F : Shortage) (cells covered marks : List ℕ) (longs : ℕ) (r : Verdict) : Type 0 where
   too-long : memoryFits N longs ≡ false → r ≡ Other → Ran sheet N S F cells covered marks longs r
-  judged : memoryFits N longs ≡ true → Judged sheet (lengthsBy N) S F cells covered marks r → Ran sheet N S F cells covered marks longs r
+  fits-memory : memoryFits N longs ≡ true → Judged sheet (lengthsBy N) S F cells covered marks r → Ran sheet N S F cells covered marks longs r

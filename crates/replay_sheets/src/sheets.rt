@@ -10,8 +10,9 @@ use stored::file_places::size_at;
 use stored::file_places::size_behind;
 use stored::file_places::word_at;
 ghost use mathlib.Core.Path.{_≡_};
-ghost use Prim.Native.Nat.{_+_, _≤_, _<_, min};
+ghost use Prim.Native.Nat.{_+_, _*_, _^_, _≤_, _<_, min};
 ghost use lib.ListN.{set};
+ghost use Rattle.job_sheet.specs.Sheet.{maxSinks};
 ghost use Rattle.replay_sheets.specs.Sheets.{askedAt, sheetAt, marksOf, cellsPut, BranchesRead, left, refusalOf, treeAt, answerAt, toldIf};
 
 // The letters that the file begins with: DRT1.
@@ -101,7 +102,7 @@ fn put_stored(cells: &mut [u32], place: usize, cell: u32)
 
 // Marks so many cells that stand behind one another.
 fn mark_stored_cells(file: &[u8], from: usize, count: usize, marks: &mut [u8])
-    requires { ⌜ count < 4294967296 ⌝ }
+    requires { ⌜ count < 2 ^ 32 ⌝ }
     ensures { λ _. ⌜ now (marks .exit) ≡ marksOf (now (file .entry)) from count (now (marks .entry)) ⌝ }
 {
     let mut k: usize = 0;
@@ -113,7 +114,7 @@ fn mark_stored_cells(file: &[u8], from: usize, count: usize, marks: &mut [u8])
 
 // Writes them from a place on.
 fn put_stored_cells(file: &[u8], from: usize, count: usize, start: usize, cells: &mut [u32])
-    requires { ⌜ (count < 4294967296) × (start ≤ 68719476736) ⌝ }
+    requires { ⌜ (count < 2 ^ 32) × (start ≤ maxSinks * 2 ^ 32) ⌝ }
     ensures { λ _. ⌜ now (cells .exit) ≡ cellsPut (now (file .entry)) from start count (now (cells .entry)) ⌝ }
 {
     let mut k: usize = 0;

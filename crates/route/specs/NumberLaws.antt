@@ -19,7 +19,7 @@ use Rattle.goals.specs.Goals.{Trial, found, failed, full, routeToTree}
 use Rattle.multinet.specs.Tree.{Plot, Tree, Growth, grown, stopped, fitsIn, afterSink, growSink, sinkNow, growOn, growFrom, growthOf, tapAt, siteAt, withBranch, planted}
 use Rattle.net_tree.specs.Answers.{buffersGood, TreeOutcome, numberFor, outcomeOf, jobOutcome, unread, unlent, set-out, plotFor}
 use Rattle.net_tree.specs.JobLaws.{late}
-use Rattle.route.specs.Printed.{maxCells, programLengths, ComesHere, over, not-over}
+use Rattle.route.specs.Printed.{maxCells, programLengths, ComesHere, over-limit, within-limit}
 
 -- ---- a sheet that is refused has one of 1 to 5
 
@@ -84,7 +84,7 @@ job-high J L O kinds blocked e =
 -- ---- so it never says 6
 
 pub no-six : {sheet : List ℕ} {o : TreeOutcome} → ComesHere sheet o → numberFor o ≡ 6 → ⊥
-no-six (over J m h e) n = let k : _≡_ {A = ℕ} 2 6 = sym (ap numberFor e) ∙ n in omega (arith, k)
-no-six (not-over small (unread r p f e)) n = refused-low (r .judgement) (sym (ap numberFor e) ∙ n)
-no-six (not-over small (unlent J m g b e)) n = never (cc (sym b ∙ lent-enough (J .room) (small J m)))
-no-six (not-over small (set-out J m g b O kinds nodes blocked s e)) n = job-high J programLengths O kinds blocked (sym (ap numberFor e) ∙ n)
+no-six (over-limit J m h e) n = let k : _≡_ {A = ℕ} 2 6 = sym (ap numberFor e) ∙ n in omega (arith, k)
+no-six (within-limit small (unread r p f e)) n = refused-low (r .judgement) (sym (ap numberFor e) ∙ n)
+no-six (within-limit small (unlent J m g b e)) n = never (cc (sym b ∙ lent-enough (J .room) (small J m)))
+no-six (within-limit small (set-out J m g b O kinds nodes blocked s e)) n = job-high J programLengths O kinds blocked (sym (ap numberFor e) ∙ n)

@@ -8,7 +8,7 @@ use Rattle.room.specs.Room.{volume}
 use Rattle.job_sheet.specs.Sheet.{Contents, Means}
 use Rattle.branches.specs.Branches.{markedCount}
 use Rattle.net_tree.specs.declared.Lengths.{Lengths}
-use Rattle.net_tree.specs.Answers.{TreeOutcome, routed, refused, Comes}
+use Rattle.net_tree.specs.Answers.{TreeOutcome, routed, no-tree, Comes}
 use Rattle.route.specs.Lines.{netLine, branchLines, repeatersLine, refusedLine}
 use Rattle.route.specs.Marked.{marked}
 
@@ -35,14 +35,14 @@ programLengths = record {
 
 -- what comes of a sheet in this program: the limit of its own stands at 2's place, after 1 and before 3
 pub data ComesHere (sheet : List ℕ) (o : TreeOutcome) : Type 0 where
-  over : (J : Contents) → Means sheet J → maxCells < volume (J .room) → o ≡ refused 2 0 → ComesHere sheet o
-  not-over : ((J : Contents) → Means sheet J → volume (J .room) ≤ maxCells) → Comes sheet programLengths o → ComesHere sheet o
+  over-limit : (J : Contents) → Means sheet J → maxCells < volume (J .room) → o ≡ no-tree 2 0 → ComesHere sheet o
+  within-limit : ((J : Contents) → Means sheet J → volume (J .room) ≤ maxCells) → Comes sheet programLengths o → ComesHere sheet o
 
 -- the lines: `net`, "a line `branch` with its cells for each sink in sheet order", `repeaters`; or `refused`
 abbrev pub printed : TreeOutcome → List ℕ
 printed (routed branches occupied repeaters) =
     netLine (length branches) (markedCount occupied) ++ (branchLines branches ++ repeatersLine (marked repeaters))
-printed (refused number detail) = refusedLine number detail
+printed (no-tree number detail) = refusedLine number detail
 
 -- the first `end` bytes of the buffer are the lines of what comes
 pub record Shown (comes : TreeOutcome → Type 0) (out : List ℕ) (end : ℕ) : Type 0 where

@@ -17,7 +17,7 @@ use Rattle.room.specs.Room.{volume}
 use Rattle.job_sheet.specs.declared.Reading.{Reading}
 use Rattle.job_sheet.specs.declared.Judgement.{Judgement}
 use Rattle.job_sheet.specs.declared.Judgement.the-variants.{Good, Sheet, Sides, Config, Position, Code}
-use Rattle.job_sheet.specs.Sheet.{Contents, Means, Read, meaning, nothing, bytesBy, rest, numberOf, maxSinks}
+use Rattle.job_sheet.specs.Sheet.{Contents, Means, Read, meaning, means-nothing, bytesBy, rest, numberOf, maxSinks}
 use Rattle.job_sheet.specs.Theorems.{number-one}
 use Rattle.branches.specs.declared.BranchLengths.{BranchLengths}
 use Rattle.branches.specs.Branches.{sum, branchLengths, lengthsIn, cutInto, branchesOf, Branched}
@@ -26,13 +26,13 @@ use Rattle.net_tree.specs.declared.Lengths.{Lengths}
 use Rattle.net_tree.specs.declared.Answer.{Answer}
 use Rattle.net_tree.specs.declared.Ended.{Ended}
 use Rattle.net_tree.specs.declared.Ended.the-variants.{Routed, Refused}
-use Rattle.net_tree.specs.Answers.{Lent, TreeOutcome, routed, refused, Comes, Promise, answerOf, lentAfter, lengthsOf, lent}
+use Rattle.net_tree.specs.Answers.{Lent, TreeOutcome, routed, no-tree, Comes, Promise, answerOf, lentAfter, lengthsOf, lent}
 use Rattle.net_tree.specs.PromiseLaws.{comes-one}
 use Rattle.route.specs.Lines.{decimalWithin, spaced, spacedAll, line, netWord, branchWord, repeatersWord, refusedWord, netLine, branchLine, branchLines, repeatersLine, refusedLine, treeText, endedText, answerText}
 use Rattle.route.specs.Marked.{ifMarked, markedFrom, marked}
 use Rattle.route.specs.Putting.{Put, Fits}
 use Rattle.route.specs.BranchCountLaws.{few-branches}
-use Rattle.route.specs.Printed.{maxCells, programLengths, ComesHere, over, not-over, printed, Shown, Printed, SizeJudged, is-over, is-not, longestText}
+use Rattle.route.specs.Printed.{maxCells, programLengths, ComesHere, over-limit, within-limit, printed, Shown, Printed, SizeJudged, is-over, is-not, longestText}
 
 -- ---- the limit at 2's place
 
@@ -58,7 +58,7 @@ size-unread {sheet} {r} R e one f =
 -- otherwise it means something
 pub has-meaning : {sheet : List ℕ} {r : Reading} {n : ℕ} → Read sheet r → n ≡ numberOf (r .judgement) → (n ≡ 1 → ⊥) → (J : Contents) × Means sheet J
 has-meaning (meaning J m e) d not-one = (J, m)
-has-meaning (nothing none e) d not-one = absurd (not-one (d ∙ ap (λ x. numberOf (x .judgement)) e))
+has-meaning (means-nothing none e) d not-one = absurd (not-one (d ∙ ap (λ x. numberOf (x .judgement)) e))
 
 pub size-judged : {sheet : List ℕ} (M : (J : Contents) × Means sheet J) {cells : ℕ} → cells ≡ getD sheet 5 0 * getD sheet 6 0 * getD sheet 7 0
     → SizeJudged sheet (ltb maxCells cells)
@@ -88,7 +88,7 @@ answer-printed (routed bs occupied repeaters) B =
     ∙ cut-joined bs (replicate (length (B .branches) - length (joined bs)) 0) in
     let marks = marked-filled 0 repeaters (length (B .repeaters) - length repeaters) in
     rw (cut, marks) refl
-answer-printed (refused number detail) B = refl
+answer-printed (no-tree number detail) B = refl
 
 -- ---- how long the text is
 
@@ -164,7 +164,7 @@ outcome-branched (routed bs occupied repeaters) c B =
         length-append (joined bs) (replicate (length (B .branches) - length (joined bs)) 0),
       );
     }
-outcome-branched (refused code detail) c B = record { whole = refl; few = omega arith; within = omega arith }
+outcome-branched (no-tree code detail) c B = record { whole = refl; few = omega arith; within = omega arith }
 
 module _ {sheet : List ℕ} {B : Lent} {r : Answer} {B′ : Lent} (P : Promise sheet B r B′) where
   pub promise-branched : Branched (r .lengths) (B′ .branches)
@@ -191,20 +191,20 @@ over-fits h = record { place = omega (arith, refused-length 2 0) }
 pub printed-over : {sheet : List ℕ} {large : Bool} → SizeJudged sheet large → large ≡ true → {out out′ : List ℕ} {end : ℕ} → longestText ≤ length out
     → Put out 0 (refusedLine 2 0) out′ end → Printed sheet out′ end
 printed-over (is-over J m h e) t long p =
-    record { outcome = refused 2 0; so = over J m h refl; within = omega (arith, refused-length 2 0, p .ends, p .same); is = p .front }
+    record { outcome = no-tree 2 0; so = over-limit J m h refl; within = omega (arith, refused-length 2 0, p .ends, p .same); is = p .front }
 printed-over (is-not none e) t long p = never (cc)
 
 pub printed-not-over : {sheet : List ℕ} {large : Bool} → SizeJudged sheet large → large ≡ false → {out : List ℕ} {end : ℕ}
     → Shown (Comes sheet programLengths) out end → Printed sheet out end
 printed-not-over (is-over J m h e) f s = never (cc)
-printed-not-over (is-not small e) f s = record { outcome = s .outcome; so = not-over small (s .so); within = s .within; is = s .is }
+printed-not-over (is-not small e) f s = record { outcome = s .outcome; so = within-limit small (s .so); within = s .within; is = s .is }
 
 -- a sheet has one outcome here, and so one text
 here-one : {sheet : List ℕ} {o q : TreeOutcome} → ComesHere sheet o → ComesHere sheet q → o ≡ q
-here-one (over J m h e) (over K n g d) = e ∙ sym d
-here-one (over J m h e) (not-over small c) = absurd (omega (arith, small J m))
-here-one (not-over small c) (over K n g d) = absurd (omega (arith, small K n))
-here-one (not-over small c) (not-over small′ d) = comes-one c d
+here-one (over-limit J m h e) (over-limit K n g d) = e ∙ sym d
+here-one (over-limit J m h e) (within-limit small c) = absurd (omega (arith, small J m))
+here-one (within-limit small c) (over-limit K n g d) = absurd (omega (arith, small K n))
+here-one (within-limit small c) (within-limit small′ d) = comes-one c d
 
 -- the text that a result of `print_sheet` is
 pub record Puts (sheet text : List ℕ) : Type 0 where

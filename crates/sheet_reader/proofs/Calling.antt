@@ -49,24 +49,24 @@ abbrev Tokens : {M : Type 1} (𝓤 : URA M) (A : Atoms 𝓤) (n : ℕ) → Lfts 
 Tokens 𝓤 A n κs qs = raw (toks 𝓤 A n κs qs)
 
 module _ {M : Type 1} (𝓤 : URA M) (H : Heap 𝓤) (A : Atoms 𝓤) {n : ℕ} (ps : List (Slot n)) (r : Slot n) (c : Clauses 𝓤 (Takes ps r)) where
-  abbrev pub Taking : Contract 𝓤
-  Taking = tripleOf 𝓤 H A (Takes ps r .signature) (closing 𝓤 H A (Takes ps r) c)
+  abbrev pub TakingContract : Contract 𝓤
+  TakingContract = tripleOf 𝓤 H A (Takes ps r .signature) (closing 𝓤 H A (Takes ps r) c)
 
   -- what a call of it asks
   abbrev Asked : (κs : Lfts n) → Shares n → (a : Denots (typesAt ps κs)) → Valss (typesAt ps κs) → c κs a .ghost → Item 𝓤
-  Asked κs qs a vss g = raw (Taking .pre ((κs, qs, tt, a, vss), g))
+  Asked κs qs a vss g = raw (TakingContract .pre ((κs, qs, tt, a, vss), g))
 
 module _ {M : Type 1} {𝓤 : URA M} {H : Heap 𝓤} {A : Atoms 𝓤} {K : Type 0} {W : Given 𝓤 H A} {Γ : List (Item 𝓤)} {E : Env 𝓤 H} {C : Calls 𝓤 H} {Λ : Loops 𝓤 H} {f : Name} {xs : List Operand} {p : Post 𝓤 H} {d : Place} {rest : Body} where
   -- the caller gives what the callee requires, and what its parameters own; it gets a result with what the callee ensures, and the tokens back
-  pub takes : K → FmC 𝓤 H (W .laws) C → {n : ℕ} (ps : List (Slot n)) (r : Slot n) (c : Clauses 𝓤 (Takes ps r)) → Triple 𝓤 (C f) (Taking 𝓤 H A ps r c)
+  pub call-takes : K → FmC 𝓤 H (W .laws) C → {n : ℕ} (ps : List (Slot n)) (r : Slot n) (c : Clauses 𝓤 (Takes ps r)) → Triple 𝓤 (C f) (TakingContract 𝓤 H A ps r c)
       → (κs : Lfts n) (qs : Shares n) (a : Denots (typesAt ps κs)) (vss : Valss (typesAt ps κs)) (g : c κs a .ghost)
       → Opds K W (Asked 𝓤 H A ps r c κs qs a vss g ∷ Γ) E xs (flat (typesAt ps κs) vss)
       → ((w : Val) (y : r .row κs .Denot) (ws : Lasts (Takes ps r) κs a) → Is (r .row κs) y (w ∷ [])
       → Seq K W (raw (c κs a .ensures g y (atExit (Takes ps r) κs a ws)) ∷ ‵ (r .row κs .own y (w ∷ [])) ∷ Tokens 𝓤 A n κs qs ∷ Γ) (lands C Λ E d w rest p))
       → Seq K W (raw (c κs a .requires g) ∷ Tokens 𝓤 A n κs qs ∷ ‵ (owns (typesAt ps κs) a vss) ∷ Γ) (runs C Λ E (seq (call f xs d) rest) p)
-  takes t fm {n} ps r c known κs qs a vss g os k =
+  call-takes t fm {n} ps r c known κs qs a vss g os k =
       move t (1 ∷ 2 ∷ []) $ join t $ join t $ use1 W (Asked 𝓤 H A ps r c κs qs a vss g) (id⊢ 𝓤 _) $
-      calls-at t fm (Taking 𝓤 H A ps r c) known ((κs, qs, tt, a, vss), g) os (λ w.
+      calls-at t fm (TakingContract 𝓤 H A ps r c) known ((κs, qs, tt, a, vss), g) os (λ w.
       use1 W (later (some (λ (y : r .row κs .Denot). (Tokens 𝓤 A n κs qs ⊛ ‵ (r .row κs .own y (w ∷ []))) ⊛ some (λ (ws : Lasts (Takes ps r) κs a). ‵ (lasts (Takes ps r) κs a ws) ⊛ raw (c κs a .ensures g y (atExit (Takes ps r) κs a ws)))))) (id⊢ 𝓤 _) $
       await t tt $ pick t (λ y. split t $ split t $ move t (1 ∷ []) $ peeks t (r .row κs) (Is (r .row κs)) (shows 𝓤 H A (r .row κs)) y (w ∷ []) (λ is.
       move t (2 ∷ []) $ pick t (λ ws. split t $ discard t $ k w y ws is))))
@@ -79,49 +79,49 @@ beside 𝓤 H A W R Rs plains x vs a vss are = qed W (‵ (R .own x vs) ∷ []) 
 -- ---- one whose contract is made of facts: it requires nothing or one, and ensures one
 
 pub data Require : Type 1 where
-  none : Require
+  no-fact : Require
   this : Type 0 → Require
 
 abbrev pub Wants : Require → Type 0
-Wants none = Unit {0}
+Wants no-fact = Unit {0}
 Wants (this φ) = φ
 
 module _ {M : Type 1} (𝓤 : URA M) where
   abbrev pub wanted : Require → SProp 𝓤
-  wanted none = emp 𝓤
+  wanted no-fact = emp 𝓤
   wanted (this φ) = fact 𝓤 φ
 
   brought : (φ : Require) → Wants φ → ent 𝓤 (emp 𝓤) (wanted φ)
-  brought none ok = id⊢ 𝓤 (emp 𝓤)
+  brought no-fact ok = id⊢ 𝓤 (emp 𝓤)
   brought (this φ) ok = factI 𝓤 φ (emp 𝓤) ok
 
-pub record Promise {n : ℕ} (ps : List (Slot n)) (r : Slot n) : Type 2 where
+pub record FactContract {n : ℕ} (ps : List (Slot n)) (r : Slot n) : Type 2 where
   pub requires : (κs : Lfts n) → Denots (typesAt ps κs) → Require
   pub Ensures : (κs : Lfts n) → Denots (typesAt ps κs) → r .row κs .Denot → Type 0
 
 -- as clauses, as a contract, and what a call of it asks
-abbrev pub clausesOf : {M : Type 1} (𝓤 : URA M) {n : ℕ} {ps : List (Slot n)} {r : Slot n} → Promise ps r → Clauses 𝓤 (Takes ps r)
+abbrev pub clausesOf : {M : Type 1} (𝓤 : URA M) {n : ℕ} {ps : List (Slot n)} {r : Slot n} → FactContract ps r → Clauses 𝓤 (Takes ps r)
 clausesOf 𝓤 c κs a = record { ghost = Unit {0}; requires = λ _. wanted 𝓤 (c .requires κs a); ensures = λ _ y _. fact 𝓤 (c .Ensures κs a y) }
 
-abbrev pub Promised : {M : Type 1} (𝓤 : URA M) (H : Heap 𝓤) (A : Atoms 𝓤) {n : ℕ} {ps : List (Slot n)} {r : Slot n} → Promise ps r → Contract 𝓤
-Promised 𝓤 H A {ps = ps} {r = r} c = Taking 𝓤 H A ps r (clausesOf 𝓤 c)
+abbrev pub ContractOf : {M : Type 1} (𝓤 : URA M) (H : Heap 𝓤) (A : Atoms 𝓤) {n : ℕ} {ps : List (Slot n)} {r : Slot n} → FactContract ps r → Contract 𝓤
+ContractOf 𝓤 H A {ps = ps} {r = r} c = TakingContract 𝓤 H A ps r (clausesOf 𝓤 c)
 
-abbrev pub Sought : {M : Type 1} (𝓤 : URA M) (H : Heap 𝓤) (A : Atoms 𝓤) {n : ℕ} {ps : List (Slot n)} {r : Slot n} → Promise ps r → (κs : Lfts n) → Shares n → Denots (typesAt ps κs) → Valss (typesAt ps κs) → Item 𝓤
+abbrev pub Sought : {M : Type 1} (𝓤 : URA M) (H : Heap 𝓤) (A : Atoms 𝓤) {n : ℕ} {ps : List (Slot n)} {r : Slot n} → FactContract ps r → (κs : Lfts n) → Shares n → Denots (typesAt ps κs) → Valss (typesAt ps κs) → Item 𝓤
 Sought 𝓤 H A {ps = ps} {r = r} c κs qs a vss = Asked 𝓤 H A ps r (clausesOf 𝓤 c) κs qs a vss tt
 
 module _ {M : Type 1} {𝓤 : URA M} {H : Heap 𝓤} {A : Atoms 𝓤} {K : Type 0} {W : Given 𝓤 H A} {Γ : List (Item 𝓤)} {E : Env 𝓤 H} {C : Calls 𝓤 H} {Λ : Loops 𝓤 H} {f : Name} {xs : List Operand} {p : Post 𝓤 H} {d : Place} {rest : Body} where
   -- the caller brings what is required, and learns what is ensured
-  fulfils : K → FmC 𝓤 H (W .laws) C → {n : ℕ} {ps : List (Slot n)} {r : Slot n} (c : Promise ps r) → Triple 𝓤 (C f) (Promised 𝓤 H A c)
+  fulfils : K → FmC 𝓤 H (W .laws) C → {n : ℕ} {ps : List (Slot n)} {r : Slot n} (c : FactContract ps r) → Triple 𝓤 (C f) (ContractOf 𝓤 H A c)
       → (κs : Lfts n) (qs : Shares n) (a : Denots (typesAt ps κs)) (vss : Valss (typesAt ps κs)) → Wants (c .requires κs a)
       → Opds K W (Sought 𝓤 H A c κs qs a vss ∷ Γ) E xs (flat (typesAt ps κs) vss)
       → ((w : Val) (y : r .row κs .Denot) → c .Ensures κs a y → Is (r .row κs) y (w ∷ []) → Seq K W (‵ (r .row κs .own y (w ∷ [])) ∷ Tokens 𝓤 A n κs qs ∷ Γ) (lands C Λ E d w rest p))
       → Seq K W (Tokens 𝓤 A n κs qs ∷ ‵ (owns (typesAt ps κs) a vss) ∷ Γ) (runs C Λ E (seq (call f xs d) rest) p)
   fulfils t fm {n} {ps} {r} c known κs qs a vss ok os k =
       use0 W (raw (wanted 𝓤 (c .requires κs a))) (brought 𝓤 (c .requires κs a) ok) $
-      takes t fm ps r (clausesOf 𝓤 c) known κs qs a vss tt os (λ w y ws is. heard t (c .Ensures κs a y) (λ e. k w y e is))
+      call-takes t fm ps r (clausesOf 𝓤 c) known κs qs a vss tt os (λ w y ws is. heard t (c .Ensures κs a y) (λ e. k w y e is))
 
   -- it takes one thing that can own, and plain things beside it, which own nothing
-  pub promises : K → FmC 𝓤 H (W .laws) C → {n : ℕ} {s : Slot n} {ps : List (Slot n)} {r : Slot n} (c : Promise (s ∷ ps) r) → Triple 𝓤 (C f) (Promised 𝓤 H A c) → (κs : Lfts n) (qs : Shares n) (x : s .row κs .Denot) (vs : List Val)
+  pub promises : K → FmC 𝓤 H (W .laws) C → {n : ℕ} {s : Slot n} {ps : List (Slot n)} {r : Slot n} (c : FactContract (s ∷ ps) r) → Triple 𝓤 (C f) (ContractOf 𝓤 H A c) → (κs : Lfts n) (qs : Shares n) (x : s .row κs .Denot) (vs : List Val)
       → Makess 𝓤 H A (typesAt ps κs) (Ises (typesAt ps κs)) → (a : Denots (typesAt ps κs)) (vss : Valss (typesAt ps κs)) → Are (typesAt ps κs) (Ises (typesAt ps κs)) a vss → Wants (c .requires κs (x, a))
       → Opds K W (Sought 𝓤 H A c κs qs (x, a) (vs, vss) ∷ Γ) E xs (flat (typesAt (s ∷ ps) κs) (vs, vss))
       → ((w : Val) (y : r .row κs .Denot) → c .Ensures κs (x, a) y → Is (r .row κs) y (w ∷ []) → Seq K W (‵ (r .row κs .own y (w ∷ [])) ∷ Tokens 𝓤 A n κs qs ∷ Γ) (lands C Λ E d w rest p))
@@ -130,7 +130,7 @@ module _ {M : Type 1} {𝓤 : URA M} {H : Heap 𝓤} {A : Atoms 𝓤} {K : Type 
       move t (1 ∷ []) $ use1 W (‵ (owns (typesAt (s ∷ ps) κs) (x, a) (vs, vss))) (beside 𝓤 H A W (s .row κs) (typesAt ps κs) plains x vs a vss are) $ move t (1 ∷ []) $ fulfils t fm c known κs qs (x, a) (vs, vss) ok os k
 
   -- it takes plain things alone, at no lifetime
-  pub makes-of : K → FmC 𝓤 H (W .laws) C → {ps : List (Slot 0)} {r : Slot 0} (c : Promise ps r) → Triple 𝓤 (C f) (Promised 𝓤 H A c)
+  pub makes-of : K → FmC 𝓤 H (W .laws) C → {ps : List (Slot 0)} {r : Slot 0} (c : FactContract ps r) → Triple 𝓤 (C f) (ContractOf 𝓤 H A c)
       → Makess 𝓤 H A (typesAt ps tt) (Ises (typesAt ps tt)) → (a : Denots (typesAt ps tt)) (vss : Valss (typesAt ps tt)) → Are (typesAt ps tt) (Ises (typesAt ps tt)) a vss → Wants (c .requires tt a)
       → Opds K W (Sought 𝓤 H A c tt tt a vss ∷ Γ) E xs (flat (typesAt ps tt) vss)
       → ((w : Val) (y : r .row tt .Denot) → c .Ensures tt a y → Is (r .row tt) y (w ∷ []) → Seq K W (‵ (r .row tt .own y (w ∷ [])) ∷ Γ) (lands C Λ E d w rest p))
@@ -164,15 +164,15 @@ abbrev pub gone : Reader → ℕ → Reader
 gone h n = record { sheet = h .sheet; place = n }
 
 -- what can be known of a reader's machine value
-abbrev pub Lawful : Lft → Reader → Type 0
-Lawful κ h = Is (reader .row (κ, tt)) h (T′.lowered h ∷ [])
+abbrev pub LawfulReader : Lft → Reader → Type 0
+LawfulReader κ h = Is (reader .row (κ, tt)) h (T′.lowered h ∷ [])
 
 -- a sheet's bytes as a parameter, and what those that a reader holds own
 abbrev pub bytes : Slot 1
 bytes = plain (λ κs. ShrSlice (named 0) (κs .0) u8)
 
-abbrev pub Bytes : Lft → RefT (List ℕ) → Fml
-Bytes κ s = bytes .row (κ, tt) .own s (slice-vals s)
+abbrev pub BytesHeld : Lft → RefT (List ℕ) → Fml
+BytesHeld κ s = bytes .row (κ, tt) .own s (slice-vals s)
 
 module _ {M : Type 1} (𝓤 : URA M) (H : Heap 𝓤) (A : Atoms 𝓤) (W : Given 𝓤 H A) (κ : Lft) where
   -- a reader is Copy
@@ -180,7 +180,7 @@ module _ {M : Type 1} (𝓤 : URA M) (H : Heap 𝓤) (A : Atoms 𝓤) (W : Given
   twice h = LL.copy (type-at κ) (T′.the-copy (namedLft 1 0 tt (κ, tt))) 𝓤 H A W .twice h (T′.lowered h ∷ [])
 
   -- its bytes are taken out
-  taken : (h : Reader) → ent 𝓤 (sem 𝓤 H A (Held κ h)) (sem 𝓤 H A (Bytes κ (h .sheet)))
+  taken : (h : Reader) → ent 𝓤 (sem 𝓤 H A (Held κ h)) (sem 𝓤 H A (BytesHeld κ (h .sheet)))
   taken h =
       let vd : Values (type-at κ .parts) = (h .sheet, (h .place, tt)) in
       let mach : Val = T′.lowered h in
@@ -192,7 +192,7 @@ module _ {M : Type 1} (𝓤 : URA M) (H : Heap 𝓤) (A : Atoms 𝓤) (W : Given
   pub lends : (h : Reader) (Rs : List RattleType) → Makess 𝓤 H A Rs (Ises Rs) → (a : Denots Rs) (vss : Valss Rs) → Are Rs (Ises Rs) a vss
       → ent 𝓤 (sem 𝓤 H A (Held κ h)) (sep 𝓤 (sem 𝓤 H A (owns (bytes .row (κ, tt) ∷ Rs) (h .sheet, a) (slice-vals (h .sheet), vss))) (sem 𝓤 H A (Held κ h)))
   lends h Rs plains a vss are =
-      qed W (‵ (Held κ h) ∷ []) ∵ use1 W (‵ (Held κ h) ⊛ ‵ (Held κ h)) (twice h) $ split ! $ use1 W (‵ (Bytes κ (h .sheet))) (taken h) $
+      qed W (‵ (Held κ h) ∷ []) ∵ use1 W (‵ (Held κ h) ⊛ ‵ (Held κ h)) (twice h) $ split ! $ use1 W (‵ (BytesHeld κ (h .sheet))) (taken h) $
       use1 W (‵ (owns (bytes .row (κ, tt) ∷ Rs) (h .sheet, a) (slice-vals (h .sheet), vss))) (beside 𝓤 H A W (bytes .row (κ, tt)) Rs plains (h .sheet) (slice-vals (h .sheet)) a vss are) $ done !
 
   -- another place's facts take the place of its own's
@@ -200,11 +200,11 @@ module _ {M : Type 1} (𝓤 : URA M) (H : Heap 𝓤) (A : Atoms 𝓤) (W : Given
   moved h n fits = qed W (‵ (Held κ h) ∷ []) ∵ owned ! usize (Is usize) (uint-makes 𝓤 H A W w64) n _ (refl, fits) $ move ! (1 ∷ 0 ∷ []) $ by ! (own-put 𝓤 H A W (type-at κ) (laws-at κ) 1 (h .sheet, (h .place, tt)) n (T′.lowered h))
 
   -- a slice's bytes are below 2 ^ 63, so that nothing wraps near its end
-  pub near : (h : Reader) → Lawful κ h → Stands (now (h .sheet)) (h .place) → h .place + 4 < 2 ^ 64
+  pub near : (h : Reader) → LawfulReader κ h → Stands (now (h .sheet)) (h .place) → h .place + 4 < 2 ^ 64
   near h is ok =
       let few : length (now (h .sheet)) * 1 < 2 ^ 63 = LL.owed (type-at κ) (laws-at κ) h _ is .0 .0 .1 .1 in
       omega (arith, few, ok)
 
 -- its machine value is of the struct's type, also where MIR erases the lifetime, as in a local of a body
-pub lawful-at : {M : Type 1} {𝓤 : URA M} {H : Heap 𝓤} {A : Atoms 𝓤} → Given 𝓤 H A → (ℓ : Lifetime) (κ : Lft) (h : Reader) → Lawful κ h → Holds (hasTy (T′.mir ℓ) (T′.lowered h)) × WT (T′.lowered h)
+pub lawful-at : {M : Type 1} {𝓤 : URA M} {H : Heap 𝓤} {A : Atoms 𝓤} → Given 𝓤 H A → (ℓ : Lifetime) (κ : Lft) (h : Reader) → LawfulReader κ h → Holds (hasTy (T′.mir ℓ) (T′.lowered h)) × WT (T′.lowered h)
 lawful-at {𝓤 = 𝓤} {H = H} {A = A} W ℓ κ h is = LL.lawful (T.the-type (record { mir = ℓ; lft = κ })) (T′.the-laws (record { mir = ℓ; lft = κ })) 𝓤 H A W .typed h _ is .0

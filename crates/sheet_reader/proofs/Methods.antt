@@ -37,7 +37,7 @@ use Rattle.job_sheet.proofs.Sinks.Laws as SinksLaws
 use Rattle.job_sheet.specs.Places.{fourIn, positionIn, endpointIn, Listed, SinksListed}
 use Rattle.sheet_reader.specs.Reader.{Stands, onward, sinksFound}
 use Rattle.sheet_reader.specs.declared.Reader.{Reader}
-use Rattle.sheet_reader.proofs.Calling.{Require, none, this, Wants, Promise, Promised, Sought, promises, Token, type-at, laws-at, reader, Held, gone, Lawful, bytes, Bytes, twice}
+use Rattle.sheet_reader.proofs.Calling.{Require, no-fact, this, Wants, FactContract, ContractOf, Sought, promises, Token, type-at, laws-at, reader, Held, gone, LawfulReader, bytes, BytesHeld, twice}
 use Rattle.sheet_reader.proofs.Reader.Laws as T′
 
 -- ---- the methods that read
@@ -50,7 +50,7 @@ pub record ReadingMethod : Type 2 where
   pub requires : Reader → Require
   pub Tells : Reader → type .Denot → Type 0
 
-abbrev pub reading : (m : ReadingMethod) → Promise (reader ∷ []) (plain (λ _. m .type))
+abbrev pub reading : (m : ReadingMethod) → FactContract (reader ∷ []) (plain (λ _. m .type))
 reading m = record { requires = λ _ a. m .requires (a .0); Ensures = λ _ a. m .Tells (a .0) }
 
 abbrev standing : Reader → Require
@@ -108,7 +108,7 @@ sinks = record {
 }
 
 abbrev pub at-end : ReadingMethod
-at-end = record { type = bool; mir = tyBool; typed = λ 𝓤 H A W. bool-lawful 𝓤 H A W .typed; requires = λ _. none; Tells = λ h r. r ≡ eqb (h .place) (length (now (h .sheet))) }
+at-end = record { type = bool; mir = tyBool; typed = λ 𝓤 H A W. bool-lawful 𝓤 H A W .typed; requires = λ _. no-fact; Tells = λ h r. r ≡ eqb (h .place) (length (now (h .sheet))) }
 
 -- ---- those that make a reader
 
@@ -127,20 +127,20 @@ pub record Making (ps : List (Slot 1)) : Type 2 where
   pub requires : (κs : Lfts 1) → Denots (typesAt ps κs) → Require
   pub made : (κs : Lfts 1) → Denots (typesAt ps κs) → Reader
 
-abbrev pub Same : Reader → Reader → Type 0
-Same g h = (h .sheet ≡ g .sheet) × (h .place ≡ g .place)
+abbrev pub SameReader : Reader → Reader → Type 0
+SameReader g h = (h .sheet ≡ g .sheet) × (h .place ≡ g .place)
 
-abbrev pub making : {ps : List (Slot 1)} → Making ps → Promise ps reader
-making m = record { requires = m .requires; Ensures = λ κs a. Same (m .made κs a) }
+abbrev pub making : {ps : List (Slot 1)} → Making ps → FactContract ps reader
+making m = record { requires = m .requires; Ensures = λ κs a. SameReader (m .made κs a) }
 
 abbrev pub new : Making (bytes ∷ [])
-new = record { requires = λ _ _. none; made = λ _ a. new-at (a .0) }
+new = record { requires = λ _ _. no-fact; made = λ _ a. new-at (a .0) }
 
 abbrev pub past-params : List (Slot 1)
 past-params = reader ∷ plain (λ _. usize) ∷ []
 
 abbrev pub past : Making past-params
-past = record { requires = λ _ _. none; made = λ _ a. past-at (a .0) (a .1 .0) }
+past = record { requires = λ _ _. no-fact; made = λ _ a. past-at (a .0) (a .1 .0) }
 
 abbrev pub behind-params : List (Slot 1)
 behind-params = reader ∷ plain (λ _. usize) ∷ plain (λ _. Part′.the-row) ∷ []
@@ -152,7 +152,7 @@ behind = record { requires = λ _ a. this ((a .1 .0 ≤ 7) × (a .1 .1 .0 .count
 
 module _ {M : Type 1} {𝓤 : URA M} {H : Heap 𝓤} {A : Atoms 𝓤} {K : Type 0} {W : Given 𝓤 H A} {Γ : List (Item 𝓤)} {E : Env 𝓤 H} {C : Calls 𝓤 H} {Λ : Loops 𝓤 H} {f : Name} {xs : List Operand} {p : Post 𝓤 H} {d : Place} {rest : Body} where
   -- a method that reads is given a copy of the reader
-  pub reads : K → FmC 𝓤 H (W .laws) C → (m : ReadingMethod) → Triple 𝓤 (C f) (Promised 𝓤 H A (reading m)) → (κ : Lft) (q : Share) (h : Reader) → Wants (m .requires h)
+  pub reads : K → FmC 𝓤 H (W .laws) C → (m : ReadingMethod) → Triple 𝓤 (C f) (ContractOf 𝓤 H A (reading m)) → (κ : Lft) (q : Share) (h : Reader) → Wants (m .requires h)
       → Opds K W (Sought 𝓤 H A (reading m) (κ, tt) (q, tt) (h, tt) (T′.lowered h ∷ [], tt) ∷ ‵ (Held κ h) ∷ Γ) E xs (T′.lowered h ∷ [])
       → ((w : Val) (r : m .type .Denot) → m .Tells h r → Is (m .type) r (w ∷ []) → Seq K W (Token 𝓤 A κ q ∷ ‵ (Held κ h) ∷ Γ) (lands C Λ E d w rest p))
       → Seq K W (Token 𝓤 A κ q ∷ ‵ (Held κ h) ∷ Γ) (runs C Λ E (seq (call f xs d) rest) p)
@@ -161,10 +161,10 @@ module _ {M : Type 1} {𝓤 : URA M} {H : Heap 𝓤} {A : Atoms 𝓤} {K : Type 
       promises t fm (reading m) known (κ, tt) (q, tt) h (T′.lowered h ∷ []) tt tt tt tt ok os (λ w r e is. discard t $ k w r e is)
 
   -- one that makes a reader takes what it makes it of
-  makes-reader : K → FmC 𝓤 H (W .laws) C → {s : Slot 1} {ps : List (Slot 1)} (m : Making (s ∷ ps)) → Triple 𝓤 (C f) (Promised 𝓤 H A (making m)) → (κ : Lft) (q : Share) (x : s .row (κ, tt) .Denot) (vs : List Val)
+  makes-reader : K → FmC 𝓤 H (W .laws) C → {s : Slot 1} {ps : List (Slot 1)} (m : Making (s ∷ ps)) → Triple 𝓤 (C f) (ContractOf 𝓤 H A (making m)) → (κ : Lft) (q : Share) (x : s .row (κ, tt) .Denot) (vs : List Val)
       → Makess 𝓤 H A (typesAt ps (κ, tt)) (Ises (typesAt ps (κ, tt))) → (a : Denots (typesAt ps (κ, tt))) (vss : Valss (typesAt ps (κ, tt))) → Are (typesAt ps (κ, tt)) (Ises (typesAt ps (κ, tt))) a vss → Wants (m .requires (κ, tt) (x, a))
       → Opds K W (Sought 𝓤 H A (making m) (κ, tt) (q, tt) (x, a) (vs, vss) ∷ Γ) E xs (flat (typesAt (s ∷ ps) (κ, tt)) (vs, vss))
-      → (Lawful κ (m .made (κ, tt) (x, a)) → Seq K W (Token 𝓤 A κ q ∷ ‵ (Held κ (m .made (κ, tt) (x, a))) ∷ Γ) (lands C Λ E d (T′.lowered (m .made (κ, tt) (x, a))) rest p))
+      → (LawfulReader κ (m .made (κ, tt) (x, a)) → Seq K W (Token 𝓤 A κ q ∷ ‵ (Held κ (m .made (κ, tt) (x, a))) ∷ Γ) (lands C Λ E d (T′.lowered (m .made (κ, tt) (x, a))) rest p))
       → Seq K W (Token 𝓤 A κ q ∷ ‵ (s .row (κ, tt) .own x vs) ∷ Γ) (runs C Λ E (seq (call f xs d) rest) p)
   makes-reader t fm m known κ q x vs plains a vss are ok os k =
       let g : Reader = m .made (κ, tt) (x, a) in
@@ -176,23 +176,23 @@ module _ {M : Type 1} {𝓤 : URA M} {H : Heap 𝓤} {A : Atoms 𝓤} {K : Type 
 
 module _ {M : Type 1} {𝓤 : URA M} {H : Heap 𝓤} {A : Atoms 𝓤} {K : Type 0} {W : Given 𝓤 H A} {Γ : List (Item 𝓤)} {E : Env 𝓤 H} {C : Calls 𝓤 H} {Λ : Loops 𝓤 H} {f : Name} {xs : List Operand} {p : Post 𝓤 H} {d : Place} {rest : Body} where
   -- the bytes are Copy
-  pub new-call : K → FmC 𝓤 H (W .laws) C → Triple 𝓤 (C f) (Promised 𝓤 H A (making new)) → (κ : Lft) (q : Share) (s : RefT (List ℕ))
-      → Opds K W (Sought 𝓤 H A (making new) (κ, tt) (q, tt) (s, tt) (slice-vals s, tt) ∷ ‵ (Bytes κ s) ∷ Γ) E xs (slice-vals s)
-      → (Lawful κ (new-at s) → Seq K W (Token 𝓤 A κ q ∷ ‵ (Held κ (new-at s)) ∷ ‵ (Bytes κ s) ∷ Γ) (lands C Λ E d (T′.lowered (new-at s)) rest p))
-      → Seq K W (Token 𝓤 A κ q ∷ ‵ (Bytes κ s) ∷ Γ) (runs C Λ E (seq (call f xs d) rest) p)
+  pub new-call : K → FmC 𝓤 H (W .laws) C → Triple 𝓤 (C f) (ContractOf 𝓤 H A (making new)) → (κ : Lft) (q : Share) (s : RefT (List ℕ))
+      → Opds K W (Sought 𝓤 H A (making new) (κ, tt) (q, tt) (s, tt) (slice-vals s, tt) ∷ ‵ (BytesHeld κ s) ∷ Γ) E xs (slice-vals s)
+      → (LawfulReader κ (new-at s) → Seq K W (Token 𝓤 A κ q ∷ ‵ (Held κ (new-at s)) ∷ ‵ (BytesHeld κ s) ∷ Γ) (lands C Λ E d (T′.lowered (new-at s)) rest p))
+      → Seq K W (Token 𝓤 A κ q ∷ ‵ (BytesHeld κ s) ∷ Γ) (runs C Λ E (seq (call f xs d) rest) p)
   new-call t fm known κ q s os k =
-      move t (1 ∷ []) $ use1 W (‵ (Bytes κ s) ⊛ ‵ (Bytes κ s)) (shr-slice-copy 𝓤 H A W (named 0) κ u8 .twice s (slice-vals s)) $ split t $ move t (2 ∷ 0 ∷ []) $
+      move t (1 ∷ []) $ use1 W (‵ (BytesHeld κ s) ⊛ ‵ (BytesHeld κ s)) (shr-slice-copy 𝓤 H A W (named 0) κ u8 .twice s (slice-vals s)) $ split t $ move t (2 ∷ 0 ∷ []) $
       makes-reader t fm new known κ q s (slice-vals s) tt tt tt tt tt os k
 
-  pub past-call : K → FmC 𝓤 H (W .laws) C → Triple 𝓤 (C f) (Promised 𝓤 H A (making past)) → (κ : Lft) (q : Share) (h : Reader) (n : ℕ) → n < 2 ^ 64
+  pub past-call : K → FmC 𝓤 H (W .laws) C → Triple 𝓤 (C f) (ContractOf 𝓤 H A (making past)) → (κ : Lft) (q : Share) (h : Reader) (n : ℕ) → n < 2 ^ 64
       → Opds K W (Sought 𝓤 H A (making past) (κ, tt) (q, tt) (h, (n, tt)) (T′.lowered h ∷ [], (vint w64 n ∷ [], tt)) ∷ Γ) E xs (T′.lowered h ∷ vint w64 n ∷ [])
-      → (Lawful κ (past-at h n) → Seq K W (Token 𝓤 A κ q ∷ ‵ (Held κ (past-at h n)) ∷ Γ) (lands C Λ E d (T′.lowered (past-at h n)) rest p))
+      → (LawfulReader κ (past-at h n) → Seq K W (Token 𝓤 A κ q ∷ ‵ (Held κ (past-at h n)) ∷ Γ) (lands C Λ E d (T′.lowered (past-at h n)) rest p))
       → Seq K W (Token 𝓤 A κ q ∷ ‵ (Held κ h) ∷ Γ) (runs C Λ E (seq (call f xs d) rest) p)
   past-call t fm known κ q h n ok os k = makes-reader t fm past known κ q h (T′.lowered h ∷ []) (uint-makes 𝓤 H A W w64, tt) (n, tt) (vint w64 n ∷ [], tt) ((refl, ok), tt) tt os k
 
-  pub behind-call : K → FmC 𝓤 H (W .laws) C → Triple 𝓤 (C f) (Promised 𝓤 H A (making behind)) → (κ : Lft) (q : Share) (h : Reader) (n : ℕ) → n < 2 ^ 64 → (b : Part) (u : Val) → Is Part′.the-row b (u ∷ []) → (n ≤ 7) × (b .count < 65536)
+  pub behind-call : K → FmC 𝓤 H (W .laws) C → Triple 𝓤 (C f) (ContractOf 𝓤 H A (making behind)) → (κ : Lft) (q : Share) (h : Reader) (n : ℕ) → n < 2 ^ 64 → (b : Part) (u : Val) → Is Part′.the-row b (u ∷ []) → (n ≤ 7) × (b .count < 65536)
       → Opds K W (Sought 𝓤 H A (making behind) (κ, tt) (q, tt) (h, (n, (b, tt))) (T′.lowered h ∷ [], (vint w64 n ∷ [], (u ∷ [], tt))) ∷ Γ) E xs (T′.lowered h ∷ vint w64 n ∷ u ∷ [])
-      → (Lawful κ (behind-at h n b) → Seq K W (Token 𝓤 A κ q ∷ ‵ (Held κ (behind-at h n b)) ∷ Γ) (lands C Λ E d (T′.lowered (behind-at h n b)) rest p))
+      → (LawfulReader κ (behind-at h n b) → Seq K W (Token 𝓤 A κ q ∷ ‵ (Held κ (behind-at h n b)) ∷ Γ) (lands C Λ E d (T′.lowered (behind-at h n b)) rest p))
       → Seq K W (Token 𝓤 A κ q ∷ ‵ (Held κ h) ∷ Γ) (runs C Λ E (seq (call f xs d) rest) p)
   behind-call t fm known κ q h n ok b u is small os k =
       makes-reader t fm behind known κ q h (T′.lowered h ∷ []) (uint-makes 𝓤 H A W w64, (LL.makes Part′.the-type PartLaws.the-plain 𝓤 H A, tt)) (n, (b, tt)) (vint w64 n ∷ [], (u ∷ [], tt)) ((refl, ok), (is, tt)) small os k

@@ -29,10 +29,10 @@ use denote.Slice.{sliceTy, slice-vals}
 use denote.Triple.Clauses.{Clauses, Lasts, atExit}
 use denote.Triple.Statement.{Triple}
 use Rattle.sheet_reader.specs.declared.Reader.{Reader}
-use Rattle.sheet_reader.proofs.Calling.{Takes, Taking, takes, wanted, clausesOf, Promised, Token, reader, Held, Lawful, bytes, lends, lawful-at}
+use Rattle.sheet_reader.proofs.Calling.{Takes, TakingContract, call-takes, wanted, clausesOf, ContractOf, Token, reader, Held, LawfulReader, bytes, lends, lawful-at}
 use Rattle.sheet_reader.proofs.Methods.{ReadingMethod, reading}
 use Rattle.sheet_reader.proofs.Reader.Laws as T′
-use Rattle.sheet_reader.proofs.Walking.{reader-told, Before, After, ends, meets}
+use Rattle.sheet_reader.proofs.Walking.{reader-told, WalkBefore, WalkAfter, walk-ends, meets}
 
 -- the MIR of such a method, whose result is of the type τ
 abbrev code : Ty → Name → List Operand → Fn
@@ -89,13 +89,13 @@ module _ {M : Type 1} (𝓤 : URA M) (H : Heap 𝓤) (A : Atoms 𝓤) (W : Given
     -- it requires what its callee requires, and its callee ensures what it tells
     pub record Follows : Type 2 where
       pub ghost : (κ : Lft) (h : Reader) → c (κ, tt) (args κ h) .ghost
-      pub requires : (κ : Lft) (h : Reader) → Lawful κ h → ent 𝓤 (wanted 𝓤 (m .requires h)) (c (κ, tt) (args κ h) .requires (ghost κ h))
+      pub requires : (κ : Lft) (h : Reader) → LawfulReader κ h → ent 𝓤 (wanted 𝓤 (m .requires h)) (c (κ, tt) (args κ h) .requires (ghost κ h))
       pub ensures : (κ : Lft) (h : Reader) (r : m .type .Denot) (ws : Lasts (Takes params result) (κ, tt) (args κ h))
           → ent 𝓤 (c (κ, tt) (args κ h) .ensures (ghost κ h) r (atExit (Takes params result) (κ, tt) (args κ h) ws)) (fact 𝓤 (m .Tells h r))
 
-    walk : Follows → (f : Name) (C : Calls 𝓤 H) (Λ : Loops 𝓤 H) → FmC 𝓤 H (W .laws) C → Triple 𝓤 (C f) (Taking 𝓤 H A params result c) → (κ : Lft) (q : Share) (h : Reader) → Lawful κ h
-        → ent 𝓤 (Before 𝓤 H A (reader ∷ []) result (clausesOf 𝓤 (reading m)) κ q (h, tt) (T′.lowered h ∷ [], tt) tt)
-        (WpFn 𝓤 H C Λ (code (m .mir) f (more .operands)) (T′.lowered h ∷ []) (After 𝓤 H A (reader ∷ []) result (clausesOf 𝓤 (reading m)) κ q (h, tt) (T′.lowered h ∷ [], tt) tt))
+    walk : Follows → (f : Name) (C : Calls 𝓤 H) (Λ : Loops 𝓤 H) → FmC 𝓤 H (W .laws) C → Triple 𝓤 (C f) (TakingContract 𝓤 H A params result c) → (κ : Lft) (q : Share) (h : Reader) → LawfulReader κ h
+        → ent 𝓤 (WalkBefore 𝓤 H A (reader ∷ []) result (clausesOf 𝓤 (reading m)) κ q (h, tt) (T′.lowered h ∷ [], tt) tt)
+        (WpFn 𝓤 H C Λ (code (m .mir) f (more .operands)) (T′.lowered h ∷ []) (WalkAfter 𝓤 H A (reader ∷ []) result (clausesOf 𝓤 (reading m)) κ q (h, tt) (T′.lowered h ∷ [], tt) tt))
     walk follows f C Λ fm known κ q h is =
         let wt = lawful-at W (named 0) κ h is in
         qed W ((Token 𝓤 A κ q ⊛ ‵ (owns (reader .row (κ, tt) ∷ []) (h, tt) (T′.lowered h ∷ [], tt))) ∷ raw (wanted 𝓤 (m .requires h)) ∷ []) ∵
@@ -109,19 +109,19 @@ module _ {M : Type 1} (𝓤 : URA M) (H : Heap 𝓤) (A : Atoms 𝓤) (W : Given
         assigns ! (of-opd ! (load ! (from ! (fld ! refl (stop !))) (look-in ! 4 (sub ! 1 refl (whole !))))) (from ! (stop !)) (init ! 0 refl (tt, wt .1 .1 .0)) $
         move ! (8 ∷ 9 ∷ 10 ∷ []) $
         -- [what the callee requires; the token; what it is passed; _3; …; _2; …; _1; …; room for _0; …]
-        takes ! fm params result c known (κ, tt) (q, tt) (args κ h) (words κ h) (follows .ghost κ h)
+        call-takes ! fm params result c known (κ, tt) (q, tt) (args κ h) (words κ h) (follows .ghost κ h)
         (and-then ! (load ! (from ! (stop !)) (look ! 3 refl)) (and-then ! (load ! (from ! (stop !)) (look ! 1 refl)) (more .read (κ, tt) !))) (λ u r ws is′.
         use1 W (raw (fact 𝓤 (m .Tells h r))) (follows .ensures κ h r ws) $
         -- [what is ensured; the result; the token; _3; …; _2; …; _1; …; room for _0; …]
         land ! (from ! (stop !)) (init ! 9 refl (m .typed 𝓤 H A W r _ is′ .0)) $
         returns ! (look ! 9 refl) $ forget ! 3 refl $ forget ! 5 refl $ forget ! 7 refl $ forget ! 9 refl $
         move ! (9 ∷ 10 ∷ []) $ free1 ! $ move ! (7 ∷ 8 ∷ []) $ free1 ! $ move ! (5 ∷ 6 ∷ []) $ free1 ! $ move ! (3 ∷ 4 ∷ []) $ free1 ! $ free0 ! $
-        by ! (ends 𝓤 H A (reader ∷ []) result (clausesOf 𝓤 (reading m)) κ q (h, tt) (T′.lowered h ∷ [], tt) tt W u r (tt, tt)))))))
+        by ! (walk-ends 𝓤 H A (reader ∷ []) result (clausesOf 𝓤 (reading m)) κ q (h, tt) (T′.lowered h ∷ [], tt) tt W u r (tt, tt)))))))
 
 -- in an environment γ where the method's name is k
 pub reads-by : {M : Type 1} (𝓤 : URA M) (H : Heap 𝓤) (𝓜 : Model 𝓤 H) (𝓖 : GhostRules 𝓤 H) (𝓡 : Running 𝓤 H 𝓜) (m : ReadingMethod) (more : Constants (givenOf 𝓤 H 𝓜 𝓖)) (c : Clauses 𝓤 (Takes (bytes ∷ plain (λ _. usize) ∷ more .types) (plain (λ _. m .type))))
     → Follows 𝓤 H (𝓖 .A) (givenOf 𝓤 H 𝓜 𝓖) m more c → (k f : Name) (γ : Env) → Closed 𝓤 H (tables 𝓤 H 𝓜 𝓡 γ .C) (tables 𝓤 H 𝓜 𝓡 γ .Λ) k (code (m .mir) f (more .operands))
-    → Triple 𝓤 (𝓡 .run (γ f)) (Taking 𝓤 H (𝓖 .A) (bytes ∷ plain (λ _. usize) ∷ more .types) (plain (λ _. m .type)) c)
-    → Triple 𝓤 (𝓡 .run (γ k)) (Promised 𝓤 H (𝓖 .A) (reading m))
+    → Triple 𝓤 (𝓡 .run (γ f)) (TakingContract 𝓤 H (𝓖 .A) (bytes ∷ plain (λ _. usize) ∷ more .types) (plain (λ _. m .type)) c)
+    → Triple 𝓤 (𝓡 .run (γ k)) (ContractOf 𝓤 H (𝓖 .A) (reading m))
 reads-by 𝓤 H 𝓜 𝓖 𝓡 m more c follows k f γ closed known = meets 𝓤 H 𝓜 𝓖 𝓡 (reader ∷ []) (plain (λ _. m .type)) (clausesOf 𝓤 (reading m)) (reader-told, tt) k (code (m .mir) f (more .operands)) γ closed
     (λ fm κ q a g are. walk 𝓤 H (𝓖 .A) (givenOf 𝓤 H 𝓜 𝓖) m more c follows f (tables 𝓤 H 𝓜 𝓡 γ .C) (tables 𝓤 H 𝓜 𝓡 γ .Λ) fm known κ q (a .0) (are .0))

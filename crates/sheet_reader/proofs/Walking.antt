@@ -28,7 +28,7 @@ use denote.Triple.Entry.{Args, Vals, onEntry}
 use denote.Triple.Statement.{Triple}
 use denote.Triple.Table.{entered}
 use denote.Triple.Walked.{Stays, stay-dropped, fitsOf, hasOf, walkOf, AllGo, goes-dropped, ends-at, walked, walk-meets}
-use Rattle.sheet_reader.proofs.Calling.{Takes, Taking, Token, reader, bytes}
+use Rattle.sheet_reader.proofs.Calling.{Takes, TakingContract, Token, reader, bytes}
 use Rattle.sheet_reader.proofs.Reader as T
 use Rattle.sheet_reader.proofs.Reader.Laws as T′
 
@@ -91,15 +91,15 @@ module _ {M : Type 1} (𝓤 : URA M) (H : Heap 𝓤) (A : Atoms 𝓤) (W : Given
 
 module _ {M : Type 1} (𝓤 : URA M) (H : Heap 𝓤) (A : Atoms 𝓤) (ps : List (Slot 1)) (r : Slot 1) (c : Clauses 𝓤 (Takes ps r)) (κ : Lft) (q : Share) (a : Args (Takes ps r .signature) (κ, tt)) (vss : Vals (Takes ps r .signature) (κ, tt)) (g : c (κ, tt) a .ghost) where
   -- what it begins with, and what it ends with at the result's machine value
-  abbrev pub Before : SProp 𝓤
-  Before = sep 𝓤 (onEntry 𝓤 H A (Takes ps r .signature) (κ, tt) (q, tt) a vss) (c (κ, tt) a .requires g)
+  abbrev pub WalkBefore : SProp 𝓤
+  WalkBefore = sep 𝓤 (onEntry 𝓤 H A (Takes ps r .signature) (κ, tt) (q, tt) a vss) (c (κ, tt) a .requires g)
 
-  abbrev pub After : Val → SProp 𝓤
-  After = walkOf 𝓤 H A (Takes ps r) (dropped ps) c .post (((κ, tt), (q, tt), tt, a, vss), g)
+  abbrev pub WalkAfter : Val → SProp 𝓤
+  WalkAfter = walkOf 𝓤 H A (Takes ps r) (dropped ps) c .post (((κ, tt), (q, tt), tt, a, vss), g)
 
-  pub ends : Given 𝓤 H A → (u : Val) (y : r .row (κ, tt) .Denot) (ws : Lasts (Takes ps r) (κ, tt) a)
-      → ent 𝓤 (⋆ 𝓤 H A (raw (c (κ, tt) a .ensures g y (atExit (Takes ps r) (κ, tt) a ws)) ∷ ‵ (r .row (κ, tt) .own y (u ∷ [])) ∷ Token 𝓤 A κ q ∷ [])) (After u)
-  ends W u y ws =
+  pub walk-ends : Given 𝓤 H A → (u : Val) (y : r .row (κ, tt) .Denot) (ws : Lasts (Takes ps r) (κ, tt) a)
+      → ent 𝓤 (⋆ 𝓤 H A (raw (c (κ, tt) a .ensures g y (atExit (Takes ps r) (κ, tt) a ws)) ∷ ‵ (r .row (κ, tt) .own y (u ∷ [])) ∷ Token 𝓤 A κ q ∷ [])) (WalkAfter u)
+  walk-ends W u y ws =
       qed W (raw (c (κ, tt) a .ensures g y (atExit (Takes ps r) (κ, tt) a ws)) ∷ ‵ (r .row (κ, tt) .own y (u ∷ [])) ∷ Token 𝓤 A κ q ∷ []) ∵
       suffices ! _ (ends-at 𝓤 H A (Takes ps r) (dropped ps) c W (((κ, tt), (q, tt), tt, a, vss), g) u y ws (fits ps (κ, tt) a ws)) $
       use0 W (‵ (hasOf (κ, tt) ps (all yes ps) (dropped ps) a ws vss)) (had 𝓤 H A W ps (κ, tt) a ws vss) $
@@ -110,13 +110,13 @@ module _ {M : Type 1} (𝓤 : URA M) (H : Heap 𝓤) (𝓜 : Model 𝓤 H) (𝓖
   pub meets : Closed 𝓤 H (tables 𝓤 H 𝓜 𝓡 γ .C) (tables 𝓤 H 𝓜 𝓡 γ .Λ) k e
       → (FmC 𝓤 H (givenOf 𝓤 H 𝓜 𝓖 .laws) (tables 𝓤 H 𝓜 𝓡 γ .C) → (κ : Lft) (q : Share) (a : Args (Takes ps r .signature) (κ, tt)) (g : c (κ, tt) a .ghost)
       → Are (typesAt ps (κ, tt)) (Ises (typesAt ps (κ, tt))) a (valssOf ps told (κ, tt) a)
-      → ent 𝓤 (Before 𝓤 H (𝓖 .A) ps r c κ q a (valssOf ps told (κ, tt) a) g)
-      (WpFn 𝓤 H (tables 𝓤 H 𝓜 𝓡 γ .C) (tables 𝓤 H 𝓜 𝓡 γ .Λ) e (flat (typesAt ps (κ, tt)) (valssOf ps told (κ, tt) a)) (After 𝓤 H (𝓖 .A) ps r c κ q a (valssOf ps told (κ, tt) a) g)))
-      → Triple 𝓤 (𝓡 .run (γ k)) (Taking 𝓤 H (𝓖 .A) ps r c)
+      → ent 𝓤 (WalkBefore 𝓤 H (𝓖 .A) ps r c κ q a (valssOf ps told (κ, tt) a) g)
+      (WpFn 𝓤 H (tables 𝓤 H 𝓜 𝓡 γ .C) (tables 𝓤 H 𝓜 𝓡 γ .Λ) e (flat (typesAt ps (κ, tt)) (valssOf ps told (κ, tt) a)) (WalkAfter 𝓤 H (𝓖 .A) ps r c κ q a (valssOf ps told (κ, tt) a) g)))
+      → Triple 𝓤 (𝓡 .run (γ k)) (TakingContract 𝓤 H (𝓖 .A) ps r c)
   unfolding tablesOf
   meets closed walk =
       let W : Given 𝓤 H (𝓖 .A) = givenOf 𝓤 H 𝓜 𝓖 in
-      entered 𝓤 H (Taking 𝓤 H (𝓖 .A) ps r c) (tables 𝓤 H 𝓜 𝓡 γ .C) (tables 𝓤 H 𝓜 𝓡 γ .Λ) k e closed
+      entered 𝓤 H (TakingContract 𝓤 H (𝓖 .A) ps r c) (tables 𝓤 H 𝓜 𝓡 γ .C) (tables 𝓤 H 𝓜 𝓡 γ .Λ) k e closed
       (walk-meets 𝓤 H (𝓖 .A) (Takes ps r) (dropped ps) W (go 𝓤 H (𝓖 .A) W ps told) c (WpFn 𝓤 H (tables 𝓤 H 𝓜 𝓡 γ .C) (tables 𝓤 H 𝓜 𝓡 γ .Λ) e) (WpFn-mono 𝓤 H (W .laws) (tablesOf 𝓤 H 𝓜 (tables 𝓤 H 𝓜 𝓡 γ)) e)
       (walked 𝓤 H (𝓖 .A) (Takes ps r) (dropped ps) c (WpFn 𝓤 H (tables 𝓤 H 𝓜 𝓡 γ .C) (tables 𝓤 H 𝓜 𝓡 γ .Λ) e) (spellsOf ps told) (tellsOf ps told)
       (λ κs qs bounds a g are. walk (fmOf 𝓤 H (W .laws) (tablesOf 𝓤 H 𝓜 (tables 𝓤 H 𝓜 𝓡 γ))) (κs .0) (qs .0) a g are)))

@@ -5,19 +5,19 @@ use Rattle.basics.specs.Tests.{never}
 use Rattle.basics.specs.Promises.{Determines}
 use Rattle.stored.specs.declared.runs.Verdict.{Verdict}
 use Rattle.stored.specs.declared.runs.Gap.{Gap}
-use Rattle.stored.specs.Runs.{Repeated, none, once-more, narrowedBy, wholeGap, Halved, closed, halves, Narrowed}
+use Rattle.stored.specs.Runs.{Repeated, no-rounds, once-more, narrowedBy, wholeGap, Halved, gap-closed, halves, Narrowed}
 
 pub rounds-one : {X : Type 0} {next : ℕ → X → X → Type 0} {start : X} → ((k : ℕ) (x : X) → Determines (next k x)) → (n : ℕ) → Determines (Repeated next start n)
-rounds-one one zero x y (none e) (none f) = e ∙ sym f
+rounds-one one zero x y (no-rounds e) (no-rounds f) = e ∙ sym f
 rounds-one {next = next} one (suc n) x y (once-more {x = a} t p) (once-more {x = b} u q) =
     let e = rounds-one one n a b t u in
     one n b x y (rw e at p) q
 
 module _ {ran : ℕ → Verdict → Type 0} (one : (queue : ℕ) → Determines (ran queue)) where
   halved-one : (G : Gap) → Determines (Halved ran G)
-  halved-one G x y (closed a e) (closed b f) = e ∙ sym f
-  halved-one G x y (closed a e) (halves b places p queue q v r f) = never (cc (sym a ∙ b))
-  halved-one G x y (halves a places p queue q v r e) (closed b f) = never (cc (sym b ∙ a))
+  halved-one G x y (gap-closed a e) (gap-closed b f) = e ∙ sym f
+  halved-one G x y (gap-closed a e) (halves b places p queue q v r f) = never (cc (sym a ∙ b))
+  halved-one G x y (halves a places p queue q v r e) (gap-closed b f) = never (cc (sym b ∙ a))
   halved-one G x y (halves a places p queue q v r e) (halves b places′ p′ queue′ q′ v′ r′ f) =
       let same-places : places ≡ places′ = p ∙ sym p′ in
       let same-queue : queue ≡ queue′ = q ∙ ap (λ n. n * 2) same-places ∙ sym q′ in

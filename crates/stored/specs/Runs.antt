@@ -44,7 +44,7 @@ sumOf count more = either (ltb 1000000 count) count (either (ltb 1000000 more) c
 
 -- what so many rounds lead to, where round k follows from the one before it by a relation
 pub data Repeated {X : Type 0} (next : ℕ → X → X → Type 0) (start : X) : ℕ → X → Type 0 where
-  none : {r : X} → r ≡ start → Repeated next start 0 r
+  no-rounds : {r : X} → r ≡ start → Repeated next start 0 r
   once-more : {k : ℕ} {x r : X} → Repeated next start k x → next k x r → Repeated next start (suc k) r
 
 -- ---- the least queue
@@ -68,7 +68,7 @@ narrowedBy G places Other = record { full = G .full; enough = G .enough; runs = 
 
 -- a gap that is open is halved by a run half way, a place of whose queue takes two numbers; any other stays
 pub data Halved (ran : ℕ → Verdict → Type 0) (G r : Gap) : Type 0 where
-  closed : isOpen G ≡ false → r ≡ G → Halved ran G r
+  gap-closed : isOpen G ≡ false → r ≡ G → Halved ran G r
   halves : isOpen G ≡ true → (places : ℕ) → places ≡ middleOf (G .full) (G .enough) → (queue : ℕ) → queue ≡ places * 2
       → (v : Verdict) → ran queue v → r ≡ narrowedBy G places v → Halved ran G r
 

@@ -1,6 +1,6 @@
 // What stands at a place of a stored file. Past its end every byte is taken for 0, and no place lies behind it.
 ghost use mathlib.Core.Path.{_≡_};
-ghost use Prim.Native.Nat.{_<_};
+ghost use Prim.Native.Nat.{_^_, _<_};
 ghost use Rattle.stored.specs.FilePlaces.{past, byteAt, cellAt, wordAt, byteBehind, wordBehind, countIn, firstPlace};
 
 // The place so many bytes further on, at most the file's end.
@@ -40,7 +40,7 @@ pub fn word_at(file: &[u8], at: usize) -> u32
 
 // Four bytes, as a length.
 pub fn size_at(file: &[u8], at: usize) -> usize
-    ensures { λ r. ⌜ (r ≡ wordAt (now (file .entry)) at) × (r < 4294967296) ⌝ }
+    ensures { λ r. ⌜ (r ≡ wordAt (now (file .entry)) at) × (r < 2 ^ 32) ⌝ }
 {
     word_at(file, at) as usize
 }
@@ -59,7 +59,7 @@ pub fn word_behind(file: &[u8], at: usize, bytes: usize) -> u32
 }
 
 pub fn size_behind(file: &[u8], at: usize, bytes: usize) -> usize
-    ensures { λ r. ⌜ (r ≡ wordBehind (now (file .entry)) at bytes) × (r < 4294967296) ⌝ }
+    ensures { λ r. ⌜ (r ≡ wordBehind (now (file .entry)) at bytes) × (r < 2 ^ 32) ⌝ }
 {
     size_at(file, past(file, at, bytes))
 }

@@ -44,9 +44,9 @@ use Rattle.job_sheet.proofs.Sinks.Laws as SinksLaws
 use Rattle.sheet_reader.specs.Reader.{layoutFound, bodyOf, PartsFound}
 use Rattle.sheet_reader.specs.ReaderLaws.{onward-stands, body-read, found-as}
 use Rattle.sheet_reader.specs.declared.Reader.{Reader}
-use Rattle.sheet_reader.proofs.Calling.{none, Promise, Promised, makes-of, Token, bytes, lawful-at}
+use Rattle.sheet_reader.proofs.Calling.{no-fact, FactContract, ContractOf, makes-of, Token, bytes, lawful-at}
 use Rattle.sheet_reader.proofs.Methods.{reading, making, endpoint, list, sinks-list, sinks, at-end, new, past, behind, new-at, past-at, behind-at, reads, new-call, past-call, behind-call}
-use Rattle.sheet_reader.proofs.Walking.{bytes-told, Before, After, ends, meets}
+use Rattle.sheet_reader.proofs.Walking.{bytes-told, WalkBefore, WalkAfter, walk-ends, meets}
 use Rattle.sheet_reader.proofs.Reader.at_end.Symbol.{name as #at-end}
 use Rattle.sheet_reader.proofs.Reader.at_end.Met as at-end-thm
 use Rattle.sheet_reader.proofs.Reader.behind.Symbol.{name as #behind}
@@ -79,14 +79,14 @@ part = plain (λ _. Part′.the-row)
 abbrev layout-parts : List (Slot 0)
 layout-parts = part ∷ part ∷ part ∷ part ∷ part ∷ plain (λ _. usize) ∷ part ∷ []
 
-abbrev layout-found : Promise layout-parts (plain (λ _. Layout′.the-row))
-layout-found = record { requires = λ _ _. none; Ensures = λ _ a r. r ≡ layoutFound (a .0) (a .1 .0) (a .1 .1 .0) (a .1 .1 .1 .0) (a .1 .1 .1 .1 .0) (a .1 .1 .1 .1 .1 .0) (a .1 .1 .1 .1 .1 .1 .0) }
+abbrev layout-found : FactContract layout-parts (plain (λ _. Layout′.the-row))
+layout-found = record { requires = λ _ _. no-fact; Ensures = λ _ a r. r ≡ layoutFound (a .0) (a .1 .0) (a .1 .1 .0) (a .1 .1 .1 .0) (a .1 .1 .1 .1 .0) (a .1 .1 .1 .1 .1 .0) (a .1 .1 .1 .1 .1 .1 .0) }
 
 abbrev body-parts : List (Slot 0)
 body-parts = plain (λ _. Layout′.the-row) ∷ plain (λ _. Endpoint′.the-row) ∷ plain (λ _. Sinks′.the-row) ∷ plain (λ _. bool) ∷ []
 
-abbrev body-of : Promise body-parts (plain (λ _. Body′.the-row))
-body-of = record { requires = λ _ _. none; Ensures = λ _ a r. r ≡ bodyOf (a .0) (a .1 .0) (a .1 .1 .0) (a .1 .1 .1 .0) }
+abbrev body-of : FactContract body-parts (plain (λ _. Body′.the-row))
+body-of = record { requires = λ _ _. no-fact; Ensures = λ _ a r. r ≡ bodyOf (a .0) (a .1 .0) (a .1 .1 .0) (a .1 .1 .1 .0) }
 
 module _ {M : Type 1} (𝓤 : URA M) (H : Heap 𝓤) (A : Atoms 𝓤) (W : Given 𝓤 H A) (mem : Memory → SProp 𝓤) (run : Routine → Fun 𝓤) (κ : Lft) (q : Share) (s : RefT (List ℕ)) where
   -- the machine value that s has
@@ -103,10 +103,10 @@ module _ {M : Type 1} (𝓤 : URA M) (H : Heap 𝓤) (A : Atoms 𝓤) (W : Given
   part-makes : Makes 𝓤 H A Part′.the-row (Is Part′.the-row)
   part-makes = LL.makes Part′.the-type PartLaws.the-plain 𝓤 H A
 
-  module _ (C : Calls 𝓤 H) (Λ : Loops 𝓤 H) (fm : FmC 𝓤 H (W .laws) C) (known-at-end : Triple 𝓤 (C #at-end) (Promised 𝓤 H A (reading at-end))) (known-behind : Triple 𝓤 (C #behind) (Promised 𝓤 H A (making behind))) (known-endpoint : Triple 𝓤 (C #endpoint) (Promised 𝓤 H A (reading endpoint))) (known-list : Triple 𝓤 (C #list) (Promised 𝓤 H A (reading list))) (known-new : Triple 𝓤 (C #new) (Promised 𝓤 H A (making new))) (known-past : Triple 𝓤 (C #past) (Promised 𝓤 H A (making past))) (known-sinks : Triple 𝓤 (C #sinks) (Promised 𝓤 H A (reading sinks))) (known-sinks-list : Triple 𝓤 (C #sinks-list) (Promised 𝓤 H A (reading sinks-list))) (known-layout-found : Triple 𝓤 (C #layout-found) (Promised 𝓤 H A layout-found)) (known-body-of : Triple 𝓤 (C #body-of) (Promised 𝓤 H A body-of)) where
+  module _ (C : Calls 𝓤 H) (Λ : Loops 𝓤 H) (fm : FmC 𝓤 H (W .laws) C) (known-at-end : Triple 𝓤 (C #at-end) (ContractOf 𝓤 H A (reading at-end))) (known-behind : Triple 𝓤 (C #behind) (ContractOf 𝓤 H A (making behind))) (known-endpoint : Triple 𝓤 (C #endpoint) (ContractOf 𝓤 H A (reading endpoint))) (known-list : Triple 𝓤 (C #list) (ContractOf 𝓤 H A (reading list))) (known-new : Triple 𝓤 (C #new) (ContractOf 𝓤 H A (making new))) (known-past : Triple 𝓤 (C #past) (ContractOf 𝓤 H A (making past))) (known-sinks : Triple 𝓤 (C #sinks) (ContractOf 𝓤 H A (reading sinks))) (known-sinks-list : Triple 𝓤 (C #sinks-list) (ContractOf 𝓤 H A (reading sinks-list))) (known-layout-found : Triple 𝓤 (C #layout-found) (ContractOf 𝓤 H A layout-found)) (known-body-of : Triple 𝓤 (C #body-of) (ContractOf 𝓤 H A body-of)) where
     walk : Is (bytes .row (κ, tt)) s (v ∷ [])
-        → ent 𝓤 (Before 𝓤 H A (bytes ∷ []) (plain (λ _. Body′.the-row)) (read-body.clauses 𝓤 H A mem run) κ q (s, tt) (v ∷ [], tt) tt)
-        (WpFn 𝓤 H C Λ code.function (v ∷ []) (After 𝓤 H A (bytes ∷ []) (plain (λ _. Body′.the-row)) (read-body.clauses 𝓤 H A mem run) κ q (s, tt) (v ∷ [], tt) tt))
+        → ent 𝓤 (WalkBefore 𝓤 H A (bytes ∷ []) (plain (λ _. Body′.the-row)) (read-body.clauses 𝓤 H A mem run) κ q (s, tt) (v ∷ [], tt) tt)
+        (WpFn 𝓤 H C Λ code.function (v ∷ []) (WalkAfter 𝓤 H A (bytes ∷ []) (plain (λ _. Body′.the-row)) (read-body.clauses 𝓤 H A mem run) κ q (s, tt) (v ∷ [], tt) tt))
     walk p =
         qed W ((Token 𝓤 A κ q ⊛ ‵ (owns (bytes .row (κ, tt) ∷ []) (s, tt) (v ∷ [], tt))) ∷ raw (emp 𝓤) ∷ []) ∵ split ! $ move ! (1 ∷ []) $ fsplit ! $ keep ! (2 ∷ 0 ∷ []) $ enter ! C Λ code.function (v ∷ []) _ $
         alloc1 ! (λ l₀. alloc1 ! (λ l₁. alloc1 ! (λ l₂. alloc1 ! (λ l₃. alloc1 ! (λ l₄. alloc1 ! (λ l₅. alloc1 ! (λ l₆. alloc1 ! (λ l₇. alloc1 ! (λ l₈. alloc1 ! (λ l₉. alloc1 ! (λ l₁₀. alloc1 ! (λ l₁₁. alloc1 ! (λ l₁₂. alloc1 ! (λ l₁₃. alloc1 ! (λ l₁₄. alloc1 ! (λ l₁₅. alloc1 ! (λ l₁₆. alloc1 ! (λ l₁₇. alloc1 ! (λ l₁₈. alloc1 ! (λ l₁₉. alloc1 ! (λ l₂₀. alloc1 ! (λ l₂₁. alloc1 ! (λ l₂₂. alloc1 ! (λ l₂₃. alloc1 ! (λ l₂₄. alloc1 ! (λ l₂₅. alloc1 ! (λ l₂₆. alloc1 ! (λ l₂₇. alloc1 ! (λ l₂₈. alloc1 ! (λ l₂₉. alloc1 ! (λ l₃₀. alloc1 ! (λ l₃₁. alloc1 ! (λ l₃₂. alloc1 ! (λ l₃₃. alloc1 ! (λ l₃₄. alloc1 ! (λ l₃₅. alloc1 ! (λ l₃₆. alloc1 ! (λ l₃₇. alloc1 ! (λ l₃₈.
@@ -182,7 +182,7 @@ module _ {M : Type 1} (𝓤 : URA M) (H : Heap 𝓤) (A : Atoms 𝓤) (W : Given
         move ! (80 ∷ 81 ∷ []) $ free1 ! $ move ! (78 ∷ 79 ∷ []) $ free1 ! $ move ! (76 ∷ 77 ∷ []) $ free1 ! $ move ! (74 ∷ 75 ∷ []) $ free1 ! $ move ! (72 ∷ 73 ∷ []) $ free1 ! $ move ! (70 ∷ 71 ∷ []) $ free1 ! $ move ! (68 ∷ 69 ∷ []) $ free1 ! $ move ! (66 ∷ 67 ∷ []) $ free1 ! $ move ! (64 ∷ 65 ∷ []) $ free1 ! $ move ! (62 ∷ 63 ∷ []) $ free1 ! $ move ! (60 ∷ 61 ∷ []) $ free1 ! $ move ! (58 ∷ 59 ∷ []) $ free1 ! $ move ! (56 ∷ 57 ∷ []) $ free1 ! $ move ! (54 ∷ 55 ∷ []) $ free1 ! $ move ! (52 ∷ 53 ∷ []) $ free1 ! $ move ! (50 ∷ 51 ∷ []) $ free1 ! $ move ! (48 ∷ 49 ∷ []) $ free1 ! $ move ! (46 ∷ 47 ∷ []) $ free1 ! $ move ! (44 ∷ 45 ∷ []) $ free1 ! $ move ! (42 ∷ 43 ∷ []) $ free1 ! $ move ! (40 ∷ 41 ∷ []) $ free1 ! $ move ! (38 ∷ 39 ∷ []) $ free1 ! $ move ! (36 ∷ 37 ∷ []) $ free1 ! $ move ! (34 ∷ 35 ∷ []) $ free1 ! $ move ! (32 ∷ 33 ∷ []) $ free1 ! $ move ! (30 ∷ 31 ∷ []) $ free1 ! $ move ! (28 ∷ 29 ∷ []) $ free1 ! $ move ! (26 ∷ 27 ∷ []) $ free1 ! $ move ! (24 ∷ 25 ∷ []) $ free1 ! $ move ! (22 ∷ 23 ∷ []) $ free1 ! $ move ! (20 ∷ 21 ∷ []) $ free1 ! $ move ! (18 ∷ 19 ∷ []) $ free1 ! $ move ! (16 ∷ 17 ∷ []) $ free1 ! $ move ! (14 ∷ 15 ∷ []) $ free1 ! $ move ! (12 ∷ 13 ∷ []) $ free1 ! $ move ! (10 ∷ 11 ∷ []) $ free1 ! $ move ! (8 ∷ 9 ∷ []) $ free1 ! $ move ! (6 ∷ 7 ∷ []) $ free1 ! $ move ! (4 ∷ 5 ∷ []) $ free1 ! $ free0 ! $
         keep ! (0 ∷ 1 ∷ []) $
         use0 W (raw (fact 𝓤 (PartsFound (now s) r₀))) (factI 𝓤 _ (emp 𝓤) (found-as (now s) r₀ _ (e₀ ∙ ap (λ l. bodyOf l r₁₅ r₁₈ r₂₀) e₂₁) (body-read (now s) r₄ r₆ r₈ r₁₀ r₁₂ r₁₇ r₁₅ r₁₈ r₂₀ (e₄ .is) (e₆ .is) (e₈ .is) (e₁₀ .is) (e₁₂ .is) e₁₅ (e₁₇ .is) e₁₈ e₂₀))) $
-        by ! (ends 𝓤 H A (bytes ∷ []) (plain (λ _. Body′.the-row)) (read-body.clauses 𝓤 H A mem run) κ q (s, tt) (v ∷ [], tt) tt W w₀ r₀ (tt, tt)))))))))))))))))))))))))))))))))))))))))))))))))))))))))))))
+        by ! (walk-ends 𝓤 H A (bytes ∷ []) (plain (λ _. Body′.the-row)) (read-body.clauses 𝓤 H A mem run) κ q (s, tt) (v ∷ [], tt) tt W w₀ r₀ (tt, tt)))))))))))))))))))))))))))))))))))))))))))))))))))))))))))))
 
 pub read-body-spec : {M : Type 1} → stated.statement M
 unfolding code.routine

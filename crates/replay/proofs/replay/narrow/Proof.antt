@@ -6,7 +6,7 @@ use native.Mathlib.Omega.{arith}
 use lib.ListN.{length}
 use Rattle.replay.specs.Runs.{RanWith}
 use borrow.Author.Needs.{needs}
-use Rattle.stored.specs.Runs.{Repeated, none, once-more, Halved}
+use Rattle.stored.specs.Runs.{Repeated, no-rounds, once-more, Halved}
 use Rattle.replay.proofs.replay.narrow.Statement.{statement}
 use Rattle.replay.proofs.replay.narrow.Tie as tie
 
@@ -17,7 +17,7 @@ abbrev μ-loop : tie.MeasureT-loop
 μ-loop file stored queue₀ gap₀ rounds₀ queue gap rounds = 32 - rounds
 
 loop-holds : tie.Need-loop-holds Inv-loop μ-loop
-loop-holds c = (search needs, none refl, refl)
+loop-holds c = (search needs, no-rounds refl, refl)
 
 narrow-once-requires : tie.Need-narrow-once-requires Inv-loop μ-loop
 narrow-once-requires c κs = search needs

@@ -6,7 +6,7 @@ use native.Mathlib.Omega.{arith}
 use lib.ListN.{length}
 use Rattle.replay.specs.Runs.{Next}
 use borrow.Author.Needs.{needs}
-use Rattle.stored.specs.Runs.{Repeated, none, once-more}
+use Rattle.stored.specs.Runs.{Repeated, no-rounds, once-more}
 use Rattle.replay.proofs.replay.replay.Statement.{statement}
 use Rattle.replay.proofs.replay.replay.Tie as tie
 
@@ -23,7 +23,7 @@ first-place-requires : tie.Need-first-place-requires Inv-loop μ-loop
 first-place-requires c κs = search needs
 
 loop-holds : tie.Need-loop-holds Inv-loop μ-loop
-loop-holds c = (search needs, none refl, refl)
+loop-holds c = (search needs, no-rounds refl, refl)
 
 replay-next-requires : tie.Need-replay-next-requires Inv-loop μ-loop
 replay-next-requires c κs = search needs

@@ -1,7 +1,7 @@
 -- `narrow_once` meets its contract: the gap stays, or a run half way narrows it.
 use mathlib.Core.Path.{refl}
 use Rattle.basics.specs.Tests.{test-fails, test-passes}
-use Rattle.stored.specs.Runs.{closed, halves}
+use Rattle.stored.specs.Runs.{gap-closed, halves}
 use borrow.Author.Needs.{needs}
 use Rattle.replay_sheets.proofs.replay.narrow_once.Statement.{statement}
 use Rattle.replay_sheets.proofs.replay.narrow_once.Tie as tie
@@ -10,7 +10,7 @@ is-open-requires : tie.Need-is-open-requires
 is-open-requires c κs = search needs
 
 returns : tie.Need-returns
-returns c = closed (test-fails (c .before .is-open .ensures) (c .if1 .taken)) refl
+returns c = gap-closed (test-fails (c .before .is-open .ensures) (c .if1 .taken)) refl
 
 middle-requires : tie.Need-middle-requires
 middle-requires c κs = search needs

@@ -6,7 +6,7 @@ use native.Mathlib.Omega.{arith}
 use lib.ListN.{length}
 use borrow.Author.Needs.{needs}
 use Rattle.replay_sheets.specs.Runs.{RanWith}
-use Rattle.stored.specs.Runs.{Repeated, none, once-more, Halved}
+use Rattle.stored.specs.Runs.{Repeated, no-rounds, once-more, Halved}
 use Rattle.replay_sheets.proofs.replay.narrows.Statement.{statement}
 use Rattle.replay_sheets.proofs.replay.narrows.Tie as tie
 
@@ -17,7 +17,7 @@ abbrev μ-loop : tie.MeasureT-loop
 μ-loop sheet asked size told cells covered marks queue₀ gap₀ rounds₀ queue gap rounds = 32 - rounds
 
 loop-holds : tie.Need-loop-holds Inv-loop μ-loop
-loop-holds c = (search needs, search needs, none refl)
+loop-holds c = (search needs, search needs, no-rounds refl)
 
 narrow-once-requires : tie.Need-narrow-once-requires Inv-loop μ-loop
 narrow-once-requires c κs = search needs

@@ -7,7 +7,7 @@ use lib.ListN.{length}
 use Rattle.replay_sheets.specs.ReplayLaws.{next-long}
 use borrow.Author.Needs.{needs}
 use Rattle.replay_sheets.specs.Replays.{Next, noneYet}
-use Rattle.stored.specs.Runs.{Repeated, none, once-more}
+use Rattle.stored.specs.Runs.{Repeated, no-rounds, once-more}
 use Rattle.replay_sheets.proofs.replay.replay.Statement.{statement}
 use Rattle.replay_sheets.proofs.replay.replay.Tie as tie
 
@@ -27,7 +27,7 @@ nothing-yet-requires : tie.Need-nothing-yet-requires Inv-loop μ-loop
 nothing-yet-requires c κs = search needs
 
 loop-holds : tie.Need-loop-holds Inv-loop μ-loop
-loop-holds c = (search needs, search needs, none (λ i. record { at = c .before .first-place .ensures i; tally = c .nothing-yet .ensures i }))
+loop-holds c = (search needs, search needs, no-rounds (λ i. record { at = c .before .first-place .ensures i; tally = c .nothing-yet .ensures i }))
 
 replay-next-requires : tie.Need-replay-next-requires Inv-loop μ-loop
 replay-next-requires c κs = search needs

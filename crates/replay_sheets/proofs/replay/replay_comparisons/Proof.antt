@@ -7,7 +7,7 @@ use lib.ListN.{length}
 use Rattle.replay_sheets.specs.ReplayLaws.{comparison-long}
 use borrow.Author.Needs.{needs}
 use Rattle.replay_sheets.specs.Replays.{InComparison}
-use Rattle.stored.specs.Runs.{Repeated, none, once-more}
+use Rattle.stored.specs.Runs.{Repeated, no-rounds, once-more}
 use Rattle.replay_sheets.proofs.replay.replay_comparisons.Statement.{statement}
 use Rattle.replay_sheets.proofs.replay.replay_comparisons.Tie as tie
 
@@ -21,7 +21,7 @@ one-sheet-more-requires : tie.Need-one-sheet-more-requires Inv-loop μ-loop
 one-sheet-more-requires c κs = search needs
 
 loop-holds : tie.Need-loop-holds Inv-loop μ-loop
-loop-holds c = (search needs, search needs, none refl)
+loop-holds c = (search needs, search needs, no-rounds refl)
 
 replay-comparison-requires : tie.Need-replay-comparison-requires Inv-loop μ-loop
 replay-comparison-requires c κs = search needs

@@ -1,6 +1,6 @@
 -- `branches_at` meets its contract: the first k branches are read.
 use mathlib.Core.Path.{_≡_}
-use Prim.Native.Nat.{_*_, _-_, _≤_}
+use Prim.Native.Nat.{_*_, _^_, _-_, _≤_}
 use native.Mathlib.Omega.{arith}
 use lib.ListN.{length}
 use Rattle.replay_sheets.specs.Sheets.{BranchesRead}
@@ -10,7 +10,7 @@ use Rattle.replay_sheets.proofs.sheets.branches_at.Statement.{statement
 use Rattle.replay_sheets.proofs.sheets.branches_at.Tie as tie
 
 abbrev Inv-loop : tie.InvT-loop
-Inv-loop file at count cells₀ covered₀ each₀ total₀ end₀ k₀ cells covered each total end k = (length cells ≡ length cells₀) × (length covered ≡ length covered₀) × (k ≤ count) × (total ≤ k * 4294967296) × BranchesRead file at cells₀ covered₀ k cells covered each total end
+Inv-loop file at count cells₀ covered₀ each₀ total₀ end₀ k₀ cells covered each total end k = (length cells ≡ length cells₀) × (length covered ≡ length covered₀) × (k ≤ count) × (total ≤ k * 2 ^ 32) × BranchesRead file at cells₀ covered₀ k cells covered each total end
 
 abbrev μ-loop : tie.MeasureT-loop
 μ-loop file at count cells₀ covered₀ each₀ total₀ end₀ k₀ cells covered each total end k = count - k

@@ -2,7 +2,7 @@
 use native.Mathlib.Omega.{arith}
 use borrow.Author.Needs.{needs}
 use mathlib.Core.Path.{_≡_, refl, ap, _∙_}
-use Prim.Native.Nat.{ℕ, _-_, _*_}
+use Prim.Native.Nat.{ℕ, _-_, _*_, _^_}
 use lib.ListN.{length, length-set, length-replicate}
 use Rattle.room.specs.Room.{volume}
 use Rattle.queue.specs.HeapLaws.{heap-empty}
@@ -34,7 +34,7 @@ push-requires : tie.Need-push-requires Inv-loop μ-loop
 push-requires c κs = let s = c .before .before .before .before .before .before in let F = s .pre in (omega (arith, F .places-some), heap-empty _)
 
 loop-holds : tie.Need-loop-holds Inv-loop μ-loop
-loop-holds c = let s = c .before .before .before .before .before .before .before .before .before in let F = s .pre in (refl, refl, running-first F _ _ (c .before .before .push .kept .0) (ap (λ (n : ℕ). n * 4294967296) (c .before .before .before .estimate .ensures)) (c .before .before .push .ensures))
+loop-holds c = let s = c .before .before .before .before .before .before .before .before .before in let F = s .pre in (refl, refl, running-first F _ _ (c .before .before .push .kept .0) (ap (λ (n : ℕ). n * 2 ^ 32) (c .before .before .before .estimate .ensures)) (c .before .before .push .ensures))
 
 take-one-requires : tie.Need-take-one-requires Inv-loop μ-loop
 take-one-requires c κs = let s = c .before .before .before .before .before .before .before .before .before .before .before .before .before .before .before in let F = s .pre in let A = arena F in let I = c .before .before .before .before .before .loop .inv .2 in (running-takeable A I (c .before .before .before .if1 .taken), running-within A I)

@@ -32,10 +32,10 @@ use Rattle.job_sheet.specs.declared.Part.{Part}
 use Rattle.job_sheet.proofs.Part as P
 use Rattle.job_sheet.proofs.Part.Laws as P′
 use Rattle.sheet_reader.specs.declared.Reader.{Reader}
-use Rattle.sheet_reader.proofs.Calling.{Taking, takes, clausesOf, Token, reader, Held, gone, Lawful, bytes, lends, moved, lawful-at}
-use Rattle.sheet_reader.proofs.Methods.{making, behind, behind-params, behind-at, Same}
+use Rattle.sheet_reader.proofs.Calling.{TakingContract, call-takes, clausesOf, Token, reader, Held, gone, LawfulReader, bytes, lends, moved, lawful-at}
+use Rattle.sheet_reader.proofs.Methods.{making, behind, behind-params, behind-at, SameReader}
 use Rattle.sheet_reader.proofs.Reader.Laws as T′
-use Rattle.sheet_reader.proofs.Walking.{Told, reader-told, usize-told, Before, After, ends, meets}
+use Rattle.sheet_reader.proofs.Walking.{Told, reader-told, usize-told, WalkBefore, WalkAfter, walk-ends, meets}
 use Rattle.sheet_reader.proofs.steps.behind as callee
 use Rattle.sheet_reader.proofs.steps.behind.Symbol.{name as #callee}
 use Rattle.sheet_reader.proofs.steps.behind.Met as callee-thm
@@ -64,9 +64,9 @@ module _ {M : Type 1} (𝓤 : URA M) (H : Heap 𝓤) (A : Atoms 𝓤) (W : Given
   abbrev words : Valss (typesAt callee-params (κ, tt))
   words = (slice-vals (h .sheet), at .1)
 
-  walk : (C : Calls 𝓤 H) (Λ : Loops 𝓤 H) → FmC 𝓤 H (W .laws) C → Triple 𝓤 (C #callee) (Taking 𝓤 H A callee-params (plain (λ _. usize)) (callee.clauses 𝓤 H A mem run)) → Lawful κ h
-      → ent 𝓤 (Before 𝓤 H A behind-params reader (clausesOf 𝓤 (making behind)) κ q (h, (n, (p, tt))) at tt)
-      (WpFn 𝓤 H C Λ code.function (mach ∷ vint w64 n ∷ P′.lowered p ∷ []) (After 𝓤 H A behind-params reader (clausesOf 𝓤 (making behind)) κ q (h, (n, (p, tt))) at tt))
+  walk : (C : Calls 𝓤 H) (Λ : Loops 𝓤 H) → FmC 𝓤 H (W .laws) C → Triple 𝓤 (C #callee) (TakingContract 𝓤 H A callee-params (plain (λ _. usize)) (callee.clauses 𝓤 H A mem run)) → LawfulReader κ h
+      → ent 𝓤 (WalkBefore 𝓤 H A behind-params reader (clausesOf 𝓤 (making behind)) κ q (h, (n, (p, tt))) at tt)
+      (WpFn 𝓤 H C Λ code.function (mach ∷ vint w64 n ∷ P′.lowered p ∷ []) (WalkAfter 𝓤 H A behind-params reader (clausesOf 𝓤 (making behind)) κ q (h, (n, (p, tt))) at tt))
   walk C Λ fm known lawful =
       let wt = lawful-at W (named 0) κ h lawful in
       qed W ((Token 𝓤 A κ q ⊛ ‵ (owns (reader .row (κ, tt) ∷ usize ∷ P.the-row ∷ []) (h, (n, (p, tt))) at)) ∷ raw (callee.clauses 𝓤 H A mem run (κ, tt) args .requires tt) ∷ []) ∵
@@ -79,9 +79,9 @@ module _ {M : Type 1} (𝓤 : URA M) (H : Heap 𝓤) (A : Atoms 𝓤) (W : Given
       assigns ! (of-opd ! (load ! (from ! (fld ! refl (stop !))) (look-in ! 10 (sub ! 0 refl (whole !))))) (from ! (stop !)) (init ! 0 refl (tt, wt .1 .0)) $
       move ! (14 ∷ 15 ∷ 16 ∷ []) $
       -- [what the callee requires; the token; what it is passed; _6; …; _5; …; _4; …; _3; …; _2; …; _1; …; room for _0; …; what the struct owns]
-      takes ! fm callee-params (plain (λ _. usize)) (callee.clauses 𝓤 H A mem run) known (κ, tt) (q, tt) args words tt
+      call-takes ! fm callee-params (plain (λ _. usize)) (callee.clauses 𝓤 H A mem run) known (κ, tt) (q, tt) args words tt
       (and-then ! (load ! (from ! (stop !)) (look ! 1 refl)) (and-then ! (load ! (from ! (stop !)) (look ! 9 refl)) (and-then ! (load ! (from ! (stop !)) (look ! 7 refl)) (no-more !)))) (λ u r ws is.
-      use1 W (raw (fact 𝓤 (Same (behind-at h n p) (gone h r)))) (fact-mono 𝓤 (r ≡ behind-at h n p .place) (Same (behind-at h n p) (gone h r)) (λ e. (refl, e))) $
+      use1 W (raw (fact 𝓤 (SameReader (behind-at h n p) (gone h r)))) (fact-mono 𝓤 (r ≡ behind-at h n p .place) (SameReader (behind-at h n p) (gone h r)) (λ e. (refl, e))) $
       -- [what is ensured; the new place; the token; _6; …; _5; …; _4; …; _3; …; _2; …; _1; …; room for _0; …; what the struct owns]
       land ! (from ! (stop !)) (init ! 5 refl (uint-lawful 𝓤 H A W w64 .typed r _ is .0)) $ rewrite ! 5 (λ (w : Val). ‵ (fat fullShare (tyInt w64) l₅ 0 w)) (ap only (is .0)) refl $
       assigns ! (agg ! (and-then ! (load ! (from ! (stop !)) (look ! 7 refl)) (and-then ! (load ! (from ! (stop !)) (look ! 5 refl)) (no-more !)))) (from ! (stop !)) (init ! 15 refl (tt, (wt .1 .0, (record { fits = is .1 }, tt)))) $
@@ -89,7 +89,7 @@ module _ {M : Type 1} (𝓤 : URA M) (H : Heap 𝓤) (A : Atoms 𝓤) (W : Given
       move ! (15 ∷ 16 ∷ []) $ free1 ! $ move ! (13 ∷ 14 ∷ []) $ free1 ! $ move ! (11 ∷ 12 ∷ []) $ free1 ! $ move ! (9 ∷ 10 ∷ []) $ free1 ! $ move ! (7 ∷ 8 ∷ []) $ free1 ! $ move ! (5 ∷ 6 ∷ []) $ free1 ! $ move ! (3 ∷ 4 ∷ []) $ free1 ! $ free0 ! $
       -- [what is ensured; the new place; the token; what the struct owns]
       move ! (3 ∷ []) $ use1 W (‵ (Held κ (gone h r))) (moved 𝓤 H A W κ h r (is .1)) $ keep ! (1 ∷ 0 ∷ 3 ∷ []) $
-      by ! (ends 𝓤 H A behind-params reader (clausesOf 𝓤 (making behind)) κ q (h, (n, (p, tt))) at tt W (T′.lowered (gone h r)) (gone h r) (tt, (tt, (tt, tt))))))))))))
+      by ! (walk-ends 𝓤 H A behind-params reader (clausesOf 𝓤 (making behind)) κ q (h, (n, (p, tt))) at tt W (T′.lowered (gone h r)) (gone h r) (tt, (tt, (tt, tt))))))))))))
 
 pub behind-spec : {M : Type 1} → stated.statement M
 unfolding code.routine

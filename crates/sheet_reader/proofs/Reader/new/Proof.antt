@@ -24,10 +24,10 @@ use denote.Ref.{RefT}
 use denote.Slice.{sliceVal, shr-slice-lawful}
 use denote.Steps.{nothing, owned}
 use denote.Struct.Rest.{own-shut}
-use Rattle.sheet_reader.proofs.Calling.{Token, clausesOf, type-at, laws-at, reader, Held, bytes, Bytes}
-use Rattle.sheet_reader.proofs.Methods.{making, new, new-at, Same}
+use Rattle.sheet_reader.proofs.Calling.{Token, clausesOf, type-at, laws-at, reader, Held, bytes, BytesHeld}
+use Rattle.sheet_reader.proofs.Methods.{making, new, new-at, SameReader}
 use Rattle.sheet_reader.proofs.Reader.Laws as T′
-use Rattle.sheet_reader.proofs.Walking.{bytes-told, Before, After, ends, meets}
+use Rattle.sheet_reader.proofs.Walking.{bytes-told, WalkBefore, WalkAfter, walk-ends, meets}
 use Rattle.sheet_reader.proofs.Reader.new.Key.{name as #new}
 use Rattle.sheet_reader.proofs.Reader.new.Statement as stated
 use Rattle.sheet_reader.proofs.Reader.new.Code as code
@@ -38,21 +38,21 @@ module _ {M : Type 1} (𝓤 : URA M) (H : Heap 𝓤) (A : Atoms 𝓤) (W : Given
   v = sliceVal (s .ptr) (length (s .now))
 
   -- what the bytes own and the place's facts, together, are what the reader owns
-  made : ent 𝓤 (sem 𝓤 H A (Bytes κ s)) (sem 𝓤 H A (Held κ (new-at s)))
-  made = qed W (‵ (Bytes κ s) ∷ []) ∵ nothing ! $ owned ! usize (Is usize) (uint-makes 𝓤 H A W w64) 0 _ (refl, lit< tt) $ fjoin ! $ move ! (1 ∷ 0 ∷ []) $ fjoin ! $ by ! (own-shut 𝓤 H A W (type-at κ) (laws-at κ) (s, (0, tt)))
+  made : ent 𝓤 (sem 𝓤 H A (BytesHeld κ s)) (sem 𝓤 H A (Held κ (new-at s)))
+  made = qed W (‵ (BytesHeld κ s) ∷ []) ∵ nothing ! $ owned ! usize (Is usize) (uint-makes 𝓤 H A W w64) 0 _ (refl, lit< tt) $ fjoin ! $ move ! (1 ∷ 0 ∷ []) $ fjoin ! $ by ! (own-shut 𝓤 H A W (type-at κ) (laws-at κ) (s, (0, tt)))
 
   walk : (C : Calls 𝓤 H) (Λ : Loops 𝓤 H) → Is (bytes .row (κ, tt)) s (v ∷ [])
-      → ent 𝓤 (Before 𝓤 H A (bytes ∷ []) reader (clausesOf 𝓤 (making new)) κ q (s, tt) (v ∷ [], tt) tt) (WpFn 𝓤 H C Λ code.function (v ∷ []) (After 𝓤 H A (bytes ∷ []) reader (clausesOf 𝓤 (making new)) κ q (s, tt) (v ∷ [], tt) tt))
+      → ent 𝓤 (WalkBefore 𝓤 H A (bytes ∷ []) reader (clausesOf 𝓤 (making new)) κ q (s, tt) (v ∷ [], tt) tt) (WpFn 𝓤 H C Λ code.function (v ∷ []) (WalkAfter 𝓤 H A (bytes ∷ []) reader (clausesOf 𝓤 (making new)) κ q (s, tt) (v ∷ [], tt) tt))
   walk C Λ is =
       let wt = shr-slice-lawful 𝓤 H A W (named 0) κ u8 .typed s (v ∷ []) is .0 in
       qed W ((Token 𝓤 A κ q ⊛ ‵ (owns (bytes .row (κ, tt) ∷ []) (s, tt) (v ∷ [], tt))) ∷ raw (emp 𝓤) ∷ []) ∵
-      split ! $ move ! (1 ∷ []) $ fsplit ! $ use1 W (‵ (Held κ (new-at s))) made $ keep ! (0 ∷ 2 ∷ []) $ use0 W (raw (fact 𝓤 (Same (new-at s) (new-at s)))) (factI 𝓤 _ (emp 𝓤) (refl, refl)) $
+      split ! $ move ! (1 ∷ []) $ fsplit ! $ use1 W (‵ (Held κ (new-at s))) made $ keep ! (0 ∷ 2 ∷ []) $ use0 W (raw (fact 𝓤 (SameReader (new-at s) (new-at s)))) (factI 𝓤 _ (emp 𝓤) (refl, refl)) $
       -- [what is ensured; what the reader owns; the token]
       enter ! C Λ code.function (v ∷ []) _ $
       alloc1 ! (λ l₀. alloc1 ! (λ l₁. alloc0 ! $ params1 ! $ pass1 ! (init ! 0 refl wt) $ pass0 ! $
       assigns ! (agg ! (and-then ! (load ! (from ! (stop !)) (look ! 0 refl)) (and-then ! (lit ! tt) (no-more !)))) (from ! (stop !)) (init ! 2 refl (tt, (wt .1, (record { fits = lit< tt }, tt)))) $
       returns ! (look ! 2 refl) $ forget ! 0 refl $ forget ! 2 refl $ move ! (2 ∷ 3 ∷ []) $ free1 ! $ free1 ! $ free0 ! $
-      by ! (ends 𝓤 H A (bytes ∷ []) reader (clausesOf 𝓤 (making new)) κ q (s, tt) (v ∷ [], tt) tt W (T′.lowered (new-at s)) (new-at s) (tt, tt))))
+      by ! (walk-ends 𝓤 H A (bytes ∷ []) reader (clausesOf 𝓤 (making new)) κ q (s, tt) (v ∷ [], tt) tt W (T′.lowered (new-at s)) (new-at s) (tt, tt))))
 
 pub new-spec : {M : Type 1} → stated.statement M
 unfolding code.routine

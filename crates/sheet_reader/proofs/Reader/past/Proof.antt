@@ -27,10 +27,10 @@ use denote.Slice.{slice-vals}
 use denote.Steps.{only}
 use denote.Triple.Statement.{Triple}
 use Rattle.sheet_reader.specs.declared.Reader.{Reader}
-use Rattle.sheet_reader.proofs.Calling.{Taking, takes, clausesOf, Token, reader, Held, gone, Lawful, bytes, lends, moved, lawful-at}
-use Rattle.sheet_reader.proofs.Methods.{making, past, past-params, past-at, Same}
+use Rattle.sheet_reader.proofs.Calling.{TakingContract, call-takes, clausesOf, Token, reader, Held, gone, LawfulReader, bytes, lends, moved, lawful-at}
+use Rattle.sheet_reader.proofs.Methods.{making, past, past-params, past-at, SameReader}
 use Rattle.sheet_reader.proofs.Reader.Laws as T′
-use Rattle.sheet_reader.proofs.Walking.{reader-told, usize-told, Before, After, ends, meets}
+use Rattle.sheet_reader.proofs.Walking.{reader-told, usize-told, WalkBefore, WalkAfter, walk-ends, meets}
 use Rattle.sheet_reader.proofs.steps.onward as callee
 use Rattle.sheet_reader.proofs.steps.onward.Symbol.{name as #callee}
 use Rattle.sheet_reader.proofs.steps.onward.Met as callee-thm
@@ -56,9 +56,9 @@ module _ {M : Type 1} (𝓤 : URA M) (H : Heap 𝓤) (A : Atoms 𝓤) (W : Given
   abbrev words : Valss (typesAt callee-params (κ, tt))
   words = (slice-vals (h .sheet), (vint w64 (h .place) ∷ [], (vint w64 n ∷ [], tt)))
 
-  walk : (C : Calls 𝓤 H) (Λ : Loops 𝓤 H) → FmC 𝓤 H (W .laws) C → Triple 𝓤 (C #callee) (Taking 𝓤 H A callee-params (plain (λ _. usize)) (callee.clauses 𝓤 H A mem run)) → Lawful κ h
-      → ent 𝓤 (Before 𝓤 H A past-params reader (clausesOf 𝓤 (making past)) κ q (h, (n, tt)) at tt)
-      (WpFn 𝓤 H C Λ code.function (mach ∷ vint w64 n ∷ []) (After 𝓤 H A past-params reader (clausesOf 𝓤 (making past)) κ q (h, (n, tt)) at tt))
+  walk : (C : Calls 𝓤 H) (Λ : Loops 𝓤 H) → FmC 𝓤 H (W .laws) C → Triple 𝓤 (C #callee) (TakingContract 𝓤 H A callee-params (plain (λ _. usize)) (callee.clauses 𝓤 H A mem run)) → LawfulReader κ h
+      → ent 𝓤 (WalkBefore 𝓤 H A past-params reader (clausesOf 𝓤 (making past)) κ q (h, (n, tt)) at tt)
+      (WpFn 𝓤 H C Λ code.function (mach ∷ vint w64 n ∷ []) (WalkAfter 𝓤 H A past-params reader (clausesOf 𝓤 (making past)) κ q (h, (n, tt)) at tt))
   walk C Λ fm known lawful =
       let wt = lawful-at W (named 0) κ h lawful in
       qed W ((Token 𝓤 A κ q ⊛ ‵ (owns (reader .row (κ, tt) ∷ usize ∷ []) (h, (n, tt)) at)) ∷ raw (callee.clauses 𝓤 H A mem run (κ, tt) args .requires tt) ∷ []) ∵
@@ -72,9 +72,9 @@ module _ {M : Type 1} (𝓤 : URA M) (H : Heap 𝓤) (A : Atoms 𝓤) (W : Given
       assigns ! (of-opd ! (load ! (from ! (fld ! refl (stop !))) (look-in ! 10 (sub ! 1 refl (whole !))))) (from ! (stop !)) (init ! 0 refl (tt, wt .1 .1 .0)) $
       move ! (14 ∷ 15 ∷ 16 ∷ []) $
       -- [what the callee requires; the token; what it is passed; _6; …; _5; …; _4; …; _3; …; _2; …; _1; …; room for _0; …; what the struct owns]
-      takes ! fm callee-params (plain (λ _. usize)) (callee.clauses 𝓤 H A mem run) known (κ, tt) (q, tt) args words tt
+      call-takes ! fm callee-params (plain (λ _. usize)) (callee.clauses 𝓤 H A mem run) known (κ, tt) (q, tt) args words tt
       (and-then ! (load ! (from ! (stop !)) (look ! 3 refl)) (and-then ! (load ! (from ! (stop !)) (look ! 1 refl)) (and-then ! (load ! (from ! (stop !)) (look ! 9 refl)) (no-more !)))) (λ u r ws is.
-      use1 W (raw (fact 𝓤 (Same (past-at h n) (gone h r)))) (fact-mono 𝓤 (r ≡ past-at h n .place) (Same (past-at h n) (gone h r)) (λ e. (refl, e))) $
+      use1 W (raw (fact 𝓤 (SameReader (past-at h n) (gone h r)))) (fact-mono 𝓤 (r ≡ past-at h n .place) (SameReader (past-at h n) (gone h r)) (λ e. (refl, e))) $
       -- [what is ensured; the new place; the token; _6; …; _5; …; _4; …; _3; …; _2; …; _1; …; room for _0; …; what the struct owns]
       land ! (from ! (stop !)) (init ! 7 refl (uint-lawful 𝓤 H A W w64 .typed r _ is .0)) $ rewrite ! 7 (λ (w : Val). ‵ (fat fullShare (tyInt w64) l₄ 0 w)) (ap only (is .0)) refl $
       assigns ! (agg ! (and-then ! (load ! (from ! (stop !)) (look ! 9 refl)) (and-then ! (load ! (from ! (stop !)) (look ! 7 refl)) (no-more !)))) (from ! (stop !)) (init ! 15 refl (tt, (wt .1 .0, (record { fits = is .1 }, tt)))) $
@@ -82,7 +82,7 @@ module _ {M : Type 1} (𝓤 : URA M) (H : Heap 𝓤) (A : Atoms 𝓤) (W : Given
       move ! (15 ∷ 16 ∷ []) $ free1 ! $ move ! (13 ∷ 14 ∷ []) $ free1 ! $ move ! (11 ∷ 12 ∷ []) $ free1 ! $ move ! (9 ∷ 10 ∷ []) $ free1 ! $ move ! (7 ∷ 8 ∷ []) $ free1 ! $ move ! (5 ∷ 6 ∷ []) $ free1 ! $ move ! (3 ∷ 4 ∷ []) $ free1 ! $ free0 ! $
       -- [what is ensured; the new place; the token; what the struct owns]
       move ! (3 ∷ []) $ use1 W (‵ (Held κ (gone h r))) (moved 𝓤 H A W κ h r (is .1)) $ keep ! (1 ∷ 0 ∷ 3 ∷ []) $
-      by ! (ends 𝓤 H A past-params reader (clausesOf 𝓤 (making past)) κ q (h, (n, tt)) at tt W (T′.lowered (gone h r)) (gone h r) (tt, (tt, tt)))))))))))
+      by ! (walk-ends 𝓤 H A past-params reader (clausesOf 𝓤 (making past)) κ q (h, (n, tt)) at tt W (T′.lowered (gone h r)) (gone h r) (tt, (tt, tt)))))))))))
 
 pub past-spec : {M : Type 1} → stated.statement M
 unfolding code.routine
