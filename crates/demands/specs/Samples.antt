@@ -147,7 +147,7 @@ jobSaid J =
 
 abbrev saidOf : TreeOutcome → Said
 saidOf (trees.routed branches occupied repeaters) = of-tree branches repeaters
-saidOf (trees.refused number detail) = of-refusal number detail
+saidOf (trees.no-tree number detail) = of-refusal number detail
 
 abbrev upTo : ℕ → ℕ → List ℕ
 upTo zero v = v ∷ []
