@@ -27,8 +27,8 @@ use Rattle.room_search.specs.GraphLaws.{dearest, sound}
 use Rattle.room_search.specs.TriedMoves.{placesOf, Placed, Able, Expansion, Stage, Fitting, MovesCame, setting}
 use Rattle.room_search.specs.Takings.{graphIn, Takeable, TakingCame}
 
-module _ (R : Room) (C : RouterConfig) (classes known previous queue : List ℕ) (line : Line) (expanded : ℕ) (goal : Spot)
-    (T : Takeable R C classes known previous queue line goal) (cell : ℕ) (queue′ : List ℕ) (c : cell < 2 ^ 64) (K : EntryTaken queue (line .waiting) cell queue′)
+module _ {R : Room} {C : RouterConfig} {classes known previous queue : List ℕ} {line : Line} (expanded : ℕ) {goal : Spot}
+    (T : Takeable R C classes known previous queue line goal) {cell : ℕ} {queue′ : List ℕ} (c : cell < 2 ^ 64) (K : EntryTaken queue (line .waiting) cell queue′)
     (same : length queue′ ≡ length queue) where
   was-taken-out : TakenOut (entriesIn queue (line .waiting)) (takenEntry queue cell) (entriesIn queue′ (line .waiting - 1))
   was-taken-out = taken-entries queue (line .waiting) cell queue′ c K

@@ -81,10 +81,10 @@ module _ (front whole : List ℕ) (v : ℕ) (kept : length front ≡ length (tak
   pub cleared-whole : (after : List ℕ) → after ≡ replicate (length (front ++ drop v whole)) 0 → Cleared whole after
   cleared-whole after e = cleared-to (length-front whole front v kept) e
 
-pub searchable : {R : Room} {C : RouterConfig} {kinds : List ℕ} {start goal : ℕ} (path known previous classes queue : List ℕ) {v : ℕ}
+pub room-searchable : {R : Room} {C : RouterConfig} {kinds : List ℕ} {start goal : ℕ} (path known previous classes queue : List ℕ) {v : ℕ}
     → Admitted R C kinds start goal (lengthsOf path known previous classes queue) → v ≡ volume R
     → RoomSearchable R C kinds start goal (take v known) (take v previous) (take v classes) queue
-searchable {R} {C} {kinds} {start} {goal} path known previous classes queue {v} P e = record {
+room-searchable {R} {C} {kinds} {start} {goal} path known previous classes queue {v} P e = record {
   kinds-long = P .kinds-long;
   memory = record {
     good = P .good;

@@ -1,4 +1,4 @@
--- `fill_classes` meets its contract. The loop's invariant: the cells below v have their class, and `layer` counts those that share x.
+-- `fill_classes` meets its contract. The loop's invariant: the cells below v have their class, and `layer` counts those of them that share v's x.
 use native.Mathlib.Omega.{arith}
 use borrow.Author.Needs.{needs}
 use mathlib.Core.Path.{refl, sym, _∙_}
@@ -31,7 +31,7 @@ class-for-requires : tie.Need-class-for-requires Inv-loop μ-loop
 class-for-requires c κs = search needs
 
 slice-write-classes : tie.Need-slice-write-classes Inv-loop μ-loop
-slice-write-classes c = let s = c .before .before .before .before .before .before .before .before in let G = s .pre .0 in let I = c .before .before .before .before .loop .inv in let h = rw (s .pre .1 .0) at (c .before .before .before .loop-test .taken) in omega (arith, I .long, h)
+slice-write-classes c = let s = c .before .before .before .before .before .before .before .before in let I = c .before .before .before .before .loop .inv in let h = rw (s .pre .1 .0) at (c .before .before .before .loop-test .taken) in omega (arith, I .long, h)
 
 add-v : tie.Need-add-v Inv-loop μ-loop
 add-v c = search needs

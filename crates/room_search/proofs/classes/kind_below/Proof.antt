@@ -1,4 +1,4 @@
--- `kind_below` meets its contract: its two cases are the definition's.
+-- `kind_below` meets its contract: its two cases are the contract's.
 use borrow.Author.Tests.{lt-ltb, le-ltb}
 use borrow.Author.Needs.{needs}
 use Rattle.room_search.proofs.classes.kind_below.Statement.{statement}

@@ -1,4 +1,4 @@
--- `try_move` meets its contract: it is out of the room, or into a cell that can't be entered, or offered.
+-- `try_move` meets its contract: the move leads out of the room, or into a cell that can't be entered, or is offered.
 use native.Mathlib.Omega.{arith}
 use mathlib.Core.Path.{sym, _∙_}
 use Prim.Native.Nat.{_+_, _-_, _*_}
@@ -20,7 +20,7 @@ returns-2 : tie.Need-returns-2
 returns-2 c = let s = c .before .before .before .before .before .before .before .before .before in let a = s .args in let p = s .pre .0 in let q = s .pre .1 .0 in tried-out (a .room) (a .config) (a .classes .now) (a .goal) (a .from) (a .cost) (a .known .now) (a .previous .now) (a .queue .now) (a .line) (p .ready) (a .m) (out-level (a .room) (p .good) (a .from) (a .beside) (a .m) (p .from-placed) q (between-above 1 _ _ (c .if2 .taken)))
 
 mul-cell : tie.Need-mul-cell
-mul-cell c = let s = c .before .before .before .before .before .before .before .before .before .before .before in let a = s .args in let p = s .pre .0 in let q = s .pre .1 .0 in record { fits = omega (arith, rise-few (a .room) (p .good) (a .m .y) (s .pre .1 .1)) }
+mul-cell c = let s = c .before .before .before .before .before .before .before .before .before .before .before in let a = s .args in let p = s .pre .0 in record { fits = omega (arith, rise-few (a .room) (p .good) (a .m .y) (s .pre .1 .1)) }
 
 add-cell : tie.Need-add-cell
 add-cell c = let s = c .before .before .before .before .before .before .before .before .before .before .before .before in let a = s .args in let p = s .pre .0 in let q = s .pre .1 .0 in record { fits = omega (arith, rise-few (a .room) (p .good) (a .m .y) (s .pre .1 .1), q .there .inside, p .good .few) }
@@ -38,7 +38,7 @@ price-requires : tie.Need-price-requires
 price-requires c κs = search needs
 
 add-offer : tie.Need-add-offer
-add-offer c = let s = c .before .before .before .before .before .before .before .before .before .before .before .before .before .before .before .before .before .before .before in let a = s .args in let p = s .pre .0 in let q = s .pre .1 .0 in record { fits = omega (arith, c .price .ensures, price-low (a .config) (a .m) (getD (a .classes .now) (a .beside .cell + a .m .y * a .room .deep - a .room .deep) 0), dearest-most (p .config-good), p .cost-most) }
+add-offer c = let s = c .before .before .before .before .before .before .before .before .before .before .before .before .before .before .before .before .before .before .before in let a = s .args in let p = s .pre .0 in record { fits = omega (arith, c .price .ensures, price-low (a .config) (a .m) (getD (a .classes .now) (a .beside .cell + a .m .y * a .room .deep - a .room .deep) 0), dearest-most (p .config-good), p .cost-most) }
 
 offer-requires : tie.Need-offer-requires
 offer-requires c κs = let s = c .before .before .before .before .before .before .before .before .before .before .before .before .before .before .before .before .before .before .before in let a = s .args in let p = s .pre .0 in let q = s .pre .1 .0 in let L = landed (a .room) (p .good) (a .from) (a .beside) (a .m) (p .from-placed) q (c .before .before .before .before .before .before .before .before .before .before .before .before .if1 .left) (c .before .before .before .before .before .before .before .before .before .before .if2 .left) in let low = price-low (a .config) (a .m) (getD (a .classes .now) (a .beside .cell + a .m .y * a .room .deep - a .room .deep) 0) in let most = dearest-most (p .config-good) in ((omega (arith, L .inside, p .known-long), p .previous-long ∙ sym (p .known-long), omega (arith, p .known-long, p .good .few)), ((omega (arith, p .from-placed .inside, p .good .few), omega (arith, c .price .ensures, p .cost-most), omega (arith, p .serial-most)), (p .ready, (L .small, placed-small (a .room) (p .good) (a .goal) (p .goal-placed)))))

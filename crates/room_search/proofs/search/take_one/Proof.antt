@@ -13,7 +13,7 @@ same-length : tie.Need-same-length
 same-length c = c .before .before .before .before .take .kept .0
 
 returns : tie.Need-returns
-returns c = let s = c .before .before .before .before .before .before .before .before .before .before in let a = s .args in let p = s .pre .0 in taking-goal (a .room) (a .config) (a .classes .now) (a .known .now) (a .previous .now) (a .queue .now) (a .line) (a .expanded) (a .goal) p _ _ (omega (arith, c .before .before .before .before .take .ok)) (c .before .before .before .before .take .ensures) (c .before .before .before .before .take .kept .0) (c .if1 .taken)
+returns c = let s = c .before .before .before .before .before .before .before .before .before .before in let a = s .args in let p = s .pre .0 in taking-goal (a .expanded) p (omega (arith, c .before .before .before .before .take .ok)) (c .before .before .before .before .take .ensures) (c .before .before .before .before .take .kept .0) (c .if1 .taken)
 
 add-t22 : tie.Need-add-t22
 add-t22 c = search needs
@@ -22,7 +22,7 @@ same-length-2 : tie.Need-same-length-2
 same-length-2 c = c .before .before .before .before .before .before .take .kept .0
 
 returns-2 : tie.Need-returns-2
-returns-2 c = let s = c .before .before .before .before .before .before .before .before .before .before .before .before in let a = s .args in let p = s .pre .0 in taking-limit (a .room) (a .config) (a .classes .now) (a .known .now) (a .previous .now) (a .queue .now) (a .line) (a .expanded) (a .goal) p _ _ (omega (arith, c .before .before .before .before .before .before .take .ok)) (c .before .before .before .before .before .before .take .ensures) (c .before .before .before .before .before .before .take .kept .0) (c .before .before .if1 .left) (c .if2 .taken)
+returns-2 c = let s = c .before .before .before .before .before .before .before .before .before .before .before .before in let a = s .args in let p = s .pre .0 in taking-limit (a .expanded) p (omega (arith, c .before .before .before .before .before .before .take .ok)) (c .before .before .before .before .before .before .take .ensures) (c .before .before .before .before .before .before .take .kept .0) (c .before .before .if1 .left) (c .if2 .taken)
 
 sub-cost : tie.Need-sub-cost
 sub-cost c = search needs
@@ -31,16 +31,16 @@ pos-requires : tie.Need-pos-requires
 pos-requires c κs = search needs
 
 mul-cost : tie.Need-mul-cost
-mul-cost c = let s = c .before .before .before .before .before .before .before .before .before .before .before .before .before in let a = s .args in let p = s .pre .0 in record { fits = omega (arith, taken-inside (a .room) (a .config) (a .classes .now) (a .known .now) (a .previous .now) (a .queue .now) (a .line) (a .expanded) (a .goal) p _ _ (omega (arith, c .before .before .before .before .before .before .before .take .ok)) (c .before .before .before .before .before .before .before .take .ensures) (c .before .before .before .before .before .before .before .take .kept .0), p .good .few) }
+mul-cost c = let s = c .before .before .before .before .before .before .before .before .before .before .before .before .before in let a = s .args in let p = s .pre .0 in record { fits = omega (arith, taken-inside (a .expanded) p (omega (arith, c .before .before .before .before .before .before .before .take .ok)) (c .before .before .before .before .before .before .before .take .ensures) (c .before .before .before .before .before .before .before .take .kept .0), p .good .few) }
 
 slice-read-cost : tie.Need-slice-read-cost
-slice-read-cost c = let s = c .before .before .before .before .before .before .before .before .before .before .before .before .before .before in let a = s .args in let p = s .pre .0 in omega (arith, taken-inside (a .room) (a .config) (a .classes .now) (a .known .now) (a .previous .now) (a .queue .now) (a .line) (a .expanded) (a .goal) p _ _ (omega (arith, c .before .before .before .before .before .before .before .before .take .ok)) (c .before .before .before .before .before .before .before .before .take .ensures) (c .before .before .before .before .before .before .before .before .take .kept .0), p .known-long)
+slice-read-cost c = let s = c .before .before .before .before .before .before .before .before .before .before .before .before .before .before in let a = s .args in let p = s .pre .0 in omega (arith, taken-inside (a .expanded) p (omega (arith, c .before .before .before .before .before .before .before .before .take .ok)) (c .before .before .before .before .before .before .before .before .take .ensures) (c .before .before .before .before .before .before .before .before .take .kept .0), p .known-long)
 
 sub-cost-2 : tie.Need-sub-cost-2
-sub-cost-2 c = let s = c .before .before .before .before .before .before .before .before .before .before .before .before .before .before in let a = s .args in let p = s .pre .0 in cell-known (a .room) (a .config) (a .classes .now) (a .known .now) (a .previous .now) (a .queue .now) (a .line) (a .expanded) (a .goal) p _ _ (omega (arith, c .before .before .before .before .before .before .before .before .take .ok)) (c .before .before .before .before .before .before .before .before .take .ensures) (c .before .before .before .before .before .before .before .before .take .kept .0)
+sub-cost-2 c = let s = c .before .before .before .before .before .before .before .before .before .before .before .before .before .before in let a = s .args in let p = s .pre .0 in cell-known (a .expanded) p (omega (arith, c .before .before .before .before .before .before .before .before .take .ok)) (c .before .before .before .before .before .before .before .before .take .ensures) (c .before .before .before .before .before .before .before .before .take .kept .0)
 
 expand-requires : tie.Need-expand-requires
-expand-requires c κs = let s = c .before .before .before .before .before .before .before .before .before .before .before .before .before .before .before .before .before in let a = s .args in let p = s .pre .0 in able (a .room) (a .config) (a .classes .now) (a .known .now) (a .previous .now) (a .queue .now) (a .line) (a .expanded) (a .goal) p _ _ (omega (arith, c .before .before .before .before .before .before .before .before .before .before .before .take .ok)) (c .before .before .before .before .before .before .before .before .before .before .before .take .ensures) (c .before .before .before .before .before .before .before .before .before .before .before .take .kept .0) _ refl (record { inside = taken-inside (a .room) (a .config) (a .classes .now) (a .known .now) (a .previous .now) (a .queue .now) (a .line) (a .expanded) (a .goal) p _ _ (omega (arith, c .before .before .before .before .before .before .before .before .before .before .before .take .ok)) (c .before .before .before .before .before .before .before .before .before .before .before .take .ensures) (c .before .before .before .before .before .before .before .before .before .before .before .take .kept .0); is = c .before .before .before .before .pos .ensures })
+expand-requires c κs = let s = c .before .before .before .before .before .before .before .before .before .before .before .before .before .before .before .before .before in let a = s .args in let p = s .pre .0 in able (a .expanded) p (omega (arith, c .before .before .before .before .before .before .before .before .before .before .before .take .ok)) (c .before .before .before .before .before .before .before .before .before .before .before .take .ensures) (c .before .before .before .before .before .before .before .before .before .before .before .take .kept .0) _ refl (record { inside = taken-inside (a .expanded) p (omega (arith, c .before .before .before .before .before .before .before .before .before .before .before .take .ok)) (c .before .before .before .before .before .before .before .before .before .before .before .take .ensures) (c .before .before .before .before .before .before .before .before .before .before .before .take .kept .0); is = c .before .before .before .before .pos .ensures })
 
 enum-known-next : tie.Need-enum-known-next
 enum-known-next c = search needs
@@ -61,7 +61,7 @@ same-length-5 : tie.Need-same-length-5
 same-length-5 c = c .before .before .before .before .before .before .before .before .expand .kept .1 .1 .1 .1 .1 .0 ∙ c .before .before .before .before .before .before .before .before .before .before .before .before .before .before .before .before .before .before .before .before .take .kept .0
 
 returns-3 : tie.Need-returns-3
-returns-3 c = let s = c .before .before .before .before .before .before .before .before .before .before .before .before .before .before .before .before .before .before .before .before .before .before .before .before .before .before in let a = s .args in let p = s .pre .0 in taking-full (a .room) (a .config) (a .classes .now) (a .known .now) (a .previous .now) (a .queue .now) (a .line) (a .expanded) (a .goal) p _ _ (omega (arith, c .before .before .before .before .before .before .before .before .before .before .before .before .before .before .before .before .before .before .before .before .take .ok)) (c .before .before .before .before .before .before .before .before .before .before .before .before .before .before .before .before .before .before .before .before .take .ensures) (c .before .before .before .before .before .before .before .before .before .before .before .before .before .before .before .before .before .before .before .before .take .kept .0) (c .before .before .before .before .before .before .before .before .before .before .before .before .before .before .before .before .if1 .left) (c .before .before .before .before .before .before .before .before .before .before .before .before .before .before .if2 .left) (record { cell = c .before .before .before .before .before .before .before .before .before .before .before .before .before .before .before .before .before .before .before .before .take .result; at = c .before .before .before .before .before .before .before .before .before .before .before .before .before .pos .result }) refl (rw (c .enum-told .given .1) at (c .before .before .before .before .before .before .before .before .expand .ensures))
+returns-3 c = let s = c .before .before .before .before .before .before .before .before .before .before .before .before .before .before .before .before .before .before .before .before .before .before .before .before .before .before in let a = s .args in let p = s .pre .0 in taking-full (a .expanded) p (omega (arith, c .before .before .before .before .before .before .before .before .before .before .before .before .before .before .before .before .before .before .before .before .take .ok)) (c .before .before .before .before .before .before .before .before .before .before .before .before .before .before .before .before .before .before .before .before .take .ensures) (c .before .before .before .before .before .before .before .before .before .before .before .before .before .before .before .before .before .before .before .before .take .kept .0) (c .before .before .before .before .before .before .before .before .before .before .before .before .before .before .before .before .if1 .left) (c .before .before .before .before .before .before .before .before .before .before .before .before .before .before .if2 .left) (record { cell = c .before .before .before .before .before .before .before .before .before .before .before .before .before .before .before .before .before .before .before .before .take .result; at = c .before .before .before .before .before .before .before .before .before .before .before .before .before .pos .result }) refl (rw (c .enum-told .given .1) at (c .before .before .before .before .before .before .before .before .expand .ensures))
 
 same-length-6 : tie.Need-same-length-6
 same-length-6 c = c .before .before .before .before .before .before .before .before .before .expand .kept .1 .1 .1 .0
@@ -73,7 +73,7 @@ same-length-8 : tie.Need-same-length-8
 same-length-8 c = c .before .before .before .before .before .before .before .before .before .expand .kept .1 .1 .1 .1 .1 .0 ∙ c .before .before .before .before .before .before .before .before .before .before .before .before .before .before .before .before .before .before .before .before .before .take .kept .0
 
 returns-4 : tie.Need-returns-4
-returns-4 c = let s = c .before .before .before .before .before .before .before .before .before .before .before .before .before .before .before .before .before .before .before .before .before .before .before .before .before .before .before in let a = s .args in let p = s .pre .0 in taking-on (a .room) (a .config) (a .classes .now) (a .known .now) (a .previous .now) (a .queue .now) (a .line) (a .expanded) (a .goal) p _ _ (omega (arith, c .before .before .before .before .before .before .before .before .before .before .before .before .before .before .before .before .before .before .before .before .before .take .ok)) (c .before .before .before .before .before .before .before .before .before .before .before .before .before .before .before .before .before .before .before .before .before .take .ensures) (c .before .before .before .before .before .before .before .before .before .before .before .before .before .before .before .before .before .before .before .before .before .take .kept .0) (c .before .before .before .before .before .before .before .before .before .before .before .before .before .before .before .before .before .if1 .left) (c .before .before .before .before .before .before .before .before .before .before .before .before .before .before .before .if2 .left) (record { cell = c .before .before .before .before .before .before .before .before .before .before .before .before .before .before .before .before .before .before .before .before .before .take .result; at = c .before .before .before .before .before .before .before .before .before .before .before .before .before .before .pos .result }) refl _ (rw (c .before .next .given .1) at (c .before .before .before .before .before .before .before .before .before .expand .ensures))
+returns-4 c = let s = c .before .before .before .before .before .before .before .before .before .before .before .before .before .before .before .before .before .before .before .before .before .before .before .before .before .before .before in let a = s .args in let p = s .pre .0 in taking-on (a .expanded) p (omega (arith, c .before .before .before .before .before .before .before .before .before .before .before .before .before .before .before .before .before .before .before .before .before .take .ok)) (c .before .before .before .before .before .before .before .before .before .before .before .before .before .before .before .before .before .before .before .before .before .take .ensures) (c .before .before .before .before .before .before .before .before .before .before .before .before .before .before .before .before .before .before .before .before .before .take .kept .0) (c .before .before .before .before .before .before .before .before .before .before .before .before .before .before .before .before .before .if1 .left) (c .before .before .before .before .before .before .before .before .before .before .before .before .before .before .before .if2 .left) (record { cell = c .before .before .before .before .before .before .before .before .before .before .before .before .before .before .before .before .before .before .before .before .before .take .result; at = c .before .before .before .before .before .before .before .before .before .before .before .before .before .before .pos .result }) refl _ (rw (c .before .next .given .1) at (c .before .before .before .before .before .before .before .before .before .expand .ensures))
 
 pub take-one-spec : {M : Type 1} → statement M
 take-one-spec =

@@ -1,9 +1,9 @@
--- `answer_fit` meets its contract: the first V numbers of each work buffer are lent to the search, and all are cleared behind it.
+-- `answer_fit` meets its contract: the first V numbers of each work buffer, and the queue whole, are lent to the search, and all are cleared behind it.
 use native.Mathlib.Omega.{arith}
 use mathlib.Core.Path.{refl, sym, ap, _∙_}
 use lib.ListN.{length}
 use Rattle.routing.specs.Answers.{taskIn}
-use Rattle.routing.specs.EntryLaws.{again, again-length, cleared-whole, searchable}
+use Rattle.routing.specs.EntryLaws.{again, again-length, cleared-whole, room-searchable}
 use borrow.Author.Needs.{needs}
 use Rattle.routing.proofs.astar.answer_fit.Statement.{statement}
 use Rattle.room_search.specs.TakeAllLaws.{told-showable}
@@ -35,7 +35,7 @@ slice-aggregate-search-room-3 : tie.Need-slice-aggregate-search-room-3
 slice-aggregate-search-room-3 c = let s = c .before .before .before .before .before .before .before .before .before .before in let a = s .args in let p = s .pre in let v = c .before .before .before .volume .result in let e = c .before .before .before .volume .ensures in sym (length-take-le v (a .classes .now) (rw e (p .classes-enough)))
 
 search-room-requires : tie.Need-search-room-requires
-search-room-requires c κs = let s = c .before .before .before .before .before .before .before .before .before .before .before in let a = s .args in let p = s .pre in let v = c .before .before .before .before .volume .result in let e = c .before .before .before .before .volume .ensures in searchable (a .path .now) (a .known .now) (a .previous .now) (a .classes .now) (a .queue .now) p e
+search-room-requires c κs = let s = c .before .before .before .before .before .before .before .before .before .before .before in let a = s .args in let p = s .pre in let e = c .before .before .before .before .volume .ensures in room-searchable (a .path .now) (a .known .now) (a .previous .now) (a .classes .now) (a .queue .now) p e
 
 clear-words-requires : tie.Need-clear-words-requires
 clear-words-requires c κs = search needs
@@ -54,7 +54,26 @@ slice-aggregate-answer-of-2 c = let s = c .before .before .before .before .befor
 
 answer-of-requires : tie.Need-answer-of-requires
 unfolding graphOf
-answer-of-requires c κs = let s = c .before .before .before .before .before .before .before .before .before .before .before .before .before .before .before .before .before .before .before .before .before .before .before .before .before .before .before in let a = s .args in let p = s .pre in let v = c .before .before .before .before .before .before .before .before .before .before .before .before .before .before .before .before .before .before .before .before .volume .result in let e = c .before .before .before .before .before .before .before .before .before .before .before .before .before .before .before .before .before .before .before .before .volume .ensures in let K = (c .before .before .before .before .before .before .before .before .before .before .before .before .before .before .before .search-room .last .1 .1 .1 .1 .1 .0) in let Q = (c .before .before .before .before .before .before .before .before .before .before .before .before .before .before .before .search-room .last .1 .1 .1 .1 .1 .1 .0) in let kk = again K (a .known .now) v (c .before .before .before .before .before .before .before .before .before .before .before .before .before .before .before .search-room .kept .1 .1 .1 .1 .1 .0) (rw e (p .known-enough)) in let qq = again Q (a .previous .now) v (c .before .before .before .before .before .before .before .before .before .before .before .before .before .before .before .search-room .kept .1 .1 .1 .1 .1 .1 .0) (rw e (p .previous-enough)) in let kl = (c .before .before .before .before .before .before .before .before .before .before .before .before .before .before .before .search-room .kept .1 .1 .1 .1 .1 .0) ∙ length-take-le v (a .known .now) (rw e (p .known-enough)) in let ql = (c .before .before .before .before .before .before .before .before .before .before .before .before .before .before .before .search-room .kept .1 .1 .1 .1 .1 .1 .0) ∙ length-take-le v (a .previous .now) (rw e (p .previous-enough)) in let F = c .before .before .before .before .before .before .before .before .before .before .before .before .before .before .before .search-room .ensures in let T = taskIn (a .room) (a .config) (a .kinds .now) (a .start) (a .goal) (placesOf (a .queue .now)) in let long = ap length qq ∙ ql in ((rw (long, e) (p .goal-in), rw (long, e) (p .good .few), ap length kk ∙ kl ∙ sym long, rw (long, e) (omega (arith, p .path-enough, c .before .before .before .before .before .clear-words .kept .0))), (cleared-to (sym (c .before .before .before .before .before .clear-words .kept .0)) (c .before .before .before .before .before .clear-words .ensures), rw (kk, qq) (told-showable (graph T) (searched T) (c .before .before .before .before .before .before .before .before .before .before .before .before .before .before .before .search-room .result) K Q (ql ∙ e) (F .told))))
+answer-of-requires c κs =
+    let found = c .before .before .before .before .before .before .before .before .before .before .before .before .before .before .before in
+    let run = found .search-room in
+    let s = found .before .before .before .before .before .before .before .before .before .before .before .before in
+    let a = s .args in
+    let p = s .pre in
+    let v = found .before .before .before .before .before .volume .result in
+    let e = found .before .before .before .before .before .volume .ensures in
+    let known = run .last .1 .1 .1 .1 .1 .0 in
+    let previous = run .last .1 .1 .1 .1 .1 .1 .0 in
+    let known-kept = run .kept .1 .1 .1 .1 .1 .0 in
+    let previous-kept = run .kept .1 .1 .1 .1 .1 .1 .0 in
+    let known-again = again known (a .known .now) v known-kept (rw e (p .known-enough)) in
+    let previous-again = again previous (a .previous .now) v previous-kept (rw e (p .previous-enough)) in
+    let previous-long = previous-kept ∙ length-take-le v (a .previous .now) (rw e (p .previous-enough)) in
+    let T = taskIn (a .room) (a .config) (a .kinds .now) (a .start) (a .goal) (placesOf (a .queue .now)) in
+    let known-long = known-kept ∙ length-take-le v (a .known .now) (rw e (p .known-enough)) in
+    let long = ap length previous-again ∙ previous-long in
+    let cleared = c .before .before .before .before .before .clear-words in
+    ((rw (long, e) (p .goal-in), rw (long, e) (p .good .few), ap length known-again ∙ known-long ∙ sym long, rw (long, e) (omega (arith, p .path-enough, cleared .kept .0))), (cleared-to (sym (cleared .kept .0)) (cleared .ensures), rw (known-again, previous-again) (told-showable (graph T) (searched T) (run .result) known previous (previous-long ∙ e) (run .ensures .told))))
 
 clear-work-requires : tie.Need-clear-work-requires
 clear-work-requires c κs = search needs
@@ -75,7 +94,32 @@ same-length-5 : tie.Need-same-length-5
 same-length-5 c = search needs
 
 returns : tie.Need-returns
-returns c = let s = c .before .before .before .before .before .before .before .before .before .before .before .before .before .before .before .before .before .before .before .before .before .before .before .before .before .before .before .before .before .before .before .before .before .before .before .before .before .before .before .before .before .before .before in let a = s .args in let p = s .pre in let v = c .before .before .before .before .before .before .before .before .before .before .before .before .before .before .before .before .before .before .before .before .before .before .before .before .before .before .before .before .before .before .before .before .before .before .before .before .volume .result in let e = c .before .before .before .before .before .before .before .before .before .before .before .before .before .before .before .before .before .before .before .before .before .before .before .before .before .before .before .before .before .before .before .before .before .before .before .before .volume .ensures in let K = (c .before .before .before .before .before .before .before .before .before .before .before .before .before .before .before .before .before .before .before .before .before .before .before .before .before .before .before .before .before .before .before .search-room .last .1 .1 .1 .1 .1 .0) in let Q = (c .before .before .before .before .before .before .before .before .before .before .before .before .before .before .before .before .before .before .before .before .before .before .before .before .before .before .before .before .before .before .before .search-room .last .1 .1 .1 .1 .1 .1 .0) in let kk = again K (a .known .now) v (c .before .before .before .before .before .before .before .before .before .before .before .before .before .before .before .before .before .before .before .before .before .before .before .before .before .before .before .before .before .before .before .search-room .kept .1 .1 .1 .1 .1 .0) (rw e (p .known-enough)) in let qq = again Q (a .previous .now) v (c .before .before .before .before .before .before .before .before .before .before .before .before .before .before .before .before .before .before .before .before .before .before .before .before .before .before .before .before .before .before .before .search-room .kept .1 .1 .1 .1 .1 .1 .0) (rw e (p .previous-enough)) in let kl = (c .before .before .before .before .before .before .before .before .before .before .before .before .before .before .before .before .before .before .before .before .before .before .before .before .before .before .before .before .before .before .before .search-room .kept .1 .1 .1 .1 .1 .0) ∙ length-take-le v (a .known .now) (rw e (p .known-enough)) in let ql = (c .before .before .before .before .before .before .before .before .before .before .before .before .before .before .before .before .before .before .before .before .before .before .before .before .before .before .before .before .before .before .before .search-room .kept .1 .1 .1 .1 .1 .1 .0) ∙ length-take-le v (a .previous .now) (rw e (p .previous-enough)) in let F = c .before .before .before .before .before .before .before .before .before .before .before .before .before .before .before .before .before .before .before .before .before .before .before .before .before .before .before .before .before .before .before .search-room .ensures in let T = taskIn (a .room) (a .config) (a .kinds .now) (a .start) (a .goal) (placesOf (a .queue .now)) in let S = c .before .before .before .before .before .before .before .before .before .before .before .before .before .before .before .answer-of .ensures .shows T (sym (ap length qq ∙ ql ∙ e)) refl (rw (kk, qq) F) in record { answer = S .0; path-is = rw (c .before .before .before .before .before .before .before .before .before .before .before .before .before .before .before .before .before .before .before .before .before .clear-words .kept .0) at (S .1); known-is = cleared-whole (c .before .before .before .before .before .before .before .before .before .before .before .before .before .before .before .before .before .before .before .before .before .before .before .before .before .before .before .before .before .before .before .search-room .last .1 .1 .1 .1 .1 .0) (a .known .now) v (c .before .before .before .before .before .before .before .before .before .before .before .before .before .before .before .before .before .before .before .before .before .before .before .before .before .before .before .before .before .before .before .search-room .kept .1 .1 .1 .1 .1 .0) _ (c .before .before .before .before .before .before .before .before .clear-work .ensures .0); previous-is = cleared-whole (c .before .before .before .before .before .before .before .before .before .before .before .before .before .before .before .before .before .before .before .before .before .before .before .before .before .before .before .before .before .before .before .search-room .last .1 .1 .1 .1 .1 .1 .0) (a .previous .now) v (c .before .before .before .before .before .before .before .before .before .before .before .before .before .before .before .before .before .before .before .before .before .before .before .before .before .before .before .before .before .before .before .search-room .kept .1 .1 .1 .1 .1 .1 .0) _ (c .before .before .before .before .before .before .before .before .clear-work .ensures .1); classes-is = cleared-whole (c .before .before .before .before .before .before .before .before .before .before .before .before .before .before .before .before .before .before .before .before .before .before .before .before .before .before .before .before .before .before .before .search-room .last .1 .1 .1 .1 .1 .1 .1 .0) (a .classes .now) v (c .before .before .before .before .before .before .before .before .before .before .before .before .before .before .before .before .before .before .before .before .before .before .before .before .before .before .before .before .before .before .before .search-room .kept .1 .1 .1 .1 .1 .1 .1 .0) _ (c .before .before .before .before .before .before .before .before .clear-work .ensures .2); queue-is = cleared-to (c .before .before .before .before .before .before .before .before .before .before .before .before .before .before .before .before .before .before .before .before .before .before .before .before .before .before .before .before .before .before .before .search-room .kept .1 .1 .1 .1 .1 .1 .1 .1 .0) (c .before .before .before .before .before .before .before .before .clear-work .ensures .3) }
+returns c =
+    let found = c .before .before .before .before .before .before .before .before .before .before .before .before .before .before .before .before .before .before .before .before .before .before .before .before .before .before .before .before .before .before .before in
+    let run = found .search-room in
+    let s = found .before .before .before .before .before .before .before .before .before .before .before .before in
+    let a = s .args in
+    let p = s .pre in
+    let v = found .before .before .before .before .before .volume .result in
+    let e = found .before .before .before .before .before .volume .ensures in
+    let known = run .last .1 .1 .1 .1 .1 .0 in
+    let previous = run .last .1 .1 .1 .1 .1 .1 .0 in
+    let known-kept = run .kept .1 .1 .1 .1 .1 .0 in
+    let previous-kept = run .kept .1 .1 .1 .1 .1 .1 .0 in
+    let known-again = again known (a .known .now) v known-kept (rw e (p .known-enough)) in
+    let previous-again = again previous (a .previous .now) v previous-kept (rw e (p .previous-enough)) in
+    let previous-long = previous-kept ∙ length-take-le v (a .previous .now) (rw e (p .previous-enough)) in
+    let T = taskIn (a .room) (a .config) (a .kinds .now) (a .start) (a .goal) (placesOf (a .queue .now)) in
+    let cleared = c .before .before .before .before .before .before .before .before .clear-work .ensures in
+    let S = c .before .before .before .before .before .before .before .before .before .before .before .before .before .before .before .answer-of .ensures .shows T (sym (ap length previous-again ∙ previous-long ∙ e)) refl (rw (known-again, previous-again) (run .ensures)) in
+    record {
+      answer = S .0;
+      path-is = rw (c .before .before .before .before .before .before .before .before .before .before .before .before .before .before .before .before .before .before .before .before .before .clear-words .kept .0) at (S .1);
+      known-is = cleared-whole known (a .known .now) v known-kept _ (cleared .0);
+      previous-is = cleared-whole previous (a .previous .now) v previous-kept _ (cleared .1);
+      classes-is = cleared-whole (run .last .1 .1 .1 .1 .1 .1 .1 .0) (a .classes .now) v (run .kept .1 .1 .1 .1 .1 .1 .1 .0) _ (cleared .2);
+      queue-is = cleared-to (run .kept .1 .1 .1 .1 .1 .1 .1 .1 .0) (cleared .3);
+    }
 
 pub answer-fit-spec : {M : Type 1} → statement M
 answer-fit-spec =
