@@ -1,5 +1,5 @@
 // One net's router, exported for other languages: numbers pass as themselves, a slice as a pointer and then a length. Here is
-// the search; the tree is in tree.rt.
+// the search; the tree is in tree_export.rt.
 mod tree_export;
 
 pub use tree_export::dustroute_tree;

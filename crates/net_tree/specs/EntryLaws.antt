@@ -25,16 +25,16 @@ use Rattle.net_tree.specs.Entry.{Routable, JobRouted, Lendable, OutputsC
 
 -- what number 6 does not refuse
 pub record LongEnough (n : ℕ) (L : Lengths) : Type 0 where
-  pub occupied-room : n ≤ L .occupied
-  pub repeaters-room : n ≤ L .repeaters
-  pub kinds-room : n ≤ L .kinds
-  pub blocked-room : n ≤ L .blocked
+  pub occupied-enough : n ≤ L .occupied
+  pub repeaters-enough : n ≤ L .repeaters
+  pub kinds-enough : n ≤ L .kinds
+  pub blocked-enough : n ≤ L .blocked
   pub classes-enough : n ≤ L .classes
-  pub joinable-room : n ≤ L .joinable
+  pub joinable-enough : n ≤ L .joinable
   pub known-enough : n ≤ L .known
   pub previous-enough : n ≤ L .previous
   pub path-enough : n ≤ L .path
-  pub best-room : n ≤ L .best
+  pub best-enough : n ≤ L .best
   pub places-some : 0 < placesIn (L .queue)
 
 -- every buffer in the list fits
@@ -48,16 +48,16 @@ long-enough R L e =
     let all = every (leb (volume R)) l in
     let fit = all-fit (volume R) l (and-left all (leb 1 (placesIn (L .queue))) e) in
     record {
-      occupied-room = fit _ (inl refl);
-      repeaters-room = fit _ (inr (inl refl));
-      kinds-room = fit _ (inr (inr (inl refl)));
-      blocked-room = fit _ (inr (inr (inr (inl refl))));
+      occupied-enough = fit _ (inl refl);
+      repeaters-enough = fit _ (inr (inl refl));
+      kinds-enough = fit _ (inr (inr (inl refl)));
+      blocked-enough = fit _ (inr (inr (inr (inl refl))));
       classes-enough = fit _ (inr (inr (inr (inr (inl refl)))));
-      joinable-room = fit _ (inr (inr (inr (inr (inr (inl refl))))));
+      joinable-enough = fit _ (inr (inr (inr (inr (inr (inl refl))))));
       known-enough = fit _ (inr (inr (inr (inr (inr (inr (inl refl)))))));
       previous-enough = fit _ (inr (inr (inr (inr (inr (inr (inr (inl refl))))))));
       path-enough = fit _ (inr (inr (inr (inr (inr (inr (inr (inr (inl refl)))))))));
-      best-room = fit _ (inr (inr (inr (inr (inr (inr (inr (inr (inr (inl refl))))))))));
+      best-enough = fit _ (inr (inr (inr (inr (inr (inr (inr (inr (inr (inl refl))))))))));
       places-some = leb-true 1 (placesIn (L .queue)) (and-right all (leb 1 (placesIn (L .queue))) e);
     }
 
@@ -74,16 +74,16 @@ module _ {sheet : List ℕ} {job : Job} {B : Lent} (A : Lendable sheet job B) wh
   routable C e = record {
     accepted = A .accepted;
     branches-clear = C .branches-clear;
-    occupied-clear = rw e (clear-front (enough .occupied-room) (C .occupied-clear));
-    repeaters-clear = rw e (clear-front (enough .repeaters-room) (C .repeaters-clear));
-    kinds-long = rw e (length-take-le _ (B .kinds) (enough .kinds-room));
-    blocked-long = rw e (length-take-le _ (B .blocked) (enough .blocked-room));
+    occupied-clear = rw e (clear-front (enough .occupied-enough) (C .occupied-clear));
+    repeaters-clear = rw e (clear-front (enough .repeaters-enough) (C .repeaters-clear));
+    kinds-long = rw e (length-take-le _ (B .kinds) (enough .kinds-enough));
+    blocked-long = rw e (length-take-le _ (B .blocked) (enough .blocked-enough));
     classes-long = rw e (length-take-le _ (B .classes) (enough .classes-enough));
-    joinable-long = rw e (length-take-le _ (B .joinable) (enough .joinable-room));
+    joinable-long = rw e (length-take-le _ (B .joinable) (enough .joinable-enough));
     known-long = rw e (length-take-le _ (B .known) (enough .known-enough));
     previous-long = rw e (length-take-le _ (B .previous) (enough .previous-enough));
     path-long = rw e (length-take-le _ (B .path) (enough .path-enough));
-    best-long = rw e (length-take-le _ (B .best) (enough .best-room));
+    best-long = rw e (length-take-le _ (B .best) (enough .best-enough));
     places-some = enough .places-some;
   }
 

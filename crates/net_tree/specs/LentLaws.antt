@@ -106,10 +106,10 @@ module _ {sheet : List ℕ} {job : Job} {B : Lent} (A : Lendable sheet job B) {b
         branches-are = sb ∙ ap (λ x. settledBy (x .ended) branches′) a ∙ w .0 ∙ ap (λ n. joined bs ++ replicate (n - length (joined bs)) 0) (zeros-long {n = length (B .branches)} eb);
         occupied-are =
             so ∙ ap (λ x. settledBy (x .ended) occupied′) a
-            ∙ marks-behind (B .occupied) marks eo (enough A .occupied-room) (F .occupied-is ∙ ap (λ l. l ++ drop (volume (job .room)) occupied) (w .1)) ko;
+            ∙ marks-behind (B .occupied) marks eo (enough A .occupied-enough) (F .occupied-is ∙ ap (λ l. l ++ drop (volume (job .room)) occupied) (w .1)) ko;
         repeaters-are =
             sr ∙ ap (λ x. settledBy (x .ended) repeaters′) a
-            ∙ marks-behind (B .repeaters) repeating er (enough A .repeaters-room) (F .repeaters-is ∙ ap (λ l. l ++ drop (volume (job .room)) repeaters) (w .2)) kr;
+            ∙ marks-behind (B .repeaters) repeating er (enough A .repeaters-enough) (F .repeaters-is ∙ ap (λ l. l ++ drop (volume (job .room)) repeaters) (w .2)) kr;
       }
       outputs (no-tree number detail) a w = record {
         branches-are = sb ∙ ap (λ x. settledBy (x .ended) branches′) a ∙ refused-after w (B .branches) branches′ kb eb;

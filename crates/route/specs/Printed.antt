@@ -16,10 +16,18 @@ use Rattle.route.specs.Marked.{marked}
 abbrev pub maxCells : ℕ
 maxCells = 4096
 
+-- "its branch buffer 16,384 cells"
+abbrev pub branchCells : ℕ
+branchCells = 16384
+
+-- "its queue holds 12,288 places", of two numbers each
+abbrev pub queueNumbers : ℕ
+queueNumbers = 24576
+
 -- "its queue holds 12,288 places, its branch buffer 16,384 cells"; a place of the queue takes two numbers
 abbrev pub programLengths : Lengths
 programLengths = record {
-  branches = 16384;
+  branches = branchCells;
   occupied = maxCells;
   repeaters = maxCells;
   kinds = maxCells;
@@ -30,7 +38,7 @@ programLengths = record {
   previous = maxCells;
   path = maxCells;
   best = maxCells;
-  queue = 24576;
+  queue = queueNumbers;
 }
 
 -- what comes of a sheet in this program: the limit of its own stands at 2's place, after 1 and before 3
@@ -51,7 +59,7 @@ pub record Shown (comes : TreeOutcome → Type 0) (out : List ℕ) (end : ℕ) :
   pub within : end ≤ length out
   pub is : take end out ≡ printed outcome
 
--- what `print_sheet` promises
+-- what `put_sheet` promises
 abbrev pub Printed : List ℕ → List ℕ → ℕ → Type 0
 Printed sheet out end = Shown (ComesHere sheet) out end
 

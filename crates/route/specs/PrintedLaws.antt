@@ -32,7 +32,7 @@ use Rattle.route.specs.Lines.{decimalWithin, spaced, spacedAll, line, ne
 use Rattle.route.specs.Marked.{ifMarked, markedFrom, marked}
 use Rattle.route.specs.Putting.{Put, Fits}
 use Rattle.route.specs.BranchCountLaws.{few-branches}
-use Rattle.route.specs.Printed.{maxCells, programLengths, ComesHere, over-limit, within-limit, printed, Shown, Printed, SizeJudged, is-over, is-not, longestText}
+use Rattle.route.specs.Printed.{maxCells, branchCells, queueNumbers, programLengths, ComesHere, over-limit, within-limit, printed, Shown, Printed, SizeJudged, is-over, is-not, longestText}
 
 -- ---- the limit at 2's place
 
@@ -170,7 +170,7 @@ module _ {sheet : List ℕ} {B : Lent} {r : Answer} {B′ : Lent} (P : Promise s
   pub promise-branched : Branched (r .lengths) (B′ .branches)
   promise-branched = rw (P .lent-is, P .answer) (outcome-branched (P .outcome) (P .comes) B)
 
-  pub promise-fits : {out : List ℕ} → length (B′ .branches) ≡ 16384 → length (B′ .repeaters) ≡ maxCells → longestText ≤ length out
+  pub promise-fits : {out : List ℕ} → length (B′ .branches) ≡ branchCells → length (B′ .repeaters) ≡ maxCells → longestText ≤ length out
       → Fits out 0 (answerText r (B′ .branches) (B′ .repeaters))
   promise-fits b m h = record { place = omega (arith, answer-length r promise-branched (B′ .repeaters)) }
 
@@ -206,7 +206,7 @@ here-one (over-limit J m h e) (within-limit small c) = absurd (omega (arith, sma
 here-one (within-limit small c) (over-limit K n g d) = absurd (omega (arith, small K n))
 here-one (within-limit small c) (within-limit small′ d) = comes-one c d
 
--- the text that a result of `print_sheet` is
+-- the text that a result of `put_sheet` is
 pub record Puts (sheet text : List ℕ) : Type 0 where
   pub out : List ℕ
   pub end : ℕ
@@ -219,7 +219,7 @@ coincide sheet x y p q = p .text-is ∙ p .put .is ∙ ap printed (here-one (p .
 -- the program's own memory has these lengths
 pub own-lengths :
     lengthsOf
-    (lent (replicate 16384 0) (replicate maxCells 0) (replicate maxCells 0) (replicate maxCells 0) (replicate maxCells 0) (replicate maxCells 0) (replicate maxCells 0) (replicate maxCells 0) (replicate maxCells 0)
-    (replicate maxCells 0) (replicate maxCells 0) (replicate 24576 0))
+    (lent (replicate branchCells 0) (replicate maxCells 0) (replicate maxCells 0) (replicate maxCells 0) (replicate maxCells 0) (replicate maxCells 0) (replicate maxCells 0) (replicate maxCells 0) (replicate maxCells 0)
+    (replicate maxCells 0) (replicate maxCells 0) (replicate queueNumbers 0))
     ≡ programLengths
-own-lengths = rw (length-replicate {A = ℕ} 16384 0, length-replicate {A = ℕ} maxCells 0, length-replicate {A = ℕ} 24576 0) refl
+own-lengths = rw (length-replicate {A = ℕ} branchCells 0, length-replicate {A = ℕ} maxCells 0, length-replicate {A = ℕ} queueNumbers 0) refl

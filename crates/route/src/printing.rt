@@ -77,7 +77,7 @@ fn put_routed(sheet: &[u8], out: &mut [u8]) -> usize
     put_answer(out, answer, &branches, &repeaters)
 }
 
-// Puts what this program prints of a sheet, and answers how many bytes that are. The limit of 4,096 cells stands at 2's place:
+// Puts what this program prints of a sheet, and answers how many bytes those are. The limit of 4,096 cells stands at 2's place:
 // after 1, which `too_large` passes over, and before 3.
 pub fn put_sheet(sheet: &[u8], out: &mut [u8]) -> usize
     requires { ⌜ longestText ≤ length (now out) ⌝ }

@@ -1,4 +1,4 @@
--- `main` meets its contract: what is read, and what is written, are parts of their buffers.
+-- `main` is safe: what is read, and what is written, are parts of their buffers.
 use borrow.Author.Needs.{needs}
 use mathlib.Core.Path.{sym}
 use lib.Seq.{length-take-le}

@@ -12,19 +12,19 @@ use Rattle.job_sheet.specs.Sheet.{maxSinks}
 use Rattle.dustroute.proofs.tree_export.write_lengths.Statement.{statement}
 use Rattle.dustroute.proofs.tree_export.write_lengths.Tie as tie
 
--- an array of sixteen, as what owning it tells
-each-whole : (L : BranchLengths) → length (map (λ v. v) (L .each)) ≡ 16 → length (L .each) ≡ 16
+-- the array has sixteen places: that is known of whoever owns it
+each-whole : (L : BranchLengths) → length (map (λ v. v) (L .each)) ≡ maxSinks → length (L .each) ≡ maxSinks
 each-whole L e = sym (length-map (L .each) (λ v. v)) ∙ e
 
 -- all sixteen are copied
-each-copied : {each out₀ out : List ℕ} {i : ℕ} → length each ≡ 16 → 16 ≤ length out₀ → Copied each out₀ 0 16 i out → 16 ≤ i → out ≡ each ++ drop (length each) out₀
-each-copied {each} {out₀} e h C l = front-all each out₀ 16 (omega (arith, e)) h C l ∙ rw e (ap (λ s. s ++ drop 16 out₀) (rw e at (take-length each)))
+each-copied : {each out₀ out : List ℕ} {i : ℕ} → length each ≡ maxSinks → maxSinks ≤ length out₀ → Copied each out₀ 0 maxSinks i out → maxSinks ≤ i → out ≡ each ++ drop (length each) out₀
+each-copied {each} {out₀} e h C l = front-all each out₀ maxSinks (omega (arith, e)) h C l ∙ rw e (ap (λ s. s ++ drop maxSinks out₀) (rw e at (take-length each)))
 
 abbrev Inv-loop : tie.InvT-loop
 Inv-loop out₀ lengths sink₀ out sink = Copied (lengths .each) out₀ 0 maxSinks sink out
 
 abbrev μ-loop : tie.MeasureT-loop
-μ-loop out₀ lengths sink₀ out sink = 16 - sink
+μ-loop out₀ lengths sink₀ out sink = maxSinks - sink
 
 loop-holds : tie.Need-loop-holds Inv-loop μ-loop
 loop-holds c = copied-none

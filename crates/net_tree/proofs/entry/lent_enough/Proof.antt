@@ -6,7 +6,6 @@ use lib.Dec.{leb}
 use lib.ListN.{drop}
 use borrow.Author.Tests.{le-leb, lt-leb}
 use Rattle.basics.specs.Lists.{every, every-passed, every-failed, every-end}
-use Rattle.room.specs.Room.{volume}
 use Rattle.net_tree.specs.Answers.{buffersGood}
 use borrow.Author.Needs.{needs}
 use Rattle.net_tree.proofs.entry.lent_enough.Statement.{statement}

@@ -12,28 +12,28 @@ volume-requires : tie.Need-volume-requires
 volume-requires c κs = good-room (c .before .before .before .before .before .before .before .before .before .before .before .before .before .pre .0 .accepted)
 
 slice-relend-prefix-route-job : tie.Need-slice-relend-prefix-route-job
-slice-relend-prefix-route-job c = omega (arith, c .before .volume .ensures, enough (c .before .before .before .before .before .before .before .before .before .before .before .before .before .before .before .pre .0) .occupied-room)
+slice-relend-prefix-route-job c = omega (arith, c .before .volume .ensures, enough (c .before .before .before .before .before .before .before .before .before .before .before .before .before .before .before .pre .0) .occupied-enough)
 
 slice-aggregate-route-job : tie.Need-slice-aggregate-route-job
-slice-aggregate-route-job c = sym (length-take-le _ _ (omega (arith, c .before .before .volume .ensures, enough (c .before .before .before .before .before .before .before .before .before .before .before .before .before .before .before .before .pre .0) .occupied-room)))
+slice-aggregate-route-job c = sym (length-take-le _ _ (omega (arith, c .before .before .volume .ensures, enough (c .before .before .before .before .before .before .before .before .before .before .before .before .before .before .before .before .pre .0) .occupied-enough)))
 
 slice-relend-prefix-route-job-2 : tie.Need-slice-relend-prefix-route-job-2
-slice-relend-prefix-route-job-2 c = omega (arith, c .before .before .volume .ensures, enough (c .before .before .before .before .before .before .before .before .before .before .before .before .before .before .before .before .pre .0) .repeaters-room)
+slice-relend-prefix-route-job-2 c = omega (arith, c .before .before .volume .ensures, enough (c .before .before .before .before .before .before .before .before .before .before .before .before .before .before .before .before .pre .0) .repeaters-enough)
 
 slice-aggregate-route-job-2 : tie.Need-slice-aggregate-route-job-2
-slice-aggregate-route-job-2 c = sym (length-take-le _ _ (omega (arith, c .before .before .before .volume .ensures, enough (c .before .before .before .before .before .before .before .before .before .before .before .before .before .before .before .before .before .pre .0) .repeaters-room)))
+slice-aggregate-route-job-2 c = sym (length-take-le _ _ (omega (arith, c .before .before .before .volume .ensures, enough (c .before .before .before .before .before .before .before .before .before .before .before .before .before .before .before .before .before .pre .0) .repeaters-enough)))
 
 slice-relend-prefix-route-job-3 : tie.Need-slice-relend-prefix-route-job-3
-slice-relend-prefix-route-job-3 c = omega (arith, c .before .before .before .volume .ensures, enough (c .before .before .before .before .before .before .before .before .before .before .before .before .before .before .before .before .before .pre .0) .kinds-room)
+slice-relend-prefix-route-job-3 c = omega (arith, c .before .before .before .volume .ensures, enough (c .before .before .before .before .before .before .before .before .before .before .before .before .before .before .before .before .before .pre .0) .kinds-enough)
 
 slice-aggregate-route-job-3 : tie.Need-slice-aggregate-route-job-3
-slice-aggregate-route-job-3 c = sym (length-take-le _ _ (omega (arith, c .before .before .before .before .volume .ensures, enough (c .before .before .before .before .before .before .before .before .before .before .before .before .before .before .before .before .before .before .pre .0) .kinds-room)))
+slice-aggregate-route-job-3 c = sym (length-take-le _ _ (omega (arith, c .before .before .before .before .volume .ensures, enough (c .before .before .before .before .before .before .before .before .before .before .before .before .before .before .before .before .before .before .pre .0) .kinds-enough)))
 
 slice-relend-prefix-route-job-4 : tie.Need-slice-relend-prefix-route-job-4
-slice-relend-prefix-route-job-4 c = omega (arith, c .before .before .before .before .volume .ensures, enough (c .before .before .before .before .before .before .before .before .before .before .before .before .before .before .before .before .before .before .pre .0) .blocked-room)
+slice-relend-prefix-route-job-4 c = omega (arith, c .before .before .before .before .volume .ensures, enough (c .before .before .before .before .before .before .before .before .before .before .before .before .before .before .before .before .before .before .pre .0) .blocked-enough)
 
 slice-aggregate-route-job-4 : tie.Need-slice-aggregate-route-job-4
-slice-aggregate-route-job-4 c = sym (length-take-le _ _ (omega (arith, c .before .before .before .before .before .volume .ensures, enough (c .before .before .before .before .before .before .before .before .before .before .before .before .before .before .before .before .before .before .before .pre .0) .blocked-room)))
+slice-aggregate-route-job-4 c = sym (length-take-le _ _ (omega (arith, c .before .before .before .before .before .volume .ensures, enough (c .before .before .before .before .before .before .before .before .before .before .before .before .before .before .before .before .before .before .before .pre .0) .blocked-enough)))
 
 slice-relend-prefix-route-job-5 : tie.Need-slice-relend-prefix-route-job-5
 slice-relend-prefix-route-job-5 c = omega (arith, c .before .before .before .before .before .volume .ensures, enough (c .before .before .before .before .before .before .before .before .before .before .before .before .before .before .before .before .before .before .before .pre .0) .classes-enough)
@@ -42,10 +42,10 @@ slice-aggregate-route-job-5 : tie.Need-slice-aggregate-route-job-5
 slice-aggregate-route-job-5 c = sym (length-take-le _ _ (omega (arith, c .before .before .before .before .before .before .volume .ensures, enough (c .before .before .before .before .before .before .before .before .before .before .before .before .before .before .before .before .before .before .before .before .pre .0) .classes-enough)))
 
 slice-relend-prefix-route-job-6 : tie.Need-slice-relend-prefix-route-job-6
-slice-relend-prefix-route-job-6 c = omega (arith, c .before .before .before .before .before .before .volume .ensures, enough (c .before .before .before .before .before .before .before .before .before .before .before .before .before .before .before .before .before .before .before .before .pre .0) .joinable-room)
+slice-relend-prefix-route-job-6 c = omega (arith, c .before .before .before .before .before .before .volume .ensures, enough (c .before .before .before .before .before .before .before .before .before .before .before .before .before .before .before .before .before .before .before .before .pre .0) .joinable-enough)
 
 slice-aggregate-route-job-6 : tie.Need-slice-aggregate-route-job-6
-slice-aggregate-route-job-6 c = sym (length-take-le _ _ (omega (arith, c .before .before .before .before .before .before .before .volume .ensures, enough (c .before .before .before .before .before .before .before .before .before .before .before .before .before .before .before .before .before .before .before .before .before .pre .0) .joinable-room)))
+slice-aggregate-route-job-6 c = sym (length-take-le _ _ (omega (arith, c .before .before .before .before .before .before .before .volume .ensures, enough (c .before .before .before .before .before .before .before .before .before .before .before .before .before .before .before .before .before .before .before .before .before .pre .0) .joinable-enough)))
 
 slice-relend-prefix-route-job-7 : tie.Need-slice-relend-prefix-route-job-7
 slice-relend-prefix-route-job-7 c = omega (arith, c .before .before .before .before .before .before .before .volume .ensures, enough (c .before .before .before .before .before .before .before .before .before .before .before .before .before .before .before .before .before .before .before .before .before .pre .0) .known-enough)
@@ -66,10 +66,10 @@ slice-aggregate-route-job-9 : tie.Need-slice-aggregate-route-job-9
 slice-aggregate-route-job-9 c = sym (length-take-le _ _ (omega (arith, c .before .before .before .before .before .before .before .before .before .before .volume .ensures, enough (c .before .before .before .before .before .before .before .before .before .before .before .before .before .before .before .before .before .before .before .before .before .before .before .before .pre .0) .path-enough)))
 
 slice-relend-prefix-route-job-10 : tie.Need-slice-relend-prefix-route-job-10
-slice-relend-prefix-route-job-10 c = omega (arith, c .before .before .before .before .before .before .before .before .before .before .volume .ensures, enough (c .before .before .before .before .before .before .before .before .before .before .before .before .before .before .before .before .before .before .before .before .before .before .before .before .pre .0) .best-room)
+slice-relend-prefix-route-job-10 c = omega (arith, c .before .before .before .before .before .before .before .before .before .before .volume .ensures, enough (c .before .before .before .before .before .before .before .before .before .before .before .before .before .before .before .before .before .before .before .before .before .before .before .before .pre .0) .best-enough)
 
 slice-aggregate-route-job-10 : tie.Need-slice-aggregate-route-job-10
-slice-aggregate-route-job-10 c = sym (length-take-le _ _ (omega (arith, c .before .before .before .before .before .before .before .before .before .before .before .volume .ensures, enough (c .before .before .before .before .before .before .before .before .before .before .before .before .before .before .before .before .before .before .before .before .before .before .before .before .before .pre .0) .best-room)))
+slice-aggregate-route-job-10 c = sym (length-take-le _ _ (omega (arith, c .before .before .before .before .before .before .before .before .before .before .before .volume .ensures, enough (c .before .before .before .before .before .before .before .before .before .before .before .before .before .before .before .before .before .before .before .before .before .before .before .before .before .pre .0) .best-enough)))
 
 route-job-requires : tie.Need-route-job-requires
 route-job-requires c κs = routable (c .before .before .before .before .before .before .before .before .before .before .before .before .before .before .before .before .before .before .before .before .before .before .before .before .before .before .pre .0) (c .before .before .before .before .before .before .before .before .before .before .before .before .before .before .before .before .before .before .before .before .before .before .before .before .before .before .pre .1) (c .before .before .before .before .before .before .before .before .before .before .before .before .volume .ensures)

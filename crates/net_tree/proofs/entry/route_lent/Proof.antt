@@ -9,7 +9,10 @@ clear-outputs-requires : tie.Need-clear-outputs-requires
 clear-outputs-requires c κs = search needs
 
 route-front-requires : tie.Need-route-front-requires
-route-front-requires c κs = (clean-lendable (c .before .before .before .before .before .before .before .before .before .before .before .before .before .before .before .before .before .before .before .before .before .before .before .before .before .before .before .before .before .before .before .before .before .before .before .pre) (c .before .before .before .before .before .before .before .before .before .before .before .before .before .before .before .before .before .before .clear-outputs .ensures .0) (c .before .before .before .before .before .before .before .before .before .before .before .before .before .before .before .before .before .before .clear-outputs .ensures .1) (c .before .before .before .before .before .before .before .before .before .before .before .before .before .before .before .before .before .before .clear-outputs .ensures .2), clean-cleared (c .before .before .before .before .before .before .before .before .before .before .before .before .before .before .before .before .before .before .before .before .before .before .before .before .before .before .before .before .before .before .before .before .before .before .before .pre) (c .before .before .before .before .before .before .before .before .before .before .before .before .before .before .before .before .before .before .clear-outputs .ensures .0) (c .before .before .before .before .before .before .before .before .before .before .before .before .before .before .before .before .before .before .clear-outputs .ensures .1) (c .before .before .before .before .before .before .before .before .before .before .before .before .before .before .before .before .before .before .clear-outputs .ensures .2))
+route-front-requires c κs =
+    let pre = c .before .before .before .before .before .before .before .before .before .before .before .before .before .before .before .before .before .before .before .before .before .before .before .before .before .before .before .before .before .before .before .before .before .before .before .pre in
+    let outputs = c .before .before .before .before .before .before .before .before .before .before .before .before .before .before .before .before .before .before .clear-outputs .ensures in
+    (clean-lendable pre (outputs .0) (outputs .1) (outputs .2), clean-cleared pre (outputs .0) (outputs .1) (outputs .2))
 
 clear-work-requires : tie.Need-clear-work-requires
 clear-work-requires c κs = search needs

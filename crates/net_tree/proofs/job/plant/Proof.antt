@@ -1,4 +1,4 @@
--- `plant` meets its contract: cleared marks, and one of them.
+-- `plant` meets its contract: the marks are cleared, and one is made.
 use mathlib.Core.Path.{ap, _∙_}
 use lib.Dec.{eqb}
 use Rattle.routing_resources.specs.Marks.{markedBy}
