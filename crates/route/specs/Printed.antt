@@ -17,8 +17,8 @@ abbrev pub maxCells : ℕ
 maxCells = 4096
 
 -- "its branch buffer 16,384 cells"
-abbrev pub branchCells : ℕ
-branchCells = 16384
+abbrev pub maxBranchCells : ℕ
+maxBranchCells = 16384
 
 -- "its queue holds 12,288 places", of two numbers each
 abbrev pub queueNumbers : ℕ
@@ -27,7 +27,7 @@ queueNumbers = 24576
 -- "its queue holds 12,288 places, its branch buffer 16,384 cells"; a place of the queue takes two numbers
 abbrev pub programLengths : Lengths
 programLengths = record {
-  branches = branchCells;
+  branches = maxBranchCells;
   occupied = maxCells;
   repeaters = maxCells;
   kinds = maxCells;

@@ -32,7 +32,7 @@ use Rattle.route.specs.Lines.{decimalWithin, spaced, spacedAll, line, ne
 use Rattle.route.specs.Marked.{ifMarked, markedFrom, marked}
 use Rattle.route.specs.Putting.{Put, Fits}
 use Rattle.route.specs.BranchCountLaws.{few-branches}
-use Rattle.route.specs.Printed.{maxCells, branchCells, queueNumbers, programLengths, ComesHere, over-limit, within-limit, printed, Shown, Printed, SizeJudged, is-over, is-not, longestText}
+use Rattle.route.specs.Printed.{maxCells, maxBranchCells, queueNumbers, programLengths, ComesHere, over-limit, within-limit, printed, Shown, Printed, SizeJudged, is-over, is-not, longestText}
 
 -- ---- the limit at 2's place
 
@@ -170,7 +170,7 @@ module _ {sheet : List ℕ} {B : Lent} {r : Answer} {B′ : Lent} (P : Promise s
   pub promise-branched : Branched (r .lengths) (B′ .branches)
   promise-branched = rw (P .lent-is, P .answer) (outcome-branched (P .outcome) (P .comes) B)
 
-  pub promise-fits : {out : List ℕ} → length (B′ .branches) ≡ branchCells → length (B′ .repeaters) ≡ maxCells → longestText ≤ length out
+  pub promise-fits : {out : List ℕ} → length (B′ .branches) ≡ maxBranchCells → length (B′ .repeaters) ≡ maxCells → longestText ≤ length out
       → Fits out 0 (answerText r (B′ .branches) (B′ .repeaters))
   promise-fits b m h = record { place = omega (arith, answer-length r promise-branched (B′ .repeaters)) }
 
@@ -219,7 +219,7 @@ coincide sheet x y p q = p .text-is ∙ p .put .is ∙ ap printed (here-one (p .
 -- the program's own memory has these lengths
 pub own-lengths :
     lengthsOf
-    (lent (replicate branchCells 0) (replicate maxCells 0) (replicate maxCells 0) (replicate maxCells 0) (replicate maxCells 0) (replicate maxCells 0) (replicate maxCells 0) (replicate maxCells 0) (replicate maxCells 0)
+    (lent (replicate maxBranchCells 0) (replicate maxCells 0) (replicate maxCells 0) (replicate maxCells 0) (replicate maxCells 0) (replicate maxCells 0) (replicate maxCells 0) (replicate maxCells 0) (replicate maxCells 0)
     (replicate maxCells 0) (replicate maxCells 0) (replicate queueNumbers 0))
     ≡ programLengths
-own-lengths = rw (length-replicate {A = ℕ} branchCells 0, length-replicate {A = ℕ} maxCells 0, length-replicate {A = ℕ} queueNumbers 0) refl
+own-lengths = rw (length-replicate {A = ℕ} maxBranchCells 0, length-replicate {A = ℕ} maxCells 0, length-replicate {A = ℕ} queueNumbers 0) refl

@@ -11,7 +11,7 @@ ghost use Rattle.net_tree.specs.Answers.{Comes};
 // queue takes two numbers.
 const MAX_CELLS: usize = 4096;
 
-const BRANCH_CELLS: usize = 16384;
+const MAX_BRANCH_CELLS: usize = 16384;
 
 const QUEUE_NUMBERS: usize = 24576;
 
@@ -47,7 +47,7 @@ fn put_routed(sheet: &[u8], out: &mut [u8]) -> usize
     requires { ⌜ longestText ≤ length (now out) ⌝ }
     ensures { λ r. ⌜ Shown (Comes (now (sheet .entry)) programLengths) (now (out .exit)) r ⌝ }
 {
-    let mut branches = [0u32; BRANCH_CELLS];
+    let mut branches = [0u32; MAX_BRANCH_CELLS];
     let mut occupied = [0u8; MAX_CELLS];
     let mut repeaters = [0u8; MAX_CELLS];
     let mut kinds = [0u8; MAX_CELLS];
