@@ -1,4 +1,4 @@
--- `replace` meets its contract: each round replaces the byte of one cell of the path.
+-- `replace` meets its contract: each round replaces the byte of one cell of the path, or keeps it.
 use mathlib.Core.Path.{_∙_}
 use mathlib.Core.Logic.{⊎-elim}
 use Prim.Native.Nat.{_-_}

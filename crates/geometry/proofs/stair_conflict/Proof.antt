@@ -6,7 +6,7 @@ use lib.ListN.{length}
 use borrow.Author.Needs.{needs}
 use Rattle.geometry.specs.Geometry.{standsIn, stairConflict}
 use Rattle.geometry.specs.Along.{conductsBy}
-use Rattle.geometry.specs.StairLaws.{stairsFrom, stairs-next, stairs-found, stairs-end, stair-read}
+use Rattle.geometry.specs.StairLaws.{stairsFrom, stairAt, stairs-next, stairs-found, stairs-end, stair-read}
 use Rattle.geometry.proofs.stair_conflict.Statement.{statement}
 use Rattle.geometry.proofs.stair_conflict.Tie as tie
 
@@ -46,15 +46,20 @@ as-index-requires-2 c κs = search needs
 stair-at-requires : tie.Need-stair-at-requires Inv-loop μ-loop
 stair-at-requires c κs = let s = c .before .before .before .before .before .before .before .before .before in (s .pre .0, (s .pre .1 .0, (rw (c .before .before .as-index .ensures .0) (s .pre .1 .1 .0 .below _ (omega arith)), rw (c .as-index2 .ensures .0) (s .pre .1 .1 .0 .below _ (c .before .before .before .before .loop-test .taken)))))
 
+-- what the stair here gives
+stair-told : (c : tie.After-stair-at Inv-loop μ-loop) → c .stair-at .result ≡ stairAt (c .before .before .before .before .before .before .before .before .before .before .args .room) (c .before .before .before .before .before .before .before .before .before .before .args .kinds .now) (standsIn (c .before .before .before .before .before .before .before .before .before .before .args .path .now)) (conductsBy (c .before .before .before .before .before .before .before .before .before .before .args .bytes .now)) (c .before .before .before .before .before .before .before .before .before .before .args .path .now) (c .before .before .before .before .before .before .loop .i)
+stair-told c =
+    let pre = c .before .before .before .before .before .before .before .before .before .before .pre in
+    c .stair-at .ensures ∙ stair-read _ (pre .0) _ _ _ (pre .1 .1 .0) (pre .1 .1 .1 .0) (pre .1 .1 .1 .1) (c .before .before .before .before .before .before .loop .i) (c .before .before .before .before .before .loop-test .taken) _ _ (c .before .before .before .as-index .ensures .0) (c .before .as-index2 .ensures .0)
+
 enum-told : tie.Need-enum-told Inv-loop μ-loop
 enum-told c = search needs
 
 returns : tie.Need-returns Inv-loop μ-loop
 returns c =
-    let pre = c .before .before .before .before .before .before .before .before .before .before .before .before .pre in
     let i = c .before .before .before .before .before .before .before .before .loop .i in
     let more = c .before .before .before .before .before .before .before .loop-test .taken in
-    let read = c .before .before .stair-at .ensures ∙ stair-read _ (pre .0) _ _ _ (pre .1 .1 .0) (pre .1 .1 .1 .0) (pre .1 .1 .1 .1) i more _ _ (c .before .before .before .before .before .as-index .ensures .0) (c .before .before .before .as-index2 .ensures .0) in
+    let read = stair-told (c .before .before) in
     read ∙ stairs-found _ _ _ _ _ i more _ (sym read ∙ c .enum-told .given .1) ∙ c .before .before .before .before .before .before .before .before .loop .inv .1
 
 enum-told-2 : tie.Need-enum-told-2 Inv-loop μ-loop
@@ -68,10 +73,9 @@ loop-less c = search needs
 
 loop-again : tie.Need-loop-again Inv-loop μ-loop
 loop-again c =
-    let pre = c .before .before .before .before .before .before .before .before .before .before .before .before .pre in
     let i = c .before .before .before .before .before .before .before .before .loop .i in
     let more = c .before .before .before .before .before .before .before .loop-test .taken in
-    let read = c .before .before .stair-at .ensures ∙ stair-read _ (pre .0) _ _ _ (pre .1 .1 .0) (pre .1 .1 .1 .0) (pre .1 .1 .1 .1) i more _ _ (c .before .before .before .before .before .as-index .ensures .0) (c .before .before .before .as-index2 .ensures .0) in
+    let read = stair-told (c .before .before) in
     (omega arith, stairs-next _ _ _ _ _ i more (sym read ∙ c .enum-told2 .given .1) ∙ c .before .before .before .before .before .before .before .before .loop .inv .1)
 
 returns-2 : tie.Need-returns-2 Inv-loop μ-loop
