@@ -30,9 +30,9 @@ loop-less c = search needs
 
 loop-again : tie.Need-loop-again Inv-loop μ-loop
 loop-again c =
-    let turn = c .before .before .before .loop .inv in
+    let round = c .before .before .before .loop .inv in
     let more = c .before .before .loop-test .taken in
-    ⊎-elim (λ w. rw (w .1) (counted-marked turn more (w .0 .taken))) (λ w. rw (w .1) (counted-other turn more (w .0 .left))) (c .if1 .came)
+    ⊎-elim (λ w. rw (w .1) (counted-marked round more (w .0 .taken))) (λ w. rw (w .1) (counted-other round more (w .0 .left))) (c .if1 .came)
 
 returns : tie.Need-returns Inv-loop μ-loop
 returns c = counted-all (c .before .loop .inv) (c .loop-test .left)

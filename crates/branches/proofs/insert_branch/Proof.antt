@@ -61,11 +61,11 @@ returns c =
     let pre = c .before .before .before .before .before .before .before .before .before .before .before .pre in
     let written = c .before .before .before .before .before .before .before .write-branch in
     let count = c .before .before .before .before .branch-length in
-    let turned = c .before .before .rotate in
+    let rotated = c .before .before .rotate in
     inserted-is (args .branches .now) (branchOf (args .tap) (args .path .now)) (args .at) (args .used) (pre .0) (pre .1 .0)
     (written .last .1 .1 .0) _ (written .ensures) refl
     (count .result) (count .ensures ∙ sym (branch-long (args .tap) (args .path .now)))
-    (turned .last .0) (turned .ensures)
+    (rotated .last .0) (rotated .ensures)
 
 pub insert-branch-spec : {M : Type 1} → statement M
 insert-branch-spec =

@@ -26,8 +26,8 @@ element-copy-out-sum c = search needs
 add-sum : tie.Need-add-sum Inv-loop μ-loop
 add-sum c =
     let short = c .before .before .before .pre .0 .short in
-    let turn = c .before .before .loop in
-    omega (arith, summed-most (turn .inv .1) longestBranch (λ i h. short i (omega arith)), short (turn .i) (omega arith))
+    let round = c .before .before .loop in
+    omega (arith, summed-most (round .inv .1) longestBranch (λ i h. short i (omega arith)), short (round .i) (omega arith))
 
 add-i : tie.Need-add-i Inv-loop μ-loop
 add-i c = search needs
@@ -38,8 +38,8 @@ loop-less c = search needs
 loop-again : tie.Need-loop-again Inv-loop μ-loop
 loop-again c =
     let lengths = c .before .before .before .pre .0 in
-    let turn = c .before .before .loop in
-    (omega arith, summed-next (turn .inv .1) (omega (arith, lengths .whole)))
+    let round = c .before .before .loop in
+    (omega arith, summed-next (round .inv .1) (omega (arith, lengths .whole)))
 
 returns : tie.Need-returns Inv-loop μ-loop
 returns c = let e : c .before .loop .i ≡ c .before .before .args .k = omega arith in rw e at (c .before .loop .inv .1 .is)

@@ -29,8 +29,8 @@ as-index-requires c κs = search needs
 
 mark-requires : tie.Need-mark-requires Inv-loop μ-loop
 mark-requires c κs =
-    let turn = c .before .before .before .before .loop in
-    rw (c .as-index .ensures .0, turn .inv .1 .long) (c .before .before .before .before .before .before .before .pre .below (turn .i) (c .before .before .before .loop-test .taken))
+    let round = c .before .before .before .before .loop in
+    rw (c .as-index .ensures .0, round .inv .1 .long) (c .before .before .before .before .before .before .before .pre .below (round .i) (c .before .before .before .loop-test .taken))
 
 add-i : tie.Need-add-i Inv-loop μ-loop
 add-i c = search needs
@@ -40,8 +40,8 @@ loop-less c = search needs
 
 loop-again : tie.Need-loop-again Inv-loop μ-loop
 loop-again c =
-    let turn = c .before .before .before .before .before .before .before .loop in
-    (omega arith, marking-on (λ v cell. eqb cell v) _ (turn .inv .1) 0 _ (c .before .before .before .as-index .ensures .0) (c .before .before .before .before .before .before .loop-test .taken) (c .before .before .mark .ensures))
+    let round = c .before .before .before .before .before .before .before .loop in
+    (omega arith, marking-on (λ v cell. eqb cell v) _ (round .inv .1) 0 _ (c .before .before .before .as-index .ensures .0) (c .before .before .before .before .before .before .loop-test .taken) (c .before .before .mark .ensures))
 
 same-length : tie.Need-same-length Inv-loop μ-loop
 same-length c = c .before .loop .inv .1 .long
