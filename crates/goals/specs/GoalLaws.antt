@@ -80,12 +80,12 @@ module _ {path best : List ℕ} where
         front : take n best′ ≡ take n path
         front = rw e (take-at (take n path) (drop n best) n (length-take-le n path h))
 
-        room : n ≤ length best′
-        room = rw (e, length-append (take n path) (drop n best), length-take-le n path h) (omega arith)
+        long-enough : n ≤ length best′
+        long-enough = rw (e, length-append (take n path) (drop n best), length-take-le n path h) (omega arith)
 
         go : (kept : Tried) → GoesOn kept → beats (cost .0) (told kept []) ≡ true → KeepsCheaper kept (Found n cost) path best (Found n cost) best′
-        go (Found m other) on b = record { keeps = λ earlier later E L. rw (← E .is, ← L .is, b) (record { is = rw front; fits = room }) }
-        go Failed on b = record { keeps = λ earlier later E L. rw (← E .is, ← L .is) (record { is = rw front; fits = room }) }
+        go (Found m other) on b = record { keeps = λ earlier later E L. rw (← E .is, ← L .is, b) (record { is = rw front; fits = long-enough }) }
+        go Failed on b = record { keeps = λ earlier later E L. rw (← E .is, ← L .is) (record { is = rw front; fits = long-enough }) }
         go (Full y) on b = absurd on
 
 -- ---- one goal after another

@@ -4,7 +4,7 @@ use borrow.Author.Needs.{needs}
 use mathlib.Core.Path.{refl, ap, _∙_}
 use native.Mathlib.Omega.{arith}
 use lib.Dec.{eqb}
-use Rattle.routing_resources.specs.Marks.{withByte}
+use Rattle.routing_resources.specs.Marks.{unmarkedBy}
 use Rattle.goals.specs.AttemptLaws.{able-fits, able-kept, able-marked, able-next, site-same, attempts-none, attempts-ended, attempts-repeat, blocked-back, classes-back}
 use Prim.Native.Nat.{ℕ, suc, _*_, _<_}
 use borrow.Fn.Kinds.{In}
@@ -125,7 +125,7 @@ attempt-again-returns t c =
     let attempt-goal = c .before .before .before .before .before .before .before .before .before .before .before .before .before .before .before .before .before .before .before .before .before .attempt-goal in
     let set-blocked = c .before .before .before .before .before .before .before .before .before .before .before .before .before .before .before .before .before .before .before .before .before .before .before .before .before .before .before .before .before .before .before .before .before .set-blocked in
     let able = pre .1 .0 in
-    let back = set-blocked2 .ensures .0 ∙ ap (withByte 0 (eqb (args .cell))) (attempt-goal .ensures .1 .1 ∙ set-blocked .ensures .0) in (
+    let back = set-blocked2 .ensures .0 ∙ ap (unmarkedBy (eqb (args .cell))) (attempt-goal .ensures .1 .1 ∙ set-blocked .ensures .0) in (
       rw (set-blocked .ensures .0) at (attempt-goal .ensures .0),
       (attempt-goal .ensures .1 .0, blocked-back able (args .cell) (pre .1 .1 .1) back, classes-back able (args .cell) (pre .1 .1 .1) back (set-blocked2 .ensures .1)),
     )

@@ -1,23 +1,26 @@
 -- `attempt_once` meets its contract: the answer of the search, and then the conflict, taken apart.
 use mathlib.Core.Logic.{_⊎_, inl, inr}
 use mathlib.Core.Path.{_≡_, refl, sym, _∙_}
+use Prim.Native.Nat.{ℕ}
 use native.Mathlib.Omega.{arith}
 use lib.Seq.{length-take-le}
 use denote.Enum.Declared.{tagOf}
-use Rattle.goals.proofs.Tried as tried
+use Rattle.goals.proofs.Tried as tried-enum
 use Rattle.goals.specs.declared.Tried.{Tried}
 use Rattle.goals.specs.declared.Tried.the-variants.{Found, Failed, Full}
-use Rattle.goals.specs.Trials.{siteOf}
+use Rattle.room.specs.declared.Cost.{Cost}
+use Rattle.goals.specs.Goals.{siteTask, searchedFor}
+use Rattle.goals.specs.Trials.{siteOf, Tells}
 use Rattle.goals.specs.AttemptLaws.{Routeless, able-searchable, ended-search, ended-kept, ended-blocked, repeated, path-in, conflict-inside}
 use borrow.Author.Needs.{needs}
 use Rattle.goals.proofs.attempts.attempt_once.Statement.{statement}
 use Rattle.goals.proofs.attempts.attempt_once.Tie as tie
 
-no-route : (r : Tried) → (tagOf tried.the-type r ≡ 1) ⊎ (tagOf tried.the-type r ≡ 2) → Routeless r
-no-route (Found n cost) (inl e) = omega arith
-no-route (Found n cost) (inr e) = omega arith
-no-route Failed e = tt
-no-route (Full x) e = tt
+routeless-by-tag : (r : Tried) → (tagOf tried-enum.the-type r ≡ 1) ⊎ (tagOf tried-enum.the-type r ≡ 2) → Routeless r
+routeless-by-tag (Found n cost) (inl e) = omega arith
+routeless-by-tag (Found n cost) (inr e) = omega arith
+routeless-by-tag Failed e = tt
+routeless-by-tag (Full x) e = tt
 
 search-for-requires : tie.Need-search-for-requires
 search-for-requires c κs =
@@ -43,26 +46,24 @@ returns : tie.Need-returns
 returns c =
     let search-for = c .before .before .before .before .before .before .before .before .before .search-for in
     let pre = c .before .before .before .before .before .before .before .before .before .before .before .before .before .before .before .before .before .before .before .before .before .before .pre in
-    (ended-search _ _ _ _ _ _ (no-route (search-for .result) (c .match .keys2)) (search-for .ensures .tells _ (pre .says)), refl)
+    (ended-search _ _ _ _ _ _ (routeless-by-tag (search-for .result) (c .match .keys2)) (search-for .ensures .tells _ (pre .says)), refl)
+
+-- a route that the search found is the one of its task
+route-told : (c : tie.After-search-for) → {n : ℕ} {cost : Cost} → c .search-for .result ≡ Found n cost
+    → Tells (searchedFor (siteTask (siteOf (c .before .before .before .before .before .before .before .before .before .before .before .before .before .args .room) (c .before .before .before .before .before .before .before .before .before .before .before .before .before .args .config) (c .before .before .before .before .before .before .before .before .before .before .before .before .before .args .kinds .now) (c .before .before .before .before .before .before .before .before .before .before .before .before .before .args .joinable .now) (c .before .before .before .before .before .before .before .before .before .before .before .before .before .args .queue .now)) (c .before .before .before .before .before .before .before .before .before .before .before .before .before .args .blocked .now) (c .before .before .before .before .before .before .before .before .before .before .before .before .before .args .start) (c .before .before .before .before .before .before .before .before .before .before .before .before .before .args .goal))) (Found n cost) (c .search-for .last .1 .1 .1 .1 .1 .1 .0)
+route-told c e = rw e at (c .search-for .ensures .tells _ (c .before .before .before .before .before .before .before .before .before .before .before .before .before .pre .says))
 
 slice-reshare-prefix-geometry-conflict : tie.Need-slice-reshare-prefix-geometry-conflict
-slice-reshare-prefix-geometry-conflict c =
-    let search-for = c .before .before .before .before .before .before .before .before .before .before .before .before .search-for in
-    let pre = c .before .before .before .before .before .before .before .before .before .before .before .before .before .before .before .before .before .before .before .before .before .before .before .before .before .pre in
-    let t = rw (c .before .before .tried .given .1) at (search-for .ensures .tells _ (pre .says)) in t .fits
+slice-reshare-prefix-geometry-conflict c = route-told (c .before .before .before .before .before .before .before .before .before .before .before .before) (c .before .before .tried .given .1) .fits
 
 slice-aggregate-geometry-conflict : tie.Need-slice-aggregate-geometry-conflict
-slice-aggregate-geometry-conflict c =
-    let search-for = c .before .before .before .before .before .before .before .before .before .before .before .before .before .search-for in
-    let pre = c .before .before .before .before .before .before .before .before .before .before .before .before .before .before .before .before .before .before .before .before .before .before .before .before .before .before .pre in
-    let t = rw (c .before .before .before .tried .given .1) at (search-for .ensures .tells _ (pre .says)) in sym (length-take-le _ _ (t .fits))
+slice-aggregate-geometry-conflict c = sym (length-take-le _ _ (route-told (c .before .before .before .before .before .before .before .before .before .before .before .before .before) (c .before .before .before .tried .given .1) .fits))
 
 geometry-conflict-requires : tie.Need-geometry-conflict-requires
 geometry-conflict-requires c κs =
-    let search-for = c .before .before .before .before .before .before .before .before .before .before .before .before .before .search-for in
     let pre = c .before .before .before .before .before .before .before .before .before .before .before .before .before .before .before .before .before .before .before .before .before .before .before .before .before .before .pre in
     let args = c .before .before .before .before .before .before .before .before .before .before .before .before .before .before .before .before .before .before .before .before .before .before .before .before .before .before .args in
-    let t = rw (c .before .before .before .tried .given .1) at (search-for .ensures .tells _ (pre .says)) in
+    let t = route-told (c .before .before .before .before .before .before .before .before .before .before .before .before .before) (c .before .before .before .tried .given .1) in
     (pre .grounds .good, ((pre .grounds .kinds-long, pre .grounds .joinable-long), (path-in (siteOf (args .room) (args .config) (args .kinds .now) (args .joinable .now) (args .queue .now)) _ _ _ (pre .grounds .start-in) (pre .goal-in) t, (pre .grounds .joinable-marks, pre .grounds .no-pair))))
 
 enum-known-conflict : tie.Need-enum-known-conflict
@@ -88,19 +89,14 @@ same-length-9 c = c .before .before .before .before .before .before .before .bef
 
 returns-2 : tie.Need-returns-2
 returns-2 c =
-    let tried = c .before .before .before .before .before .before .before .before .tried in
-    let search-for = c .before .before .before .before .before .before .before .before .before .before .before .before .before .before .before .before .before .before .search-for in
-    let pre = c .before .before .before .before .before .before .before .before .before .before .before .before .before .before .before .before .before .before .before .before .before .before .before .before .before .before .before .before .before .before .before .pre in
     let geometry-conflict = c .before .before .before .before .geometry-conflict in
-    let t = rw (tried .given .1) at (search-for .ensures .tells _ (pre .says)) in
+    let t = route-told (c .before .before .before .before .before .before .before .before .before .before .before .before .before .before .before .before .before .before) (c .before .before .before .before .before .before .before .before .tried .given .1) in
     (ended-kept _ _ _ _ t _ (geometry-conflict .ensures .0) (c .enum-told .given .1), geometry-conflict .ensures .1)
 
 ends-goal-requires : tie.Need-ends-goal-requires
 ends-goal-requires c κs =
-    let tried = c .before .before .before .before .before .before .before .before .before .tried in
-    let search-for = c .before .before .before .before .before .before .before .before .before .before .before .before .before .before .before .before .before .before .before .search-for in
     let pre = c .before .before .before .before .before .before .before .before .before .before .before .before .before .before .before .before .before .before .before .before .before .before .before .before .before .before .before .before .before .before .before .before .pre in
-    let t = rw (tried .given .1) at (search-for .ensures .tells _ (pre .says)) in
+    let t = route-told (c .before .before .before .before .before .before .before .before .before .before .before .before .before .before .before .before .before .before .before) (c .before .before .before .before .before .before .before .before .before .tried .given .1) in
     rw (pre .grounds .blocked-long) (conflict-inside _ _ _ _ (pre .grounds .start-in) (pre .goal-in) t (pre .grounds .good) _ (sym (c .before .before .before .before .before .geometry-conflict .ensures .0) ∙ c .before .conflict .given .1))
 
 same-length-10 : tie.Need-same-length-10
@@ -120,11 +116,8 @@ same-length-14 c = c .before .before .before .before .before .before .before .be
 
 returns-3 : tie.Need-returns-3
 returns-3 c =
-    let tried = c .before .before .before .before .before .before .before .before .before .before .before .tried in
-    let search-for = c .before .before .before .before .before .before .before .before .before .before .before .before .before .before .before .before .before .before .before .before .before .search-for in
-    let pre = c .before .before .before .before .before .before .before .before .before .before .before .before .before .before .before .before .before .before .before .before .before .before .before .before .before .before .before .before .before .before .before .before .before .before .pre in
     let geometry-conflict = c .before .before .before .before .before .before .before .geometry-conflict in
-    let t = rw (tried .given .1) at (search-for .ensures .tells _ (pre .says)) in
+    let t = route-told (c .before .before .before .before .before .before .before .before .before .before .before .before .before .before .before .before .before .before .before .before .before) (c .before .before .before .before .before .before .before .before .before .before .before .tried .given .1) in
     (ended-blocked _ _ _ _ t _ (geometry-conflict .ensures .0) _ (c .before .before .before .conflict .given .1) (sym (c .before .ends-goal .ensures) ∙ c .if1 .taken), geometry-conflict .ensures .1)
 
 same-length-15 : tie.Need-same-length-15
@@ -144,12 +137,10 @@ same-length-19 c = c .before .before .before .before .before .before .before .be
 
 returns-4 : tie.Need-returns-4
 returns-4 c =
-    let tried = c .before .before .before .before .before .before .before .before .before .before .before .tried in
-    let search-for = c .before .before .before .before .before .before .before .before .before .before .before .before .before .before .before .before .before .before .before .before .before .search-for in
     let pre = c .before .before .before .before .before .before .before .before .before .before .before .before .before .before .before .before .before .before .before .before .before .before .before .before .before .before .before .before .before .before .before .before .before .before .pre in
     let geometry-conflict = c .before .before .before .before .before .before .before .geometry-conflict in
     let conflict = c .before .before .before .conflict in
-    let t = rw (tried .given .1) at (search-for .ensures .tells _ (pre .says)) in
+    let t = route-told (c .before .before .before .before .before .before .before .before .before .before .before .before .before .before .before .before .before .before .before .before .before) (c .before .before .before .before .before .before .before .before .before .before .before .tried .given .1) in
     let inside = conflict-inside _ _ _ _ (pre .grounds .start-in) (pre .goal-in) t (pre .grounds .good) _ (sym (geometry-conflict .ensures .0) ∙ conflict .given .1) in
     (repeated _ _ _ _ t _ (geometry-conflict .ensures .0) _ (conflict .given .1) inside (sym (c .before .ends-goal .ensures) ∙ c .if1 .left), geometry-conflict .ensures .1)
 

@@ -6,7 +6,7 @@ use Prim.Native.Nat.{_+_, _-_}
 use native.Mathlib.Omega.{arith}
 use lib.ListN.{length}
 use denote.Enum.Declared.{tagOf}
-use Rattle.goals.proofs.Tried as tried
+use Rattle.goals.proofs.Tried as tried-enum
 use Rattle.goals.specs.declared.Tried.{Tried}
 use Rattle.goals.specs.declared.Tried.the-variants.{Found, Failed, Full}
 use Rattle.goals.specs.Trials.{siteOf, GoesOn}
@@ -14,11 +14,11 @@ use Rattle.goals.specs.GoalLaws.{GoalsTried, goals-first, goals-able, go
 use Rattle.goals.proofs.goal_by_goal.route_to_tree.Statement.{statement}
 use Rattle.goals.proofs.goal_by_goal.route_to_tree.Tie as tie
 
-goes-on : (r : Tried) → (tagOf tried.the-type r ≡ 0) ⊎ (tagOf tried.the-type r ≡ 1) → GoesOn r
-goes-on (Found n cost) e = tt
-goes-on Failed e = tt
-goes-on (Full x) (inl e) = omega arith
-goes-on (Full x) (inr e) = omega arith
+goes-on-by-tag : (r : Tried) → (tagOf tried-enum.the-type r ≡ 0) ⊎ (tagOf tried-enum.the-type r ≡ 1) → GoesOn r
+goes-on-by-tag (Found n cost) e = tt
+goes-on-by-tag Failed e = tt
+goes-on-by-tag (Full x) (inl e) = omega arith
+goes-on-by-tag (Full x) (inr e) = omega arith
 
 abbrev Inv-loop : tie.InvT-loop
 Inv-loop room config kinds joinable₀ blocked₀ classes₀ known₀ previous₀ path₀ best₀ queue₀ start cells kept₀ goal₀ joinable blocked classes known previous path best queue kept goal =
@@ -123,7 +123,7 @@ loop-again c =
     let loop = c .before .before .before .before .before .before .before .before .before .before .before .before .before .before .before .before .before .before .before .before .before .before .before .before .before .before .before .loop in
     let try-next = c .before .before .before .before .before .before .before .before .before .before .before .before .before .before .before .before .before .try-next in
     let h = rw (pre .0 .grounds .kinds-long) at (loop-test .taken) in
-    goals-next (args .room) (args .config) (args .kinds .now) (loop .inv) h (goes-on (try-next .result) (c .match .keys2)) (try-next .ensures .0) (try-next .ensures .1) (try-next .kept .1 .1 .1 .1 .1 .1 .0) (try-next .kept .1 .1 .1 .1 .1 .1 .1 .0) (try-next .kept .1 .1 .1 .1 .1 .1 .1 .1 .0) (try-next .kept .1 .1 .1 .1 .1 .1 .1 .1 .1 .0) (try-next .kept .1 .1 .1 .1 .1 .1 .1 .1 .1 .1 .0)
+    goals-next (args .room) (args .config) (args .kinds .now) (loop .inv) h (goes-on-by-tag (try-next .result) (c .match .keys2)) (try-next .ensures .0) (try-next .ensures .1) (try-next .kept .1 .1 .1 .1 .1 .1 .0) (try-next .kept .1 .1 .1 .1 .1 .1 .1 .0) (try-next .kept .1 .1 .1 .1 .1 .1 .1 .1 .0) (try-next .kept .1 .1 .1 .1 .1 .1 .1 .1 .1 .0) (try-next .kept .1 .1 .1 .1 .1 .1 .1 .1 .1 .1 .0)
 
 same-length-9 : tie.Need-same-length-9 Inv-loop μ-loop
 same-length-9 c = ap length (c .before .loop .inv .joinable-is)
