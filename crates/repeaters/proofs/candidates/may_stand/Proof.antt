@@ -1,7 +1,8 @@
 -- `may_stand` meets its contract: its tests are those of the definition, in its order.
 use native.Mathlib.Omega.{arith}
 use mathlib.Core.Path.{sym, _∙_}
-use Prim.Native.Nat.{_+_, _-_}
+use Prim.Native.Nat.{_+_, _-_, _<_}
+use Rattle.room.specs.Room.{volume}
 use Rattle.repeaters.specs.Links.{linkedCells}
 use Rattle.repeaters.specs.CandidateLaws.{fits-not-first, fits-not-last, fits-not-end, fits-not-two, fits-if}
 use borrow.Author.Needs.{needs}
@@ -27,20 +28,24 @@ shared-slice-read-as-index c = search needs
 as-index-requires : tie.Need-as-index-requires
 as-index-requires c κs = search needs
 
+-- the cell asked about is one of the room
+cell-in : (c : tie.After-as-index) → c .as-index .result < volume (c .before .before .before .before .before .before .before .args .room)
+cell-in c = let s = c .before .before .before .before .before .before .before in read-below (s .pre .0 .cells) (s .args .i) (s .pre .1) _ (c .as-index .ensures .0)
+
 shared-slice-read-if3 : tie.Need-shared-slice-read-if3
-shared-slice-read-if3 c = rw (c .before .before .before .before .before .before .before .before .pre .0 .forbidden-long) (read-below (c .before .before .before .before .before .before .before .before .pre .0 .cells) (c .before .before .before .before .before .before .before .before .args .i) (c .before .before .before .before .before .before .before .before .pre .1) _ (c .before .as-index .ensures .0))
+shared-slice-read-if3 c = rw (c .before .before .before .before .before .before .before .before .pre .0 .forbidden-long) (cell-in (c .before))
 
 returns-3 : tie.Need-returns-3
 returns-3 c = fits-not-end _ _ _ _ _ (c .before .before .before .before .before .if1 .left) (c .before .before .before .before .if2 .left) (rw (c .before .before .as-index .ensures .0) at (c .if3 .taken))
 
 mul-count-links : tie.Need-mul-count-links
-mul-count-links c = record { fits = omega (arith, read-below (c .before .before .before .before .before .before .before .before .before .pre .0 .cells) (c .before .before .before .before .before .before .before .before .before .args .i) (c .before .before .before .before .before .before .before .before .before .pre .1) _ (c .before .before .as-index .ensures .0), c .before .before .before .before .before .before .before .before .before .pre .0 .good .few) }
+mul-count-links c = record { fits = omega (arith, cell-in (c .before .before), c .before .before .before .before .before .before .before .before .before .pre .0 .good .few) }
 
 shared-slice-read-count-links : tie.Need-shared-slice-read-count-links
-shared-slice-read-count-links c = rw (c .before .before .before .before .before .before .before .before .before .before .pre .0 .links-long) (read-below (c .before .before .before .before .before .before .before .before .before .before .pre .0 .cells) (c .before .before .before .before .before .before .before .before .before .before .args .i) (c .before .before .before .before .before .before .before .before .before .before .pre .1) _ (c .before .before .before .as-index .ensures .0))
+shared-slice-read-count-links c = rw (c .before .before .before .before .before .before .before .before .before .before .pre .0 .links-long) (cell-in (c .before .before .before))
 
 count-links-requires : tie.Need-count-links-requires
-count-links-requires c κs = (c .before .before .before .before .before .before .before .before .before .before .pre .0 .good, read-below (c .before .before .before .before .before .before .before .before .before .before .pre .0 .cells) (c .before .before .before .before .before .before .before .before .before .before .args .i) (c .before .before .before .before .before .before .before .before .before .before .pre .1) _ (c .before .before .before .as-index .ensures .0))
+count-links-requires c κs = (c .before .before .before .before .before .before .before .before .before .before .pre .0 .good, cell-in (c .before .before .before))
 
 returns-4 : tie.Need-returns-4
 unfolding linkedCells
@@ -71,7 +76,7 @@ as-index-requires-3 : tie.Need-as-index-requires-3
 as-index-requires-3 c κs = search needs
 
 goes-straight-requires : tie.Need-goes-straight-requires
-goes-straight-requires c κs = (c .before .before .before .before .before .before .before .before .before .before .before .before .before .before .before .before .pre .0 .good, (read-below (c .before .before .before .before .before .before .before .before .before .before .before .before .before .before .before .before .pre .0 .cells) (c .before .before .before .before .before .before .before .before .before .before .before .before .before .before .before .before .args .i - 1) (omega (arith, c .before .before .before .before .before .before .before .before .before .before .before .before .before .before .before .before .pre .1)) _ (c .before .before .as-index2 .ensures .0), (read-below (c .before .before .before .before .before .before .before .before .before .before .before .before .before .before .before .before .pre .0 .cells) (c .before .before .before .before .before .before .before .before .before .before .before .before .before .before .before .before .args .i) (c .before .before .before .before .before .before .before .before .before .before .before .before .before .before .before .before .pre .1) _ (c .before .before .before .before .before .before .before .before .before .as-index .ensures .0), read-below (c .before .before .before .before .before .before .before .before .before .before .before .before .before .before .before .before .pre .0 .cells) (c .before .before .before .before .before .before .before .before .before .before .before .before .before .before .before .before .args .i + 1) (c .before .before .before .before .before .before .before .before .before .before .before .if2 .left) _ (c .as-index3 .ensures .0))))
+goes-straight-requires c κs = let s = c .before .before .before .before .before .before .before .before .before .before .before .before .before .before .before .before in (s .pre .0 .good, (read-below (s .pre .0 .cells) (s .args .i - 1) (omega (arith, s .pre .1)) _ (c .before .before .as-index2 .ensures .0), (cell-in (c .before .before .before .before .before .before .before .before .before), read-below (s .pre .0 .cells) (s .args .i + 1) (c .before .before .before .before .before .before .before .before .before .before .before .if2 .left) _ (c .as-index3 .ensures .0))))
 
 returns-5 : tie.Need-returns-5
 unfolding linkedCells

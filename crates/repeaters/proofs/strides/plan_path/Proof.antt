@@ -1,4 +1,4 @@
--- `plan_path` meets its contract. The loop's invariant: the steps left from here come to the same as all from the source.
+-- `plan_path` meets its contract. The loop's invariant: the strides left from here come to the same as all from the source.
 use mathlib.Core.Path.{_∙_}
 use Rattle.repeaters.specs.Links.{fitBy}
 use Rattle.repeaters.specs.Strides.{stridesLeft}

@@ -1,7 +1,9 @@
--- `stride` meets its contract: each of its answers is one case of a stride, the last one both in which the walk goes on to the next cell.
+-- `stride` meets its contract: each of its answers is one case of a stride; the last answer is that of both cases in which the walk goes on to the next cell.
 use native.Mathlib.Omega.{arith}
 use mathlib.Core.Path.{_∙_}
 use mathlib.Core.Logic.{⊎-elim}
+use Prim.Native.Nat.{_<_}
+use lib.ListN.{length}
 use Rattle.repeaters.specs.StrideLaws.{strode-met, strode-near, strode-none, strode-put, chosen-after}
 use borrow.Author.Needs.{needs}
 use Rattle.repeaters.proofs.strides.stride.Statement.{statement}
@@ -35,20 +37,24 @@ later-requires c κs = search needs
 sub-if2 : tie.Need-sub-if2
 sub-if2 c = search needs
 
+-- the latest candidate is a place of the path
+latest-on : (c : tie.Then3) → c .before .before .before .later .result < length (c .before .before .before .before .before .before .before .before .before .before .before .before .before .args .path .now)
+latest-on c = let s = c .before .before .before .before .before .before .before .before .before .before .before .before .before in omega (arith, chosen-after (s .pre .1 .1 .0) _ (c .before .before .before .later .ensures ∙ rw (c .before .before .before .before .may-stand .ensures)) (c .if3 .taken) .1, s .pre .1 .1 .1)
+
 mul-as-index-2 : tie.Need-mul-as-index-2
-mul-as-index-2 c = record { fits = omega (arith, chosen-after (c .before .before .before .before .before .before .before .before .before .before .before .before .before .pre .1 .1 .0) _ (c .before .before .before .later .ensures ∙ rw (c .before .before .before .before .may-stand .ensures)) (c .if3 .taken) .1, c .before .before .before .before .before .before .before .before .before .before .before .before .before .pre .1 .1 .1) }
+mul-as-index-2 c = record { fits = omega (arith, latest-on c) }
 
 shared-slice-read-as-index-2 : tie.Need-shared-slice-read-as-index-2
-shared-slice-read-as-index-2 c = omega (arith, chosen-after (c .before .before .before .before .before .before .before .before .before .before .before .before .before .before .pre .1 .1 .0) _ (c .before .before .before .before .later .ensures ∙ rw (c .before .before .before .before .before .may-stand .ensures)) (c .before .if3 .taken) .1, c .before .before .before .before .before .before .before .before .before .before .before .before .before .before .pre .1 .1 .1)
+shared-slice-read-as-index-2 c = latest-on (c .before)
 
 as-index-requires-2 : tie.Need-as-index-requires-2
 as-index-requires-2 c κs = search needs
 
 slice-write-repeaters : tie.Need-slice-write-repeaters
-slice-write-repeaters c = rw (c .before .before .before .before .before .before .before .before .before .before .before .before .before .before .before .pre .1 .0) (read-below (c .before .before .before .before .before .before .before .before .before .before .before .before .before .before .before .pre .0 .cells) (c .before .before .before .before .before .later .result) (omega (arith, chosen-after (c .before .before .before .before .before .before .before .before .before .before .before .before .before .before .before .pre .1 .1 .0) _ (c .before .before .before .before .before .later .ensures ∙ rw (c .before .before .before .before .before .before .may-stand .ensures)) (c .before .before .if3 .taken) .1, c .before .before .before .before .before .before .before .before .before .before .before .before .before .before .before .pre .1 .1 .1)) _ (c .as-index2 .ensures .0))
+slice-write-repeaters c = rw (c .before .before .before .before .before .before .before .before .before .before .before .before .before .before .before .pre .1 .0) (read-below (c .before .before .before .before .before .before .before .before .before .before .before .before .before .before .before .pre .0 .cells) (c .before .before .before .before .before .later .result) (latest-on (c .before .before)) _ (c .as-index2 .ensures .0))
 
 add-t21 : tie.Need-add-t21
-add-t21 c = record { fits = omega (arith, chosen-after (c .before .before .before .before .before .before .before .before .before .before .before .before .before .before .before .pre .1 .1 .0) _ (c .before .before .before .before .before .later .ensures ∙ rw (c .before .before .before .before .before .before .may-stand .ensures)) (c .before .before .if3 .taken) .1, c .before .before .before .before .before .before .before .before .before .before .before .before .before .before .before .pre .1 .1 .1) }
+add-t21 c = record { fits = omega (arith, latest-on (c .before .before)) }
 
 same-length : tie.Need-same-length
 same-length c = search needs

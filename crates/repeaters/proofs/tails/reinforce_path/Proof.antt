@@ -1,6 +1,8 @@
--- `reinforce_path` meets its contract: each of its answers is one case of the definition.
+-- `reinforce_path` meets its contract: each way through it is a case of the definition.
 use native.Mathlib.Omega.{arith}
 use mathlib.Core.Logic.{⊎-elim}
+use Prim.Native.Nat.{_<_}
+use lib.ListN.{length}
 use Rattle.repeaters.specs.TailLaws.{last-in, reinforced-near, reinforced-none, reinforced-put, earliest-in}
 use borrow.Author.Needs.{needs}
 use Rattle.repeaters.proofs.tails.reinforce_path.Statement.{statement}
@@ -37,17 +39,21 @@ sub-tail-place c = search needs
 tail-place-requires : tie.Need-tail-place-requires
 tail-place-requires c κs = (c .before .before .before .before .before .before .before .before .before .pre .0, (c .before .before .before .before .before .before .before .before .before .pre .1, (omega arith, omega arith)))
 
+-- the place found is one of the path
+place-on : (c : tie.Then3) → c .before .tail-place .result < length (c .before .before .before .before .before .before .before .before .before .before .before .args .path .now)
+place-on c = omega (arith, earliest-in _ _ _ _ (c .before .tail-place .ensures) (c .if3 .taken), c .before .before .before .if2 .left)
+
 mul-as-index : tie.Need-mul-as-index
-mul-as-index c = record { fits = omega (arith, earliest-in _ _ _ _ (c .before .tail-place .ensures) (c .if3 .taken), c .before .before .before .if2 .left) }
+mul-as-index c = record { fits = omega (arith, place-on c) }
 
 shared-slice-read-as-index : tie.Need-shared-slice-read-as-index
-shared-slice-read-as-index c = omega (arith, earliest-in _ _ _ _ (c .before .before .tail-place .ensures) (c .before .if3 .taken), c .before .before .before .before .if2 .left)
+shared-slice-read-as-index c = place-on (c .before)
 
 as-index-requires : tie.Need-as-index-requires
 as-index-requires c κs = search needs
 
 slice-write-repeaters : tie.Need-slice-write-repeaters
-slice-write-repeaters c = rw (c .before .before .before .before .before .before .before .before .before .before .before .before .before .pre .1) (read-below (c .before .before .before .before .before .before .before .before .before .before .before .before .before .pre .0 .cells) (c .before .before .before .tail-place .result) (omega (arith, earliest-in _ _ _ _ (c .before .before .before .tail-place .ensures) (c .before .before .if3 .taken), c .before .before .before .before .before .if2 .left)) _ (c .as-index .ensures .0))
+slice-write-repeaters c = rw (c .before .before .before .before .before .before .before .before .before .before .before .before .before .pre .1) (read-below (c .before .before .before .before .before .before .before .before .before .before .before .before .before .pre .0 .cells) (c .before .before .before .tail-place .result) (place-on (c .before .before)) _ (c .as-index .ensures .0))
 
 same-length-3 : tie.Need-same-length-3
 same-length-3 c = search needs
