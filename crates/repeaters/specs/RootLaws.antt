@@ -158,9 +158,9 @@ pub record Spreading (R : Room) (source : ℕ) (links parents line : List ℕ) (
       ≡ spread (volume R) (linkedCells R links) (wave (firstParents (volume R) source) (source ∷ []))
 
 module _ {R : Room} {source : ℕ} {links : List ℕ} where
-  pub spreading-outset : (line : List ℕ) → source < volume R → length line ≡ volume R
+  pub spreading-first : (line : List ℕ) → source < volume R → length line ≡ volume R
       → Spreading R source links (firstParents (volume R) source) (set line 0 source) 0 1
-  spreading-outset line h e = record {
+  spreading-first line h e = record {
     held = record {
       line-long = length-set line 0 source ∙ e ∙ sym long;
       counted = rw add-one (nonzeros-new (replicate (volume R) 0) source source (rw (length-replicate {A = ℕ} (volume R) 0) h) (getD-replicate {A = ℕ} (volume R) source 0 0 h) ∙ ap suc (nonzeros-none (volume R)));
@@ -254,7 +254,7 @@ traced parents line cell {count} e h k f = record {
   fits = omega arith;
 }
 
--- each cell of the path is one of the room, and so it has a first cell
+-- each cell of the path is one of the room
 trace-cells : (n : ℕ) (parents : List ℕ) → PreviousInside parents → (v : ℕ) (rest : List ℕ) → v < length parents
     → ((i : ℕ) → i < length rest → getD rest i 0 < length parents)
     → (i : ℕ) → i < length (trace n parents v rest) → getD (trace n parents v rest) i 0 < length parents

@@ -1,11 +1,8 @@
 -- `place_repeaters` meets its contract: the masks are those of the tree, and so are the parents; the runs come first, and then the tails.
-use mathlib.Core.Path.{_∙_, ap}
-use Prim.Native.Nat.{ℕ}
-use lib.ListN.{length, length-replicate}
-use Rattle.room.specs.Room.{volume}
-use Rattle.repeaters.specs.SinkLaws.{placed}
+use mathlib.Core.Path.{_∙_}
+use Rattle.repeaters.specs.SinkLaws.{tree-ready, placed}
 use borrow.Author.Needs.{needs}
-use Rattle.basics.specs.Zeros.{cleared-to}
+use Rattle.basics.specs.Zeros.{cleared-to, zeros-long}
 use Rattle.repeaters.proofs.place_repeaters.Statement.{statement}
 use Rattle.repeaters.proofs.place_repeaters.Tie as tie
 
@@ -22,10 +19,10 @@ rooted-parent-requires : tie.Need-rooted-parent-requires
 rooted-parent-requires c κs = (c .before .before .before .before .before .before .before .before .before .before .before .before .before .before .before .before .before .before .before .before .before .pre .good, (c .before .before .before .before .before .before .before .before .before .before .before .before .before .before .before .before .before .before .before .before .before .pre .source-in, ((c .before .before .before .before .before .before .before .before .before .tree-adjacency .kept .1 .1 .1 .0 ∙ c .before .before .before .before .before .before .before .before .before .before .before .before .before .clear-words .kept .0 ∙ c .before .before .before .before .before .before .before .before .before .before .before .before .before .before .before .before .before .before .before .before .before .pre .links-long), (cleared-to (c .before .before .before .before .before .before .before .before .before .before .before .before .before .before .before .before .before .before .before .before .before .pre .parents-long) (c .before .before .before .before .before .clear-words2 .ensures), c .before .before .before .before .before .before .before .before .before .before .before .before .before .before .before .before .before .before .before .before .before .pre .line-long))))
 
 plan-repeaters-requires : tie.Need-plan-repeaters-requires
-plan-repeaters-requires c κs = (record { good = c .before .before .before .before .before .before .before .before .before .before .before .before .before .before .before .before .before .before .before .before .before .before .before .before .before .before .before .before .before .before .pre .good; links-long = (c .before .before .before .before .before .before .before .before .before .before .before .before .before .before .before .before .before .before .tree-adjacency .kept .1 .1 .1 .0 ∙ c .before .before .before .before .before .before .before .before .before .before .before .before .before .before .before .before .before .before .before .before .before .before .clear-words .kept .0 ∙ c .before .before .before .before .before .before .before .before .before .before .before .before .before .before .before .before .before .before .before .before .before .before .before .before .before .before .before .before .before .before .pre .links-long); parents-long = c .before .before .before .before .before .before .before .before .rooted-parent .ensures .long; parents-inside = c .before .before .before .before .before .before .before .before .rooted-parent .ensures .parents-inside; forbidden-long = c .before .before .before .before .before .before .before .before .before .before .before .before .before .before .before .before .before .before .before .before .before .before .before .before .before .before .before .before .before .before .pre .forbidden-long }, (c .before .before .before .before .before .before .before .before .before .before .before .before .before .before .before .before .before .before .before .before .before .before .before .before .before .before .before .before .before .before .pre .taps-in, (ap length (c .before .before .before .before .before .before .before .before .before .before .before .before .before .before .before .before .before .before .before .before .before .before .before .before .before .before .before .before .before .before .pre .unmarked) ∙ length-replicate {A = ℕ} (volume (c .before .before .before .before .before .before .before .before .before .before .before .before .before .before .before .before .before .before .before .before .before .before .before .before .before .before .before .before .before .before .args .room)) 0, c .before .before .before .before .before .before .before .before .rooted-parent .kept .1 .1 .1 .1 .0 ∙ c .before .before .before .before .before .before .before .before .before .before .before .before .before .before .before .before .before .before .before .before .before .before .before .before .before .before .before .before .before .before .pre .line-long)))
+plan-repeaters-requires c κs = (tree-ready (c .before .before .before .before .before .before .before .before .before .before .before .before .before .before .before .before .before .before .before .before .before .before .before .before .before .before .before .before .before .before .pre) (c .before .before .before .before .before .before .before .before .before .before .before .before .before .before .before .before .before .before .tree-adjacency .kept .1 .1 .1 .0 ∙ c .before .before .before .before .before .before .before .before .before .before .before .before .before .before .before .before .before .before .before .before .before .before .clear-words .kept .0) (c .before .before .before .before .before .before .before .before .rooted-parent .ensures), (c .before .before .before .before .before .before .before .before .before .before .before .before .before .before .before .before .before .before .before .before .before .before .before .before .before .before .before .before .before .before .pre .taps-in, (zeros-long (c .before .before .before .before .before .before .before .before .before .before .before .before .before .before .before .before .before .before .before .before .before .before .before .before .before .before .before .before .before .before .pre .unmarked), c .before .before .before .before .before .before .before .before .rooted-parent .kept .1 .1 .1 .1 .0 ∙ c .before .before .before .before .before .before .before .before .before .before .before .before .before .before .before .before .before .before .before .before .before .before .before .before .before .before .before .before .before .before .pre .line-long)))
 
 reinforce-wire-sink-tails-requires : tie.Need-reinforce-wire-sink-tails-requires
-reinforce-wire-sink-tails-requires c κs = (record { good = c .before .before .before .before .before .before .before .before .before .before .before .before .before .before .before .before .before .before .before .before .before .before .before .before .before .before .before .before .before .before .before .before .before .before .before .before .before .before .before .pre .good; links-long = (c .before .before .before .before .before .before .before .before .before .before .before .before .before .before .before .before .before .before .before .before .before .before .before .before .before .before .before .tree-adjacency .kept .1 .1 .1 .0 ∙ c .before .before .before .before .before .before .before .before .before .before .before .before .before .before .before .before .before .before .before .before .before .before .before .before .before .before .before .before .before .before .before .clear-words .kept .0 ∙ c .before .before .before .before .before .before .before .before .before .before .before .before .before .before .before .before .before .before .before .before .before .before .before .before .before .before .before .before .before .before .before .before .before .before .before .before .before .before .before .pre .links-long); parents-long = c .before .before .before .before .before .before .before .before .before .before .before .before .before .before .before .before .before .rooted-parent .ensures .long; parents-inside = c .before .before .before .before .before .before .before .before .before .before .before .before .before .before .before .before .before .rooted-parent .ensures .parents-inside; forbidden-long = c .before .before .before .before .before .before .before .before .before .before .before .before .before .before .before .before .before .before .before .before .before .before .before .before .before .before .before .before .before .before .before .before .before .before .before .before .before .before .before .pre .forbidden-long }, (c .before .before .before .before .before .before .before .before .before .before .before .before .before .before .before .before .before .before .before .before .before .before .before .before .before .before .before .before .before .before .before .before .before .before .before .before .before .before .before .pre .taps-in, (c .before .before .before .before .before .before .before .before .plan-repeaters .kept .1 .1 .1 .1 .1 .0 ∙ ap length (c .before .before .before .before .before .before .before .before .before .before .before .before .before .before .before .before .before .before .before .before .before .before .before .before .before .before .before .before .before .before .before .before .before .before .before .before .before .before .before .pre .unmarked) ∙ length-replicate {A = ℕ} (volume (c .before .before .before .before .before .before .before .before .before .before .before .before .before .before .before .before .before .before .before .before .before .before .before .before .before .before .before .before .before .before .before .before .before .before .before .before .before .before .before .args .room)) 0, c .before .before .before .before .before .before .before .before .plan-repeaters .kept .1 .1 .1 .1 .1 .1 .0 ∙ c .before .before .before .before .before .before .before .before .before .before .before .before .before .before .before .before .before .rooted-parent .kept .1 .1 .1 .1 .0 ∙ c .before .before .before .before .before .before .before .before .before .before .before .before .before .before .before .before .before .before .before .before .before .before .before .before .before .before .before .before .before .before .before .before .before .before .before .before .before .before .before .pre .line-long)))
+reinforce-wire-sink-tails-requires c κs = (tree-ready (c .before .before .before .before .before .before .before .before .before .before .before .before .before .before .before .before .before .before .before .before .before .before .before .before .before .before .before .before .before .before .before .before .before .before .before .before .before .before .before .pre) (c .before .before .before .before .before .before .before .before .before .before .before .before .before .before .before .before .before .before .before .before .before .before .before .before .before .before .before .tree-adjacency .kept .1 .1 .1 .0 ∙ c .before .before .before .before .before .before .before .before .before .before .before .before .before .before .before .before .before .before .before .before .before .before .before .before .before .before .before .before .before .before .before .clear-words .kept .0) (c .before .before .before .before .before .before .before .before .before .before .before .before .before .before .before .before .before .rooted-parent .ensures), (c .before .before .before .before .before .before .before .before .before .before .before .before .before .before .before .before .before .before .before .before .before .before .before .before .before .before .before .before .before .before .before .before .before .before .before .before .before .before .before .pre .taps-in, (c .before .before .before .before .before .before .before .before .plan-repeaters .kept .1 .1 .1 .1 .1 .0 ∙ zeros-long (c .before .before .before .before .before .before .before .before .before .before .before .before .before .before .before .before .before .before .before .before .before .before .before .before .before .before .before .before .before .before .before .before .before .before .before .before .before .before .before .pre .unmarked), c .before .before .before .before .before .before .before .before .plan-repeaters .kept .1 .1 .1 .1 .1 .1 .0 ∙ c .before .before .before .before .before .before .before .before .before .before .before .before .before .before .before .before .before .rooted-parent .kept .1 .1 .1 .1 .0 ∙ c .before .before .before .before .before .before .before .before .before .before .before .before .before .before .before .before .before .before .before .before .before .before .before .before .before .before .before .before .before .before .before .before .before .before .before .before .before .before .before .pre .line-long)))
 
 same-length : tie.Need-same-length
 same-length c = search needs

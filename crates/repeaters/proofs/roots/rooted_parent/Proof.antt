@@ -1,11 +1,12 @@
--- `rooted_parent` meets its contract. The loop's invariant: the visits left from here come to the same as all from the outset.
+-- `rooted_parent` meets its contract. The loop's invariant: the visits left from here come to the same as all from the start.
 use native.Mathlib.Omega.{arith}
-use mathlib.Core.Path.{refl, sym, _∙_, ap}
-use Prim.Native.Nat.{ℕ, _-_}
-use lib.ListN.{length, length-set, length-replicate}
+use mathlib.Core.Path.{refl, sym, _∙_}
+use Prim.Native.Nat.{_-_}
+use lib.ListN.{length-set}
+use Rattle.basics.specs.Zeros.{zeros-long}
 use Rattle.room.specs.Room.{volume}
 use Rattle.repeaters.specs.Links.{linkedCells}
-use Rattle.repeaters.specs.RootLaws.{Spreading, spreading-outset, spreading-most, spreading-in, spreading-next, spreading-all}
+use Rattle.repeaters.specs.RootLaws.{Spreading, spreading-first, spreading-most, spreading-in, spreading-next, spreading-all}
 use borrow.Author.Needs.{needs}
 use Rattle.repeaters.proofs.roots.rooted_parent.Statement.{statement}
 use Rattle.repeaters.proofs.roots.rooted_parent.Tie as tie
@@ -26,7 +27,7 @@ mul-parents : tie.Need-mul-parents Inv-loop μ-loop
 mul-parents c = record { fits = omega (arith, c .before .before .before .pre .0 .few, c .before .before .before .pre .1 .0) }
 
 slice-write-parents : tie.Need-slice-write-parents Inv-loop μ-loop
-slice-write-parents c = rw (ap length (c .before .before .before .pre .1 .1 .1 .0) ∙ length-replicate {A = ℕ} (volume (c .before .before .before .args .room)) 0) (c .before .before .before .pre .1 .0)
+slice-write-parents c = rw (zeros-long {n = volume (c .before .before .before .args .room)} (c .before .before .before .pre .1 .1 .1 .0)) (c .before .before .before .pre .1 .0)
 
 cast-line : tie.Need-cast-line Inv-loop μ-loop
 cast-line c = record { fits = omega (arith, c .before .before .before .pre .0 .few, c .before .before .before .pre .1 .0) }
@@ -35,7 +36,7 @@ slice-write-line : tie.Need-slice-write-line Inv-loop μ-loop
 slice-write-line c = omega (arith, c .before .before .before .pre .1 .0, c .before .before .before .pre .1 .1 .1 .1)
 
 loop-holds : tie.Need-loop-holds Inv-loop μ-loop
-loop-holds c = rw (c .before .before .before .pre .1 .1 .1 .0) (spreading-outset (c .before .before .before .args .line .now) (c .before .before .before .pre .1 .0) (c .before .before .before .pre .1 .1 .1 .1))
+loop-holds c = rw (c .before .before .before .pre .1 .1 .1 .0) (spreading-first (c .before .before .before .args .line .now) (c .before .before .before .pre .1 .0) (c .before .before .before .pre .1 .1 .1 .1))
 
 mul-as-index : tie.Need-mul-as-index Inv-loop μ-loop
 mul-as-index c = record { fits = omega (arith, spreading-most (c .before .loop .inv), c .loop-test .taken, c .before .before .before .before .before .pre .0 .few) }
@@ -72,7 +73,7 @@ slice-write-parents-2 : tie.Need-slice-write-parents-2 Inv-loop μ-loop
 slice-write-parents-2 c = rw (c .before .loop .inv .long) (c .before .before .before .before .before .pre .1 .0)
 
 same-length : tie.Need-same-length Inv-loop μ-loop
-same-length c = simp length-set (c .before .loop .inv .long ∙ sym (ap length (c .before .before .before .before .before .pre .1 .1 .1 .0) ∙ length-replicate {A = ℕ} (volume (c .before .before .before .before .before .args .room)) 0))
+same-length c = simp length-set (c .before .loop .inv .long ∙ sym (zeros-long (c .before .before .before .before .before .pre .1 .1 .1 .0)))
 
 same-length-2 : tie.Need-same-length-2 Inv-loop μ-loop
 same-length-2 c = c .before .loop .inv .held .line-long ∙ c .before .loop .inv .long ∙ sym (c .before .before .before .before .before .pre .1 .1 .1 .1)

@@ -1,5 +1,4 @@
 -- `plan_repeaters` meets its contract. The loop's invariant: the sinks left come to the same as all from the start.
-use native.Mathlib.Omega.{arith}
 use mathlib.Core.Path.{_≡_, refl, _∙_}
 use Prim.Native.Nat.{_-_}
 use lib.ListN.{length}
@@ -35,7 +34,7 @@ loop-less : tie.Need-loop-less Inv-loop μ-loop
 loop-less c = search needs
 
 loop-again : tie.Need-loop-again Inv-loop μ-loop
-loop-again c = (c .before .before .before .before .plan-sink .kept .1 .1 .1 .1 .1 .1 .0 ∙ c .before .before .before .before .before .before .before .before .before .loop .inv .0, sown-next (c .before .before .before .before .before .before .before .before .before .loop .inv .1) (omega (arith, c .before .before .before .before .before .before .before .before .before .before .before .before .before .before .before .pre .1 .0 .few, c .before .before .before .before .before .before .before .before .before .before .before .before .before .before .before .pre .1 .0 .whole)) (c .before .before .before .before .before .before .before .before .loop-test .taken) _ refl (c .before .before .before .before .plan-sink .kept .1 .1 .1 .1 .1 .0) (c .before .before .before .before .plan-sink .ensures))
+loop-again c = (c .before .before .before .before .plan-sink .kept .1 .1 .1 .1 .1 .1 .0 ∙ c .before .before .before .before .before .before .before .before .before .loop .inv .0, sown-next (c .before .before .before .before .before .before .before .before .before .loop .inv .1) (c .before .before .before .before .before .before .before .before .before .before .before .before .before .before .before .pre .1 .0) (c .before .before .before .before .before .before .before .before .loop-test .taken) _ refl (c .before .before .before .before .plan-sink .kept .1 .1 .1 .1 .1 .0) (c .before .before .before .before .plan-sink .ensures))
 
 same-length : tie.Need-same-length Inv-loop μ-loop
 same-length c = c .before .loop .inv .1 .long
@@ -44,7 +43,7 @@ same-length-2 : tie.Need-same-length-2 Inv-loop μ-loop
 same-length-2 c = c .before .loop .inv .0
 
 returns : tie.Need-returns Inv-loop μ-loop
-returns c = sown-all (c .before .loop .inv .1) (omega (arith, c .before .before .before .before .before .before .before .pre .1 .0 .few, c .before .before .before .before .before .before .before .pre .1 .0 .whole)) (c .loop-test .left)
+returns c = sown-all (c .before .loop .inv .1) (c .before .before .before .before .before .before .before .pre .1 .0) (c .loop-test .left)
 
 pub plan-repeaters-spec : {M : Type 1} → statement M
 plan-repeaters-spec =

@@ -1,14 +1,13 @@
 -- `plan_sink` meets its contract: the path stands at the front of the line.
-use native.Mathlib.Omega.{arith}
-use mathlib.Core.Path.{sym, _∙_}
+use mathlib.Core.Path.{sym}
 use lib.Seq.{length-take-le}
-use Rattle.repeaters.specs.SinkLaws.{path-ready}
+use Rattle.repeaters.specs.SinkLaws.{path-traceable, path-ready}
 use borrow.Author.Needs.{needs}
 use Rattle.repeaters.proofs.sinks.plan_sink.Statement.{statement}
 use Rattle.repeaters.proofs.sinks.plan_sink.Tie as tie
 
 root-path-requires : tie.Need-root-path-requires
-root-path-requires c κs = (rw (c .before .before .before .before .before .before .pre .0 .parents-long) (c .before .before .before .before .before .before .pre .1 .0), (c .before .before .before .before .before .before .pre .0 .parents-inside, (omega (arith, c .before .before .before .before .before .before .pre .0 .parents-long, c .before .before .before .before .before .before .pre .0 .good .few), c .before .before .before .before .before .before .pre .1 .1 .1 ∙ sym (c .before .before .before .before .before .before .pre .0 .parents-long))))
+root-path-requires c κs = let s = c .before .before .before .before .before .before in path-traceable (s .pre .0) (s .pre .1 .0) (s .args .line .now) (s .pre .1 .1 .1)
 
 slice-reshare-prefix-plan-path : tie.Need-slice-reshare-prefix-plan-path
 slice-reshare-prefix-plan-path c = search needs

@@ -1,9 +1,8 @@
--- `reinforce_sink` meets its contract: the path stands at the front of the line.
-use native.Mathlib.Omega.{arith}
-use mathlib.Core.Path.{sym, _∙_}
+-- `reinforce_sink` meets its contract: a sink that is no Wire sink changes nothing; of any other the path stands at the front of the line.
+use mathlib.Core.Path.{sym}
 use borrow.Author.Tests.{not-true, not-false}
 use lib.Seq.{length-take-le}
-use Rattle.repeaters.specs.SinkLaws.{path-ready}
+use Rattle.repeaters.specs.SinkLaws.{path-traceable, path-ready}
 use borrow.Author.Needs.{needs}
 use Rattle.repeaters.proofs.sinks.reinforce_sink.Statement.{statement}
 use Rattle.repeaters.proofs.sinks.reinforce_sink.Tie as tie
@@ -12,7 +11,7 @@ returns : tie.Need-returns
 returns c = rw (not-true (c .before .before .before .before .before .before .before .args .tap .wire) (c .if1 .taken))
 
 root-path-requires : tie.Need-root-path-requires
-root-path-requires c κs = (rw (c .before .before .before .before .before .before .before .before .pre .0 .parents-long) (c .before .before .before .before .before .before .before .before .pre .1 .0), (c .before .before .before .before .before .before .before .before .pre .0 .parents-inside, (omega (arith, c .before .before .before .before .before .before .before .before .pre .0 .parents-long, c .before .before .before .before .before .before .before .before .pre .0 .good .few), c .before .before .before .before .before .before .before .before .pre .1 .1 .1 ∙ sym (c .before .before .before .before .before .before .before .before .pre .0 .parents-long))))
+root-path-requires c κs = let s = c .before .before .before .before .before .before .before .before in path-traceable (s .pre .0) (s .pre .1 .0) (s .args .line .now) (s .pre .1 .1 .1)
 
 slice-reshare-prefix-reinforce-path : tie.Need-slice-reshare-prefix-reinforce-path
 slice-reshare-prefix-reinforce-path c = search needs
