@@ -1,4 +1,4 @@
--- `add_branch` meets its contract: the branch is put in at its place, and its cells are marked there.
+-- `add_branch` meets its contract: the branch is put in at its place, and read there: all but its last cell become joinable, its clearances blocked.
 use Rattle.multinet.specs.AddingLaws.{branch-has, branch-there, but-last-there, branch-in, but-last-in-room, end-within, branch-added}
 use borrow.Author.Needs.{needs}
 use Rattle.multinet.proofs.adding.add_branch.Statement.{statement}

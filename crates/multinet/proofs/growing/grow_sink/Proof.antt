@@ -1,7 +1,9 @@
--- `grow_sink` meets its contract: the search found the queue full, no goal is left, or the branch is placed.
+-- `grow_sink` meets its contract: the search found the queue full, no goal has a route, or the branch is placed or does not fit.
 use mathlib.Core.Path.{refl, sym, _∙_}
 use lib.Seq.{length-take-le}
+use Prim.Native.Nat.{_<_}
 use native.Mathlib.Omega.{arith}
+use Rattle.job_sheet.specs.Sheet.{maxSinks}
 use Rattle.multinet.specs.SinkTurnLaws.{sink-in, found-fits, findable, branch-placeable, came-full, came-failed, came-placed}
 use borrow.Author.Needs.{needs}
 use Rattle.multinet.proofs.growing.grow_sink.Statement.{statement}
@@ -10,11 +12,15 @@ use Rattle.multinet.proofs.growing.grow_sink.Tie as tie
 sink-at-requires : tie.Need-sink-at-requires
 sink-at-requires c κs = search needs
 
+-- the turn's sink is numbered below the most sinks
+sink-few : (c : tie.After-sink-at) → c .sink-at .result < maxSinks
+sink-few c = let pre = c .before .before .before .before .before .before .before .before .before .before .before .pre in omega (arith, sink-in (pre .sound) (pre .growing) (pre .count-is) _ (c .sink-at .ensures) (pre .turn-in), pre .sound .net .taps-in .few)
+
 mul-tap : tie.Need-mul-tap
-mul-tap c = let s = sink-in (c .before .before .before .before .before .before .before .before .before .before .before .pre .sound) (c .before .before .before .before .before .before .before .before .before .before .before .pre .growing) (c .before .before .before .before .before .before .before .before .before .before .before .pre .count-is) _ (c .sink-at .ensures) (c .before .before .before .before .before .before .before .before .before .before .before .pre .turn-in) in record { fits = omega (arith, s, c .before .before .before .before .before .before .before .before .before .before .before .pre .sound .net .taps-in .few) }
+mul-tap c = record { fits = omega (arith, sink-few c) }
 
 element-copy-out-tap : tie.Need-element-copy-out-tap
-element-copy-out-tap c = let s = sink-in (c .before .before .before .before .before .before .before .before .before .before .before .pre .sound) (c .before .before .before .before .before .before .before .before .before .before .before .pre .growing) (c .before .before .before .before .before .before .before .before .before .before .before .pre .count-is) _ (c .sink-at .ensures) (c .before .before .before .before .before .before .before .before .before .before .before .pre .turn-in) in omega (arith, s, c .before .before .before .before .before .before .before .before .before .before .before .pre .sound .net .taps-in .few)
+element-copy-out-tap c = sink-few c
 
 find-route-requires : tie.Need-find-route-requires
 find-route-requires c κs = findable (c .before .before .before .before .before .before .before .before .before .before .before .before .before .before .before .before .before .before .before .before .pre) _ (c .before .before .before .before .before .before .before .before .before .sink-at .ensures)
