@@ -4,12 +4,13 @@ use mathlib.Core.List.{List, [], _∷_, _++_, map}
 use Prim.Native.Nat.{ℕ, suc, _≤_, _<_}
 use native.Mathlib.Omega.{arith}
 use lib.Dec.{eqb}
-use lib.ListN.{length, getD, take, drop, length-map, length-replicate, take-append-drop, List·getD-map}
+use lib.ListN.{length, getD, take, drop, length-map, take-append-drop, List·getD-map}
 use lib.Seq.{getD-take, ext-getD}
 use Rattle.basics.specs.Lists.{any, joined}
+use Rattle.basics.specs.Zeros.{zeros-long}
 use Rattle.room.specs.declared.Room.{Room}
 use Rattle.room.specs.Room.{volume}
-use Rattle.routing_resources.specs.Marks.{markedBy, noMarks, AllCells, CellsBelow}
+use Rattle.routing_resources.specs.Marks.{markedBy, AllCells, CellsBelow}
 use Rattle.routing_resources.specs.MarkLaws.{with-length, with-or}
 use Rattle.ends.specs.declared.Tap.{Tap}
 use Rattle.ends.specs.declared.Taps.{Taps}
@@ -73,21 +74,18 @@ module _ {L : BranchLengths} {branches : List ℕ} {bs : List (List ℕ)} (H : B
 
 module _ {R : Room} {source : ℕ} {taps : Taps} {L : BranchLengths} {branches occupied repeaters forbidden links parents line : List ℕ}
     (F : Finishable R source taps L branches occupied repeaters forbidden links parents line) where
-  none-long : (marks : List ℕ) → marks ≡ noMarks (volume R) → length marks ≡ volume R
-  none-long marks e = rw e (length-replicate {A = ℕ} (volume R) 0)
-
   pub source-marked : source < length occupied
-  source-marked = rw (none-long occupied (F .occupied-clear)) (F .net .source-in)
+  source-marked = rw (zeros-long {n = volume R} (F .occupied-clear)) (F .net .source-in)
 
   pub used-fits : {used : ℕ} → used ≡ usedBy L → used ≤ length branches
   used-fits u = omega (arith, u, lengths-sum (F .bs) L (F .holds .lengths-are) (F .holds .count-is), F .holds .in-order .within)
 
   pub cells-occupied : {used n : ℕ} → used ≡ usedBy L → n ≡ length occupied → CellsBelow n (take used branches)
   cells-occupied u e =
-      rw (u, used-part (F .holds), e, none-long occupied (F .occupied-clear)) (all-below R (F .bs) (λ i h. F .cells-in i (omega (arith, F .holds .count-is))))
+      rw (u, used-part (F .holds), e, zeros-long {n = volume R} (F .occupied-clear)) (all-below R (F .bs) (λ i h. F .cells-in i (omega (arith, F .holds .count-is))))
 
   pub ends-in : EndsIn source taps forbidden
-  ends-in = record { room = R; net = F .net; long = none-long forbidden (F .forbidden-clear) }
+  ends-in = record { room = R; net = F .net; long = zeros-long (F .forbidden-clear) }
 
   pub placeable : {forbidden′ : List ℕ} → forbidden′ ≡ markedBy (isNetEnd source taps) forbidden → Placeable R source taps L branches forbidden′ repeaters links parents line
   placeable f = record {
@@ -98,7 +96,7 @@ module _ {R : Room} {source : ℕ} {taps : Taps} {L : BranchLengths} {branches o
       branched = record { whole = F .lengths-short .whole; few = F .few; within = used-fits refl };
       steps = rw (branches-back (F .holds)) (all-steps R (F .bs) (λ i h. F .steps i (omega (arith, F .holds .count-is))));
     };
-    forbidden-long = rw f (with-length 1 (isNetEnd source taps) forbidden ∙ none-long forbidden (F .forbidden-clear));
+    forbidden-long = rw f (with-length 1 (isNetEnd source taps) forbidden ∙ zeros-long (F .forbidden-clear));
     unmarked = F .repeaters-clear;
     links-long = F .links-long;
     parents-long = F .parents-long;

@@ -23,17 +23,17 @@ steps-by-place R (a ∷ []) f = tt {0}
 steps-by-place R (a ∷ (b ∷ rest)) f = (f 0 (omega arith), steps-by-place R (b ∷ rest) (λ i h. rw (suc-add i 1) at (f (suc i) (omega arith))))
 
 -- one step more at the end
-one-more : (R : Room) (xs : List ℕ) (u v : ℕ) → Steps R (xs ++ (u ∷ [])) → Step R u v → Steps R ((xs ++ (u ∷ [])) ++ (v ∷ []))
-one-more R [] u v s t = (t, tt {0})
-one-more R (a ∷ []) u v s t = (s .0, (t, tt {0}))
-one-more R (a ∷ (b ∷ xs)) u v s t = (s .0, one-more R (b ∷ xs) u v (s .1) t)
+step-at-end : (R : Room) (xs : List ℕ) (u v : ℕ) → Steps R (xs ++ (u ∷ [])) → Step R u v → Steps R ((xs ++ (u ∷ [])) ++ (v ∷ []))
+step-at-end R [] u v s t = (t, tt {0})
+step-at-end R (a ∷ []) u v s t = (s .0, (t, tt {0}))
+step-at-end R (a ∷ (b ∷ xs)) u v s t = (s .0, step-at-end R (b ∷ xs) u v (s .1) t)
 
 steps-reverse : {R : Room} → Good R → (l : List ℕ) → Steps R l → Steps R (reverse l)
 steps-reverse G [] s = tt {0}
 steps-reverse G (a ∷ []) s = tt {0}
 steps-reverse {R = R} G (a ∷ (b ∷ rest)) s =
     let r : Steps R (reverse rest ++ (b ∷ [])) = rw (reverse-cons b rest) at (steps-reverse G (b ∷ rest) (s .1)) in
-    rw (reverse-cons a (b ∷ rest), reverse-cons b rest) (one-more R (reverse rest) b a r (step-back (s .0) G))
+    rw (reverse-cons a (b ∷ rest), reverse-cons b rest) (step-at-end R (reverse rest) b a r (step-back (s .0) G))
 
 pub branch-steps : {R : Room} → Good R → (t : Tap) (rest : List ℕ) → Near R t → Steps R (t .approach ∷ rest) → Steps R (branchOf t (t .approach ∷ rest))
 unfolding branchOf
@@ -43,4 +43,4 @@ branch-steps {R = R} G t rest near s =
   where
     added : Near R t → Steps R (reverse (t .approach ∷ rest)) → (t .terminal ≡ t .approach → ⊥) → Steps R (reverse (t .approach ∷ rest) ++ (t .terminal ∷ []))
     added (inl e) r d = absurd (d e)
-    added (inr u) r d = rw (reverse-cons (t .approach) rest) (one-more R (reverse rest) (t .approach) (t .terminal) (rw (reverse-cons (t .approach) rest) at r) u)
+    added (inr u) r d = rw (reverse-cons (t .approach) rest) (step-at-end R (reverse rest) (t .approach) (t .terminal) (rw (reverse-cons (t .approach) rest) at r) u)
