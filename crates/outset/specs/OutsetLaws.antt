@@ -2,25 +2,42 @@
 use mathlib.Core.Path.{_≡_, refl, sym, ap, _∙_}
 use mathlib.Core.Bool.{Bool, true, false, not, _&&_, _||_}
 use mathlib.Core.List.{List}
-use Prim.Native.Nat.{ℕ}
+use Prim.Native.Nat.{ℕ, _<_}
 use lib.Dec.{eqb}
+use lib.ListN.{length, getD}
 use Rattle.basics.specs.Lists.{any}
 use Rattle.room.specs.declared.Room.{Room}
 use Rattle.room.specs.declared.Pos.{Pos}
 use Rattle.room.specs.declared.Neighbour.{Neighbour}
-use Rattle.room.specs.Room.{volume, cellOf, beneath}
+use Rattle.room.specs.Room.{Within, volume, cellOf, beneath}
+use Rattle.room.specs.RoomLaws.{cell-in}
 use Rattle.room.specs.Units.{repeater, ahead}
 use Rattle.routing_resources.specs.Marks.{withByte, markedBy, unmarkedBy, noMarks, isCell}
 use Rattle.routing_resources.specs.MarkLaws.{with-none, with-same, with-or, taken-out}
 use Rattle.routing_resources.specs.Resources.{inKeepout}
 use Rattle.job_sheet.specs.declared.Block.{Block}
 use Rattle.job_sheet.specs.declared.Job.{Job}
+use Rattle.job_sheet.specs.declared.Part.{Part}
 use Rattle.job_sheet.specs.Sheet.{Contents}
-use Rattle.job_sheet.specs.Places.{positionsIn, blocksIn}
+use Rattle.job_sheet.specs.Places.{noPosition, positionsIn, blocksIn}
 use Rattle.ends.specs.declared.Tap.{Tap}
 use Rattle.ends.specs.declared.Taps.{Taps}
 use Rattle.ends.specs.Ends.{tapsIn}
-use Rattle.outset.specs.Outset.{standsAt, nearConductor, blockedBy, powers, solidOf, outputKeepout, blockKeepout, atOrBeneath, tapCell, ownCell, blockedAtOutset, OutsetReady, OutsetMarked}
+use Rattle.outset.specs.Outset.{standsAt, nearConductor, blockedBy, powers, solidOf, outputKeepout, blockKeepout, atOrBeneath, tapCell, ownCell, blockedAtOutset, PositionsListed, Sized, OutsetReady, OutsetMarked}
+
+-- ---- what the functions ask of their parameters
+
+-- other marks, as long
+pub sized-still : {R : Room} {kinds nodes marks marks′ : List ℕ} → Sized R kinds nodes marks → length marks′ ≡ length marks → Sized R kinds nodes marks′
+sized-still S e = record { good = S .good; kinds-long = S .kinds-long; nodes-long = S .nodes-long; long = e ∙ S .long }
+
+-- a list's position is within the room, and its cell is in the room
+module _ {sheet : List ℕ} {R : Room} {p : Part} {marks : List ℕ} (L : PositionsListed sheet R p marks) (i : ℕ) (h : i < p .count) (q : Pos) (e : q ≡ getD (positionsIn sheet p) i noPosition) where
+  pub listed-within : Within R q
+  listed-within = rw e (L .list .within i h)
+
+  pub listed-in : (cell : ℕ) → cell ≡ cellOf R q → cell < volume R
+  listed-in cell f = rw f (cell-in R q listed-within)
 
 -- ---- the keepout that a block asks for
 

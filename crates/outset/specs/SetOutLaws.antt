@@ -3,10 +3,11 @@ use mathlib.Core.Path.{_≡_, refl, sym, ap, _∙_}
 use mathlib.Core.Bool.{true, false}
 use mathlib.Core.List.{List}
 use Prim.Native.Nat.{ℕ}
-use lib.ListN.{length, length-replicate}
+use lib.ListN.{length}
 use lib.Seq.{take-append-seam}
 use Rattle.basics.specs.Tests.{never}
 use Rattle.basics.specs.Promises.{Determines}
+use Rattle.basics.specs.Zeros.{zeros-long}
 use Rattle.room.specs.declared.Room.{Room}
 use Rattle.room.specs.Room.{Good, Within, volume}
 use Rattle.routing_resources.specs.Marks.{noMarks}
@@ -45,18 +46,18 @@ same-ends p q r = λ i. endsOf (p i) (q i) (r i)
 -- ---- what may be handed on
 
 module _ {sheet : List ℕ} {job : Job} (A : Accepted sheet job) where
-  abbrev told : Contents
-  told = A .contents
+  abbrev pub contents-of : Contents
+  contents-of = A .contents
 
-  use-of : Usable sheet job told
+  pub use-of : Usable sheet job contents-of
   use-of = usable sheet job A
 
-  sinks-are : job .sinks ≡ sinksOf (told .sinks)
+  sinks-are : job .sinks ≡ sinksOf (contents-of .sinks)
   unfolding jobOf
   sinks-are = ap (λ j. j .sinks) (A .is)
 
-  pub sinks-in : sinksIn (job .sinks) ≡ told .sinks
-  sinks-in = ap sinksIn sinks-are ∙ take-append-seam (told .sinks) _
+  pub sinks-in : sinksIn (job .sinks) ≡ contents-of .sinks
+  sinks-in = ap sinksIn sinks-are ∙ take-append-seam (contents-of .sinks) _
 
   pub good-room : Good (job .room)
   good-room = use-of .room-good
@@ -79,17 +80,17 @@ module _ {sheet : List ℕ} {job : Job} (A : Accepted sheet job) where
       rw ends-are (net-in (job .source) source-within sinks-within good)
 
   -- what is set out for the accepted contents is set out for all that the sheet means
-  told-alone : {r : Outset} {kinds nodes blocked : List ℕ} → OutsetOf told r kinds nodes blocked → SetOut sheet r kinds nodes blocked
-  told-alone O = record { is = λ J m. rw (one-meaning sheet J told m (A .means)) O }
+  contents-alone : {r : Outset} {kinds nodes blocked : List ℕ} → OutsetOf contents-of r kinds nodes blocked → SetOut sheet r kinds nodes blocked
+  contents-alone O = record { is = λ J m. rw (one-meaning sheet J contents-of m (A .means)) O }
 
   module _ {kinds nodes : List ℕ} {p : Placement} {e : Ends}
       (laid : BlocksLaid (job .room) (blocksIn sheet (job .blocks)) kinds nodes p)
       (ends-are : e ≡ endsOf (job .room) (job .source) (sinksIn (job .sinks))) where
-    laid-told : BlocksLaid (told .room) (told .blocks) kinds nodes p
-    laid-told = rw (use-of .room-is) at (blocks-laid-for (use-of .blocks) laid)
+    contents-laid : BlocksLaid (contents-of .room) (contents-of .blocks) kinds nodes p
+    contents-laid = rw (use-of .room-is) at (blocks-laid-for (use-of .blocks) laid)
 
-    ends-told : e ≡ endsOf (told .room) (told .source) (told .sinks)
-    ends-told = ends-are ∙ same-ends (use-of .room-is) (use-of .source-is) sinks-in
+    contents-ends : e ≡ endsOf (contents-of .room) (contents-of .source) (contents-of .sinks)
+    contents-ends = ends-are ∙ same-ends (use-of .room-is) (use-of .source-is) sinks-in
 
     module _ (r : readyBy p (e .fault) ≡ true) where
       placed : BlocksLaid (job .room) (blocksIn sheet (job .blocks)) kinds nodes Placement.Placed
@@ -97,13 +98,13 @@ module _ {sheet : List ℕ} {job : Job} (A : Accepted sheet job) where
 
       pub outset-ready : {marks : List ℕ} → marks ≡ noMarks (volume (job .room)) → OutsetReady sheet job (e .source) (e .taps) kinds nodes marks
       outset-ready m = record {
-        contents = told;
+        contents = contents-of;
         usable = use-of;
         sized = record {
           good = good-room;
           kinds-long = ap length (placed .kinds-are) ∙ tabulated-long _ _;
           nodes-long = ap length (placed .nodes-are) ∙ tabulated-long _ _;
-          long = ap length m ∙ length-replicate (volume (job .room)) 0;
+          long = zeros-long m;
         };
         net = good-ends p ends-are r;
         clear = m;
@@ -112,16 +113,16 @@ module _ {sheet : List ℕ} {job : Job} (A : Accepted sheet job) where
       pub set-out-ready : {blocked : List ℕ} → OutsetMarked sheet job (e .source) (e .taps) kinds nodes blocked
           → SetOut sheet (record { placement = p; ends = e }) kinds nodes blocked
       set-out-ready {blocked = blocked} M =
-          let told-placed : BlocksLaid (told .room) (told .blocks) kinds nodes Placement.Placed = rw (ready-placed p (e .fault) r) at laid-told in
-          let here : blocked ≡ blockedAtOutset (kindsOf (told .room) (told .blocks)) (nodesOf (told .room) (told .blocks)) told (e .source) (e .taps) =
-          M .is told use-of ∙ rw (told-placed .kinds-are, told-placed .nodes-are) refl in
-          told-alone record { laid = laid-told; ends-are = ends-told; blocked-are = rw r here }
+          let contents-placed : BlocksLaid (contents-of .room) (contents-of .blocks) kinds nodes Placement.Placed = rw (ready-placed p (e .fault) r) at contents-laid in
+          let here : blocked ≡ blockedAtOutset (kindsOf (contents-of .room) (contents-of .blocks)) (nodesOf (contents-of .room) (contents-of .blocks)) contents-of (e .source) (e .taps) =
+          M .is contents-of use-of ∙ rw (contents-placed .kinds-are, contents-placed .nodes-are) refl in
+          contents-alone record { laid = contents-laid; ends-are = contents-ends; blocked-are = rw r here }
 
     pub set-out-refused : readyBy p (e .fault) ≡ false → {blocked : List ℕ} → blocked ≡ noMarks (volume (job .room))
         → SetOut sheet (record { placement = p; ends = e }) kinds nodes blocked
     set-out-refused r {blocked = blocked} m =
-        let here : blocked ≡ noMarks (volume (told .room)) = rw (use-of .room-is) at m in
-        told-alone record { laid = laid-told; ends-are = ends-told; blocked-are = rw r here }
+        let here : blocked ≡ noMarks (volume (contents-of .room)) = rw (use-of .room-is) at m in
+        contents-alone record { laid = contents-laid; ends-are = contents-ends; blocked-are = rw r here }
 
 -- ---- it leaves no choice
 

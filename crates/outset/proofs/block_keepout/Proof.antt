@@ -15,7 +15,9 @@ powers-requires : tie.Need-powers-requires
 powers-requires c κs = search needs
 
 electrical-keepout-for-wire-requires : tie.Need-electrical-keepout-for-wire-requires
-electrical-keepout-for-wire-requires c κs = (c .before .before .before .before .before .before .before .pre .0 .good, (rw (c .before .before .before .cell .ensures) (cell-in _ _ (c .before .before .before .before .before .before .before .pre .1)), c .before .before .before .before .before .before .before .pre .0 .long))
+electrical-keepout-for-wire-requires c κs =
+    let pre = c .before .before .before .before .before .before .before .pre in
+    (pre .0 .good, (rw (c .before .before .before .cell .ensures) (cell-in _ _ (pre .1)), pre .0 .long))
 
 same-length : tie.Need-same-length
 same-length c = c .before .before .electrical-keepout-for-wire .kept .1 .0

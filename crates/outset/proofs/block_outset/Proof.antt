@@ -1,7 +1,7 @@
 -- `block_outset` meets its contract: list by list, then the net's own cells are taken out.
 use mathlib.Core.Path.{_∙_}
 use Rattle.blocks.specs.BlockLaws.{own-list}
-use Rattle.outset.specs.OutsetLaws.{outset-marked}
+use Rattle.outset.specs.OutsetLaws.{sized-still, outset-marked}
 use borrow.Author.Needs.{needs}
 use Rattle.outset.proofs.block_outset.Statement.{statement}
 use Rattle.outset.proofs.block_outset.Tie as tie
@@ -21,10 +21,12 @@ mark-positions-requires-3 c κs = search needs
 cell-source-keepout-requires : tie.Need-cell-source-keepout-requires
 cell-source-keepout-requires c κs =
     let start = c .before .before .before .before .before .before .before .before .before .before .before .before .before .before .before .before .before .before .before .before .before .before .pre in
-    (record { good = start .sized .good; kinds-long = start .sized .kinds-long; nodes-long = start .sized .nodes-long; long = c .before .before .before .mark-positions3 .kept .1 .1 .1 .0 ∙ c .before .before .before .before .before .before .before .mark-positions2 .kept .1 .1 .1 .0 ∙ c .before .before .before .before .before .before .before .before .before .before .before .mark-positions .kept .1 .1 .1 .0 ∙ c .before .before .before .before .before .before .before .before .before .before .before .before .before .before .before .mark-conductors .kept .1 .1 .1 .0 ∙ start .sized .long }, own-list (start .usable .blocks))
+    (sized-still (start .sized) (c .before .before .before .mark-positions3 .kept .1 .1 .1 .0 ∙ c .before .before .before .before .before .before .before .mark-positions2 .kept .1 .1 .1 .0 ∙ c .before .before .before .before .before .before .before .before .before .before .before .mark-positions .kept .1 .1 .1 .0 ∙ c .before .before .before .before .before .before .before .before .before .before .before .before .before .before .before .mark-conductors .kept .1 .1 .1 .0), own-list (start .usable .blocks))
 
 take-out-ends-requires : tie.Need-take-out-ends-requires
-take-out-ends-requires c κs = (c .before .before .before .before .before .before .before .before .before .before .before .before .before .before .before .before .before .before .before .before .before .before .before .before .before .before .pre .sized .good, (c .before .before .before .before .before .before .before .before .before .before .before .before .before .before .before .before .before .before .before .before .before .before .before .before .before .before .pre .net, c .before .before .before .cell-source-keepout .kept .1 .1 .1 .1 .1 .0 ∙ c .before .before .before .before .before .before .before .mark-positions3 .kept .1 .1 .1 .0 ∙ c .before .before .before .before .before .before .before .before .before .before .before .mark-positions2 .kept .1 .1 .1 .0 ∙ c .before .before .before .before .before .before .before .before .before .before .before .before .before .before .before .mark-positions .kept .1 .1 .1 .0 ∙ c .before .before .before .before .before .before .before .before .before .before .before .before .before .before .before .before .before .before .before .mark-conductors .kept .1 .1 .1 .0 ∙ c .before .before .before .before .before .before .before .before .before .before .before .before .before .before .before .before .before .before .before .before .before .before .before .before .before .before .pre .sized .long))
+take-out-ends-requires c κs =
+    let start = c .before .before .before .before .before .before .before .before .before .before .before .before .before .before .before .before .before .before .before .before .before .before .before .before .before .before .pre in
+    (start .sized .good, (start .net, c .before .before .before .cell-source-keepout .kept .1 .1 .1 .1 .1 .0 ∙ c .before .before .before .before .before .before .before .mark-positions3 .kept .1 .1 .1 .0 ∙ c .before .before .before .before .before .before .before .before .before .before .before .mark-positions2 .kept .1 .1 .1 .0 ∙ c .before .before .before .before .before .before .before .before .before .before .before .before .before .before .before .mark-positions .kept .1 .1 .1 .0 ∙ c .before .before .before .before .before .before .before .before .before .before .before .before .before .before .before .before .before .before .before .mark-conductors .kept .1 .1 .1 .0 ∙ start .sized .long))
 
 same-length : tie.Need-same-length
 same-length c = search needs

@@ -1,32 +1,35 @@
 -- `mark_positions` meets its contract: each round marks the cell of one position.
-use Prim.Native.Nat.{_≤_, _-_}
-use native.Mathlib.Omega.{arith}
-use Rattle.room.specs.RoomLaws.{cell-in}
+use Prim.Native.Nat.{_-_}
 use Rattle.routing_resources.specs.MarkLaws.{MarkedSoFar, marking-none, restOf, marking-on, marking-all}
 use Rattle.job_sheet.specs.Places.{noPosition, positionsIn}
 use Rattle.outset.specs.Outset.{standsAt}
+use Rattle.outset.specs.OutsetLaws.{listed-within, listed-in}
 use borrow.Author.Needs.{needs}
 use Rattle.outset.proofs.mark_positions.Statement.{statement}
 use Rattle.job_sheet.specs.RecordLaws.{positions-long}
 use Rattle.outset.proofs.mark_positions.Tie as tie
 
 abbrev Inv-loop : tie.InvT-loop
-Inv-loop sheet part room marks₀ i₀ marks i = (i ≤ part .count) × MarkedSoFar 1 (restOf (standsAt room) (positionsIn sheet part)) marks₀ marks i
+Inv-loop sheet part room marks₀ i₀ marks i = MarkedSoFar 1 (restOf (standsAt room) (positionsIn sheet part)) marks₀ marks i
 
 abbrev μ-loop : tie.MeasureT-loop
 μ-loop sheet part room marks₀ i₀ marks i = part .count - i
 
 loop-holds : tie.Need-loop-holds Inv-loop μ-loop
-loop-holds c = (omega arith, marking-none _ _ _)
+loop-holds c = marking-none _ _ _
 
 position-at-requires : tie.Need-position-at-requires Inv-loop μ-loop
 position-at-requires c κs = (c .if1 .taken, c .before .before .before .before .before .pre .list .inside)
 
 cell-requires : tie.Need-cell-requires Inv-loop μ-loop
-cell-requires c κs = (c .before .before .before .before .before .before .before .pre .good, rw (c .before .position-at .ensures) (c .before .before .before .before .before .before .before .pre .list .within _ (c .before .before .if1 .taken)))
+cell-requires c κs =
+    let pre = c .before .before .before .before .before .before .before .pre in
+    (pre .good, listed-within pre _ (c .before .before .if1 .taken) _ (c .before .position-at .ensures))
 
 mark-requires : tie.Need-mark-requires Inv-loop μ-loop
-mark-requires c κs = rw (c .before .before .before .before .before .loop .inv .1 .long, c .before .before .before .before .before .before .before .before .pre .long) (rw (c .cell .ensures) (cell-in _ _ (rw (c .before .before .position-at .ensures) (c .before .before .before .before .before .before .before .before .pre .list .within _ (c .before .before .before .if1 .taken)))))
+mark-requires c κs =
+    let pre = c .before .before .before .before .before .before .before .before .pre in
+    rw (c .before .before .before .before .before .loop .inv .long, pre .long) (listed-in pre _ (c .before .before .before .if1 .taken) _ (c .before .before .position-at .ensures) _ (c .cell .ensures))
 
 add-i : tie.Need-add-i Inv-loop μ-loop
 add-i c = search needs
@@ -35,13 +38,13 @@ loop-less : tie.Need-loop-less Inv-loop μ-loop
 loop-less c = search needs
 
 loop-again : tie.Need-loop-again Inv-loop μ-loop
-loop-again c = (omega (arith, c .before .before .before .before .before .before .if1 .taken), marking-on (standsAt _) _ (c .before .before .before .before .before .before .before .before .loop .inv .1) noPosition _ (c .before .before .before .before .before .position-at .ensures) (rw (positions-long _ _) (c .before .before .before .before .before .before .if1 .taken)) (rw (c .before .before .before .cell .ensures) at (c .before .before .mark .ensures)))
+loop-again c = marking-on (standsAt _) _ (c .before .before .before .before .before .before .before .before .loop .inv) noPosition _ (c .before .before .before .before .before .position-at .ensures) (rw (positions-long _ _) (c .before .before .before .before .before .before .if1 .taken)) (rw (c .before .before .before .cell .ensures) at (c .before .before .mark .ensures))
 
 same-length : tie.Need-same-length Inv-loop μ-loop
-same-length c = c .before .before .loop .inv .1 .long
+same-length c = c .before .before .loop .inv .long
 
 returns : tie.Need-returns Inv-loop μ-loop
-returns c = marking-all (standsAt _) _ (c .before .before .loop .inv .1) (rw (positions-long _ _) (c .if1 .left))
+returns c = marking-all (standsAt _) _ (c .before .before .loop .inv) (rw (positions-long _ _) (c .if1 .left))
 
 pub mark-positions-spec : {M : Type 1} → statement M
 mark-positions-spec =

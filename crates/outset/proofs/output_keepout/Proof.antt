@@ -9,10 +9,14 @@ enum-known-output : tie.Need-enum-known-output
 enum-known-output c = search needs
 
 solid-of-requires : tie.Need-solid-of-requires
-solid-of-requires c κs = (rw (c .before .before .before .before .before .before .pre .sized .kinds-long) (c .before .before .before .before .before .before .pre .output-in _ (c .before .output .given .1)), rw (c .before .before .before .before .before .before .pre .sized .nodes-long) (c .before .before .before .before .before .before .pre .output-in _ (c .before .output .given .1)))
+solid-of-requires c κs =
+    let pre = c .before .before .before .before .before .before .pre in
+    (rw (pre .sized .kinds-long) (pre .output-in _ (c .before .output .given .1)), rw (pre .sized .nodes-long) (pre .output-in _ (c .before .output .given .1)))
 
 electrical-keepout-for-wire-requires : tie.Need-electrical-keepout-for-wire-requires
-electrical-keepout-for-wire-requires c κs = (c .before .before .before .before .before .before .before .before .before .pre .sized .good, (c .before .before .before .before .before .before .before .before .before .pre .output-in _ (c .before .before .before .before .output .given .1), c .before .before .before .before .before .before .before .before .before .pre .sized .long))
+electrical-keepout-for-wire-requires c κs =
+    let pre = c .before .before .before .before .before .before .before .before .before .pre in
+    (pre .sized .good, (pre .output-in _ (c .before .before .before .before .output .given .1), pre .sized .long))
 
 enum-told : tie.Need-enum-told
 enum-told c = search needs

@@ -16,16 +16,22 @@ clear-bytes-requires-2 : tie.Need-clear-bytes-requires-2
 clear-bytes-requires-2 c κs = search needs
 
 place-blocks-requires : tie.Need-place-blocks-requires
-place-blocks-requires c κs = (good-room (c .before .before .before .before .before .before .before .before .before .before .before .before .before .before .before .before .before .before .pre .accepted), (block-list (c .before .before .before .before .before .before .before .before .before .before .before .before .before .before .before .before .before .before .pre .accepted), (cleared-to (c .before .before .before .before .before .before .before .before .before .before .before .before .before .before .before .before .before .before .pre .kinds-long) (c .before .before .before .before .before .before .before .before .before .before .before .before .clear-bytes .ensures), cleared-to (c .before .before .before .before .before .before .before .before .before .before .before .before .before .before .before .before .before .before .pre .nodes-long) (c .before .before .before .before .before .before .before .before .clear-words .ensures))))
+place-blocks-requires c κs =
+    let pre = c .before .before .before .before .before .before .before .before .before .before .before .before .before .before .before .before .before .before .pre in
+    (good-room (pre .accepted), (block-list (pre .accepted), (cleared-to (pre .kinds-long) (c .before .before .before .before .before .before .before .before .before .before .before .before .clear-bytes .ensures), cleared-to (pre .nodes-long) (c .before .before .before .before .before .before .before .before .clear-words .ensures))))
 
 realize-ends-requires : tie.Need-realize-ends-requires
-realize-ends-requires c κs = (good-room (c .before .before .before .before .before .before .before .before .before .before .before .before .before .before .before .before .before .before .before .before .before .before .before .pre .accepted), (source-within (c .before .before .before .before .before .before .before .before .before .before .before .before .before .before .before .before .before .before .before .before .before .before .before .pre .accepted), sinks-within (c .before .before .before .before .before .before .before .before .before .before .before .before .before .before .before .before .before .before .before .before .before .before .before .pre .accepted)))
+realize-ends-requires c κs =
+    let accepted = c .before .before .before .before .before .before .before .before .before .before .before .before .before .before .before .before .before .before .before .before .before .before .before .pre .accepted in
+    (good-room accepted, (source-within accepted, sinks-within accepted))
 
 ready-by-requires : tie.Need-ready-by-requires
 ready-by-requires c κs = search needs
 
 block-outset-requires : tie.Need-block-outset-requires
-block-outset-requires c κs = outset-ready (c .before .before .before .before .before .before .before .before .before .before .before .before .before .before .before .before .before .before .before .before .before .before .before .before .before .before .before .before .before .pre .accepted) (c .before .before .before .before .before .before .before .before .before .before .place-blocks .ensures) (c .before .before .before .before .before .realize-ends .ensures) (sym (c .before .before .before .before .ready-by .ensures) ∙ c .before .before .before .if1 .taken) (cleared-to (c .before .before .before .before .before .before .before .before .before .before .before .before .before .before .before .before .before .before .before .before .before .before .before .before .before .before .before .before .before .pre .blocked-long) (c .before .before .before .before .before .before .before .before .before .before .before .before .before .before .before .clear-bytes2 .ensures))
+block-outset-requires c κs =
+    let pre = c .before .before .before .before .before .before .before .before .before .before .before .before .before .before .before .before .before .before .before .before .before .before .before .before .before .before .before .before .before .pre in
+    outset-ready (pre .accepted) (c .before .before .before .before .before .before .before .before .before .before .place-blocks .ensures) (c .before .before .before .before .before .realize-ends .ensures) (sym (c .before .before .before .before .ready-by .ensures) ∙ c .before .before .before .if1 .taken) (cleared-to (pre .blocked-long) (c .before .before .before .before .before .before .before .before .before .before .before .before .before .before .before .clear-bytes2 .ensures))
 
 same-length : tie.Need-same-length
 same-length c = c .before .before .before .before .before .before .before .before .before .before .before .before .before .place-blocks .kept .1 .1 .1 .0 ∙ c .before .before .before .before .before .before .before .before .before .before .before .before .before .before .before .before .before .before .before .before .before .before .before .before .before .before .clear-bytes .kept .0
@@ -49,7 +55,9 @@ same-length-6 : tie.Need-same-length-6
 same-length-6 c = c .before .before .before .before .before .before .before .before .before .before .before .before .clear-bytes2 .kept .0
 
 returns-2 : tie.Need-returns-2
-returns-2 c = set-out-refused (c .before .before .before .before .before .before .before .before .before .before .before .before .before .before .before .before .before .before .before .before .before .before .before .before .before .before .pre .accepted) (c .before .before .before .before .before .before .before .place-blocks .ensures) (c .before .before .realize-ends .ensures) (sym (c .before .ready-by .ensures) ∙ c .if1 .left) (cleared-to (c .before .before .before .before .before .before .before .before .before .before .before .before .before .before .before .before .before .before .before .before .before .before .before .before .before .before .pre .blocked-long) (c .before .before .before .before .before .before .before .before .before .before .before .before .clear-bytes2 .ensures))
+returns-2 c =
+    let pre = c .before .before .before .before .before .before .before .before .before .before .before .before .before .before .before .before .before .before .before .before .before .before .before .before .before .before .pre in
+    set-out-refused (pre .accepted) (c .before .before .before .before .before .before .before .place-blocks .ensures) (c .before .before .realize-ends .ensures) (sym (c .before .ready-by .ensures) ∙ c .if1 .left) (cleared-to (pre .blocked-long) (c .before .before .before .before .before .before .before .before .before .before .before .before .clear-bytes2 .ensures))
 
 pub set-out-spec : {M : Type 1} → statement M
 set-out-spec =
