@@ -12,8 +12,8 @@ use Rattle.routing_resources.specs.MarkLaws.{with-length, marks-none, marks-wit
 use Rattle.job_sheet.specs.declared.Job.{Job}
 use Rattle.job_sheet.specs.declared.Judgement.the-variants.{Good}
 use Rattle.job_sheet.specs.Sheet.{Contents, Means, judged, jobOf}
-use Rattle.job_sheet.specs.Accepted.{Accepted, Usable}
-use Rattle.job_sheet.specs.Theorems.{one-meaning, usable}
+use Rattle.job_sheet.specs.Accepted.{Accepted}
+use Rattle.job_sheet.specs.Theorems.{one-meaning}
 use Rattle.blocks.specs.declared.Placement.{Placement}
 use Rattle.blocks.specs.Blocks.{kindsOf, nodesOf, BlocksLaid}
 use Rattle.blocks.specs.BlockLaws.{tabulated-long}
@@ -23,7 +23,7 @@ use Rattle.ends.specs.EndLaws.{sinks-long}
 use Rattle.outset.specs.declared.Outset.{Outset}
 use Rattle.outset.specs.Outset.{blockedAtOutset}
 use Rattle.outset.specs.SetOut.{readyBy, ready, numberBy, detailBy, OutsetAsked, OutsetOf, SetOut}
-use Rattle.outset.specs.SetOutLaws.{ready-placed, same-ends, sinks-in, good-room, sinks-within, good-ends}
+use Rattle.outset.specs.SetOutLaws.{ready-placed, same-ends, contents-of, use-of, sinks-in, good-room, sinks-within, good-ends}
 use Rattle.room_search.specs.Routing.{placesIn}
 use Rattle.multinet.specs.Tree.{Plot, growthOf}
 use Rattle.multinet.specs.Growing.{Near, SoundPlot}
@@ -46,23 +46,17 @@ late Placement.Placed (Fault.Outside place) e = omega arith
 
 module _ {sheet : List ℕ} {job : Job} (A : Accepted sheet job) {O : Outset} {kinds nodes blocked : List ℕ} (S : OutsetOf (A .contents) O kinds nodes blocked)
     (r : ready O ≡ true) where
-  abbrev told : Contents
-  told = A .contents
-
-  use-of : Usable sheet job told
-  use-of = usable sheet job A
-
-  placed : BlocksLaid (told .room) (told .blocks) kinds nodes Placement.Placed
+  placed : BlocksLaid (contents-of A .room) (contents-of A .blocks) kinds nodes Placement.Placed
   placed = rw (ready-placed (O .placement) (O .ends .fault) r) at (S .laid)
 
   kinds-long : length kinds ≡ volume (job .room)
-  kinds-long = ap length (placed .kinds-are) ∙ tabulated-long _ _ ∙ ap volume (sym (use-of .room-is))
+  kinds-long = ap length (placed .kinds-are) ∙ tabulated-long _ _ ∙ ap volume (sym (use-of A .room-is))
 
   nodes-long : length nodes ≡ volume (job .room)
-  nodes-long = ap length (placed .nodes-are) ∙ tabulated-long _ _ ∙ ap volume (sym (use-of .room-is))
+  nodes-long = ap length (placed .nodes-are) ∙ tabulated-long _ _ ∙ ap volume (sym (use-of A .room-is))
 
   ends-are : O .ends ≡ endsOf (job .room) (job .source) (sinksIn (job .sinks))
-  ends-are = S .ends-are ∙ same-ends (sym (use-of .room-is)) (sym (use-of .source-is)) (sym (sinks-in A))
+  ends-are = S .ends-are ∙ same-ends (sym (use-of A .room-is)) (sym (use-of A .source-is)) (sym (sinks-in A))
 
   sinks-count : O .ends .taps .count ≡ job .sinks .count
   unfolding endsOf
@@ -74,16 +68,16 @@ module _ {sheet : List ℕ} {job : Job} (A : Accepted sheet job) {O : Outset} {k
       let n : k < job .sinks .count = omega (arith, h, sinks-count) in
       rw ends-are (taps-near (good-room A) (sinks-within A) k n)
 
-  blocked-are : blocked ≡ blockedAtOutset (kindsOf (told .room) (told .blocks)) (nodesOf (told .room) (told .blocks)) told (O .ends .source) (O .ends .taps)
+  blocked-are : blocked ≡ blockedAtOutset (kindsOf (contents-of A .room) (contents-of A .blocks)) (nodesOf (contents-of A .room) (contents-of A .blocks)) (contents-of A) (O .ends .source) (O .ends .taps)
   blocked-are = rw r at (S .blocked-are)
 
   blocked-long : length blocked ≡ volume (job .room)
   unfolding blockedAtOutset
-  blocked-long = ap length blocked-are ∙ with-length 1 _ (noMarks (volume (told .room))) ∙ length-replicate {A = ℕ} (volume (told .room)) 0 ∙ ap volume (sym (use-of .room-is))
+  blocked-long = ap length blocked-are ∙ with-length 1 _ (noMarks (volume (contents-of A .room))) ∙ length-replicate {A = ℕ} (volume (contents-of A .room)) 0 ∙ ap volume (sym (use-of A .room-is))
 
   blocked-marks : Marks blocked
   unfolding blockedAtOutset
-  blocked-marks = rw blocked-are (marks-with 1 (omega arith) _ _ (marks-none (volume (told .room))))
+  blocked-marks = rw blocked-are (marks-with 1 (omega arith) _ _ (marks-none (volume (contents-of A .room))))
 
   module _ (L : Lengths) where
     -- the plot, as the job has it
@@ -98,10 +92,10 @@ module _ {sheet : List ℕ} {job : Job} (A : Accepted sheet job) {O : Outset} {k
       taps = O .ends .taps;
     }
 
-    same-plot : plotFor told L O kinds ≡ jobPlot
+    same-plot : plotFor (contents-of A) L O kinds ≡ jobPlot
     same-plot = λ i. record {
-      room = sym (use-of .room-is) i;
-      config = sym (use-of .config-is) i;
+      room = sym (use-of A .room-is) i;
+      config = sym (use-of A .config-is) i;
       kinds = kinds;
       places = placesIn (L .queue);
       buffer = L .branches;
@@ -110,11 +104,11 @@ module _ {sheet : List ℕ} {job : Job} (A : Accepted sheet job) {O : Outset} {k
     }
 
     job-sound : 0 < placesIn (L .queue) → SoundPlot jobPlot
-    job-sound h = record { good = good-room A; config-good = use-of .config-good; kinds-long = kinds-long; places-some = h; net = good-ends A (O .placement) ends-are r; near = near }
+    job-sound h = record { good = good-room A; config-good = use-of A .config-good; kinds-long = kinds-long; places-some = h; net = good-ends A (O .placement) ends-are r; near = near }
 
-    told-outcome : jobOutcome told L O kinds blocked ≡ outcomeOf jobPlot (growthOf jobPlot blocked)
+    contents-outcome : jobOutcome (contents-of A) L O kinds blocked ≡ outcomeOf jobPlot (growthOf jobPlot blocked)
     unfolding jobOutcome
-    told-outcome = rw r (ap (λ Q. outcomeOf Q (growthOf Q blocked)) same-plot)
+    contents-outcome = rw r (ap (λ Q. outcomeOf Q (growthOf Q blocked)) same-plot)
 
 -- a plot over which a tree grows is sound
 pub plot-sound : {sheet : List ℕ} (J : Contents) → Means sheet J → judged J ≡ Good → (L : Lengths) → buffersGood (J .room) L ≡ true
@@ -181,7 +175,7 @@ module _ {sheet : List ℕ} {job : Job} {B : Lent} (A : Routable sheet job B) wh
         outcome = outcomeOf P (growthOf P blocked);
         is-set = S .is;
         comes = λ J m. sym (ap (λ K. jobOutcome K (lengthsOf B) O kinds blocked) (one-meaning sheet J (A .accepted .contents) m (A .accepted .means))
-            ∙ told-outcome (A .accepted) set-for r (lengthsOf B));
+            ∙ contents-outcome (A .accepted) set-for r (lengthsOf B));
         answer = T .answer;
         outputs = T .outputs;
       }
