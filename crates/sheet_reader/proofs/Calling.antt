@@ -24,7 +24,7 @@ use denote.Builtin.{u8, usize}
 use denote.Exit.{yes}
 use denote.Ref.{RefT, now}
 use denote.Signature.{Slot, plain, namedLft, typesAt}
-use denote.Slice.{slice-vals, ShrSlice}
+use denote.Slice.{sliceVal, slice-vals, ShrSlice}
 use denote.Steps.{peeks, heard, owned}
 use denote.Struct.Declared.{Declared}
 use denote.Struct.Laws as LL
@@ -37,8 +37,8 @@ use denote.Triple.Statement.{Contract, Triple}
 use denote.Triple.Call.{calls-at}
 use Rattle.sheet_reader.specs.Reader.{Stands}
 use Rattle.sheet_reader.specs.declared.Reader.{Reader}
-use Rattle.sheet_reader.proofs.Reader as T
-use Rattle.sheet_reader.proofs.Reader.Laws as T′
+use Rattle.sheet_reader.proofs.Reader as Reader′
+use Rattle.sheet_reader.proofs.Reader.Laws as ReaderLaws
 
 -- ---- a function at n lifetimes that takes and gives what has no `&mut`
 
@@ -147,17 +147,17 @@ Token 𝓤 A κ q = Tokens 𝓤 A 1 (κ, tt) (q, tt)
 
 -- the struct's type at a lifetime, with its laws
 abbrev pub type-at : Lft → Declared
-type-at κ = T.the-type (namedLft 1 0 tt (κ, tt))
+type-at κ = Reader′.the-type (namedLft 1 0 tt (κ, tt))
 
 abbrev pub laws-at : (κ : Lft) → LL.Laws (type-at κ)
-laws-at κ = T′.the-laws (namedLft 1 0 tt (κ, tt))
+laws-at κ = ReaderLaws.the-laws (namedLft 1 0 tt (κ, tt))
 
 -- a reader as a parameter or a result, and what one owns
 abbrev pub reader : Slot 1
-reader = plain (λ κs. T.the-row (namedLft 1 0 tt κs))
+reader = plain (λ κs. Reader′.the-row (namedLft 1 0 tt κs))
 
 abbrev pub Held : Lft → Reader → Fml
-Held κ h = reader .row (κ, tt) .own h (T′.lowered h ∷ [])
+Held κ h = reader .row (κ, tt) .own h (ReaderLaws.lowered h ∷ [])
 
 -- a reader that has gone to another place
 abbrev pub gone : Reader → ℕ → Reader
@@ -165,25 +165,29 @@ gone h n = record { sheet = h .sheet; place = n }
 
 -- what can be known of a reader's machine value
 abbrev pub LawfulReader : Lft → Reader → Type 0
-LawfulReader κ h = Is (reader .row (κ, tt)) h (T′.lowered h ∷ [])
+LawfulReader κ h = Is (reader .row (κ, tt)) h (ReaderLaws.lowered h ∷ [])
 
--- a sheet's bytes as a parameter, and what those that a reader holds own
+-- a sheet's bytes as a parameter, and what they own
 abbrev pub bytes : Slot 1
 bytes = plain (λ κs. ShrSlice (named 0) (κs .0) u8)
 
 abbrev pub BytesHeld : Lft → RefT (List ℕ) → Fml
 BytesHeld κ s = bytes .row (κ, tt) .own s (slice-vals s)
 
+-- the machine value of a sheet's bytes
+abbrev pub bytes-value : RefT (List ℕ) → Val
+bytes-value s = sliceVal (s .ptr) (length (s .now))
+
 module _ {M : Type 1} (𝓤 : URA M) (H : Heap 𝓤) (A : Atoms 𝓤) (W : Given 𝓤 H A) (κ : Lft) where
   -- a reader is Copy
   pub twice : (h : Reader) → ent 𝓤 (sem 𝓤 H A (Held κ h)) (sep 𝓤 (sem 𝓤 H A (Held κ h)) (sem 𝓤 H A (Held κ h)))
-  twice h = LL.copy (type-at κ) (T′.the-copy (namedLft 1 0 tt (κ, tt))) 𝓤 H A W .twice h (T′.lowered h ∷ [])
+  twice h = LL.copy (type-at κ) (ReaderLaws.the-copy (namedLft 1 0 tt (κ, tt))) 𝓤 H A W .twice h (ReaderLaws.lowered h ∷ [])
 
   -- its bytes are taken out
   taken : (h : Reader) → ent 𝓤 (sem 𝓤 H A (Held κ h)) (sem 𝓤 H A (BytesHeld κ (h .sheet)))
   taken h =
       let vd : Values (type-at κ .parts) = (h .sheet, (h .place, tt)) in
-      let mach : Val = T′.lowered h in
+      let mach : Val = ReaderLaws.lowered h in
       qed W (‵ (Held κ h) ∷ []) ∵
       use1 W (given (mach ∷ [] ≡ mach ∷ []) (‵ (all-own (type-at κ .parts) (laws-at κ) vd))) (own-open 𝓤 H A W (type-at κ) (laws-at κ) vd mach) $ learn ! (λ _.
       use1 W (‵ (ownAt (type-at κ .parts) (laws-at κ) 0 (h .sheet)) ⊛ ‵ (rest (type-at κ .parts) (laws-at κ) 0 vd)) (own-out 𝓤 H A W (type-at κ .parts) (laws-at κ) 0 vd) $ split ! $ move ! (1 ∷ []) $ discard ! $ done !)
@@ -195,16 +199,16 @@ module _ {M : Type 1} (𝓤 : URA M) (H : Heap 𝓤) (A : Atoms 𝓤) (W : Given
       qed W (‵ (Held κ h) ∷ []) ∵ use1 W (‵ (Held κ h) ⊛ ‵ (Held κ h)) (twice h) $ split ! $ use1 W (‵ (BytesHeld κ (h .sheet))) (taken h) $
       use1 W (‵ (owns (bytes .row (κ, tt) ∷ Rs) (h .sheet, a) (slice-vals (h .sheet), vss))) (beside 𝓤 H A W (bytes .row (κ, tt)) Rs plains (h .sheet) (slice-vals (h .sheet)) a vss are) $ done !
 
-  -- another place's facts take the place of its own's
+  -- it goes to another place: that place's facts stand in for those of its own
   pub moved : (h : Reader) (n : ℕ) → n < 2 ^ 64 → ent 𝓤 (sem 𝓤 H A (Held κ h)) (sem 𝓤 H A (Held κ (gone h n)))
-  moved h n fits = qed W (‵ (Held κ h) ∷ []) ∵ owned ! usize (Is usize) (uint-makes 𝓤 H A W w64) n _ (refl, fits) $ move ! (1 ∷ 0 ∷ []) $ by ! (own-put 𝓤 H A W (type-at κ) (laws-at κ) 1 (h .sheet, (h .place, tt)) n (T′.lowered h))
+  moved h n fits = qed W (‵ (Held κ h) ∷ []) ∵ owned ! usize (Is usize) (uint-makes 𝓤 H A W w64) n _ (refl, fits) $ move ! (1 ∷ 0 ∷ []) $ by ! (own-put 𝓤 H A W (type-at κ) (laws-at κ) 1 (h .sheet, (h .place, tt)) n (ReaderLaws.lowered h))
 
-  -- a slice's bytes are below 2 ^ 63, so that nothing wraps near its end
-  pub near : (h : Reader) → LawfulReader κ h → Stands (now (h .sheet)) (h .place) → h .place + 4 < 2 ^ 64
-  near h is ok =
+  -- a slice has fewer than 2 ^ 63 bytes, so that nothing wraps near its end
+  pub place-fits : (h : Reader) → LawfulReader κ h → Stands (now (h .sheet)) (h .place) → h .place + 4 < 2 ^ 64
+  place-fits h is ok =
       let few : length (now (h .sheet)) * 1 < 2 ^ 63 = LL.owed (type-at κ) (laws-at κ) h _ is .0 .0 .1 .1 in
       omega (arith, few, ok)
 
 -- its machine value is of the struct's type, also where MIR erases the lifetime, as in a local of a body
-pub lawful-at : {M : Type 1} {𝓤 : URA M} {H : Heap 𝓤} {A : Atoms 𝓤} → Given 𝓤 H A → (ℓ : Lifetime) (κ : Lft) (h : Reader) → LawfulReader κ h → Holds (hasTy (T′.mir ℓ) (T′.lowered h)) × WT (T′.lowered h)
-lawful-at {𝓤 = 𝓤} {H = H} {A = A} W ℓ κ h is = LL.lawful (T.the-type (record { mir = ℓ; lft = κ })) (T′.the-laws (record { mir = ℓ; lft = κ })) 𝓤 H A W .typed h _ is .0
+pub lawful-at : {M : Type 1} {𝓤 : URA M} {H : Heap 𝓤} {A : Atoms 𝓤} → Given 𝓤 H A → (ℓ : Lifetime) (κ : Lft) (h : Reader) → LawfulReader κ h → Holds (hasTy (ReaderLaws.mir ℓ) (ReaderLaws.lowered h)) × WT (ReaderLaws.lowered h)
+lawful-at {𝓤 = 𝓤} {H = H} {A = A} W ℓ κ h is = LL.lawful (Reader′.the-type (record { mir = ℓ; lft = κ })) (ReaderLaws.the-laws (record { mir = ℓ; lft = κ })) 𝓤 H A W .typed h _ is .0

@@ -34,11 +34,12 @@ use Rattle.job_sheet.proofs.Part as Part′
 use Rattle.job_sheet.proofs.Part.Laws as PartLaws
 use Rattle.job_sheet.proofs.Sinks as Sinks′
 use Rattle.job_sheet.proofs.Sinks.Laws as SinksLaws
+use Rattle.job_sheet.specs.Sheet.{blockSize}
 use Rattle.job_sheet.specs.Places.{fourIn, positionIn, endpointIn, Listed, SinksListed}
 use Rattle.sheet_reader.specs.Reader.{Stands, onward, sinksFound}
 use Rattle.sheet_reader.specs.declared.Reader.{Reader}
 use Rattle.sheet_reader.proofs.Calling.{Require, no-fact, this, Wants, FactContract, ContractOf, Sought, promises, Token, type-at, laws-at, reader, Held, gone, LawfulReader, bytes, BytesHeld, twice}
-use Rattle.sheet_reader.proofs.Reader.Laws as T′
+use Rattle.sheet_reader.proofs.Reader.Laws as ReaderLaws
 
 -- ---- the methods that read
 
@@ -80,23 +81,15 @@ endpoint = record {
   Tells = λ h r. r ≡ endpointIn (drop (h .place) (now (h .sheet)));
 }
 
+-- one that gives a part of the sheet
+abbrev a-part : (Reader → Part → Type 0) → ReadingMethod
+a-part tells = record { type = Part′.the-row; mir = PartLaws.mir; typed = λ 𝓤 H A W. LL.lawful Part′.the-type PartLaws.the-laws 𝓤 H A W .typed; requires = standing; Tells = tells }
+
 abbrev pub list : ReadingMethod
-list = record {
-  type = Part′.the-row;
-  mir = PartLaws.mir;
-  typed = λ 𝓤 H A W. LL.lawful Part′.the-type PartLaws.the-laws 𝓤 H A W .typed;
-  requires = standing;
-  Tells = λ h. Listed (now (h .sheet)) (h .place);
-}
+list = a-part (λ h. Listed (now (h .sheet)) (h .place))
 
 abbrev pub sinks-list : ReadingMethod
-sinks-list = record {
-  type = Part′.the-row;
-  mir = PartLaws.mir;
-  typed = λ 𝓤 H A W. LL.lawful Part′.the-type PartLaws.the-laws 𝓤 H A W .typed;
-  requires = standing;
-  Tells = λ h. SinksListed (now (h .sheet)) (h .place);
-}
+sinks-list = a-part (λ h. SinksListed (now (h .sheet)) (h .place))
 
 abbrev pub sinks : ReadingMethod
 sinks = record {
@@ -146,53 +139,53 @@ abbrev pub behind-params : List (Slot 1)
 behind-params = reader ∷ plain (λ _. usize) ∷ plain (λ _. Part′.the-row) ∷ []
 
 abbrev pub behind : Making behind-params
-behind = record { requires = λ _ a. this ((a .1 .0 ≤ 7) × (a .1 .1 .0 .count < 65536)); made = λ _ a. behind-at (a .0) (a .1 .0) (a .1 .1 .0) }
+behind = record { requires = λ _ a. this ((a .1 .0 ≤ blockSize) × (a .1 .1 .0 .count < 2 ^ 16)); made = λ _ a. behind-at (a .0) (a .1 .0) (a .1 .1 .0) }
 
 -- ---- the steps
 
 module _ {M : Type 1} {𝓤 : URA M} {H : Heap 𝓤} {A : Atoms 𝓤} {K : Type 0} {W : Given 𝓤 H A} {Γ : List (Item 𝓤)} {E : Env 𝓤 H} {C : Calls 𝓤 H} {Λ : Loops 𝓤 H} {f : Name} {xs : List Operand} {p : Post 𝓤 H} {d : Place} {rest : Body} where
   -- a method that reads is given a copy of the reader
   pub reads : K → FmC 𝓤 H (W .laws) C → (m : ReadingMethod) → Triple 𝓤 (C f) (ContractOf 𝓤 H A (reading m)) → (κ : Lft) (q : Share) (h : Reader) → Wants (m .requires h)
-      → Opds K W (Sought 𝓤 H A (reading m) (κ, tt) (q, tt) (h, tt) (T′.lowered h ∷ [], tt) ∷ ‵ (Held κ h) ∷ Γ) E xs (T′.lowered h ∷ [])
+      → Opds K W (Sought 𝓤 H A (reading m) (κ, tt) (q, tt) (h, tt) (ReaderLaws.lowered h ∷ [], tt) ∷ ‵ (Held κ h) ∷ Γ) E xs (ReaderLaws.lowered h ∷ [])
       → ((w : Val) (r : m .type .Denot) → m .Tells h r → Is (m .type) r (w ∷ []) → Seq K W (Token 𝓤 A κ q ∷ ‵ (Held κ h) ∷ Γ) (lands C Λ E d w rest p))
       → Seq K W (Token 𝓤 A κ q ∷ ‵ (Held κ h) ∷ Γ) (runs C Λ E (seq (call f xs d) rest) p)
   reads t fm m known κ q h ok os k =
       move t (1 ∷ []) $ use1 W (‵ (Held κ h) ⊛ ‵ (Held κ h)) (twice 𝓤 H A W κ h) $ split t $ move t (2 ∷ 0 ∷ []) $
-      promises t fm (reading m) known (κ, tt) (q, tt) h (T′.lowered h ∷ []) tt tt tt tt ok os (λ w r e is. discard t $ k w r e is)
+      promises t fm (reading m) known (κ, tt) (q, tt) h (ReaderLaws.lowered h ∷ []) tt tt tt tt ok os (λ w r e is. discard t $ k w r e is)
 
   -- one that makes a reader takes what it makes it of
   makes-reader : K → FmC 𝓤 H (W .laws) C → {s : Slot 1} {ps : List (Slot 1)} (m : Making (s ∷ ps)) → Triple 𝓤 (C f) (ContractOf 𝓤 H A (making m)) → (κ : Lft) (q : Share) (x : s .row (κ, tt) .Denot) (vs : List Val)
       → Makess 𝓤 H A (typesAt ps (κ, tt)) (Ises (typesAt ps (κ, tt))) → (a : Denots (typesAt ps (κ, tt))) (vss : Valss (typesAt ps (κ, tt))) → Are (typesAt ps (κ, tt)) (Ises (typesAt ps (κ, tt))) a vss → Wants (m .requires (κ, tt) (x, a))
       → Opds K W (Sought 𝓤 H A (making m) (κ, tt) (q, tt) (x, a) (vs, vss) ∷ Γ) E xs (flat (typesAt (s ∷ ps) (κ, tt)) (vs, vss))
-      → (LawfulReader κ (m .made (κ, tt) (x, a)) → Seq K W (Token 𝓤 A κ q ∷ ‵ (Held κ (m .made (κ, tt) (x, a))) ∷ Γ) (lands C Λ E d (T′.lowered (m .made (κ, tt) (x, a))) rest p))
+      → (LawfulReader κ (m .made (κ, tt) (x, a)) → Seq K W (Token 𝓤 A κ q ∷ ‵ (Held κ (m .made (κ, tt) (x, a))) ∷ Γ) (lands C Λ E d (ReaderLaws.lowered (m .made (κ, tt) (x, a))) rest p))
       → Seq K W (Token 𝓤 A κ q ∷ ‵ (s .row (κ, tt) .own x vs) ∷ Γ) (runs C Λ E (seq (call f xs d) rest) p)
   makes-reader t fm m known κ q x vs plains a vss are ok os k =
       let g : Reader = m .made (κ, tt) (x, a) in
       promises t fm (making m) known (κ, tt) (q, tt) x vs plains a vss are ok os (λ w h e _.
       rewrite t 0 (λ (h′ : Reader). ‵ (reader .row (κ, tt) .own h′ (w ∷ []))) {x = g} {y = h} (λ i. record { sheet = e .0 i; place = e .1 i }) refl $
       peeks t (reader .row (κ, tt)) (Is (reader .row (κ, tt))) (shows 𝓤 H A (reader .row (κ, tt))) g (w ∷ []) (λ is.
-      let same : w ≡ T′.lowered g = ap only (LL.tells (type-at κ) (laws-at κ) g _ is) in
+      let same : w ≡ ReaderLaws.lowered g = ap only (LL.tells (type-at κ) (laws-at κ) g _ is) in
       move t (1 ∷ 0 ∷ []) $ subst (λ (u : Val). Seq K W (Token 𝓤 A κ q ∷ ‵ (reader .row (κ, tt) .own g (u ∷ [])) ∷ Γ) (lands C Λ E d u rest p)) (sym same) (k (subst (λ (u : Val). Is (reader .row (κ, tt)) g (u ∷ [])) same is))))
 
 module _ {M : Type 1} {𝓤 : URA M} {H : Heap 𝓤} {A : Atoms 𝓤} {K : Type 0} {W : Given 𝓤 H A} {Γ : List (Item 𝓤)} {E : Env 𝓤 H} {C : Calls 𝓤 H} {Λ : Loops 𝓤 H} {f : Name} {xs : List Operand} {p : Post 𝓤 H} {d : Place} {rest : Body} where
   -- the bytes are Copy
   pub new-call : K → FmC 𝓤 H (W .laws) C → Triple 𝓤 (C f) (ContractOf 𝓤 H A (making new)) → (κ : Lft) (q : Share) (s : RefT (List ℕ))
       → Opds K W (Sought 𝓤 H A (making new) (κ, tt) (q, tt) (s, tt) (slice-vals s, tt) ∷ ‵ (BytesHeld κ s) ∷ Γ) E xs (slice-vals s)
-      → (LawfulReader κ (new-at s) → Seq K W (Token 𝓤 A κ q ∷ ‵ (Held κ (new-at s)) ∷ ‵ (BytesHeld κ s) ∷ Γ) (lands C Λ E d (T′.lowered (new-at s)) rest p))
+      → (LawfulReader κ (new-at s) → Seq K W (Token 𝓤 A κ q ∷ ‵ (Held κ (new-at s)) ∷ ‵ (BytesHeld κ s) ∷ Γ) (lands C Λ E d (ReaderLaws.lowered (new-at s)) rest p))
       → Seq K W (Token 𝓤 A κ q ∷ ‵ (BytesHeld κ s) ∷ Γ) (runs C Λ E (seq (call f xs d) rest) p)
   new-call t fm known κ q s os k =
       move t (1 ∷ []) $ use1 W (‵ (BytesHeld κ s) ⊛ ‵ (BytesHeld κ s)) (shr-slice-copy 𝓤 H A W (named 0) κ u8 .twice s (slice-vals s)) $ split t $ move t (2 ∷ 0 ∷ []) $
       makes-reader t fm new known κ q s (slice-vals s) tt tt tt tt tt os k
 
   pub past-call : K → FmC 𝓤 H (W .laws) C → Triple 𝓤 (C f) (ContractOf 𝓤 H A (making past)) → (κ : Lft) (q : Share) (h : Reader) (n : ℕ) → n < 2 ^ 64
-      → Opds K W (Sought 𝓤 H A (making past) (κ, tt) (q, tt) (h, (n, tt)) (T′.lowered h ∷ [], (vint w64 n ∷ [], tt)) ∷ Γ) E xs (T′.lowered h ∷ vint w64 n ∷ [])
-      → (LawfulReader κ (past-at h n) → Seq K W (Token 𝓤 A κ q ∷ ‵ (Held κ (past-at h n)) ∷ Γ) (lands C Λ E d (T′.lowered (past-at h n)) rest p))
+      → Opds K W (Sought 𝓤 H A (making past) (κ, tt) (q, tt) (h, (n, tt)) (ReaderLaws.lowered h ∷ [], (vint w64 n ∷ [], tt)) ∷ Γ) E xs (ReaderLaws.lowered h ∷ vint w64 n ∷ [])
+      → (LawfulReader κ (past-at h n) → Seq K W (Token 𝓤 A κ q ∷ ‵ (Held κ (past-at h n)) ∷ Γ) (lands C Λ E d (ReaderLaws.lowered (past-at h n)) rest p))
       → Seq K W (Token 𝓤 A κ q ∷ ‵ (Held κ h) ∷ Γ) (runs C Λ E (seq (call f xs d) rest) p)
-  past-call t fm known κ q h n ok os k = makes-reader t fm past known κ q h (T′.lowered h ∷ []) (uint-makes 𝓤 H A W w64, tt) (n, tt) (vint w64 n ∷ [], tt) ((refl, ok), tt) tt os k
+  past-call t fm known κ q h n ok os k = makes-reader t fm past known κ q h (ReaderLaws.lowered h ∷ []) (uint-makes 𝓤 H A W w64, tt) (n, tt) (vint w64 n ∷ [], tt) ((refl, ok), tt) tt os k
 
-  pub behind-call : K → FmC 𝓤 H (W .laws) C → Triple 𝓤 (C f) (ContractOf 𝓤 H A (making behind)) → (κ : Lft) (q : Share) (h : Reader) (n : ℕ) → n < 2 ^ 64 → (b : Part) (u : Val) → Is Part′.the-row b (u ∷ []) → (n ≤ 7) × (b .count < 65536)
-      → Opds K W (Sought 𝓤 H A (making behind) (κ, tt) (q, tt) (h, (n, (b, tt))) (T′.lowered h ∷ [], (vint w64 n ∷ [], (u ∷ [], tt))) ∷ Γ) E xs (T′.lowered h ∷ vint w64 n ∷ u ∷ [])
-      → (LawfulReader κ (behind-at h n b) → Seq K W (Token 𝓤 A κ q ∷ ‵ (Held κ (behind-at h n b)) ∷ Γ) (lands C Λ E d (T′.lowered (behind-at h n b)) rest p))
+  pub behind-call : K → FmC 𝓤 H (W .laws) C → Triple 𝓤 (C f) (ContractOf 𝓤 H A (making behind)) → (κ : Lft) (q : Share) (h : Reader) (n : ℕ) → n < 2 ^ 64 → (b : Part) (u : Val) → Is Part′.the-row b (u ∷ []) → (n ≤ blockSize) × (b .count < 2 ^ 16)
+      → Opds K W (Sought 𝓤 H A (making behind) (κ, tt) (q, tt) (h, (n, (b, tt))) (ReaderLaws.lowered h ∷ [], (vint w64 n ∷ [], (u ∷ [], tt))) ∷ Γ) E xs (ReaderLaws.lowered h ∷ vint w64 n ∷ u ∷ [])
+      → (LawfulReader κ (behind-at h n b) → Seq K W (Token 𝓤 A κ q ∷ ‵ (Held κ (behind-at h n b)) ∷ Γ) (lands C Λ E d (ReaderLaws.lowered (behind-at h n b)) rest p))
       → Seq K W (Token 𝓤 A κ q ∷ ‵ (Held κ h) ∷ Γ) (runs C Λ E (seq (call f xs d) rest) p)
   behind-call t fm known κ q h n ok b u is small os k =
-      makes-reader t fm behind known κ q h (T′.lowered h ∷ []) (uint-makes 𝓤 H A W w64, (LL.makes Part′.the-type PartLaws.the-plain 𝓤 H A, tt)) (n, (b, tt)) (vint w64 n ∷ [], (u ∷ [], tt)) ((refl, ok), (is, tt)) small os k
+      makes-reader t fm behind known κ q h (ReaderLaws.lowered h ∷ []) (uint-makes 𝓤 H A W w64, (LL.makes Part′.the-type PartLaws.the-plain 𝓤 H A, tt)) (n, (b, tt)) (vint w64 n ∷ [], (u ∷ [], tt)) ((refl, ok), (is, tt)) small os k

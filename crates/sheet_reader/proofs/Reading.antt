@@ -1,5 +1,5 @@
 -- The methods that read, each `fn m(self) -> R { callee(self.sheet, self.place, …) }`, meet their contracts: one walk of their MIR, by hand.
--- The struct is taken apart, and a covered function is called on the sheet's bytes, the place and what else it takes. Of each method is left that it requires what its callee requires, and that its callee ensures what it ensures.
+-- The struct is taken apart, and a function that the borrow checker covers is called on the sheet's bytes, the place and what else it takes. Of each method is left that it requires what its callee requires, and that its callee ensures what it ensures.
 use mathlib.Core.Path.{refl}
 use mathlib.Core.List.{List, [], _∷_}
 use lib.Dec.{lit<}
@@ -31,8 +31,8 @@ use denote.Triple.Statement.{Triple}
 use Rattle.sheet_reader.specs.declared.Reader.{Reader}
 use Rattle.sheet_reader.proofs.Calling.{Takes, TakingContract, call-takes, wanted, clausesOf, ContractOf, Token, reader, Held, LawfulReader, bytes, lends, lawful-at}
 use Rattle.sheet_reader.proofs.Methods.{ReadingMethod, reading}
-use Rattle.sheet_reader.proofs.Reader.Laws as T′
-use Rattle.sheet_reader.proofs.Walking.{reader-told, WalkBefore, WalkAfter, walk-ends, meets}
+use Rattle.sheet_reader.proofs.Reader.Laws as ReaderLaws
+use Rattle.sheet_reader.proofs.Walking.{reader-passed, WalkBefore, WalkAfter, walk-ends, meets}
 
 -- the MIR of such a method, whose result is of the type τ
 abbrev code : Ty → Name → List Operand → Fn
@@ -40,7 +40,7 @@ code τ f more = record {
   lifetimes = 1;
   outlives = [];
   params = 1;
-  locals = local τ valueLocal ∷ local (T′.mir (named 0)) valueLocal ∷ local (sliceTy (tyRef erased imm (tyInt w8))) valueLocal ∷ local (tyInt w64) valueLocal ∷ [];
+  locals = local τ valueLocal ∷ local (ReaderLaws.mir (named 0)) valueLocal ∷ local (sliceTy (tyRef erased imm (tyInt w8))) valueLocal ∷ local (tyInt w64) valueLocal ∷ [];
   body = seq (assign (place 2 []) (rvOpd (copy (place 1 (field 0 ∷ [])))))
       (seq (assign (place 3 []) (rvOpd (copy (place 1 (field 1 ∷ []))))) (seq (call f (copy (place 2 []) ∷ copy (place 3 []) ∷ more) (place 0 [])) return));
 }
@@ -94,16 +94,16 @@ module _ {M : Type 1} (𝓤 : URA M) (H : Heap 𝓤) (A : Atoms 𝓤) (W : Given
           → ent 𝓤 (c (κ, tt) (args κ h) .ensures (ghost κ h) r (atExit (Takes params result) (κ, tt) (args κ h) ws)) (fact 𝓤 (m .Tells h r))
 
     walk : Follows → (f : Name) (C : Calls 𝓤 H) (Λ : Loops 𝓤 H) → FmC 𝓤 H (W .laws) C → Triple 𝓤 (C f) (TakingContract 𝓤 H A params result c) → (κ : Lft) (q : Share) (h : Reader) → LawfulReader κ h
-        → ent 𝓤 (WalkBefore 𝓤 H A (reader ∷ []) result (clausesOf 𝓤 (reading m)) κ q (h, tt) (T′.lowered h ∷ [], tt) tt)
-        (WpFn 𝓤 H C Λ (code (m .mir) f (more .operands)) (T′.lowered h ∷ []) (WalkAfter 𝓤 H A (reader ∷ []) result (clausesOf 𝓤 (reading m)) κ q (h, tt) (T′.lowered h ∷ [], tt) tt))
+        → ent 𝓤 (WalkBefore 𝓤 H A (reader ∷ []) result (clausesOf 𝓤 (reading m)) κ q (h, tt) (ReaderLaws.lowered h ∷ [], tt) tt)
+        (WpFn 𝓤 H C Λ (code (m .mir) f (more .operands)) (ReaderLaws.lowered h ∷ []) (WalkAfter 𝓤 H A (reader ∷ []) result (clausesOf 𝓤 (reading m)) κ q (h, tt) (ReaderLaws.lowered h ∷ [], tt) tt))
     walk follows f C Λ fm known κ q h is =
         let wt = lawful-at W (named 0) κ h is in
-        qed W ((Token 𝓤 A κ q ⊛ ‵ (owns (reader .row (κ, tt) ∷ []) (h, tt) (T′.lowered h ∷ [], tt))) ∷ raw (wanted 𝓤 (m .requires h)) ∷ []) ∵
+        qed W ((Token 𝓤 A κ q ⊛ ‵ (owns (reader .row (κ, tt) ∷ []) (h, tt) (ReaderLaws.lowered h ∷ [], tt))) ∷ raw (wanted 𝓤 (m .requires h)) ∷ []) ∵
         split ! $ move ! (1 ∷ []) $ fsplit ! $ use1 W (‵ (owns (typesAt params (κ, tt)) (args κ h) (words κ h)) ⊛ ‵ (Held κ h))
         (lends 𝓤 H A W κ h (typesAt (plain (λ _. usize) ∷ more .types) (κ, tt)) (uint-makes 𝓤 H A W w64, more .plains (κ, tt)) (args κ h .1) (words κ h .1) ((refl, wt .1 .1 .0 .fits), more .are (κ, tt))) $ split ! $
         move ! (4 ∷ []) $ use1 W (raw (c (κ, tt) (args κ h) .requires (follows .ghost κ h))) (follows .requires κ h is) $ keep ! (0 ∷ 4 ∷ 1 ∷ []) $
         -- [what the callee requires; the token; what it is passed]
-        enter ! C Λ (code (m .mir) f (more .operands)) (T′.lowered h ∷ []) _ $
+        enter ! C Λ (code (m .mir) f (more .operands)) (ReaderLaws.lowered h ∷ []) _ $
         alloc1 ! (λ l₀. alloc1 ! (λ l₁. alloc1 ! (λ l₂. alloc1 ! (λ l₃. alloc0 ! $ params1 ! $ pass1 ! (init ! 4 refl wt) $ pass0 ! $
         assigns ! (of-opd ! (load ! (from ! (fld ! refl (stop !))) (look-in ! 4 (sub ! 0 refl (whole !))))) (from ! (stop !)) (init ! 2 refl (tt, wt .1 .0)) $
         assigns ! (of-opd ! (load ! (from ! (fld ! refl (stop !))) (look-in ! 4 (sub ! 1 refl (whole !))))) (from ! (stop !)) (init ! 0 refl (tt, wt .1 .1 .0)) $
@@ -116,12 +116,12 @@ module _ {M : Type 1} (𝓤 : URA M) (H : Heap 𝓤) (A : Atoms 𝓤) (W : Given
         land ! (from ! (stop !)) (init ! 9 refl (m .typed 𝓤 H A W r _ is′ .0)) $
         returns ! (look ! 9 refl) $ forget ! 3 refl $ forget ! 5 refl $ forget ! 7 refl $ forget ! 9 refl $
         move ! (9 ∷ 10 ∷ []) $ free1 ! $ move ! (7 ∷ 8 ∷ []) $ free1 ! $ move ! (5 ∷ 6 ∷ []) $ free1 ! $ move ! (3 ∷ 4 ∷ []) $ free1 ! $ free0 ! $
-        by ! (walk-ends 𝓤 H A (reader ∷ []) result (clausesOf 𝓤 (reading m)) κ q (h, tt) (T′.lowered h ∷ [], tt) tt W u r (tt, tt)))))))
+        by ! (walk-ends 𝓤 H A (reader ∷ []) result (clausesOf 𝓤 (reading m)) κ q (h, tt) (ReaderLaws.lowered h ∷ [], tt) tt W u r (tt, tt)))))))
 
 -- in an environment γ where the method's name is k
 pub reads-by : {M : Type 1} (𝓤 : URA M) (H : Heap 𝓤) (𝓜 : Model 𝓤 H) (𝓖 : GhostRules 𝓤 H) (𝓡 : Running 𝓤 H 𝓜) (m : ReadingMethod) (more : Constants (givenOf 𝓤 H 𝓜 𝓖)) (c : Clauses 𝓤 (Takes (bytes ∷ plain (λ _. usize) ∷ more .types) (plain (λ _. m .type))))
     → Follows 𝓤 H (𝓖 .A) (givenOf 𝓤 H 𝓜 𝓖) m more c → (k f : Name) (γ : Env) → Closed 𝓤 H (tables 𝓤 H 𝓜 𝓡 γ .C) (tables 𝓤 H 𝓜 𝓡 γ .Λ) k (code (m .mir) f (more .operands))
     → Triple 𝓤 (𝓡 .run (γ f)) (TakingContract 𝓤 H (𝓖 .A) (bytes ∷ plain (λ _. usize) ∷ more .types) (plain (λ _. m .type)) c)
     → Triple 𝓤 (𝓡 .run (γ k)) (ContractOf 𝓤 H (𝓖 .A) (reading m))
-reads-by 𝓤 H 𝓜 𝓖 𝓡 m more c follows k f γ closed known = meets 𝓤 H 𝓜 𝓖 𝓡 (reader ∷ []) (plain (λ _. m .type)) (clausesOf 𝓤 (reading m)) (reader-told, tt) k (code (m .mir) f (more .operands)) γ closed
+reads-by 𝓤 H 𝓜 𝓖 𝓡 m more c follows k f γ closed known = meets 𝓤 H 𝓜 𝓖 𝓡 (reader ∷ []) (plain (λ _. m .type)) (clausesOf 𝓤 (reading m)) (reader-passed, tt) k (code (m .mir) f (more .operands)) γ closed
     (λ fm κ q a g are. walk 𝓤 H (𝓖 .A) (givenOf 𝓤 H 𝓜 𝓖) m more c follows f (tables 𝓤 H 𝓜 𝓡 γ .C) (tables 𝓤 H 𝓜 𝓡 γ .Λ) fm known κ q (a .0) (are .0))

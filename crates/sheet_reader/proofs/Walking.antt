@@ -29,43 +29,43 @@ use denote.Triple.Statement.{Triple}
 use denote.Triple.Table.{entered}
 use denote.Triple.Walked.{Stays, stay-dropped, fitsOf, hasOf, walkOf, AllGo, goes-dropped, ends-at, walked, walk-meets}
 use Rattle.sheet_reader.proofs.Calling.{Takes, TakingContract, Token, reader, bytes}
-use Rattle.sheet_reader.proofs.Reader as T
-use Rattle.sheet_reader.proofs.Reader.Laws as T′
+use Rattle.sheet_reader.proofs.Reader as Reader′
+use Rattle.sheet_reader.proofs.Reader.Laws as ReaderLaws
 
 -- ---- what is known of a parameter: which machine values it has, and that a contract says nothing of it at exit
 
-pub record Told (s : Slot 1) : Type 2 where
+pub record Passed (s : Slot 1) : Type 2 where
   pub vals : (κs : Lfts 1) → s .row κs .Denot → List Val
   pub tells : (κs : Lfts 1) → Tells (s .row κs) (Is (s .row κs)) (vals κs)
   pub silent : (κs : Lfts 1) (x : s .row κs .Denot) (l : Last (s .row κs .exit yes) x) → left (s .row κs .exit yes) x l ≡ ftrue
 
-abbrev Tolds : List (Slot 1) → Type 2
-Tolds [] = Unit {2}
-Tolds (s ∷ ss) = Told s × Tolds ss
+abbrev AllPassed : List (Slot 1) → Type 2
+AllPassed [] = Unit {2}
+AllPassed (s ∷ ss) = Passed s × AllPassed ss
 
-abbrev pub reader-told : Told reader
-reader-told = record {
-  vals = λ κs. LL.vals (T.the-type (namedLft 1 0 tt κs)) (T′.the-laws (namedLft 1 0 tt κs));
-  tells = λ κs. LL.tells (T.the-type (namedLft 1 0 tt κs)) (T′.the-laws (namedLft 1 0 tt κs));
+abbrev pub reader-passed : Passed reader
+reader-passed = record {
+  vals = λ κs. LL.vals (Reader′.the-type (namedLft 1 0 tt κs)) (ReaderLaws.the-laws (namedLft 1 0 tt κs));
+  tells = λ κs. LL.tells (Reader′.the-type (namedLft 1 0 tt κs)) (ReaderLaws.the-laws (namedLft 1 0 tt κs));
   silent = λ κs x l. refl;
 }
 
-abbrev pub bytes-told : Told bytes
-bytes-told = record { vals = λ κs. slice-vals; tells = λ κs. shr-slice-tells (named 0) (κs .0) u8; silent = λ κs x l. refl }
+abbrev pub bytes-passed : Passed bytes
+bytes-passed = record { vals = λ κs. slice-vals; tells = λ κs. shr-slice-tells (named 0) (κs .0) u8; silent = λ κs x l. refl }
 
-abbrev pub usize-told : Told (plain (λ _. usize))
-usize-told = record { vals = λ κs. uint-vals w64; tells = λ κs. uint-tells w64; silent = λ κs x l. refl }
+abbrev pub usize-passed : Passed (plain (λ _. usize))
+usize-passed = record { vals = λ κs. uint-vals w64; tells = λ κs. uint-tells w64; silent = λ κs x l. refl }
 
-abbrev spellsOf : (ss : List (Slot 1)) → Tolds ss → (κs : Lfts 1) → Spells (typesAt ss κs)
+abbrev spellsOf : (ss : List (Slot 1)) → AllPassed ss → (κs : Lfts 1) → Spells (typesAt ss κs)
 spellsOf [] k κs = tt
 spellsOf (s ∷ ss) k κs = (k .0 .vals κs, spellsOf ss (k .1) κs)
 
-abbrev tellsOf : (ss : List (Slot 1)) (k : Tolds ss) (κs : Lfts 1) → Tellss (typesAt ss κs) (Ises (typesAt ss κs)) (spellsOf ss k κs)
+abbrev tellsOf : (ss : List (Slot 1)) (k : AllPassed ss) (κs : Lfts 1) → Tellss (typesAt ss κs) (Ises (typesAt ss κs)) (spellsOf ss k κs)
 tellsOf [] k κs = tt
 tellsOf (s ∷ ss) k κs = (k .0 .tells κs, tellsOf ss (k .1) κs)
 
 -- the machine values of what is passed
-abbrev valssOf : (ss : List (Slot 1)) → Tolds ss → (κs : Lfts 1) → Denots (typesAt ss κs) → Valss (typesAt ss κs)
+abbrev valssOf : (ss : List (Slot 1)) → AllPassed ss → (κs : Lfts 1) → Denots (typesAt ss κs) → Valss (typesAt ss κs)
 valssOf ss k κs = valss (typesAt ss κs) (spellsOf ss k κs)
 
 -- ---- nothing is had at exit of what was passed
@@ -79,7 +79,7 @@ fits [] κs a ws = tt
 fits (s ∷ ss) κs a ws = (tt, fits ss κs (a .1) (ws .1))
 
 module _ {M : Type 1} (𝓤 : URA M) (H : Heap 𝓤) (A : Atoms 𝓤) (W : Given 𝓤 H A) where
-  go : (ss : List (Slot 1)) → Tolds ss → AllGo 𝓤 H A W 1 ss (all yes ss) (dropped ss)
+  go : (ss : List (Slot 1)) → AllPassed ss → AllGo 𝓤 H A W 1 ss (all yes ss) (dropped ss)
   go [] k = tt
   go (s ∷ ss) k = (goes-dropped 𝓤 H A W 1 s yes (k .0 .silent), go ss (k .1))
 
@@ -106,17 +106,17 @@ module _ {M : Type 1} (𝓤 : URA M) (H : Heap 𝓤) (A : Atoms 𝓤) (ps : List
       move ! (0 ∷ 2 ∷ []) $ join ! $ move ! (2 ∷ 0 ∷ []) $ join ! $ frame ! $ done !
 
 -- a walk of the MIR e of the function k, whose calls mean γ
-module _ {M : Type 1} (𝓤 : URA M) (H : Heap 𝓤) (𝓜 : Model 𝓤 H) (𝓖 : GhostRules 𝓤 H) (𝓡 : Running 𝓤 H 𝓜) (ps : List (Slot 1)) (r : Slot 1) (c : Clauses 𝓤 (Takes ps r)) (told : Tolds ps) (k : Name) (e : Fn) (γ : Env) where
+module _ {M : Type 1} (𝓤 : URA M) (H : Heap 𝓤) (𝓜 : Model 𝓤 H) (𝓖 : GhostRules 𝓤 H) (𝓡 : Running 𝓤 H 𝓜) (ps : List (Slot 1)) (r : Slot 1) (c : Clauses 𝓤 (Takes ps r)) (passed : AllPassed ps) (k : Name) (e : Fn) (γ : Env) where
   pub meets : Closed 𝓤 H (tables 𝓤 H 𝓜 𝓡 γ .C) (tables 𝓤 H 𝓜 𝓡 γ .Λ) k e
       → (FmC 𝓤 H (givenOf 𝓤 H 𝓜 𝓖 .laws) (tables 𝓤 H 𝓜 𝓡 γ .C) → (κ : Lft) (q : Share) (a : Args (Takes ps r .signature) (κ, tt)) (g : c (κ, tt) a .ghost)
-      → Are (typesAt ps (κ, tt)) (Ises (typesAt ps (κ, tt))) a (valssOf ps told (κ, tt) a)
-      → ent 𝓤 (WalkBefore 𝓤 H (𝓖 .A) ps r c κ q a (valssOf ps told (κ, tt) a) g)
-      (WpFn 𝓤 H (tables 𝓤 H 𝓜 𝓡 γ .C) (tables 𝓤 H 𝓜 𝓡 γ .Λ) e (flat (typesAt ps (κ, tt)) (valssOf ps told (κ, tt) a)) (WalkAfter 𝓤 H (𝓖 .A) ps r c κ q a (valssOf ps told (κ, tt) a) g)))
+      → Are (typesAt ps (κ, tt)) (Ises (typesAt ps (κ, tt))) a (valssOf ps passed (κ, tt) a)
+      → ent 𝓤 (WalkBefore 𝓤 H (𝓖 .A) ps r c κ q a (valssOf ps passed (κ, tt) a) g)
+      (WpFn 𝓤 H (tables 𝓤 H 𝓜 𝓡 γ .C) (tables 𝓤 H 𝓜 𝓡 γ .Λ) e (flat (typesAt ps (κ, tt)) (valssOf ps passed (κ, tt) a)) (WalkAfter 𝓤 H (𝓖 .A) ps r c κ q a (valssOf ps passed (κ, tt) a) g)))
       → Triple 𝓤 (𝓡 .run (γ k)) (TakingContract 𝓤 H (𝓖 .A) ps r c)
   unfolding tablesOf
   meets closed walk =
       let W : Given 𝓤 H (𝓖 .A) = givenOf 𝓤 H 𝓜 𝓖 in
       entered 𝓤 H (TakingContract 𝓤 H (𝓖 .A) ps r c) (tables 𝓤 H 𝓜 𝓡 γ .C) (tables 𝓤 H 𝓜 𝓡 γ .Λ) k e closed
-      (walk-meets 𝓤 H (𝓖 .A) (Takes ps r) (dropped ps) W (go 𝓤 H (𝓖 .A) W ps told) c (WpFn 𝓤 H (tables 𝓤 H 𝓜 𝓡 γ .C) (tables 𝓤 H 𝓜 𝓡 γ .Λ) e) (WpFn-mono 𝓤 H (W .laws) (tablesOf 𝓤 H 𝓜 (tables 𝓤 H 𝓜 𝓡 γ)) e)
-      (walked 𝓤 H (𝓖 .A) (Takes ps r) (dropped ps) c (WpFn 𝓤 H (tables 𝓤 H 𝓜 𝓡 γ .C) (tables 𝓤 H 𝓜 𝓡 γ .Λ) e) (spellsOf ps told) (tellsOf ps told)
+      (walk-meets 𝓤 H (𝓖 .A) (Takes ps r) (dropped ps) W (go 𝓤 H (𝓖 .A) W ps passed) c (WpFn 𝓤 H (tables 𝓤 H 𝓜 𝓡 γ .C) (tables 𝓤 H 𝓜 𝓡 γ .Λ) e) (WpFn-mono 𝓤 H (W .laws) (tablesOf 𝓤 H 𝓜 (tables 𝓤 H 𝓜 𝓡 γ)) e)
+      (walked 𝓤 H (𝓖 .A) (Takes ps r) (dropped ps) c (WpFn 𝓤 H (tables 𝓤 H 𝓜 𝓡 γ .C) (tables 𝓤 H 𝓜 𝓡 γ .Λ) e) (spellsOf ps passed) (tellsOf ps passed)
       (λ κs qs bounds a g are. walk (fmOf 𝓤 H (W .laws) (tablesOf 𝓤 H 𝓜 (tables 𝓤 H 𝓜 𝓡 γ))) (κs .0) (qs .0) a g are)))

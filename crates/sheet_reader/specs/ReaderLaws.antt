@@ -73,38 +73,38 @@ module _ (s : List ℕ) (p : Part) where
 -- ---- a reader beside the places of the definitions, which run on past the end: it stands where they do, or both are off the sheet
 
 data ReadAlong (s : List ℕ) (a p : ℕ) : Type 0 where
-  same : a ≡ p → p ≤ length s → ReadAlong s a p
-  off : length s < a → length s < p → ReadAlong s a p
+  read-same : a ≡ p → p ≤ length s → ReadAlong s a p
+  read-off : length s < a → length s < p → ReadAlong s a p
 
 module _ (s : List ℕ) where
   -- so what is read is the same
   along-drop : (a p : ℕ) → ReadAlong s a p → drop a s ≡ drop p s
-  along-drop a p (same e h) = ap (λ x. drop x s) e
-  along-drop a p (off h k) = drop-of-length-le s (le-of-lt h) ∙ sym (drop-of-length-le s (le-of-lt k))
+  along-drop a p (read-same e h) = ap (λ x. drop x s) e
+  along-drop a p (read-off h k) = drop-of-length-le s (le-of-lt h) ∙ sym (drop-of-length-le s (le-of-lt k))
 
   along-near : (a p : ℕ) → ReadAlong s a p → p ≤ length s → a ≡ p
-  along-near a p (same e h) k = e
-  along-near a p (off h k) l = absurd (omega arith)
+  along-near a p (read-same e h) k = e
+  along-near a p (read-off h k) l = absurd (omega arith)
 
   along-from : (p n : ℕ) → ReadAlong s (onward s p n) (p + n)
   along-from p n =
-      askLess (length s) (p + n) (λ h. off (rw (onward-off s p n h) (omega arith)) h) (λ h. same (onward-on s p n h) h)
+      askLess (length s) (p + n) (λ h. read-off (rw (onward-off s p n h) (omega arith)) h) (λ h. read-same (onward-on s p n h) h)
 
   -- k bytes on, then n more
   along-on : (k n : ℕ) (a p : ℕ) → ReadAlong s a p → ReadAlong s (onward s (a + k) n) (p + k + n)
-  along-on k n a p (same e h) = rw e (along-from (p + k) n)
-  along-on k n a p (off h l) = off (rw (onward-off s (a + k) n (omega arith)) (omega arith)) (omega arith)
+  along-on k n a p (read-same e h) = rw e (along-from (p + k) n)
+  along-on k n a p (read-off h l) = read-off (rw (onward-off s (a + k) n (omega arith)) (omega arith)) (omega arith)
 
   along-past : (n a p : ℕ) → ReadAlong s a p → ReadAlong s (onward s a n) (p + n)
-  along-past n a p (same e h) = rw e (along-from p n)
-  along-past n a p (off h l) = off (rw (onward-off s a n (omega arith)) (omega arith)) (omega arith)
+  along-past n a p (read-same e h) = rw e (along-from p n)
+  along-past n a p (read-off h l) = read-off (rw (onward-off s a n (omega arith)) (omega arith)) (omega arith)
 
   along-start : ReadAlong s 0 0
-  along-start = same refl (omega arith)
+  along-start = read-same refl (omega arith)
 
   along-end : (a p : ℕ) → ReadAlong s a p → eqb a (length s) ≡ eqb p (length s)
-  along-end a p (same e h) = ap (λ x. eqb x (length s)) e
-  along-end a p (off h k) = ne-eqb a (length s) (λ e. omega (arith, h, e)) ∙ sym (ne-eqb p (length s) (λ e. omega (arith, k, e)))
+  along-end a p (read-same e h) = ap (λ x. eqb x (length s)) e
+  along-end a p (read-off h k) = ne-eqb a (length s) (λ e. omega (arith, h, e)) ∙ sym (ne-eqb p (length s) (λ e. omega (arith, k, e)))
 
 -- ---- from the front to the lists
 
@@ -115,7 +115,7 @@ abbrev sidesAt : List ℕ → ℕ
 sidesAt s = onward s (restAt s) 4
 
 abbrev limitAt : List ℕ → ℕ
-limitAt s = onward s (sidesAt s) 3
+limitAt s = onward s (sidesAt s) positionSize
 
 abbrev horizontalAt : List ℕ → ℕ
 horizontalAt s = onward s (limitAt s) 4
@@ -138,7 +138,7 @@ pub head-read : (s : List ℕ) (version rest : ℕ) (sides : Pos) (limit horizon
 head-read s version rest sides limit horizontal stair support e₀ e₁ e₂ e₃ e₄ e₅ e₆ =
     let a₁ = along-past s 1 0 0 (along-start s) in
     let a₂ = along-past s 4 (restAt s) 1 a₁ in
-    let a₃ = along-past s 3 (sidesAt s) 5 a₂ in
+    let a₃ = along-past s positionSize (sidesAt s) 5 a₂ in
     let a₄ = along-past s 4 (limitAt s) 8 a₃ in
     let a₅ = along-past s 4 (horizontalAt s) 12 a₄ in
     let a₆ = along-past s 4 (stairAt s) 16 a₅ in

@@ -1,13 +1,13 @@
-// The job sheet through "a reader that holds the sheet's bytes and its place": a thin struct whose methods call covered
-// functions over the bytes and the place. One reader goes from the front of a sheet to its lists, one from there to its end.
-// The records of the lists stay in the sheet's bytes, where they are judged.
+// The job sheet through "a reader that holds the sheet's bytes and its place": a thin struct whose methods call functions
+// over the bytes and the place, which the borrow checker covers. One reader goes from the front of a sheet to its lists, one
+// from there to its end. The records of the lists stay in the sheet's bytes, where they are judged.
 mod steps; // steps.rt: the reader's work over bytes and a place
 
 ghost use mathlib.Core.Path.{_≡_};
-ghost use Prim.Native.Nat.{_*_, _≤_, _<_};
+ghost use Prim.Native.Nat.{_*_, _≤_, _<_, _^_};
 ghost use lib.Dec.{eqb};
 ghost use lib.ListN.{length, getD, drop};
-ghost use Rattle.job_sheet.specs.Sheet.{Read};
+ghost use Rattle.job_sheet.specs.Sheet.{blockSize, Read};
 ghost use Rattle.job_sheet.specs.Places.{fourIn, positionIn, endpointIn, Listed, SinksListed, shaped};
 ghost use Rattle.sheet_reader.specs.Reader.{Stands, onward, sinksFound, headOf, headIn, layoutFound, bodyOf, PartsFound, jobFound};
 use job_sheet::Endpoint;
@@ -125,7 +125,7 @@ impl<'a> Reader<'a> {
 
     // Moved behind a part's records, of `size` bytes each; off the sheet where it has too few.
     pub fn behind(self, size: usize, part: Part) -> Reader<'a>
-        requires { ⌜ (size ≤ 7) × (part .count < 65536) ⌝ }
+        requires { ⌜ (size ≤ blockSize) × (part .count < 2 ^ 16) ⌝ }
         ensures { λ r. ⌜ (r .sheet ≡ self .entry .sheet) × (r .place ≡ onward (now (self .entry .sheet)) (part .from) (size * part .count)) ⌝ }
     {
         Reader {

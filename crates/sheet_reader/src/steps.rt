@@ -1,8 +1,9 @@
 // The reader's work over the sheet's bytes and a place: where it stands next, and what it finds that takes a test.
 ghost use mathlib.Core.Path.{_≡_};
-ghost use Prim.Native.Nat.{_+_, _*_, _≤_, _<_};
+ghost use Prim.Native.Nat.{_+_, _*_, _≤_, _<_, _^_};
 ghost use lib.Dec.{eqb};
 ghost use lib.ListN.{length};
+ghost use Rattle.job_sheet.specs.Sheet.{blockSize};
 ghost use Rattle.sheet_reader.specs.Reader.{Stands, onward, wholeSinks, sinksFound};
 use job_sheet::Part;
 use job_sheet::Sinks;
@@ -25,7 +26,7 @@ pub fn onward(sheet: &[u8], place: usize, size: usize) -> usize
 
 // The place behind a part's records.
 pub fn behind(sheet: &[u8], size: usize, part: Part) -> usize
-    requires { ⌜ (size ≤ 7) × (part .count < 65536) ⌝ }
+    requires { ⌜ (size ≤ blockSize) × (part .count < 2 ^ 16) ⌝ }
     ensures { λ r. ⌜ r ≡ onward (now (sheet .entry)) (part .from) (size * part .count) ⌝ }
 {
     onward(sheet, part.from, size * part.count)

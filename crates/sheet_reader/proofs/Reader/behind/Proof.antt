@@ -1,4 +1,4 @@
--- `Reader::behind` meets its contract: a walk of its MIR, by hand. A covered function says the new place, and a struct is made anew of it and the same bytes.
+-- `Reader::behind` meets its contract: a walk of its MIR, by hand. A function that the borrow checker covers says the new place, and a struct is made anew of it and the same bytes.
 -- The struct is Copy: one copy is taken apart for the call, and the other, with the new place's facts, is what the result owns.
 use mathlib.Core.Path.{_≡_, refl, ap}
 use Prim.Native.Nat.{ℕ, _<_, _^_}
@@ -29,13 +29,13 @@ use denote.Steps.{only}
 use denote.Struct.Laws as LL
 use denote.Triple.Statement.{Triple}
 use Rattle.job_sheet.specs.declared.Part.{Part}
-use Rattle.job_sheet.proofs.Part as P
-use Rattle.job_sheet.proofs.Part.Laws as P′
+use Rattle.job_sheet.proofs.Part as Part′
+use Rattle.job_sheet.proofs.Part.Laws as PartLaws
 use Rattle.sheet_reader.specs.declared.Reader.{Reader}
 use Rattle.sheet_reader.proofs.Calling.{TakingContract, call-takes, clausesOf, Token, reader, Held, gone, LawfulReader, bytes, lends, moved, lawful-at}
 use Rattle.sheet_reader.proofs.Methods.{making, behind, behind-params, behind-at, SameReader}
-use Rattle.sheet_reader.proofs.Reader.Laws as T′
-use Rattle.sheet_reader.proofs.Walking.{Told, reader-told, usize-told, WalkBefore, WalkAfter, walk-ends, meets}
+use Rattle.sheet_reader.proofs.Reader.Laws as ReaderLaws
+use Rattle.sheet_reader.proofs.Walking.{Passed, reader-passed, usize-passed, WalkBefore, WalkAfter, walk-ends, meets}
 use Rattle.sheet_reader.proofs.steps.behind as callee
 use Rattle.sheet_reader.proofs.steps.behind.Symbol.{name as #callee}
 use Rattle.sheet_reader.proofs.steps.behind.Met as callee-thm
@@ -44,18 +44,18 @@ use Rattle.sheet_reader.proofs.Reader.behind.Statement as stated
 use Rattle.sheet_reader.proofs.Reader.behind.Code as code
 
 abbrev callee-params : List (Slot 1)
-callee-params = bytes ∷ plain (λ _. usize) ∷ plain (λ _. P.the-row) ∷ []
+callee-params = bytes ∷ plain (λ _. usize) ∷ plain (λ _. Part′.the-row) ∷ []
 
-abbrev part-told : Told (plain (λ _. P.the-row))
-part-told = record { vals = λ κs. LL.vals P.the-type P′.the-laws; tells = λ κs. LL.tells P.the-type P′.the-laws; silent = λ κs x l. refl }
+abbrev part-passed : Passed (plain (λ _. Part′.the-row))
+part-passed = record { vals = λ κs. LL.vals Part′.the-type PartLaws.the-laws; tells = λ κs. LL.tells Part′.the-type PartLaws.the-laws; silent = λ κs x l. refl }
 
-module _ {M : Type 1} (𝓤 : URA M) (H : Heap 𝓤) (A : Atoms 𝓤) (W : Given 𝓤 H A) (mem : Memory → SProp 𝓤) (run : Routine → Fun 𝓤) (κ : Lft) (q : Share) (h : Reader) (n : ℕ) (ok : n < 2 ^ 64) (p : Part) (part-is : Is P.the-row p (P′.lowered p ∷ [])) where
+module _ {M : Type 1} (𝓤 : URA M) (H : Heap 𝓤) (A : Atoms 𝓤) (W : Given 𝓤 H A) (mem : Memory → SProp 𝓤) (run : Routine → Fun 𝓤) (κ : Lft) (q : Share) (h : Reader) (n : ℕ) (ok : n < 2 ^ 64) (p : Part) (part-is : Is Part′.the-row p (PartLaws.lowered p ∷ [])) where
   abbrev mach : Val
-  mach = T′.lowered h
+  mach = ReaderLaws.lowered h
 
   -- the machine values that it is passed
   abbrev at : Valss (typesAt behind-params (κ, tt))
-  at = (mach ∷ [], (vint w64 n ∷ [], (P′.lowered p ∷ [], tt)))
+  at = (mach ∷ [], (vint w64 n ∷ [], (PartLaws.lowered p ∷ [], tt)))
 
   -- what the callee is passed
   abbrev args : Denots (typesAt callee-params (κ, tt))
@@ -66,15 +66,15 @@ module _ {M : Type 1} (𝓤 : URA M) (H : Heap 𝓤) (A : Atoms 𝓤) (W : Given
 
   walk : (C : Calls 𝓤 H) (Λ : Loops 𝓤 H) → FmC 𝓤 H (W .laws) C → Triple 𝓤 (C #callee) (TakingContract 𝓤 H A callee-params (plain (λ _. usize)) (callee.clauses 𝓤 H A mem run)) → LawfulReader κ h
       → ent 𝓤 (WalkBefore 𝓤 H A behind-params reader (clausesOf 𝓤 (making behind)) κ q (h, (n, (p, tt))) at tt)
-      (WpFn 𝓤 H C Λ code.function (mach ∷ vint w64 n ∷ P′.lowered p ∷ []) (WalkAfter 𝓤 H A behind-params reader (clausesOf 𝓤 (making behind)) κ q (h, (n, (p, tt))) at tt))
+      (WpFn 𝓤 H C Λ code.function (mach ∷ vint w64 n ∷ PartLaws.lowered p ∷ []) (WalkAfter 𝓤 H A behind-params reader (clausesOf 𝓤 (making behind)) κ q (h, (n, (p, tt))) at tt))
   walk C Λ fm known lawful =
       let wt = lawful-at W (named 0) κ h lawful in
-      qed W ((Token 𝓤 A κ q ⊛ ‵ (owns (reader .row (κ, tt) ∷ usize ∷ P.the-row ∷ []) (h, (n, (p, tt))) at)) ∷ raw (callee.clauses 𝓤 H A mem run (κ, tt) args .requires tt) ∷ []) ∵
-      split ! $ move ! (1 ∷ []) $ fsplit ! $ use1 W (‵ (owns (typesAt callee-params (κ, tt)) args words) ⊛ ‵ (Held κ h)) (lends 𝓤 H A W κ h (usize ∷ P.the-row ∷ []) (uint-makes 𝓤 H A W w64, (LL.makes P.the-type P′.the-plain 𝓤 H A, tt)) (args .1) (words .1) ((refl, ok), (part-is, tt))) $
+      qed W ((Token 𝓤 A κ q ⊛ ‵ (owns (reader .row (κ, tt) ∷ usize ∷ Part′.the-row ∷ []) (h, (n, (p, tt))) at)) ∷ raw (callee.clauses 𝓤 H A mem run (κ, tt) args .requires tt) ∷ []) ∵
+      split ! $ move ! (1 ∷ []) $ fsplit ! $ use1 W (‵ (owns (typesAt callee-params (κ, tt)) args words) ⊛ ‵ (Held κ h)) (lends 𝓤 H A W κ h (usize ∷ Part′.the-row ∷ []) (uint-makes 𝓤 H A W w64, (LL.makes Part′.the-type PartLaws.the-plain 𝓤 H A, tt)) (args .1) (words .1) ((refl, ok), (part-is, tt))) $
       split ! $ keep ! (4 ∷ 3 ∷ 0 ∷ 1 ∷ []) $
       -- [what the callee requires; the token; what it is passed; what the struct owns]
-      enter ! C Λ code.function (mach ∷ vint w64 n ∷ P′.lowered p ∷ []) _ $
-      alloc1 ! (λ l₀. alloc1 ! (λ l₁. alloc1 ! (λ l₂. alloc1 ! (λ l₃. alloc1 ! (λ l₄. alloc1 ! (λ l₅. alloc1 ! (λ l₆. alloc0 ! $ params1 ! $ pass1 ! (init ! 10 refl wt) $ pass1 ! (init ! 8 refl (tt, record { fits = ok })) $ pass1 ! (init ! 6 refl (LL.lawful P.the-type P′.the-laws 𝓤 H A W .typed p _ part-is .0)) $ pass0 ! $
+      enter ! C Λ code.function (mach ∷ vint w64 n ∷ PartLaws.lowered p ∷ []) _ $
+      alloc1 ! (λ l₀. alloc1 ! (λ l₁. alloc1 ! (λ l₂. alloc1 ! (λ l₃. alloc1 ! (λ l₄. alloc1 ! (λ l₅. alloc1 ! (λ l₆. alloc0 ! $ params1 ! $ pass1 ! (init ! 10 refl wt) $ pass1 ! (init ! 8 refl (tt, record { fits = ok })) $ pass1 ! (init ! 6 refl (LL.lawful Part′.the-type PartLaws.the-laws 𝓤 H A W .typed p _ part-is .0)) $ pass0 ! $
       assigns ! (of-opd ! (load ! (from ! (fld ! refl (stop !))) (look-in ! 10 (sub ! 0 refl (whole !))))) (from ! (stop !)) (init ! 4 refl (tt, wt .1 .0)) $
       assigns ! (of-opd ! (load ! (from ! (fld ! refl (stop !))) (look-in ! 10 (sub ! 0 refl (whole !))))) (from ! (stop !)) (init ! 0 refl (tt, wt .1 .0)) $
       move ! (14 ∷ 15 ∷ 16 ∷ []) $
@@ -89,10 +89,10 @@ module _ {M : Type 1} (𝓤 : URA M) (H : Heap 𝓤) (A : Atoms 𝓤) (W : Given
       move ! (15 ∷ 16 ∷ []) $ free1 ! $ move ! (13 ∷ 14 ∷ []) $ free1 ! $ move ! (11 ∷ 12 ∷ []) $ free1 ! $ move ! (9 ∷ 10 ∷ []) $ free1 ! $ move ! (7 ∷ 8 ∷ []) $ free1 ! $ move ! (5 ∷ 6 ∷ []) $ free1 ! $ move ! (3 ∷ 4 ∷ []) $ free1 ! $ free0 ! $
       -- [what is ensured; the new place; the token; what the struct owns]
       move ! (3 ∷ []) $ use1 W (‵ (Held κ (gone h r))) (moved 𝓤 H A W κ h r (is .1)) $ keep ! (1 ∷ 0 ∷ 3 ∷ []) $
-      by ! (walk-ends 𝓤 H A behind-params reader (clausesOf 𝓤 (making behind)) κ q (h, (n, (p, tt))) at tt W (T′.lowered (gone h r)) (gone h r) (tt, (tt, (tt, tt))))))))))))
+      by ! (walk-ends 𝓤 H A behind-params reader (clausesOf 𝓤 (making behind)) κ q (h, (n, (p, tt))) at tt W (ReaderLaws.lowered (gone h r)) (gone h r) (tt, (tt, (tt, tt))))))))))))
 
 pub behind-spec : {M : Type 1} → stated.statement M
 unfolding code.routine
 behind-spec 𝓤 H 𝓜 𝓖 𝓡 =
-    meets 𝓤 H 𝓜 𝓖 𝓡 behind-params reader (clausesOf 𝓤 (making behind)) (reader-told, (usize-told, (part-told, tt))) #behind code.function code.env (code.unfolded 𝓤 H 𝓜 𝓡)
+    meets 𝓤 H 𝓜 𝓖 𝓡 behind-params reader (clausesOf 𝓤 (making behind)) (reader-passed, (usize-passed, (part-passed, tt))) #behind code.function code.env (code.unfolded 𝓤 H 𝓜 𝓡)
     (λ fm κ q a _ are. walk 𝓤 H (𝓖 .A) (givenOf 𝓤 H 𝓜 𝓖) (𝓜 .mem) (𝓡 .run) κ q (a .0) (a .1 .0) (are .1 .0 .1) (a .1 .1 .0) (are .1 .1 .0) (tables 𝓤 H 𝓜 𝓡 code.env .C) (tables 𝓤 H 𝓜 𝓡 code.env .Λ) fm (callee-thm.met 𝓤 H 𝓜 𝓖 𝓡) (are .0))

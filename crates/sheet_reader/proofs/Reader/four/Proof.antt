@@ -3,7 +3,7 @@ use native.Mathlib.Omega.{arith}
 use base.Logic.{id⊢}
 use contract.Monad.{fact-mono}
 use contract.Running.{givenOf}
-use Rattle.sheet_reader.proofs.Calling.{near}
+use Rattle.sheet_reader.proofs.Calling.{place-fits}
 use Rattle.sheet_reader.proofs.Methods.{four}
 use Rattle.sheet_reader.proofs.Reading.{a-zero, reads-by}
 use Rattle.job_sheet.proofs.places.four_bytes as callee
@@ -17,5 +17,5 @@ pub four-spec : {M : Type 1} → stated.statement M
 unfolding code.routine
 four-spec 𝓤 H 𝓜 𝓖 𝓡 =
     reads-by 𝓤 H 𝓜 𝓖 𝓡 four a-zero (callee.clauses 𝓤 H (𝓖 .A) (𝓜 .mem) (𝓡 .run))
-    (record { ghost = λ _ _. tt; requires = λ κ h is. fact-mono 𝓤 _ _ (λ ok. omega (arith, near 𝓤 H (𝓖 .A) (givenOf 𝓤 H 𝓜 𝓖) κ h is ok)); ensures = λ _ _ _ _. id⊢ 𝓤 _ })
+    (record { ghost = λ _ _. tt; requires = λ κ h is. fact-mono 𝓤 _ _ (λ ok. omega (arith, place-fits 𝓤 H (𝓖 .A) (givenOf 𝓤 H 𝓜 𝓖) κ h is ok)); ensures = λ _ _ _ _. id⊢ 𝓤 _ })
     #four #callee code.env (code.unfolded 𝓤 H 𝓜 𝓡) (callee-thm.met 𝓤 H 𝓜 𝓖 𝓡)

@@ -1,4 +1,4 @@
--- `Reader::past` meets its contract: a walk of its MIR, by hand. A covered function says the new place, and a struct is made anew of it and the same bytes.
+-- `Reader::past` meets its contract: a walk of its MIR, by hand. A function that the borrow checker covers says the new place, and a struct is made anew of it and the same bytes.
 -- The struct is Copy: one copy is taken apart for the call, and the other, with the new place's facts, is what the result owns.
 use mathlib.Core.Path.{_≡_, refl, ap}
 use Prim.Native.Nat.{ℕ, _<_, _^_}
@@ -29,8 +29,8 @@ use denote.Triple.Statement.{Triple}
 use Rattle.sheet_reader.specs.declared.Reader.{Reader}
 use Rattle.sheet_reader.proofs.Calling.{TakingContract, call-takes, clausesOf, Token, reader, Held, gone, LawfulReader, bytes, lends, moved, lawful-at}
 use Rattle.sheet_reader.proofs.Methods.{making, past, past-params, past-at, SameReader}
-use Rattle.sheet_reader.proofs.Reader.Laws as T′
-use Rattle.sheet_reader.proofs.Walking.{reader-told, usize-told, WalkBefore, WalkAfter, walk-ends, meets}
+use Rattle.sheet_reader.proofs.Reader.Laws as ReaderLaws
+use Rattle.sheet_reader.proofs.Walking.{reader-passed, usize-passed, WalkBefore, WalkAfter, walk-ends, meets}
 use Rattle.sheet_reader.proofs.steps.onward as callee
 use Rattle.sheet_reader.proofs.steps.onward.Symbol.{name as #callee}
 use Rattle.sheet_reader.proofs.steps.onward.Met as callee-thm
@@ -43,7 +43,7 @@ callee-params = bytes ∷ plain (λ _. usize) ∷ plain (λ _. usize) ∷ []
 
 module _ {M : Type 1} (𝓤 : URA M) (H : Heap 𝓤) (A : Atoms 𝓤) (W : Given 𝓤 H A) (mem : Memory → SProp 𝓤) (run : Routine → Fun 𝓤) (κ : Lft) (q : Share) (h : Reader) (n : ℕ) (ok : n < 2 ^ 64) where
   abbrev mach : Val
-  mach = T′.lowered h
+  mach = ReaderLaws.lowered h
 
   -- the machine values that it is passed
   abbrev at : Valss (typesAt past-params (κ, tt))
@@ -82,10 +82,10 @@ module _ {M : Type 1} (𝓤 : URA M) (H : Heap 𝓤) (A : Atoms 𝓤) (W : Given
       move ! (15 ∷ 16 ∷ []) $ free1 ! $ move ! (13 ∷ 14 ∷ []) $ free1 ! $ move ! (11 ∷ 12 ∷ []) $ free1 ! $ move ! (9 ∷ 10 ∷ []) $ free1 ! $ move ! (7 ∷ 8 ∷ []) $ free1 ! $ move ! (5 ∷ 6 ∷ []) $ free1 ! $ move ! (3 ∷ 4 ∷ []) $ free1 ! $ free0 ! $
       -- [what is ensured; the new place; the token; what the struct owns]
       move ! (3 ∷ []) $ use1 W (‵ (Held κ (gone h r))) (moved 𝓤 H A W κ h r (is .1)) $ keep ! (1 ∷ 0 ∷ 3 ∷ []) $
-      by ! (walk-ends 𝓤 H A past-params reader (clausesOf 𝓤 (making past)) κ q (h, (n, tt)) at tt W (T′.lowered (gone h r)) (gone h r) (tt, (tt, tt)))))))))))
+      by ! (walk-ends 𝓤 H A past-params reader (clausesOf 𝓤 (making past)) κ q (h, (n, tt)) at tt W (ReaderLaws.lowered (gone h r)) (gone h r) (tt, (tt, tt)))))))))))
 
 pub past-spec : {M : Type 1} → stated.statement M
 unfolding code.routine
 past-spec 𝓤 H 𝓜 𝓖 𝓡 =
-    meets 𝓤 H 𝓜 𝓖 𝓡 past-params reader (clausesOf 𝓤 (making past)) (reader-told, (usize-told, tt)) #past code.function code.env (code.unfolded 𝓤 H 𝓜 𝓡)
+    meets 𝓤 H 𝓜 𝓖 𝓡 past-params reader (clausesOf 𝓤 (making past)) (reader-passed, (usize-passed, tt)) #past code.function code.env (code.unfolded 𝓤 H 𝓜 𝓡)
     (λ fm κ q a _ are. walk 𝓤 H (𝓖 .A) (givenOf 𝓤 H 𝓜 𝓖) (𝓜 .mem) (𝓡 .run) κ q (a .0) (a .1 .0) (are .1 .0 .1) (tables 𝓤 H 𝓜 𝓡 code.env .C) (tables 𝓤 H 𝓜 𝓡 code.env .Λ) fm (callee-thm.met 𝓤 H 𝓜 𝓖 𝓡) (are .0))

@@ -1,4 +1,4 @@
--- `sinks` meets its contract: what is held can be read.
+-- `sinks` meets its contract: what `whole_sinks` lets through can be read.
 use native.Mathlib.Omega.{arith}
 use borrow.Author.Needs.{needs}
 use Rattle.sheet_reader.specs.ReaderLaws.{whole-few, whole-inside}
