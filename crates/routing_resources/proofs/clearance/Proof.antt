@@ -20,14 +20,20 @@ above-requires c κs = search needs
 
 returns-2 : tie.Need-returns-2
 unfolding clearanceOf
-returns-2 c = rw (ne-eqb _ _ (rw (c .before .before .before .before .before .before .before .before .pos .ensures, c .before .before .before .before .before .before .before .pos2 .ensures) at (c .before .before .before .before .if1 .left)), lt-ltb _ _ (rw (c .before .before .before .before .before .before .before .before .pos .ensures, c .before .before .before .before .before .before .before .pos2 .ensures) at (c .before .if2 .taken))) (c .above .ensures)
+returns-2 c =
+    let p-is = c .before .before .before .before .before .before .before .before .pos .ensures in
+    let q-is = c .before .before .before .before .before .before .before .pos2 .ensures in
+    rw (ne-eqb _ _ (rw (p-is, q-is) at (c .before .before .before .before .if1 .left)), lt-ltb _ _ (rw (p-is, q-is) at (c .before .if2 .taken))) (c .above .ensures)
 
 above-requires-2 : tie.Need-above-requires-2
 above-requires-2 c κs = search needs
 
 returns-3 : tie.Need-returns-3
 unfolding clearanceOf
-returns-3 c = rw (ne-eqb _ _ (rw (c .before .before .before .before .before .before .before .before .pos .ensures, c .before .before .before .before .before .before .before .pos2 .ensures) at (c .before .before .before .before .if1 .left)), le-ltb _ _ (rw (c .before .before .before .before .before .before .before .before .pos .ensures, c .before .before .before .before .before .before .before .pos2 .ensures) at (c .before .if2 .left))) (c .above2 .ensures)
+returns-3 c =
+    let p-is = c .before .before .before .before .before .before .before .before .pos .ensures in
+    let q-is = c .before .before .before .before .before .before .before .pos2 .ensures in
+    rw (ne-eqb _ _ (rw (p-is, q-is) at (c .before .before .before .before .if1 .left)), le-ltb _ _ (rw (p-is, q-is) at (c .before .if2 .left))) (c .above2 .ensures)
 
 pub clearance-spec : {M : Type 1} → statement M
 clearance-spec =

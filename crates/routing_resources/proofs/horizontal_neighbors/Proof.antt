@@ -42,7 +42,7 @@ in-threes (suc (suc (suc zero))) rise h = refl
 in-threes (suc (suc (suc (suc k)))) rise h = absurd (omega arith)
 
 abbrev Inv-loop : tie.InvT-loop
-Inv-loop room marks₀ cell rise p k₀ marks k = (k ≤ 4) × MarkedSoFar 1 (restOf (leadsTo room p) (directions rise)) marks₀ marks k
+Inv-loop room marks₀ cell rise p k₀ marks k = MarkedSoFar 1 (restOf (leadsTo room p) (directions rise)) marks₀ marks k
 
 abbrev μ-loop : tie.MeasureT-loop
 μ-loop room marks₀ cell rise p k₀ marks k = 4 - k
@@ -51,7 +51,7 @@ pos-requires : tie.Need-pos-requires Inv-loop μ-loop
 pos-requires c κs = c .before .pre .0
 
 loop-holds : tie.Need-loop-holds Inv-loop μ-loop
-loop-holds c = (omega arith, marking-none _ _ _)
+loop-holds c = marking-none _ _ _
 
 mul-move-at : tie.Need-mul-move-at Inv-loop μ-loop
 mul-move-at c = search needs
@@ -73,7 +73,7 @@ unfolding neighbour
 put-mark-requires c κs =
     λ v e.
     let led = leads _ (c .before .before .before .before .before .before .before .args .cell) (c .before .before .move-at .result) v (rw (c .before .neighbour-at .ensures, c .before .before .before .before .before .pos .ensures) at e) in
-    rw (c .before .before .before .before .loop .inv .1 .long, c .before .before .before .before .before .before .before .pre .1 .1 .1) (led .inside)
+    rw (c .before .before .before .before .loop .inv .long, c .before .before .before .before .before .before .before .pre .1 .1 .1) (led .inside)
 
 add-k : tie.Need-add-k Inv-loop μ-loop
 add-k c = search needs
@@ -88,13 +88,13 @@ loop-again c =
     let loop = c .before .before .before .before .before .before .before .loop in
     let more = c .before .before .before .before .before .before .loop-test .taken in
     let move = c .before .before .before .before .before .move-at .ensures ∙ in-threes (loop .k) (args .rise) more in
-    (omega arith, marking-on (leadsTo _ _) _ (loop .inv .1) (by 0 0 0) _ move more (c .before .before .put-mark .ensures ∙ rw (c .before .before .before .before .neighbour-at .ensures)))
+    marking-on (leadsTo _ _) _ (loop .inv) (by 0 0 0) _ move more (c .before .before .put-mark .ensures ∙ rw (c .before .before .before .before .neighbour-at .ensures))
 
 same-length : tie.Need-same-length Inv-loop μ-loop
-same-length c = c .before .loop .inv .1 .long
+same-length c = c .before .loop .inv .long
 
 returns : tie.Need-returns Inv-loop μ-loop
-returns c = marking-all (leadsTo _ _) _ (c .before .loop .inv .1) (four _ _ (c .loop-test .left)) ∙ rw (c .before .before .pos .ensures) (beside _ _ _ _)
+returns c = marking-all (leadsTo _ _) _ (c .before .loop .inv) (four _ _ (c .loop-test .left)) ∙ rw (c .before .before .pos .ensures) (beside _ _ _ _)
 
 pub horizontal-neighbors-spec : {M : Type 1} → statement M
 horizontal-neighbors-spec =
