@@ -1,4 +1,4 @@
--- `tap_of` meets its contract: it goes by the cases of the sink.
+-- `tap_of` meets its contract: it goes by the cases of the sink's end.
 use Rattle.ends.specs.Ends.{tapOf}
 use borrow.Author.Needs.{needs}
 use Rattle.ends.proofs.tap_of.Statement.{statement}
