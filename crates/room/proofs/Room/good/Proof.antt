@@ -30,10 +30,10 @@ unfolding sidesGood
 returns-3 c = rw (test-passes (c .before .before .before .before .before .in-range .ensures) (c .before .before .before .before .if1 .left), test-passes (c .before .before .before .in-range2 .ensures) (c .before .before .if2 .left), test-fails (c .before .in-range3 .ensures) (c .if3 .taken))
 
 mul-result : tie.Need-mul-result
-mul-result c = record { fits = omega (arith, mul-le-mul (between-high 1 _ 64 (test-passes (c .before .before .before .before .before .before .in-range .ensures) (c .before .before .before .before .before .if1 .left))) (between-high 1 _ 64 (test-passes (c .before .before .before .before .in-range2 .ensures) (c .before .before .before .if2 .left)))) }
+mul-result c = record { fits = omega (arith, mul-le-mul (between-high 1 _ _ (test-passes (c .before .before .before .before .before .before .in-range .ensures) (c .before .before .before .before .before .if1 .left))) (between-high 1 _ _ (test-passes (c .before .before .before .before .in-range2 .ensures) (c .before .before .before .if2 .left)))) }
 
 mul-result-2 : tie.Need-mul-result-2
-mul-result-2 c = record { fits = omega (arith, mul-le-mul (mul-le-mul (between-high 1 _ 64 (test-passes (c .before .before .before .before .before .before .before .in-range .ensures) (c .before .before .before .before .before .before .if1 .left))) (between-high 1 _ 64 (test-passes (c .before .before .before .before .before .in-range2 .ensures) (c .before .before .before .before .if2 .left)))) (between-high 1 _ 64 (test-passes (c .before .before .before .in-range3 .ensures) (c .before .before .if3 .left)))) }
+mul-result-2 c = record { fits = omega (arith, mul-le-mul (mul-le-mul (between-high 1 _ _ (test-passes (c .before .before .before .before .before .before .before .in-range .ensures) (c .before .before .before .before .before .before .if1 .left))) (between-high 1 _ _ (test-passes (c .before .before .before .before .before .in-range2 .ensures) (c .before .before .before .before .if2 .left)))) (between-high 1 _ _ (test-passes (c .before .before .before .in-range3 .ensures) (c .before .before .if3 .left)))) }
 
 returns-4 : tie.Need-returns-4
 unfolding sidesGood
