@@ -158,7 +158,7 @@ pub record LaidOut (s : List ℕ) (L : Layout) : Type 0 where
 pub record Listed (s : List ℕ) (place : ℕ) (r : Part) : Type 0 where
   pub is : r ≡ listAt s place
   pub from-is : r .from ≡ place + 2
-  pub count-most : r .count < 65536
+  pub count-most : r .count < 2 ^ 16
 
 -- the sinks whose count stands at a place, and what that count can be
 pub record SinksListed (s : List ℕ) (place : ℕ) (r : Part) : Type 0 where
