@@ -34,26 +34,26 @@ use Rattle.sheet_reader.proofs.Reader.Laws as ReaderLaws
 
 -- ---- what is known of a parameter: which machine values it has, and that a contract says nothing of it at exit
 
-pub record Passed (s : Slot 1) : Type 2 where
+pub record PassedAs (s : Slot 1) : Type 2 where
   pub vals : (κs : Lfts 1) → s .row κs .Denot → List Val
   pub tells : (κs : Lfts 1) → Tells (s .row κs) (Is (s .row κs)) (vals κs)
   pub silent : (κs : Lfts 1) (x : s .row κs .Denot) (l : Last (s .row κs .exit yes) x) → left (s .row κs .exit yes) x l ≡ ftrue
 
 abbrev AllPassed : List (Slot 1) → Type 2
 AllPassed [] = Unit {2}
-AllPassed (s ∷ ss) = Passed s × AllPassed ss
+AllPassed (s ∷ ss) = PassedAs s × AllPassed ss
 
-abbrev pub reader-passed : Passed reader
+abbrev pub reader-passed : PassedAs reader
 reader-passed = record {
   vals = λ κs. LL.vals (Reader′.the-type (namedLft 1 0 tt κs)) (ReaderLaws.the-laws (namedLft 1 0 tt κs));
   tells = λ κs. LL.tells (Reader′.the-type (namedLft 1 0 tt κs)) (ReaderLaws.the-laws (namedLft 1 0 tt κs));
   silent = λ κs x l. refl;
 }
 
-abbrev pub bytes-passed : Passed bytes
+abbrev pub bytes-passed : PassedAs bytes
 bytes-passed = record { vals = λ κs. slice-vals; tells = λ κs. shr-slice-tells (named 0) (κs .0) u8; silent = λ κs x l. refl }
 
-abbrev pub usize-passed : Passed (plain (λ _. usize))
+abbrev pub usize-passed : PassedAs (plain (λ _. usize))
 usize-passed = record { vals = λ κs. uint-vals w64; tells = λ κs. uint-tells w64; silent = λ κs x l. refl }
 
 abbrev spellsOf : (ss : List (Slot 1)) → AllPassed ss → (κs : Lfts 1) → Spells (typesAt ss κs)

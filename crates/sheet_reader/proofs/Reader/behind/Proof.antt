@@ -35,7 +35,7 @@ use Rattle.sheet_reader.specs.declared.Reader.{Reader}
 use Rattle.sheet_reader.proofs.Calling.{TakingContract, call-takes, clausesOf, Token, reader, Held, gone, LawfulReader, bytes, lends, moved, lawful-at}
 use Rattle.sheet_reader.proofs.Methods.{making, behind, behind-params, behind-at, SameReader}
 use Rattle.sheet_reader.proofs.Reader.Laws as ReaderLaws
-use Rattle.sheet_reader.proofs.Walking.{Passed, reader-passed, usize-passed, WalkBefore, WalkAfter, walk-ends, meets}
+use Rattle.sheet_reader.proofs.Walking.{PassedAs, reader-passed, usize-passed, WalkBefore, WalkAfter, walk-ends, meets}
 use Rattle.sheet_reader.proofs.steps.behind as callee
 use Rattle.sheet_reader.proofs.steps.behind.Symbol.{name as #callee}
 use Rattle.sheet_reader.proofs.steps.behind.Met as callee-thm
@@ -46,7 +46,7 @@ use Rattle.sheet_reader.proofs.Reader.behind.Code as code
 abbrev callee-params : List (Slot 1)
 callee-params = bytes ∷ plain (λ _. usize) ∷ plain (λ _. Part′.the-row) ∷ []
 
-abbrev part-passed : Passed (plain (λ _. Part′.the-row))
+abbrev part-passed : PassedAs (plain (λ _. Part′.the-row))
 part-passed = record { vals = λ κs. LL.vals Part′.the-type PartLaws.the-laws; tells = λ κs. LL.tells Part′.the-type PartLaws.the-laws; silent = λ κs x l. refl }
 
 module _ {M : Type 1} (𝓤 : URA M) (H : Heap 𝓤) (A : Atoms 𝓤) (W : Given 𝓤 H A) (mem : Memory → SProp 𝓤) (run : Routine → Fun 𝓤) (κ : Lft) (q : Share) (h : Reader) (n : ℕ) (ok : n < 2 ^ 64) (p : Part) (part-is : Is Part′.the-row p (PartLaws.lowered p ∷ [])) where
