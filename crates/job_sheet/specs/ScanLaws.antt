@@ -16,14 +16,14 @@ use Rattle.job_sheet.specs.declared.Sinks.{Sinks}
 use Rattle.job_sheet.specs.declared.faults.Records.{Records}
 use Rattle.job_sheet.specs.declared.faults.Records.the-variants.{Blocks, Positions, Endpoints}
 use Rattle.job_sheet.specs.declared.Judgement.{Judgement}
-use Rattle.job_sheet.specs.Sheet.{maxSinks, isGood, firstFault, endpointSize, noEndpoint, sinksOf}
+use Rattle.job_sheet.specs.Sheet.{maxSinks, isGood, firstFault, blockSize, endpointSize, noEndpoint, sinksOf}
 use Rattle.job_sheet.specs.Places.{sizeOf, many, endpointIn, endpointsIn, faultIn}
 use Rattle.job_sheet.specs.RecordLaws.{many-long, many-snoc}
 use Rattle.job_sheet.specs.FaultLaws.{fault-first, good-first, only-first}
 
 -- ---- the first fault
 
-pub size-few : (k : Records) → sizeOf k ≤ 7
+pub size-few : (k : Records) → sizeOf k ≤ blockSize
 size-few Blocks = omega arith
 size-few Positions = omega arith
 size-few Endpoints = omega arith

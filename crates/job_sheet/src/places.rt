@@ -2,7 +2,7 @@
 ghost use mathlib.Core.Path.{_≡_};
 ghost use Prim.Native.Nat.{_+_, _^_, _≤_, _<_};
 ghost use lib.ListN.{getD, drop};
-ghost use Rattle.job_sheet.specs.Sheet.{sidesPlace, configPlace, behind};
+ghost use Rattle.job_sheet.specs.Sheet.{blockSize, sidesPlace, configPlace, behind};
 ghost use Rattle.job_sheet.specs.Places.{twoIn, fourIn, positionIn, roomIn, configIn, blockIn, endpointIn, shapeHolds, shaped, LaidOut, Listed, SinksListed};
 use crate::Block;
 use crate::Endpoint;
@@ -141,7 +141,7 @@ pub fn sinks_at(sheet: &[u8], place: usize) -> Part
 
 // The place right behind a part.
 fn behind(size: usize, part: Part) -> usize
-    requires { ⌜ (size ≤ 7) × (part .from < 2 ^ 32) × (part .count < 2 ^ 16) ⌝ }
+    requires { ⌜ (size ≤ blockSize) × (part .from < 2 ^ 32) × (part .count < 2 ^ 16) ⌝ }
     ensures { λ r. ⌜ r ≡ behind size part ⌝ }
 {
     part.from + size * part.count
