@@ -5,6 +5,7 @@ use Prim.Native.Nat.{ℕ, _+_, _*_, _≤_, min}
 use native.Mathlib.Numerals.{add-one}
 use lib.ListN.{length, set, replicate}
 use borrow.Author.Tests.{eq-eqb, ne-eqb}
+use Rattle.job_sheet.specs.Sheet.{maxSinks}
 use Rattle.stored.specs.FilePlaces.{past, byteAt, cellAt, wordAt, byteBehind, wordBehind}
 use Rattle.stored.specs.FilePlaceLaws.{past-within, past-behind}
 use Rattle.replay_sheets.specs.declared.sheets.Asked.{Asked}
@@ -67,7 +68,7 @@ module _ {F : List ℕ} {from : ℕ} where
 -- ---- branches behind one another
 
 module _ {F : List ℕ} {at : ℕ} {cells₀ covered₀ : List ℕ} where
-  pub branched-none : BranchesRead F at cells₀ covered₀ 0 cells₀ covered₀ (replicate 16 0) 0 at
+  pub branched-none : BranchesRead F at cells₀ covered₀ 0 cells₀ covered₀ (replicate maxSinks 0) 0 at
   unfolding branchAt totalTo eachTo cellsTo coveredTo
   branched-none = record { cells-put = refl; cells-marked = refl; each-is = refl; total-is = refl; end-is = refl }
 
@@ -88,7 +89,7 @@ module _ {F : List ℕ} {at : ℕ} {cells₀ covered₀ : List ℕ} where
 
 module _ (F : List ℕ) (at : ℕ) (cells covered marks : List ℕ) where
   pub tree-by : {detail count from sinks : ℕ} {cells′ covered′ each : List ℕ} {total end occupied repeaters behind last : ℕ} {marks′ : List ℕ}
-      → detail ≡ wordBehind F at 1 → count ≡ byteBehind F at 5 → from ≡ past F at 6 → sinks ≡ min count 16
+      → detail ≡ wordBehind F at 1 → count ≡ byteBehind F at 5 → from ≡ past F at 6 → sinks ≡ min count maxSinks
       → BranchesRead F from cells covered sinks cells′ covered′ each total end → occupied ≡ wordAt F end → repeaters ≡ wordBehind F end 4
       → behind ≡ past F end 8 → marks′ ≡ marksOf F behind repeaters marks → last ≡ past F behind (repeaters * 2)
       → left (treeOf detail (record { count = count; each = each }) total occupied repeaters) last cells′ covered′ marks′ ≡ treeAt F at cells covered marks

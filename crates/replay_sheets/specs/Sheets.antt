@@ -7,6 +7,7 @@ use Prim.Native.Nat.{ℕ, zero, suc, _+_, _*_, _-_, min}
 use lib.Dec.{eqb, leb}
 use lib.ListN.{take, drop, set, replicate}
 use Rattle.basics.specs.Tests.{either}
+use Rattle.job_sheet.specs.Sheet.{maxSinks}
 use Rattle.branches.specs.declared.BranchLengths.{BranchLengths}
 use Rattle.branches.specs.Branches.{branchLengths}
 use Rattle.stored.specs.Memory.{ownLength}
@@ -63,7 +64,7 @@ totalTo F at zero = 0
 totalTo F at (suc k) = totalTo F at k + lengthAt F at k
 
 unfoldable pub eachTo : List ℕ → ℕ → ℕ → List ℕ
-eachTo F at zero = replicate 16 0
+eachTo F at zero = replicate maxSinks 0
 eachTo F at (suc k) = set (eachTo F at k) k (lengthAt F at k)
 
 -- their cells, behind one another, and marks on them
@@ -105,7 +106,7 @@ treeOf detail lengths total occupied repeaters =
 
 -- a tree has sixteen branches at most
 abbrev pub branchesAt : List ℕ → ℕ → ℕ
-branchesAt F at = min (byteBehind F at 5) 16
+branchesAt F at = min (byteBehind F at 5) maxSinks
 
 -- behind the branches: how many cells are occupied, how many repeaters there are, and their cells
 abbrev pub branchesEnd : List ℕ → ℕ → ℕ

@@ -9,6 +9,7 @@ use Rattle.basics.specs.Tests.{either}
 use Rattle.basics.specs.Lists.{allBelow}
 use Rattle.lent.specs.Lent.{touches}
 use Rattle.stored.specs.Runs.{fullIf, sameIf}
+use Rattle.job_sheet.specs.Sheet.{maxSinks}
 use Rattle.branches.specs.declared.BranchLengths.{BranchLengths}
 use Rattle.branches.specs.Branches.{branchLengths, markedCount}
 use Rattle.net_tree.specs.declared.Lengths.{Lengths}
@@ -30,7 +31,7 @@ unfoldable pub sameBelow : ℕ → List ℕ → List ℕ → Bool
 sameBelow n a b = allBelow (λ k. eqb (getD a k 0) (getD b k 0)) n
 
 unfoldable pub sameLengths : BranchLengths → BranchLengths → Bool
-sameLengths a b = eqb (a .count) (b .count) && sameBelow 16 (a .each) (b .each)
+sameLengths a b = eqb (a .count) (b .count) && sameBelow maxSinks (a .each) (b .each)
 
 -- a tree with as many cells and repeaters as are stored
 unfoldable pub sameCounts : ℕ → ℕ → Told → Bool

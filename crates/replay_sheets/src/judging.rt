@@ -3,6 +3,7 @@ use crate::sheets::Told;
 use branches::BranchLengths;
 use branches::count_marks;
 use branches::no_lengths;
+use job_sheet::MAX_SINKS;
 use net_tree::Answer;
 use net_tree::Ended;
 use stored::memory::bytes_hold;
@@ -35,7 +36,7 @@ fn same_lengths(a: BranchLengths, b: BranchLengths) -> bool
     let each = a.each;
     let other = b.each;
     let mut k: usize = 0;
-    while k < 16 {
+    while k < MAX_SINKS {
         if each[k] != other[k] {
             return false;
         }

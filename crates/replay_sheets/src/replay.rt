@@ -8,6 +8,7 @@ use crate::sheets::Told;
 use crate::sheets::answer_at;
 use crate::sheets::asked_at;
 use crate::sheets::sheet_at;
+use crate::sheets::smaller;
 use crate::sheets::told_if;
 use crate::tallies::Tally;
 use crate::tallies::nothing_yet;
@@ -27,7 +28,7 @@ use stored::runs::narrowed;
 use stored::runs::queue_more;
 use stored::runs::twice;
 ghost use mathlib.Core.Path.{_≡_};
-ghost use Prim.Native.Nat.{_-_, min};
+ghost use Prim.Native.Nat.{_-_};
 ghost use lib.ListN.{length};
 ghost use Rattle.stored.specs.Runs.{Halved};
 ghost use Rattle.replay_sheets.specs.Runs.{SizeOf, branchMore, longerLengths, branchBuffer, lengthsFor, isFull, agreedBy, dueIn, RanWith, Narrows, AgreesIn};
@@ -73,12 +74,6 @@ fn size_of(sheet: &[u8], lent: usize) -> Size
         cells: smaller(lent, job.room.volume()),
         limit: job.config.limit.0 as usize,
     }
-}
-
-fn smaller(a: usize, b: usize) -> usize
-    ensures { λ r. ⌜ r ≡ min a b ⌝ }
-{
-    if a < b { a } else { b }
 }
 
 fn branch_more(branches: usize, number: u32) -> usize

@@ -132,7 +132,7 @@ fn branches_at(
     cells: &mut [u32],
     covered: &mut [u8],
 ) -> Branches
-    requires { ⌜ count ≤ 16 ⌝ }
+    requires { ⌜ count ≤ maxSinks ⌝ }
     ensures { λ r. ⌜ BranchesRead (now (file .entry)) at (now (cells .entry)) (now (covered .entry)) count (now (cells .exit)) (now (covered .exit)) (r .each) (r .total) (r .end) ⌝ }
 {
     let mut each = [0usize; MAX_SINKS];
@@ -152,10 +152,10 @@ fn branches_at(
     Branches { each, total, end }
 }
 
-fn at_most_sixteen(count: u8) -> usize
-    ensures { λ r. ⌜ r ≡ min count 16 ⌝ }
+pub fn smaller(a: usize, b: usize) -> usize
+    ensures { λ r. ⌜ r ≡ min a b ⌝ }
 {
-    if count < 16 { count as usize } else { 16 }
+    if a < b { a } else { b }
 }
 
 fn told_refusal(number: u32, detail: usize) -> Told
@@ -182,11 +182,11 @@ fn tree_at(
     ensures { λ r. ⌜ left (r .told) (r .end) (now (cells .exit)) (now (covered .exit)) (now (marks .exit)) ≡ treeAt (now (file .entry)) at (now (cells .entry)) (now (covered .entry)) (now (marks .entry)) ⌝ }
 {
     let detail = size_behind(file, at, 1);
-    let count = byte_behind(file, at, 5);
+    let count = byte_behind(file, at, 5) as usize;
     let branches = branches_at(
         file,
         past(file, at, 6),
-        at_most_sixteen(count),
+        smaller(count, MAX_SINKS),
         cells,
         covered,
     );
@@ -200,10 +200,7 @@ fn tree_at(
         told: Told {
             number: 0,
             detail,
-            lengths: BranchLengths {
-                count: count as usize,
-                each,
-            },
+            lengths: BranchLengths { count, each },
             total: branches.total,
             occupied,
             repeaters,

@@ -4,6 +4,7 @@ use mathlib.Core.Bool.{true}
 use Prim.Native.Nat.{_-_, _≤_}
 use native.Mathlib.Omega.{arith}
 use borrow.Author.Tests.{eq-eqb, ne-eqb}
+use Rattle.job_sheet.specs.Sheet.{maxSinks}
 use Rattle.replay_sheets.specs.Verdicts.{sameBelow, sameLengths}
 use Rattle.replay_sheets.specs.VerdictLaws.{same-none, same-next, same-never}
 use borrow.Author.Needs.{needs}
@@ -11,10 +12,10 @@ use Rattle.replay_sheets.proofs.judging.same_lengths.Statement.{stateme
 use Rattle.replay_sheets.proofs.judging.same_lengths.Tie as tie
 
 abbrev Inv-loop : tie.InvT-loop
-Inv-loop each other k₀ k = (k ≤ 16) × (sameBelow k each other ≡ true)
+Inv-loop each other k₀ k = (k ≤ maxSinks) × (sameBelow k each other ≡ true)
 
 abbrev μ-loop : tie.MeasureT-loop
-μ-loop each other k₀ k = 16 - k
+μ-loop each other k₀ k = maxSinks - k
 
 returns : tie.Need-returns Inv-loop μ-loop
 unfolding sameLengths
@@ -37,7 +38,7 @@ array-read-if2-2 c = search needs
 
 returns-2 : tie.Need-returns-2 Inv-loop μ-loop
 unfolding sameLengths
-returns-2 c = rw (eq-eqb _ _ (c .before .before .before .before .before .if1 .left), same-never _ _ 16 _ (c .before .loop-test .taken) (c .if2 .taken))
+returns-2 c = rw (eq-eqb _ _ (c .before .before .before .before .before .if1 .left), same-never _ _ maxSinks _ (c .before .loop-test .taken) (c .if2 .taken))
 
 add-k : tie.Need-add-k Inv-loop μ-loop
 add-k c = search needs
@@ -50,7 +51,7 @@ loop-again c = (search needs, same-next _ _ _ (c .before .before .loop .inv .1) 
 
 returns-3 : tie.Need-returns-3 Inv-loop μ-loop
 unfolding sameLengths
-returns-3 c = let e : c .before .loop .k ≡ 16 = omega arith in rw (eq-eqb _ _ (c .before .before .before .before .if1 .left)) (sym (rw e at (c .before .loop .inv .1)))
+returns-3 c = let e : c .before .loop .k ≡ maxSinks = omega arith in rw (eq-eqb _ _ (c .before .before .before .before .if1 .left)) (sym (rw e at (c .before .loop .inv .1)))
 
 pub same-lengths-spec : {M : Type 1} → statement M
 same-lengths-spec =

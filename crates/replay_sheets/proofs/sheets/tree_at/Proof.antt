@@ -10,11 +10,14 @@ size-behind-requires c κs = search needs
 byte-behind-requires : tie.Need-byte-behind-requires
 byte-behind-requires c κs = search needs
 
+cast-count : tie.Need-cast-count
+cast-count c = search needs
+
 past-requires : tie.Need-past-requires
 past-requires c κs = search needs
 
-at-most-sixteen-requires : tie.Need-at-most-sixteen-requires
-at-most-sixteen-requires c κs = search needs
+smaller-requires : tie.Need-smaller-requires
+smaller-requires c κs = search needs
 
 branches-at-requires : tie.Need-branches-at-requires
 branches-at-requires c κs = search needs
@@ -30,9 +33,6 @@ past-requires-2 c κs = search needs
 
 mark-stored-cells-requires : tie.Need-mark-stored-cells-requires
 mark-stored-cells-requires c κs = search needs
-
-cast-t14 : tie.Need-cast-t14
-cast-t14 c = search needs
 
 mul-past : tie.Need-mul-past
 mul-past c = search needs
@@ -50,7 +50,7 @@ same-length-3 : tie.Need-same-length-3
 same-length-3 c = search needs
 
 returns : tie.Need-returns
-returns c = tree-by _ _ _ _ _ (c .before .before .before .before .before .before .before .before .before .before .before .before .before .before .before .before .before .before .before .size-behind .ensures .0) (c .before .before .before .before .before .before .before .before .before .before .before .before .before .before .before .before .before .before .byte-behind .ensures) (c .before .before .before .before .before .before .before .before .before .before .before .before .before .before .before .before .before .past .ensures) (c .before .before .before .before .before .before .before .before .before .before .before .before .before .before .before .before .at-most-sixteen .ensures) (c .before .before .before .before .before .before .before .before .before .before .before .before .before .branches-at .ensures) (c .before .before .before .before .before .before .before .size-at .ensures .0) (c .before .before .before .before .before .before .size-behind2 .ensures .0) (c .before .before .before .before .before .past2 .ensures) (c .before .before .before .mark-stored-cells .ensures) (c .past3 .ensures)
+returns c = tree-by _ _ _ _ _ (c .before .before .before .before .before .before .before .before .before .before .before .before .before .before .before .before .before .before .before .size-behind .ensures .0) (c .before .before .before .before .before .before .before .before .before .before .before .before .before .before .before .before .before .before .byte-behind .ensures) (c .before .before .before .before .before .before .before .before .before .before .before .before .before .before .before .before .before .past .ensures) (c .before .before .before .before .before .before .before .before .before .before .before .before .before .before .before .before .smaller .ensures) (c .before .before .before .before .before .before .before .before .before .before .before .before .before .branches-at .ensures) (c .before .before .before .before .before .before .before .size-at .ensures .0) (c .before .before .before .before .before .before .size-behind2 .ensures .0) (c .before .before .before .before .before .past2 .ensures) (c .before .before .before .mark-stored-cells .ensures) (c .past3 .ensures)
 
 pub tree-at-spec : {M : Type 1} → statement M
 tree-at-spec =
@@ -58,14 +58,14 @@ tree-at-spec =
     (tie.spec
     size-behind-requires
     byte-behind-requires
+    cast-count
     past-requires
-    at-most-sixteen-requires
+    smaller-requires
     branches-at-requires
     size-at-requires
     size-behind-requires-2
     past-requires-2
     mark-stored-cells-requires
-    cast-t14
     mul-past
     past-requires-3
     same-length
