@@ -7,7 +7,7 @@ use native.Mathlib.Omega.{arith}
 use Rattle.replay.specs.declared.searches.Stored.{Stored}
 use borrow.Author.Tests.{not-true, not-false}
 use Rattle.basics.specs.Tests.{test-fails, test-passes}
-use Rattle.stored.specs.Runs.{isSame, longerBy, cellsMore, queueMore, sumOf, Narrowed}
+use Rattle.stored.specs.Runs.{isSame, longerBy, longerUnless, queueMore, sumOf, Narrowed}
 use Rattle.replay.specs.declared.compare.LentLengths.{LentLengths}
 use Rattle.stored.specs.declared.runs.Verdict.{Verdict}
 use Rattle.stored.specs.declared.runs.Gap.{Gap}
@@ -15,7 +15,7 @@ use Rattle.replay.specs.Searches.{storedAt}
 use Rattle.replay.specs.Verdicts.{RanIn}
 use Rattle.replay.specs.Runs.{lentLengths, storedLengths, longerLengths, SameTwice, RanWith, isNarrowed, agreement, ReplayedOne, differs, twice-alone, then-narrowed, oneMore, numberedFrom}
 
-pub longer-lent : (S : Stored) {cells places more queue : ℕ} → cells ≡ cellsMore (S .lent) (S .told .number) → places ≡ S .places * 2
+pub longer-lent : (S : Stored) {cells places more queue : ℕ} → cells ≡ longerUnless 6 (S .lent) (S .told .number) → places ≡ S .places * 2
     → more ≡ queueMore (S .told .number) → queue ≡ longerBy places more → lentLengths cells queue ≡ longerLengths S
 longer-lent S p q r s = rw (p, s, q, r)
 

@@ -7,7 +7,7 @@ use Prim.Native.Nat.{ℕ, zero, suc, _*_}
 use lib.Dec.{eqb, ltb}
 use Rattle.basics.specs.Tests.{either}
 use Rattle.stored.specs.FilePlaces.{countIn, firstPlace}
-use Rattle.stored.specs.Runs.{Repeated, isSame, longerBy, cellsMore, queueMore, sumOf, Narrowed}
+use Rattle.stored.specs.Runs.{Repeated, isSame, longerBy, longerUnless, queueMore, sumOf, Narrowed}
 use Rattle.replay.specs.declared.searches.Stored.{Stored}
 use Rattle.stored.specs.declared.runs.Verdict.{Verdict}
 use Rattle.replay.specs.declared.compare.LentLengths.{LentLengths}
@@ -27,7 +27,7 @@ storedLengths S = lentLengths (S .lent) (S .places * 2)
 
 -- longer buffers that change no answer. Numbers 6 and 13 hang on lengths
 abbrev pub longerLengths : Stored → LentLengths
-longerLengths S = lentLengths (cellsMore (S .lent) (S .told .number)) (longerBy (S .places * 2) (queueMore (S .told .number)))
+longerLengths S = lentLengths (longerUnless 6 (S .lent) (S .told .number)) (longerBy (S .places * 2) (queueMore (S .told .number)))
 
 -- ---- the stored answer, twice
 

@@ -8,10 +8,10 @@ use stored::file_places::count_in;
 use stored::file_places::first_place;
 use stored::runs::Gap;
 use stored::runs::add;
-use stored::runs::cells_more;
 use stored::runs::is_open;
 use stored::runs::is_same;
 use stored::runs::longer;
+use stored::runs::longer_unless;
 use stored::runs::middle;
 use stored::runs::narrowed;
 use stored::runs::queue_more;
@@ -52,7 +52,7 @@ fn longer_lengths(stored: Stored) -> LentLengths
 {
     let number = stored.told.number;
     LentLengths {
-        cells: cells_more(stored.lent, number),
+        cells: longer_unless(6, stored.lent, number),
         queue: longer(twice(stored.places), queue_more(number)),
     }
 }

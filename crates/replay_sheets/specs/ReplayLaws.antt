@@ -9,7 +9,7 @@ use Rattle.replay_sheets.specs.declared.sheets.Asked.{Asked}
 use Rattle.replay_sheets.specs.declared.sheets.SheetPart.{SheetPart}
 use Rattle.replay_sheets.specs.declared.sheets.Told.{Told}
 use Rattle.replay_sheets.specs.Sheets.{askedAt, sheetAt, left, answerAt, ownZeros, toldIf}
-use Rattle.replay_sheets.specs.Replays.{InComparison, InComparisons, Next}
+use Rattle.replay_sheets.specs.Replays.{InComparisons, Next}
 
 -- a record, from its parts
 pub next-by : (F : List ℕ) {longs : ℕ} (s : Stand) {P : SheetPart} {known S : Told} {A : Asked} {end : ℕ} {cells covered marks : List ℕ} {t : Tally} → P ≡ sheetAt F (s .at)
@@ -19,11 +19,3 @@ next-by F s p a b k K = record {
   passed = rw (← p, ← a);
   replayed = rw (← p, ← a, ← b, ← k) K;
 }
-
--- the queue stays as long as it was
-pub comparison-long : {comparison : ℕ} {sheet : List ℕ} {A : Asked} {S : Told} {cells covered marks : List ℕ} {longs longs′ : ℕ} {t r : Tally} → longs ≡ longs′
-    → InComparison comparison sheet A S cells covered marks longs t r → InComparison comparison sheet A S cells covered marks longs′ t r
-comparison-long e h = rw (← e) h
-
-pub next-long : {F : List ℕ} {longs longs′ : ℕ} {s r : Stand} → longs ≡ longs′ → Next F longs s r → Next F longs′ s r
-next-long e h = rw (← e) h

@@ -5,7 +5,7 @@ use mathlib.Core.List.{List}
 use Prim.Native.Nat.{ℕ, _*_, _-_, min}
 use lib.Dec.{eqb, leb}
 use Rattle.basics.specs.Tests.{either}
-use Rattle.stored.specs.Runs.{isSame, longerBy, cellsMore, queueMore, Narrowed}
+use Rattle.stored.specs.Runs.{isSame, longerBy, longerUnless, queueMore, Narrowed}
 use Rattle.room.specs.Room.{volume}
 use Rattle.job_sheet.specs.declared.Job.{Job}
 use Rattle.job_sheet.specs.declared.Reading.{Reading}
@@ -46,16 +46,12 @@ leastQueue = 4
 abbrev pub lentLengths : ℕ → ℕ → ℕ → LentLengths
 lentLengths cells branches queue = record { cells = cells; branches = branches; queue = queue }
 
--- number 15 hangs on the length of the branch buffer
-unfoldable pub branchMore : ℕ → ℕ → ℕ
-branchMore branches number = either (eqb number 15) branches (longerBy branches 100)
-
 -- longer buffers that change no answer. Numbers 6, 13 and 15 hang on lengths
 unfoldable pub longerLengths : Asked → ℕ → LentLengths
 longerLengths A number =
     lentLengths
-    (cellsMore (A .lent) number)
-    (branchMore (A .branches) number)
+    (longerUnless 6 (A .lent) number)
+    (longerUnless 15 (A .branches) number)
     (longerBy (A .places * 2) (queueMore number))
 
 -- a branch buffer that is exactly full, one cell short, or as it is stored

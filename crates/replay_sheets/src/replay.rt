@@ -19,10 +19,10 @@ use stored::file_places::first_place;
 use stored::memory::OWN_LENGTH;
 use stored::runs::Gap;
 use stored::runs::Verdict;
-use stored::runs::cells_more;
 use stored::runs::is_open;
 use stored::runs::is_same;
 use stored::runs::longer;
+use stored::runs::longer_unless;
 use stored::runs::middle;
 use stored::runs::narrowed;
 use stored::runs::queue_more;
@@ -31,7 +31,7 @@ ghost use mathlib.Core.Path.{_≡_};
 ghost use Prim.Native.Nat.{_-_};
 ghost use lib.ListN.{length};
 ghost use Rattle.stored.specs.Runs.{Halved};
-ghost use Rattle.replay_sheets.specs.Runs.{SizeOf, branchMore, longerLengths, branchBuffer, lengthsFor, isFull, agreedBy, dueIn, RanWith, Narrows, AgreesIn};
+ghost use Rattle.replay_sheets.specs.Runs.{SizeOf, longerLengths, branchBuffer, lengthsFor, isFull, agreedBy, dueIn, RanWith, Narrows, AgreesIn};
 ghost use Rattle.replay_sheets.specs.Replays.{InComparison, InComparisons, Next, Replayed};
 
 // The kinds of comparison: buffers of exactly V cells, longer ones, a branch buffer exactly full, one that is one cell short, and
@@ -76,23 +76,13 @@ fn size_of(sheet: &[u8], lent: usize) -> Size
     }
 }
 
-fn branch_more(branches: usize, number: u32) -> usize
-    ensures { λ r. ⌜ r ≡ branchMore branches number ⌝ }
-{
-    if number == 15 {
-        branches
-    } else {
-        longer(branches, 100)
-    }
-}
-
 // Longer buffers that change no answer. Numbers 6, 13 and 15 hang on lengths.
 fn longer_lengths(asked: Asked, number: u32) -> LentLengths
     ensures { λ r. ⌜ r ≡ longerLengths asked number ⌝ }
 {
     LentLengths {
-        cells: cells_more(asked.lent, number),
-        branches: branch_more(asked.branches, number),
+        cells: longer_unless(6, asked.lent, number),
+        branches: longer_unless(15, asked.branches, number),
         queue: longer(twice(asked.places), queue_more(number)),
     }
 }

@@ -1,6 +1,8 @@
--- Rounds, and the least queue, determine what they lead to where each run does.
-use mathlib.Core.Path.{_≡_, sym, ap, _∙_}
-use Prim.Native.Nat.{ℕ, zero, suc, _*_}
+-- Rounds, and the least queue, determine what they lead to where each run does; a loop does its rounds one by one.
+use mathlib.Core.Path.{_≡_, refl, sym, ap, _∙_}
+use Prim.Native.Nat.{ℕ, zero, suc, _+_, _*_, _≤_, _<_}
+use native.Mathlib.Numerals.{add-one}
+use native.Mathlib.Omega.{arith}
 use Rattle.basics.specs.Tests.{never}
 use Rattle.basics.specs.Promises.{Determines}
 use Rattle.stored.specs.declared.runs.Verdict.{Verdict}
@@ -9,9 +11,26 @@ use Rattle.stored.specs.Runs.{Repeated, no-rounds, once-more, narrowedBy
 
 pub rounds-one : {X : Type 0} {next : ℕ → X → X → Type 0} {start : X} → ((k : ℕ) (x : X) → Determines (next k x)) → (n : ℕ) → Determines (Repeated next start n)
 rounds-one one zero x y (no-rounds e) (no-rounds f) = e ∙ sym f
-rounds-one {next = next} one (suc n) x y (once-more {x = a} t p) (once-more {x = b} u q) =
+rounds-one one (suc n) x y (once-more {x = a} t p) (once-more {x = b} u q) =
     let e = rounds-one one n a b t u in
     one n b x y (rw e at p) q
+
+-- rounds of a loop that lends its queue on: k of n are done, and the queue is as long as it was
+pub record RoundsDone {X : Type 0} (next : ℕ → ℕ → X → X → Type 0) (start : X) (n longs now k : ℕ) (x : X) : Type 0 where
+  pub long : now ≡ longs
+  pub within : k ≤ n
+  pub rounds : Repeated (next longs) start k x
+
+module _ {X : Type 0} {next : ℕ → ℕ → X → X → Type 0} {start : X} {n longs : ℕ} where
+  pub rounds-none : {x : X} → x ≡ start → RoundsDone next start n longs longs 0 x
+  rounds-none e = record { long = refl; within = omega arith; rounds = no-rounds e }
+
+  module _ {now k : ℕ} {x : X} (R : RoundsDone next start n longs now k x) where
+    pub rounds-next : k < n → {now′ : ℕ} {y : X} → now′ ≡ now → next now k x y → RoundsDone next start n longs now′ (k + 1) y
+    rounds-next h l p = record { long = l ∙ R .long; within = omega arith; rounds = rw add-one (once-more (R .rounds) (rw (R .long) at p)) }
+
+    pub rounds-all : n ≤ k → Repeated (next longs) start n x
+    rounds-all h = let e : k ≡ n = omega (arith, R .within) in rw e at (R .rounds)
 
 module _ {ran : ℕ → Verdict → Type 0} (one : (queue : ℕ) → Determines (ran queue)) where
   halved-one : (G : Gap) → Determines (Halved ran G)

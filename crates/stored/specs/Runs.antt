@@ -28,9 +28,9 @@ fullIf false = Other
 unfoldable pub longerBy : ℕ → ℕ → ℕ
 longerBy length more = either (ltb length 1000000) (length + more) length
 
--- how long a buffer of a number a cell is lent without a change of the answer. Number 6 hangs on its length
-unfoldable pub cellsMore : ℕ → ℕ → ℕ
-cellsMore cells number = either (eqb number 6) cells (longerBy cells 100)
+-- how long a buffer is lent without a change of the answer, where a number hangs on its length
+unfoldable pub longerUnless : ℕ → ℕ → ℕ → ℕ
+longerUnless hanging length number = either (eqb number hanging) length (longerBy length 100)
 
 -- by how much a queue is lent longer without a change of the answer. Numbers 6 and 13 hang on its places, and half a place more is none
 unfoldable pub queueMore : ℕ → ℕ

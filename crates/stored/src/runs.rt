@@ -1,7 +1,7 @@
 // What every stored case is put to: the verdict on a run, longer buffers, and the least queue that gives the stored answer.
 ghost use mathlib.Core.Path.{_≡_};
 ghost use Prim.Native.Nat.{_*_};
-ghost use Rattle.stored.specs.Runs.{isSame, sameIf, fullIf, longerBy, cellsMore, queueMore, sumOf, middleOf, isOpen, narrowedBy};
+ghost use Rattle.stored.specs.Runs.{isSame, sameIf, fullIf, longerBy, longerUnless, queueMore, sumOf, middleOf, isOpen, narrowedBy};
 
 // All as stored; or the number that a buffer gives that is too short, and everything is zero; or something else.
 pub enum Verdict {
@@ -58,14 +58,14 @@ pub fn longer(length: usize, by: u8) -> usize
     }
 }
 
-// Number 6 hangs on the length of a buffer of a number a cell.
-pub fn cells_more(cells: usize, number: u32) -> usize
-    ensures { λ r. ⌜ r ≡ cellsMore cells number ⌝ }
+// How long a buffer is lent without a change of the answer, where a number hangs on its length.
+pub fn longer_unless(hanging: u32, length: usize, number: u32) -> usize
+    ensures { λ r. ⌜ r ≡ longerUnless hanging length number ⌝ }
 {
-    if number == 6 {
-        cells
+    if number == hanging {
+        length
     } else {
-        longer(cells, 100)
+        longer(length, 100)
     }
 }
 

@@ -4,8 +4,8 @@ use borrow.Author.Needs.{needs}
 use Rattle.replay.proofs.replay.longer_lengths.Statement.{statement}
 use Rattle.replay.proofs.replay.longer_lengths.Tie as tie
 
-cells-more-requires : tie.Need-cells-more-requires
-cells-more-requires c κs = search needs
+longer-unless-requires : tie.Need-longer-unless-requires
+longer-unless-requires c κs = search needs
 
 twice-requires : tie.Need-twice-requires
 twice-requires c κs = search needs
@@ -17,9 +17,9 @@ longer-requires : tie.Need-longer-requires
 longer-requires c κs = search needs
 
 returns : tie.Need-returns
-returns c = longer-lent (c .before .before .before .before .args .stored) (c .before .before .before .cells-more .ensures) (c .before .before .twice .ensures) (c .before .queue-more .ensures) (c .longer .ensures)
+returns c = longer-lent (c .before .before .before .before .args .stored) (c .before .before .before .longer-unless .ensures) (c .before .before .twice .ensures) (c .before .queue-more .ensures) (c .longer .ensures)
 
 pub longer-lengths-spec : {M : Type 1} → statement M
 longer-lengths-spec =
     tie.close
-    (tie.spec cells-more-requires twice-requires queue-more-requires longer-requires returns)
+    (tie.spec longer-unless-requires twice-requires queue-more-requires longer-requires returns)

@@ -1,17 +1,15 @@
 -- `replay` meets its contract: one record a round.
-use mathlib.Core.Path.{_≡_, refl}
-use Prim.Native.Nat.{_-_, _≤_}
-use native.Mathlib.Numerals.{add-one}
-use native.Mathlib.Omega.{arith}
+use mathlib.Core.Path.{refl}
+use Prim.Native.Nat.{_-_}
 use lib.ListN.{length}
 use Rattle.replay.specs.Runs.{Next}
 use borrow.Author.Needs.{needs}
-use Rattle.stored.specs.Runs.{Repeated, no-rounds, once-more}
+use Rattle.stored.specs.RunLaws.{RoundsDone, rounds-none, rounds-next, rounds-all}
 use Rattle.replay.proofs.replay.replay.Statement.{statement}
 use Rattle.replay.proofs.replay.replay.Tie as tie
 
 abbrev Inv-loop : tie.InvT-loop
-Inv-loop file queue₀ count stand₀ passed₀ queue stand passed = (passed ≤ count) × Repeated (λ _. Next file (length queue₀)) stand₀ passed stand × (length queue ≡ length queue₀)
+Inv-loop file queue₀ count stand₀ passed₀ queue stand passed = RoundsDone (λ longs _. Next file longs) stand₀ count (length queue₀) (length queue) passed stand
 
 abbrev μ-loop : tie.MeasureT-loop
 μ-loop file queue₀ count stand₀ passed₀ queue stand passed = count - passed
@@ -23,7 +21,7 @@ first-place-requires : tie.Need-first-place-requires Inv-loop μ-loop
 first-place-requires c κs = search needs
 
 loop-holds : tie.Need-loop-holds Inv-loop μ-loop
-loop-holds c = (search needs, no-rounds refl, refl)
+loop-holds c = rounds-none refl
 
 replay-next-requires : tie.Need-replay-next-requires Inv-loop μ-loop
 replay-next-requires c κs = search needs
@@ -35,13 +33,13 @@ loop-less : tie.Need-loop-less Inv-loop μ-loop
 loop-less c = search needs
 
 loop-again : tie.Need-loop-again Inv-loop μ-loop
-loop-again c = (search needs, rw add-one (once-more (c .before .before .before .before .before .loop .inv .1) (rw (c .before .before .before .before .before .loop .inv .2) at (c .before .before .replay-next .ensures))), search needs)
+loop-again c = rounds-next (c .before .before .before .before .before .loop .inv) (c .before .before .before .before .loop-test .taken) (c .before .before .replay-next .kept .1 .1 .0) (c .before .before .replay-next .ensures)
 
 same-length : tie.Need-same-length Inv-loop μ-loop
-same-length c = c .before .loop .inv .2
+same-length c = c .before .loop .inv .long
 
 returns : tie.Need-returns Inv-loop μ-loop
-returns c = let e : c .before .loop .passed ≡ c .before .before .before .count-in .result = omega arith in record { searches = rw (← (c .before .before .first-place .ensures)) (rw (e, c .before .before .before .count-in .ensures) at (c .before .loop .inv .1)) }
+returns c = record { searches = rw (← (c .before .before .first-place .ensures)) (rw (c .before .before .before .count-in .ensures) at (rounds-all (c .before .loop .inv) (c .loop-test .left))) }
 
 pub replay-spec : {M : Type 1} → statement M
 replay-spec =

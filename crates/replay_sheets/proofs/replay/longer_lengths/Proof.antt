@@ -4,11 +4,11 @@ use borrow.Author.Needs.{needs}
 use Rattle.replay_sheets.proofs.replay.longer_lengths.Statement.{statement}
 use Rattle.replay_sheets.proofs.replay.longer_lengths.Tie as tie
 
-cells-more-requires : tie.Need-cells-more-requires
-cells-more-requires c κs = search needs
+longer-unless-requires : tie.Need-longer-unless-requires
+longer-unless-requires c κs = search needs
 
-branch-more-requires : tie.Need-branch-more-requires
-branch-more-requires c κs = search needs
+longer-unless-requires-2 : tie.Need-longer-unless-requires-2
+longer-unless-requires-2 c κs = search needs
 
 twice-requires : tie.Need-twice-requires
 twice-requires c κs = search needs
@@ -20,14 +20,14 @@ longer-requires : tie.Need-longer-requires
 longer-requires c κs = search needs
 
 returns : tie.Need-returns
-returns c = longer-lent _ _ (c .before .before .before .before .cells-more .ensures) (c .before .before .before .branch-more .ensures) (c .before .before .twice .ensures) (c .before .queue-more .ensures) (c .longer .ensures)
+returns c = longer-lent _ _ (c .before .before .before .before .longer-unless .ensures) (c .before .before .before .longer-unless2 .ensures) (c .before .before .twice .ensures) (c .before .queue-more .ensures) (c .longer .ensures)
 
 pub longer-lengths-spec : {M : Type 1} → statement M
 longer-lengths-spec =
     tie.close
     (tie.spec
-    cells-more-requires
-    branch-more-requires
+    longer-unless-requires
+    longer-unless-requires-2
     twice-requires
     queue-more-requires
     longer-requires

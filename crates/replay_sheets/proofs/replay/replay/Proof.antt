@@ -1,18 +1,14 @@
 -- `replay` meets its contract: one record a round.
-use mathlib.Core.Path.{_≡_}
-use Prim.Native.Nat.{_-_, _≤_}
-use native.Mathlib.Numerals.{add-one}
-use native.Mathlib.Omega.{arith}
+use Prim.Native.Nat.{_-_}
 use lib.ListN.{length}
-use Rattle.replay_sheets.specs.ReplayLaws.{next-long}
 use borrow.Author.Needs.{needs}
 use Rattle.replay_sheets.specs.Replays.{Next, noneYet}
-use Rattle.stored.specs.Runs.{Repeated, no-rounds, once-more}
+use Rattle.stored.specs.RunLaws.{RoundsDone, rounds-none, rounds-next, rounds-all}
 use Rattle.replay_sheets.proofs.replay.replay.Statement.{statement}
 use Rattle.replay_sheets.proofs.replay.replay.Tie as tie
 
 abbrev Inv-loop : tie.InvT-loop
-Inv-loop file queue₀ count stand₀ passed₀ queue stand passed = (length queue ≡ length queue₀) × (passed ≤ count) × Repeated (λ _. Next file (length queue₀)) (noneYet file) passed stand
+Inv-loop file queue₀ count stand₀ passed₀ queue stand passed = RoundsDone (λ longs _. Next file longs) (noneYet file) count (length queue₀) (length queue) passed stand
 
 abbrev μ-loop : tie.MeasureT-loop
 μ-loop file queue₀ count stand₀ passed₀ queue stand passed = count - passed
@@ -27,7 +23,7 @@ nothing-yet-requires : tie.Need-nothing-yet-requires Inv-loop μ-loop
 nothing-yet-requires c κs = search needs
 
 loop-holds : tie.Need-loop-holds Inv-loop μ-loop
-loop-holds c = (search needs, search needs, no-rounds (λ i. record { at = c .before .first-place .ensures i; tally = c .nothing-yet .ensures i }))
+loop-holds c = rounds-none (λ i. record { at = c .before .first-place .ensures i; tally = c .nothing-yet .ensures i })
 
 replay-next-requires : tie.Need-replay-next-requires Inv-loop μ-loop
 replay-next-requires c κs = search needs
@@ -39,13 +35,13 @@ loop-less : tie.Need-loop-less Inv-loop μ-loop
 loop-less c = search needs
 
 loop-again : tie.Need-loop-again Inv-loop μ-loop
-loop-again c = (search needs, search needs, rw add-one (once-more (c .before .before .before .before .before .loop .inv .2) (next-long (c .before .before .before .before .before .loop .inv .0) (c .before .before .replay-next .ensures))))
+loop-again c = rounds-next (c .before .before .before .before .before .loop .inv) (c .before .before .before .before .loop-test .taken) (c .before .before .replay-next .kept .1 .1 .0) (c .before .before .replay-next .ensures)
 
 same-length : tie.Need-same-length Inv-loop μ-loop
-same-length c = search needs
+same-length c = c .before .loop .inv .long
 
 returns : tie.Need-returns Inv-loop μ-loop
-returns c = let e : c .before .loop .passed ≡ c .before .before .before .before .count-in .result = omega arith in rw (e, c .before .before .before .before .count-in .ensures) at (c .before .loop .inv .2)
+returns c = rw (c .before .before .before .before .count-in .ensures) at (rounds-all (c .before .loop .inv) (c .loop-test .left))
 
 pub replay-spec : {M : Type 1} → statement M
 replay-spec =
