@@ -1,5 +1,5 @@
 -- Laws of the verdict on an answer and lent memory.
-use mathlib.Core.Path.{_≡_, _∙_}
+use mathlib.Core.Path.{_≡_}
 use mathlib.Core.Bool.{true}
 use mathlib.Core.List.{List}
 use Prim.Native.Nat.{ℕ, _≤_}
@@ -32,15 +32,7 @@ module _ {S : Stored} {kinds cells : List ℕ} {L : Lengths} {r : Verdict} where
 
   -- the fronts that are lent have the lengths asked for
   pub ran-at : {O : Lengths} {N : LentLengths} → memoryFits O N ≡ true → Judged S kinds cells L r → L ≡ lengthsBy N → Ran S kinds cells O N r
-  ran-at f J e = fits-memory f (record {
-    lent-before = J .lent-before;
-    lent-after = J .lent-after;
-    answer = J .answer;
-    lengths = J .lengths ∙ e;
-    spoiled = J .spoiled;
-    promise = J .promise;
-    verdict = J .verdict;
-  })
+  ran-at f J e = fits-memory f (rw e at J)
 
 -- buffers that are long enough
 pub fits-in : (L : Lengths) (N : LentLengths) → N .cells ≤ L .path → N .cells ≤ L .known → N .cells ≤ L .previous → N .cells ≤ L .classes

@@ -1,7 +1,4 @@
 // Runs every search of the stored answers and compares number, detail, path, cost, expanded count and all lent memory.
-ghost use mathlib.Core.Path.{_≡_};
-ghost use lib.ListN.{length};
-
 mod compare;
 mod replay;
 mod searches;
@@ -10,6 +7,8 @@ use crate::replay::Stand;
 use crate::replay::count_number;
 use crate::replay::replay;
 use libc::STDOUT_FILENO;
+use stored::memory::FILE_LENGTH;
+use stored::memory::file_buffer;
 
 fn print_count_line(word: &[u8], count: u32) {
     io::write_all(STDOUT_FILENO, word);
@@ -59,13 +58,6 @@ fn print_outcome(file: &[u8], ended: bool, stand: Stand) {
     print_agreed(file, stand);
 }
 
-// A buffer for the file, which has 659,266 bytes.
-fn file_buffer() -> [u8; 1000000]
-    ensures { λ r. ⌜ 1000000 ≡ length r ⌝ }
-{
-    [0; 1000000]
-}
-
 // The largest stored queue has 196,608 places, and is lent longer too.
 fn main() {
     let name = b"searches.bin";
@@ -79,5 +71,5 @@ fn main() {
     libc::close(from);
     let mut queue = [0u64; 393300];
     let stand = replay(&file[..bytes], &mut queue);
-    print_outcome(&file[..bytes], bytes < 1000000, stand);
+    print_outcome(&file[..bytes], bytes < FILE_LENGTH, stand);
 }

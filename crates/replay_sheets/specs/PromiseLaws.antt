@@ -109,12 +109,12 @@ module _ (sheet : List ℕ) (A : Asked) (S : Told) (cells covered marks : List �
 
 -- ---- the file
 
-module _ (F : List ℕ) (longs : ℕ) where
-  next-one : (s : Stand) → Determines (Next F longs s)
+module _ (file : List ℕ) (longs : ℕ) where
+  next-one : (s : Stand) → Determines (Next file longs s)
   next-one s x y p q =
       let at = p .passed ∙ sym (q .passed) in
       let tally = comparisons-one _ _ _ _ _ _ longs (s .tally) (x .tally) (y .tally) (p .replayed) (q .replayed) in
       λ i. record { at = at i; tally = tally i }
 
-  pub coincide : Determines (Replayed F longs)
+  pub coincide : Determines (Replayed file longs)
   coincide = rounds-one (λ k. next-one) _

@@ -12,10 +12,10 @@ use Rattle.replay_sheets.specs.Sheets.{askedAt, sheetAt, left, answerAt,
 use Rattle.replay_sheets.specs.Replays.{InComparisons, Next}
 
 -- a record, from its parts
-pub next-by : (F : List ℕ) {longs : ℕ} (s : Stand) {P : SheetPart} {known S : Told} {A : Asked} {end : ℕ} {cells covered marks : List ℕ} {t : Tally} → P ≡ sheetAt F (s .at)
-    → left known end cells covered marks ≡ answerAt F (P .end) ownZeros ownZeros ownZeros → A ≡ askedAt F (s .at) → S ≡ toldIf (P .whole) known
-    → InComparisons (take (P .end - P .from) (drop (P .from) F)) A S cells covered marks longs (s .tally) t → Next F longs s (record { at = end; tally = t })
-next-by F s p a b k K = record {
+pub next-by : (file : List ℕ) {longs : ℕ} (s : Stand) {P : SheetPart} {known S : Told} {A : Asked} {end : ℕ} {cells covered marks : List ℕ} {t : Tally} → P ≡ sheetAt file (s .at)
+    → left known end cells covered marks ≡ answerAt file (P .end) ownZeros ownZeros ownZeros → A ≡ askedAt file (s .at) → S ≡ toldIf (P .whole) known
+    → InComparisons (take (P .end - P .from) (drop (P .from) file)) A S cells covered marks longs (s .tally) t → Next file longs s (record { at = end; tally = t })
+next-by file s p a b k K = record {
   passed = rw (← p, ← a);
   replayed = rw (← p, ← a, ← b, ← k) K;
 }

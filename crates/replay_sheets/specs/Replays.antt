@@ -7,6 +7,7 @@ use Prim.Native.Nat.{ℕ}
 use lib.Dec.{eqb}
 use Rattle.basics.specs.Tests.{either}
 use Rattle.stored.specs.Runs.{Repeated}
+use Rattle.stored.specs.Memory.{fileLength}
 use Rattle.stored.specs.FilePlaces.{countIn, firstPlace}
 use Rattle.replay_sheets.specs.declared.tallies.Tally.{Tally}
 use Rattle.replay_sheets.specs.declared.replay.Stand.{Stand}
@@ -27,20 +28,20 @@ abbrev pub InComparisons : List ℕ → Asked → Told → (cells covered marks 
 InComparisons sheet A S cells covered marks longs t r = Repeated (λ comparison. InComparison comparison sheet A S cells covered marks longs) (oneSheetMore t (S .number)) 5 r
 
 -- the record that stands there, and where the next one does
-pub record Next (F : List ℕ) (longs : ℕ) (s r : Stand) : Type 0 where
-  pub passed : r .at ≡ answerLeft F (s .at) .end
+pub record Next (file : List ℕ) (longs : ℕ) (s r : Stand) : Type 0 where
+  pub passed : r .at ≡ answerLeft file (s .at) .end
   pub replayed :
-      InComparisons (sheetOf F (s .at)) (askedAt F (s .at)) (toldOf F (s .at)) (answerLeft F (s .at) .cells) (answerLeft F (s .at) .covered)
-      (answerLeft F (s .at) .marks) longs (s .tally) (r .tally)
+      InComparisons (sheetOf file (s .at)) (askedAt file (s .at)) (toldOf file (s .at)) (answerLeft file (s .at) .cells) (answerLeft file (s .at) .covered)
+      (answerLeft file (s .at) .marks) longs (s .tally) (r .tally)
 
 -- no record yet
 abbrev pub noneYet : List ℕ → Stand
-noneYet F = record { at = firstPlace F; tally = nothingYet }
+noneYet file = record { at = firstPlace file; tally = nothingYet }
 
 -- as many as the file says
 abbrev pub Replayed : List ℕ → ℕ → Stand → Type 0
-Replayed F longs r = Repeated (λ _. Next F longs) (noneYet F) (countIn letters F) r
+Replayed file longs r = Repeated (λ _. Next file longs) (noneYet file) (countIn letters file) r
 
--- the file ends where the last record does, and within the million bytes of its buffer
+-- the file ends where the last record does, and within its buffer
 unfoldable pub endsThere : ℕ → ℕ → Bool
-endsThere at bytes = either (eqb bytes 1000000) false (eqb at bytes)
+endsThere at bytes = either (eqb bytes fileLength) false (eqb at bytes)

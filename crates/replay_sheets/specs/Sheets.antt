@@ -24,65 +24,65 @@ letters = 0x44525431
 
 -- the lengths that a sheet comes with
 unfoldable pub askedAt : List ℕ → ℕ → Asked
-askedAt F at = record { places = wordAt F at; branches = wordBehind F at 4; lent = wordBehind F at 8 }
+askedAt file at = record { places = wordAt file at; branches = wordBehind file at 4; lent = wordBehind file at 8 }
 
 abbrev pub sheetPart : ℕ → ℕ → ℕ → SheetPart
 sheetPart from length end = record { from = from; end = end; whole = leb length (end - from) }
 
 -- where the sheet's bytes stand, and whether the file holds all of them
 unfoldable pub sheetAt : List ℕ → ℕ → SheetPart
-sheetAt F at = sheetPart (past F at 16) (wordBehind F at 12) (past F (past F at 16) (wordBehind F at 12))
+sheetAt file at = sheetPart (past file at 16) (wordBehind file at 12) (past file (past file at 16) (wordBehind file at 12))
 
 -- ---- cells that stand behind one another
 
 -- marks on the first n of them
 unfoldable pub marksOf : List ℕ → ℕ → ℕ → List ℕ → List ℕ
-marksOf F from zero marks = marks
-marksOf F from (suc n) marks = set (marksOf F from n marks) (cellFrom F from n) 1
+marksOf file from zero marks = marks
+marksOf file from (suc n) marks = set (marksOf file from n marks) (cellFrom file from n) 1
 
 -- the first n of them, in a buffer from its place `start` on
 unfoldable pub cellsPut : List ℕ → ℕ → ℕ → ℕ → List ℕ → List ℕ
-cellsPut F from start zero cells = cells
-cellsPut F from start (suc n) cells = set (cellsPut F from start n cells) (start + n) (cellFrom F from n)
+cellsPut file from start zero cells = cells
+cellsPut file from start (suc n) cells = set (cellsPut file from start n cells) (start + n) (cellFrom file from n)
 
 -- ---- a tree's branches, which stand behind one another, each a length and as many cells
 
 -- where the k-th stands, and its cells
 unfoldable pub branchAt : List ℕ → ℕ → ℕ → ℕ
-branchAt F at zero = at
-branchAt F at (suc k) = past F (past F (branchAt F at k) 4) (wordAt F (branchAt F at k) * 2)
+branchAt file at zero = at
+branchAt file at (suc k) = past file (past file (branchAt file at k) 4) (wordAt file (branchAt file at k) * 2)
 
 abbrev pub lengthAt : List ℕ → ℕ → ℕ → ℕ
-lengthAt F at k = wordAt F (branchAt F at k)
+lengthAt file at k = wordAt file (branchAt file at k)
 
 abbrev pub branchCells : List ℕ → ℕ → ℕ → ℕ
-branchCells F at k = past F (branchAt F at k) 4
+branchCells file at k = past file (branchAt file at k) 4
 
 -- how many cells the first k have together, and how many each has
 unfoldable pub totalTo : List ℕ → ℕ → ℕ → ℕ
-totalTo F at zero = 0
-totalTo F at (suc k) = totalTo F at k + lengthAt F at k
+totalTo file at zero = 0
+totalTo file at (suc k) = totalTo file at k + lengthAt file at k
 
 unfoldable pub eachTo : List ℕ → ℕ → ℕ → List ℕ
-eachTo F at zero = replicate maxSinks 0
-eachTo F at (suc k) = set (eachTo F at k) k (lengthAt F at k)
+eachTo file at zero = replicate maxSinks 0
+eachTo file at (suc k) = set (eachTo file at k) k (lengthAt file at k)
 
 -- their cells, behind one another, and marks on them
 unfoldable pub cellsTo : List ℕ → ℕ → ℕ → List ℕ → List ℕ
-cellsTo F at zero cells = cells
-cellsTo F at (suc k) cells = cellsPut F (branchCells F at k) (totalTo F at k) (lengthAt F at k) (cellsTo F at k cells)
+cellsTo file at zero cells = cells
+cellsTo file at (suc k) cells = cellsPut file (branchCells file at k) (totalTo file at k) (lengthAt file at k) (cellsTo file at k cells)
 
 unfoldable pub coveredTo : List ℕ → ℕ → ℕ → List ℕ → List ℕ
-coveredTo F at zero covered = covered
-coveredTo F at (suc k) covered = marksOf F (branchCells F at k) (lengthAt F at k) (coveredTo F at k covered)
+coveredTo file at zero covered = covered
+coveredTo file at (suc k) covered = marksOf file (branchCells file at k) (lengthAt file at k) (coveredTo file at k covered)
 
 -- the first k of them, read: their cells and the marks, the length of each, how many cells they have, and where they end
-pub record BranchesRead (F : List ℕ) (at : ℕ) (cells₀ covered₀ : List ℕ) (k : ℕ) (cells covered each : List ℕ) (total end : ℕ) : Type 0 where
-  pub cells-put : cells ≡ cellsTo F at k cells₀
-  pub cells-marked : covered ≡ coveredTo F at k covered₀
-  pub each-is : each ≡ eachTo F at k
-  pub total-is : total ≡ totalTo F at k
-  pub end-is : end ≡ branchAt F at k
+pub record BranchesRead (file : List ℕ) (at : ℕ) (cells₀ covered₀ : List ℕ) (k : ℕ) (cells covered each : List ℕ) (total end : ℕ) : Type 0 where
+  pub cells-put : cells ≡ cellsTo file at k cells₀
+  pub cells-marked : covered ≡ coveredTo file at k covered₀
+  pub each-is : each ≡ eachTo file at k
+  pub total-is : total ≡ totalTo file at k
+  pub end-is : end ≡ branchAt file at k
 
 -- ---- an answer
 
@@ -106,46 +106,46 @@ treeOf detail lengths total occupied repeaters =
 
 -- a tree has sixteen branches at most
 abbrev pub branchesAt : List ℕ → ℕ → ℕ
-branchesAt F at = min (byteBehind F at 5) maxSinks
+branchesAt file at = min (byteBehind file at 5) maxSinks
 
 -- behind the branches: how many cells are occupied, how many repeaters there are, and their cells
 abbrev pub branchesEnd : List ℕ → ℕ → ℕ
-branchesEnd F at = branchAt F (past F at 6) (branchesAt F at)
+branchesEnd file at = branchAt file (past file at 6) (branchesAt file at)
 
 abbrev pub repeatersAt : List ℕ → ℕ → ℕ
-repeatersAt F at = wordBehind F (branchesEnd F at) 4
+repeatersAt file at = wordBehind file (branchesEnd file at) 4
 
 unfoldable pub treeAt : List ℕ → ℕ → (cells covered marks : List ℕ) → Left
-treeAt F at cells covered marks =
+treeAt file at cells covered marks =
     left
-    (treeOf (wordBehind F at 1) (record { count = byteBehind F at 5; each = eachTo F (past F at 6) (branchesAt F at) })
-    (totalTo F (past F at 6) (branchesAt F at)) (wordAt F (branchesEnd F at)) (repeatersAt F at))
-    (past F (past F (branchesEnd F at) 8) (repeatersAt F at * 2))
-    (cellsTo F (past F at 6) (branchesAt F at) cells)
-    (coveredTo F (past F at 6) (branchesAt F at) covered)
-    (marksOf F (past F (branchesEnd F at) 8) (repeatersAt F at) marks)
+    (treeOf (wordBehind file at 1) (record { count = byteBehind file at 5; each = eachTo file (past file at 6) (branchesAt file at) })
+    (totalTo file (past file at 6) (branchesAt file at)) (wordAt file (branchesEnd file at)) (repeatersAt file at))
+    (past file (past file (branchesEnd file at) 8) (repeatersAt file at * 2))
+    (cellsTo file (past file at 6) (branchesAt file at) cells)
+    (coveredTo file (past file at 6) (branchesAt file at) covered)
+    (marksOf file (past file (branchesEnd file at) 8) (repeatersAt file at) marks)
 
 -- a number that is 0 for a tree, a detail, and a tree
 unfoldable pub answerAt : List ℕ → ℕ → (cells covered marks : List ℕ) → Left
-answerAt F at cells covered marks =
-    either (eqb (byteAt F at) 0)
-    (treeAt F at cells covered marks)
-    (left (refusalOf (byteAt F at) (wordBehind F at 1)) (past F at 5) cells covered marks)
+answerAt file at cells covered marks =
+    either (eqb (byteAt file at) 0)
+    (treeAt file at cells covered marks)
+    (left (refusalOf (byteAt file at) (wordBehind file at 1)) (past file at 5) cells covered marks)
 
 -- ---- a record: its sheet, and what its answer leaves in memory that was zero
 
 abbrev pub sheetOf : List ℕ → ℕ → List ℕ
-sheetOf F at = take (sheetAt F at .end - sheetAt F at .from) (drop (sheetAt F at .from) F)
+sheetOf file at = take (sheetAt file at .end - sheetAt file at .from) (drop (sheetAt file at .from) file)
 
 unfoldable pub ownZeros : List ℕ
 ownZeros = replicate ownLength 0
 
 abbrev pub answerLeft : List ℕ → ℕ → Left
-answerLeft F at = answerAt F (sheetAt F at .end) ownZeros ownZeros ownZeros
+answerLeft file at = answerAt file (sheetAt file at .end) ownZeros ownZeros ownZeros
 
 -- no answer has the number 16: it stands for the number where the file ends within the sheet
 abbrev pub toldIf : Bool → Told → Told
 toldIf whole told = either whole told (refusalOf 16 0)
 
 abbrev pub toldOf : List ℕ → ℕ → Told
-toldOf F at = toldIf (sheetAt F at .whole) (answerLeft F at .told)
+toldOf file at = toldIf (sheetAt file at .whole) (answerLeft file at .told)

@@ -30,9 +30,9 @@ module _ (a b : List ℕ) where
   unfolding sameBelow allBelow
   same-next k e h = rw add-one (and-both (eq-eqb (getD a k 0) (getD b k 0) h) e)
 
-  pub same-never : (n k : ℕ) → k < n → (getD a k 0 ≡ getD b k 0 → ⊥) → sameBelow n a b ≡ false
+  pub same-failed : (n k : ℕ) → k < n → (getD a k 0 ≡ getD b k 0 → ⊥) → sameBelow n a b ≡ false
   unfolding sameBelow
-  same-never n k h d = ask (sameBelow n a b) (λ t. absurd (d (eqb-true _ _ (below-all _ n t k h)))) (λ f. f)
+  same-failed n k h d = ask (sameBelow n a b) (λ t. absurd (d (eqb-true _ _ (below-all _ n t k h)))) (λ f. f)
 
 -- ---- the fronts that are lent have the lengths asked for
 
@@ -112,12 +112,4 @@ module _ (N : LentLengths) {words bytes : List ℕ} (W : OwnRubbish words) (B : 
 
 pub ran-at : {sheet : List ℕ} {L : Lengths} {S : Told} {F : Shortage} {cells covered marks : List ℕ} {r : Verdict} (N : LentLengths) (longs : ℕ)
     → memoryFits N longs ≡ true → Judged sheet L S F cells covered marks r → L ≡ lengthsBy N → Ran sheet N S F cells covered marks longs r
-ran-at N longs h J e = fits-memory h (record {
-  lent-before = J .lent-before;
-  lent-after = J .lent-after;
-  answer = J .answer;
-  lengths = J .lengths ∙ e;
-  spoiled = J .spoiled;
-  promise = J .promise;
-  verdict = J .verdict;
-})
+ran-at N longs h J e = fits-memory h (rw e at J)

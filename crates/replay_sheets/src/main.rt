@@ -13,6 +13,8 @@ use crate::replay::LONGER;
 use crate::replay::QUEUE;
 use crate::tallies::Tally;
 use libc::STDOUT_FILENO;
+use stored::memory::FILE_LENGTH;
+use stored::memory::file_buffer;
 ghost use mathlib.Core.Path.{_≡_};
 ghost use Prim.Native.Nat.{_<_};
 ghost use Rattle.replay_sheets.specs.Replays.{endsThere};
@@ -95,11 +97,11 @@ fn print_comparisons(compared: [u32; 5], differ: [u32; 5], first: [u32; 5]) {
     );
 }
 
-// Whether the file ends with the last record, and within the buffer that it was read to.
+// Whether the file ends with the last record, and within the buffer that it was read into.
 fn ends_there(at: usize, bytes: usize) -> bool
     ensures { λ r. ⌜ r ≡ endsThere at bytes ⌝ }
 {
-    if bytes == 1000000 {
+    if bytes == FILE_LENGTH {
         return false;
     }
     at == bytes
@@ -127,7 +129,7 @@ fn main() {
         os::fail(name);
         return;
     }
-    let mut file = [0u8; 1000000];
+    let mut file = file_buffer();
     let bytes = io::read_full(from, &mut file);
     libc::close(from);
     let mut queue = [0u64; 393300];

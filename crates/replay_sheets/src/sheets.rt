@@ -10,7 +10,7 @@ use stored::file_places::size_at;
 use stored::file_places::size_behind;
 use stored::file_places::word_at;
 ghost use mathlib.Core.Path.{_≡_};
-ghost use Prim.Native.Nat.{_+_, _*_, _^_, _≤_, _<_, min};
+ghost use Prim.Native.Nat.{_*_, _^_, _≤_, _<_, min};
 ghost use lib.ListN.{set};
 ghost use Rattle.job_sheet.specs.Sheet.{maxSinks};
 ghost use Rattle.replay_sheets.specs.Sheets.{askedAt, sheetAt, marksOf, cellsPut, BranchesRead, left, refusalOf, treeAt, answerAt, toldIf};
@@ -209,7 +209,7 @@ fn tree_at(
     }
 }
 
-// An answer: a tree's cells come in front of `cells`, in sheet order, and are marked in `covered`; its repeaters are marked.
+// An answer: a tree's cells go to the front of `cells`, in sheet order, and are marked in `covered`; its repeaters are marked in `marks`.
 pub fn answer_at(
     file: &[u8],
     at: usize,

@@ -51,8 +51,8 @@ module _ (file : List ℕ) where
   cells-at at (suc n) zero h = sym (cell-here at)
   cells-at at (suc n) (suc k) h = cells-at (past file at 2) n k (le-of-suc-le-suc h) ∙ ap (cellAt file) (past-on at 2 (k * 2) ∙ ap (past file at) (omega arith))
 
-  pub none-more : (at n k : ℕ) → n ≤ k → getD (cellsFrom file at n) k 0 ≡ 0
+  pub cells-beyond : (at n k : ℕ) → n ≤ k → getD (cellsFrom file at n) k 0 ≡ 0
   unfolding cellsFrom
-  none-more at zero k h = refl
-  none-more at (suc n) zero h = absurd (not-suc-le-zero h)
-  none-more at (suc n) (suc k) h = none-more (past file at 2) n k (le-of-suc-le-suc h)
+  cells-beyond at zero k h = refl
+  cells-beyond at (suc n) zero h = absurd (not-suc-le-zero h)
+  cells-beyond at (suc n) (suc k) h = cells-beyond (past file at 2) n k (le-of-suc-le-suc h)

@@ -12,6 +12,10 @@ use Rattle.basics.specs.Tests.{either}
 abbrev pub ownLength : ℕ
 ownLength = 16600
 
+-- how many bytes their buffer for a stored file has
+abbrev pub fileLength : ℕ
+fileLength = 1000000
+
 -- the rubbish at a place: never 0 nor a mark
 unfoldable pub rubbish : ℕ → ℕ
 rubbish i = i % 251 + 2

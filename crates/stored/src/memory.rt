@@ -1,15 +1,24 @@
 // Lent memory: filled with rubbish before a run, and looked through to its very end behind it.
 ghost use mathlib.Core.Path.{_≡_};
-ghost use mathlib.Core.Bool.{false};
 ghost use mathlib.Core.List.{[]};
 ghost use Prim.Native.Nat.{_<_};
-ghost use Rattle.stored.specs.Memory.{rubbish, Rubbish, dueAt, holds, coversAt, covers};
+ghost use lib.ListN.{length};
+ghost use Rattle.stored.specs.Memory.{fileLength, rubbish, Rubbish, dueAt, holds, coversAt, covers};
 ghost use Rattle.stored.specs.FilePlaces.{cellsFrom};
 use crate::file_places::cell_at;
 use crate::file_places::past;
 
 // How many numbers the programs' own buffers have: those of the longest buffer that is stored, 16,484, and some more.
 pub const OWN_LENGTH: usize = 16600;
+
+// How many bytes their buffer for a stored file has: those of the longest that is stored, 839,526, and some more.
+pub const FILE_LENGTH: usize = 1000000;
+
+pub fn file_buffer() -> [u8; FILE_LENGTH]
+    ensures { λ r. ⌜ fileLength ≡ length r ⌝ }
+{
+    [0; FILE_LENGTH]
+}
 
 // The rubbish at a place: a small number, which could pass for a cell, a cost or an entry, and is never 0 nor a mark.
 fn rubbish(i: usize) -> u8

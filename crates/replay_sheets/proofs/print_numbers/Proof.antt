@@ -1,4 +1,4 @@
--- `print_numbers` is safe and ends: what is left of the numbers falls.
+-- `print_numbers` is safe and ends: fewer numbers are left.
 use Prim.Native.Nat.{_-_}
 use borrow.Author.Needs.{needs}
 use Rattle.replay_sheets.proofs.print_numbers.Statement.{statement}

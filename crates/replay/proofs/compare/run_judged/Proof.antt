@@ -29,7 +29,9 @@ same-length-5 : tie.Need-same-length-5
 same-length-5 c = search needs
 
 returns : tie.Need-returns
-returns c = judged-by (c .before .before .before .before .before .before .before .before .before .before .before .before .before .before .before .before .before .before .before .before .before .before .before .before .before .before .before .before .before .before .before .before .before .spoil .ensures) (c .before .before .before .before .before .before .before .before .before .before .before .before .before .before .before .before .before .astar-route .ensures) (c .judge .ensures) (c .before .before .before .before .before .before .before .before .before .before .before .before .before .before .before .before .before .before .before .before .before .before .before .before .before .before .before .before .before .before .before .before .before .spoil .kept .0) (c .before .before .before .before .before .before .before .before .before .before .before .before .before .before .before .before .before .before .before .before .before .before .before .before .before .before .before .before .before .before .before .before .before .spoil .kept .1 .0) (c .before .before .before .before .before .before .before .before .before .before .before .before .before .before .before .before .before .before .before .before .before .before .before .before .before .before .before .before .before .before .before .before .before .spoil .kept .1 .1 .0) (c .before .before .before .before .before .before .before .before .before .before .before .before .before .before .before .before .before .before .before .before .before .before .before .before .before .before .before .before .before .before .before .before .before .spoil .kept .1 .1 .1 .0) (c .before .before .before .before .before .before .before .before .before .before .before .before .before .before .before .before .before .before .before .before .before .before .before .before .before .before .before .before .before .before .before .before .before .spoil .kept .1 .1 .1 .1 .0)
+returns c =
+    let s = c .before .before .before .before .before .before .before .before .before .before .before .before .before .before .before .before .before .before .before .before .before .before .before .before .before .before .before .before .before .before .before .before .before .spoil in
+    judged-by (s .ensures) (c .before .before .before .before .before .before .before .before .before .before .before .before .before .before .before .before .before .astar-route .ensures) (c .judge .ensures) (s .kept .0) (s .kept .1 .0) (s .kept .1 .1 .0) (s .kept .1 .1 .1 .0) (s .kept .1 .1 .1 .1 .0)
 
 pub run-judged-spec : {M : Type 1} → statement M
 run-judged-spec =

@@ -6,7 +6,7 @@ use native.Mathlib.Omega.{arith}
 use borrow.Author.Tests.{eq-eqb, ne-eqb}
 use Rattle.job_sheet.specs.Sheet.{maxSinks}
 use Rattle.replay_sheets.specs.Verdicts.{sameBelow, sameLengths}
-use Rattle.replay_sheets.specs.VerdictLaws.{same-none, same-next, same-never}
+use Rattle.replay_sheets.specs.VerdictLaws.{same-none, same-next, same-failed}
 use borrow.Author.Needs.{needs}
 use Rattle.replay_sheets.proofs.judging.same_lengths.Statement.{statement}
 use Rattle.replay_sheets.proofs.judging.same_lengths.Tie as tie
@@ -38,7 +38,7 @@ array-read-if2-2 c = search needs
 
 returns-2 : tie.Need-returns-2 Inv-loop μ-loop
 unfolding sameLengths
-returns-2 c = rw (eq-eqb _ _ (c .before .before .before .before .before .if1 .left), same-never _ _ maxSinks _ (c .before .loop-test .taken) (c .if2 .taken))
+returns-2 c = rw (eq-eqb _ _ (c .before .before .before .before .before .if1 .left), same-failed _ _ maxSinks _ (c .before .loop-test .taken) (c .if2 .taken))
 
 add-k : tie.Need-add-k Inv-loop μ-loop
 add-k c = search needs

@@ -1,4 +1,4 @@
--- `sheet_at` meets its contract: no place lies before the one it goes on from.
+-- `sheet_at` meets its contract: the sheet's end does not lie before its beginning.
 use Rattle.stored.specs.FilePlaceLaws.{past-within, past-behind}
 use Rattle.replay_sheets.specs.SheetLaws.{sheet-by}
 use borrow.Author.Needs.{needs}

@@ -1,4 +1,4 @@
--- `told_if` meets its contract: the stored answer, or one that no run has.
+-- `told_if` meets its contract: the stored answer, or one that no run gives.
 use borrow.Author.Needs.{needs}
 use Rattle.replay_sheets.proofs.sheets.told_if.Statement.{statement}
 use Rattle.replay_sheets.proofs.sheets.told_if.Tie as tie

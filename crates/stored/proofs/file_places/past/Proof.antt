@@ -1,4 +1,4 @@
--- `past` meets its contract: the lesser of the two.
+-- `past` meets its contract: the lesser of the sum and the file's end.
 use native.Mathlib.Nat.{min-eq-left, min-eq-right}
 use native.Mathlib.Omega.{arith}
 use mathlib.Core.Path.{sym}

@@ -1,6 +1,6 @@
 -- `cell_due` meets its contract, case by case.
 use Rattle.stored.specs.Memory.{dueAt}
-use Rattle.stored.specs.FilePlaceLaws.{cells-at, none-more}
+use Rattle.stored.specs.FilePlaceLaws.{cells-at, cells-beyond}
 use borrow.Author.Needs.{needs}
 use Rattle.stored.proofs.memory.cell_due.Statement.{statement}
 use Rattle.stored.proofs.memory.cell_due.Tie as tie
@@ -30,7 +30,7 @@ returns-2 c = rw (c .before .before .before .if1 .left, cells-at _ _ _ _ (c .bef
 
 returns-3 : tie.Need-returns-3
 unfolding dueAt
-returns-3 c = rw (c .before .if1 .left, none-more _ _ _ _ (c .if2 .left))
+returns-3 c = rw (c .before .if1 .left, cells-beyond _ _ _ _ (c .if2 .left))
 
 pub cell-due-spec : {M : Type 1} → statement M
 cell-due-spec =

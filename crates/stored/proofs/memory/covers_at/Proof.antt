@@ -1,4 +1,4 @@
--- `covers_at` meets its contract: the mark, then the place.
+-- `covers_at` meets its contract: a mark or 0, then a mark where one is expected.
 use borrow.Author.Tests.{lt-leb, le-leb}
 use Rattle.stored.specs.Memory.{coversAt}
 use borrow.Author.Needs.{needs}
