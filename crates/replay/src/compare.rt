@@ -125,7 +125,7 @@ fn memory_holds(
 }
 
 // The answer and all memory, held to what is stored, or to what a full queue leaves.
-fn judge(
+fn verdict_of(
     answer: Answer,
     told: Told,
     file: &[u8],
@@ -192,7 +192,7 @@ fn run_judged(
         queue,
     );
     let told = stored.told;
-    judge(answer, told, file, path, known, previous, classes, queue)
+    verdict_of(answer, told, file, path, known, previous, classes, queue)
 }
 
 // The search in the front of each buffer, at these lengths. Lengths that a buffer doesn't have would be no search.

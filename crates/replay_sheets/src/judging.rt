@@ -307,7 +307,7 @@ fn memory_cleared(
 }
 
 // The answer and all memory, held to what is stored, or to what a buffer leaves that is too short.
-pub fn judge(
+pub fn verdict_of(
     answer: Answer,
     told: Told,
     shortage: Shortage,

@@ -1,6 +1,6 @@
 // One run of a sheet, over memory full of rubbish.
 use crate::judging::Shortage;
-use crate::judging::judge;
+use crate::judging::verdict_of;
 use crate::sheets::Told;
 use stored::memory::OWN_LENGTH;
 use stored::memory::spoil_bytes;
@@ -85,7 +85,7 @@ fn run_judged(
         best,
         queue,
     );
-    judge(
+    verdict_of(
         answer,
         told,
         shortage,

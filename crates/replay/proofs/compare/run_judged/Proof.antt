@@ -10,8 +10,8 @@ spoil-requires c κs = search needs
 astar-route-requires : tie.Need-astar-route-requires
 astar-route-requires c κs = search needs
 
-judge-requires : tie.Need-judge-requires
-judge-requires c κs = search needs
+verdict-of-requires : tie.Need-verdict-of-requires
+verdict-of-requires c κs = search needs
 
 same-length : tie.Need-same-length
 same-length c = search needs
@@ -31,7 +31,7 @@ same-length-5 c = search needs
 returns : tie.Need-returns
 returns c =
     let s = c .before .before .before .before .before .before .before .before .before .before .before .before .before .before .before .before .before .before .before .before .before .before .before .before .before .before .before .before .before .before .before .before .before .spoil in
-    judged-by (s .ensures) (c .before .before .before .before .before .before .before .before .before .before .before .before .before .before .before .before .before .astar-route .ensures) (c .judge .ensures) (s .kept .0) (s .kept .1 .0) (s .kept .1 .1 .0) (s .kept .1 .1 .1 .0) (s .kept .1 .1 .1 .1 .0)
+    judged-by (s .ensures) (c .before .before .before .before .before .before .before .before .before .before .before .before .before .before .before .before .before .astar-route .ensures) (c .verdict-of .ensures) (s .kept .0) (s .kept .1 .0) (s .kept .1 .1 .0) (s .kept .1 .1 .1 .0) (s .kept .1 .1 .1 .1 .0)
 
 pub run-judged-spec : {M : Type 1} → statement M
 run-judged-spec =
@@ -39,7 +39,7 @@ run-judged-spec =
     (tie.spec
     spoil-requires
     astar-route-requires
-    judge-requires
+    verdict-of-requires
     same-length
     same-length-2
     same-length-3

@@ -1,10 +1,10 @@
--- `judge` meets its contract: as stored, or a buffer too short, or neither.
+-- `verdict_of` meets its contract: as stored, or a buffer too short, or neither.
 use mathlib.Core.Path.{sym, _∙_}
 use Rattle.replay_sheets.specs.Verdicts.{verdictOf}
 use Rattle.basics.specs.Tests.{test-fails, test-passes}
 use borrow.Author.Needs.{needs}
-use Rattle.replay_sheets.proofs.judging.judge.Statement.{statement}
-use Rattle.replay_sheets.proofs.judging.judge.Tie as tie
+use Rattle.replay_sheets.proofs.judging.verdict_of.Statement.{statement}
+use Rattle.replay_sheets.proofs.judging.verdict_of.Tie as tie
 
 same-answer-requires : tie.Need-same-answer-requires
 same-answer-requires c κs = search needs
@@ -39,8 +39,8 @@ returns-3 : tie.Need-returns-3
 unfolding verdictOf
 returns-3 c = rw (sym (c .before .before .before .before .before .same-answer .ensures) ∙ c .before .before .before .before .if1 .left, test-passes (c .before .before .before .short-answer .ensures) (c .before .before .if2 .left), ← (c .before .memory-cleared .ensures)) (c .full-if .ensures)
 
-pub judge-spec : {M : Type 1} → statement M
-judge-spec =
+pub verdict-of-spec : {M : Type 1} → statement M
+verdict-of-spec =
     tie.close
     (tie.spec
     same-answer-requires

@@ -1,11 +1,11 @@
--- `judge` meets its contract: as stored, or the queue full, or neither.
+-- `verdict_of` meets its contract: as stored, or the queue full, or neither.
 use mathlib.Core.Path.{sym, _∙_}
 use Rattle.stored.specs.FilePlaces.{cellsFrom}
 use Rattle.replay.specs.Verdicts.{verdictOf}
 use Rattle.basics.specs.Tests.{test-fails, test-passes}
 use borrow.Author.Needs.{needs}
-use Rattle.replay.proofs.compare.judge.Statement.{statement}
-use Rattle.replay.proofs.compare.judge.Tie as tie
+use Rattle.replay.proofs.compare.verdict_of.Statement.{statement}
+use Rattle.replay.proofs.compare.verdict_of.Tie as tie
 
 same-answer-requires : tie.Need-same-answer-requires
 same-answer-requires c κs = search needs
@@ -40,8 +40,8 @@ returns-3 : tie.Need-returns-3
 unfolding verdictOf cellsFrom
 returns-3 c = rw (sym (c .before .before .before .before .before .same-answer .ensures) ∙ (c .before .before .before .before .if1 .left), test-passes (c .before .before .before .full-early .ensures) (c .before .before .if2 .left), ← (c .before .memory-holds2 .ensures)) (c .full-if .ensures)
 
-pub judge-spec : {M : Type 1} → statement M
-judge-spec =
+pub verdict-of-spec : {M : Type 1} → statement M
+verdict-of-spec =
     tie.close
     (tie.spec
     same-answer-requires
