@@ -8,6 +8,7 @@ use crate::replay::count_number;
 use crate::replay::replay;
 use libc::STDOUT_FILENO;
 use stored::memory::FILE_LENGTH;
+use stored::memory::QUEUE_LENGTH;
 use stored::memory::file_buffer;
 
 fn print_count_line(word: &[u8], count: u32) {
@@ -58,7 +59,6 @@ fn print_outcome(file: &[u8], ended: bool, stand: Stand) {
     print_agreed(file, stand);
 }
 
-// The largest stored queue has 196,608 places, and is lent longer too.
 fn main() {
     let name = b"searches.bin";
     let from = os::open_read(name);
@@ -69,7 +69,7 @@ fn main() {
     let mut file = file_buffer();
     let bytes = io::read_full(from, &mut file);
     libc::close(from);
-    let mut queue = [0u64; 393300];
+    let mut queue = [0u64; QUEUE_LENGTH];
     let stand = replay(&file[..bytes], &mut queue);
     print_outcome(&file[..bytes], bytes < FILE_LENGTH, stand);
 }

@@ -14,6 +14,7 @@ use crate::replay::QUEUE;
 use crate::tallies::Tally;
 use libc::STDOUT_FILENO;
 use stored::memory::FILE_LENGTH;
+use stored::memory::QUEUE_LENGTH;
 use stored::memory::file_buffer;
 ghost use mathlib.Core.Path.{_≡_};
 ghost use Prim.Native.Nat.{_<_};
@@ -121,7 +122,7 @@ fn print_tally(tally: Tally, whole: bool) {
     }
 }
 
-// Reads the whole file. The largest stored queue has 196,608 places; each is lent longer too.
+// Reads the whole file.
 fn main() {
     let name = b"sheets.bin";
     let from = os::open_read(name);
@@ -132,7 +133,7 @@ fn main() {
     let mut file = file_buffer();
     let bytes = io::read_full(from, &mut file);
     libc::close(from);
-    let mut queue = [0u64; 393300];
+    let mut queue = [0u64; QUEUE_LENGTH];
     let stand = replay::replay(&file[..bytes], &mut queue);
     let tally = stand.tally;
     print_tally(tally, ends_there(stand.at, bytes));

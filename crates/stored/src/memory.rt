@@ -14,6 +14,9 @@ pub const OWN_LENGTH: usize = 16600;
 // How many bytes their buffer for a stored file has: those of the longest that is stored, 839,526, and some more.
 pub const FILE_LENGTH: usize = 1000000;
 
+// How many numbers their queue has: two for each of the 196,608 places of the largest that is stored, and some more, since each is lent longer too.
+pub const QUEUE_LENGTH: usize = 393300;
+
 pub fn file_buffer() -> [u8; FILE_LENGTH]
     ensures { λ r. ⌜ fileLength ≡ length r ⌝ }
 {
