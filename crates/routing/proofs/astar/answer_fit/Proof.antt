@@ -1,7 +1,9 @@
 -- `answer_fit` meets its contract: the first V numbers of each work buffer, and the queue whole, are lent to the search, and all are cleared behind it.
 use native.Mathlib.Omega.{arith}
-use mathlib.Core.Path.{refl, sym, ap, _∙_}
-use lib.ListN.{length}
+use mathlib.Core.Path.{_≡_, refl, sym, ap, _∙_}
+use mathlib.Core.List.{List, _++_}
+use Prim.Native.Nat.{ℕ, _≤_}
+use lib.ListN.{length, take, drop}
 use Rattle.routing.specs.Answers.{taskIn}
 use Rattle.routing.specs.EntryLaws.{again, again-length, cleared-whole, room-searchable}
 use borrow.Author.Needs.{needs}
@@ -52,28 +54,47 @@ slice-reshare-prefix-answer-of-2 c = search needs
 slice-aggregate-answer-of-2 : tie.Need-slice-aggregate-answer-of-2
 slice-aggregate-answer-of-2 c = let s = c .before .before .before .before .before .before .before .before .before .before .before .before .before .before .before .before .before .before .before .before .before .before .before .before .before .before in let a = s .args in let p = s .pre in let v = c .before .before .before .before .before .before .before .before .before .before .before .before .before .before .before .before .before .before .before .volume .result in let e = c .before .before .before .before .before .before .before .before .before .before .before .before .before .before .before .before .before .before .before .volume .ensures in again-length (c .before .before .before .before .before .before .before .before .before .before .before .before .before .before .search-room .last .1 .1 .1 .1 .1 .1 .0) (a .previous .now) v (c .before .before .before .before .before .before .before .before .before .before .before .before .before .before .search-room .kept .1 .1 .1 .1 .1 .1 .0) (rw e (p .previous-enough))
 
+-- what the search left in the first V numbers that were lent to it, read again from the whole buffers
+module _ (found : tie.After-search-room) where
+  abbrev cells : ℕ
+  cells = found .before .before .before .before .before .volume .result
+
+  abbrev known : List ℕ
+  known = found .search-room .last .1 .1 .1 .1 .1 .0
+
+  abbrev previous : List ℕ
+  previous = found .search-room .last .1 .1 .1 .1 .1 .1 .0
+
+  known-enough : cells ≤ length (found .before .before .before .before .before .before .before .before .before .before .before .before .args .known .now)
+  known-enough = rw (found .before .before .before .before .before .volume .ensures) (found .before .before .before .before .before .before .before .before .before .before .before .before .pre .known-enough)
+
+  previous-enough : cells ≤ length (found .before .before .before .before .before .before .before .before .before .before .before .before .args .previous .now)
+  previous-enough = rw (found .before .before .before .before .before .volume .ensures) (found .before .before .before .before .before .before .before .before .before .before .before .before .pre .previous-enough)
+
+  known-again : take cells (known ++ drop cells (found .before .before .before .before .before .before .before .before .before .before .before .before .args .known .now)) ≡ known
+  known-again = again known (found .before .before .before .before .before .before .before .before .before .before .before .before .args .known .now) cells (found .search-room .kept .1 .1 .1 .1 .1 .0) known-enough
+
+  previous-again : take cells (previous ++ drop cells (found .before .before .before .before .before .before .before .before .before .before .before .before .args .previous .now)) ≡ previous
+  previous-again = again previous (found .before .before .before .before .before .before .before .before .before .before .before .before .args .previous .now) cells (found .search-room .kept .1 .1 .1 .1 .1 .1 .0) previous-enough
+
+  known-long : length known ≡ cells
+  known-long = found .search-room .kept .1 .1 .1 .1 .1 .0 ∙ length-take-le cells (found .before .before .before .before .before .before .before .before .before .before .before .before .args .known .now) known-enough
+
+  previous-long : length previous ≡ cells
+  previous-long = found .search-room .kept .1 .1 .1 .1 .1 .1 .0 ∙ length-take-le cells (found .before .before .before .before .before .before .before .before .before .before .before .before .args .previous .now) previous-enough
+
 answer-of-requires : tie.Need-answer-of-requires
 unfolding graphOf
 answer-of-requires c κs =
     let found = c .before .before .before .before .before .before .before .before .before .before .before .before .before .before .before in
     let run = found .search-room in
-    let s = found .before .before .before .before .before .before .before .before .before .before .before .before in
-    let a = s .args in
-    let p = s .pre in
-    let v = found .before .before .before .before .before .volume .result in
+    let a = found .before .before .before .before .before .before .before .before .before .before .before .before .args in
+    let p = found .before .before .before .before .before .before .before .before .before .before .before .before .pre in
     let e = found .before .before .before .before .before .volume .ensures in
-    let known = run .last .1 .1 .1 .1 .1 .0 in
-    let previous = run .last .1 .1 .1 .1 .1 .1 .0 in
-    let known-kept = run .kept .1 .1 .1 .1 .1 .0 in
-    let previous-kept = run .kept .1 .1 .1 .1 .1 .1 .0 in
-    let known-again = again known (a .known .now) v known-kept (rw e (p .known-enough)) in
-    let previous-again = again previous (a .previous .now) v previous-kept (rw e (p .previous-enough)) in
-    let previous-long = previous-kept ∙ length-take-le v (a .previous .now) (rw e (p .previous-enough)) in
     let T = taskIn (a .room) (a .config) (a .kinds .now) (a .start) (a .goal) (placesOf (a .queue .now)) in
-    let known-long = known-kept ∙ length-take-le v (a .known .now) (rw e (p .known-enough)) in
-    let long = ap length previous-again ∙ previous-long in
+    let long = ap length (previous-again found) ∙ previous-long found in
     let cleared = c .before .before .before .before .before .clear-words in
-    ((rw (long, e) (p .goal-in), rw (long, e) (p .good .few), ap length known-again ∙ known-long ∙ sym long, rw (long, e) (omega (arith, p .path-enough, cleared .kept .0))), (cleared-to (sym (cleared .kept .0)) (cleared .ensures), rw (known-again, previous-again) (told-showable (graph T) (searched T) (run .result) known previous (previous-long ∙ e) (run .ensures .told))))
+    ((rw (long, e) (p .goal-in), rw (long, e) (p .good .few), ap length (known-again found) ∙ known-long found ∙ sym long, rw (long, e) (omega (arith, p .path-enough, cleared .kept .0))), (cleared-to (sym (cleared .kept .0)) (cleared .ensures), rw (known-again found, previous-again found) (told-showable (graph T) (searched T) (run .result) (known found) (previous found) (previous-long found ∙ e) (run .ensures .told))))
 
 clear-work-requires : tie.Need-clear-work-requires
 clear-work-requires c κs = search needs
@@ -97,27 +118,16 @@ returns : tie.Need-returns
 returns c =
     let found = c .before .before .before .before .before .before .before .before .before .before .before .before .before .before .before .before .before .before .before .before .before .before .before .before .before .before .before .before .before .before .before in
     let run = found .search-room in
-    let s = found .before .before .before .before .before .before .before .before .before .before .before .before in
-    let a = s .args in
-    let p = s .pre in
-    let v = found .before .before .before .before .before .volume .result in
-    let e = found .before .before .before .before .before .volume .ensures in
-    let known = run .last .1 .1 .1 .1 .1 .0 in
-    let previous = run .last .1 .1 .1 .1 .1 .1 .0 in
-    let known-kept = run .kept .1 .1 .1 .1 .1 .0 in
-    let previous-kept = run .kept .1 .1 .1 .1 .1 .1 .0 in
-    let known-again = again known (a .known .now) v known-kept (rw e (p .known-enough)) in
-    let previous-again = again previous (a .previous .now) v previous-kept (rw e (p .previous-enough)) in
-    let previous-long = previous-kept ∙ length-take-le v (a .previous .now) (rw e (p .previous-enough)) in
+    let a = found .before .before .before .before .before .before .before .before .before .before .before .before .args in
     let T = taskIn (a .room) (a .config) (a .kinds .now) (a .start) (a .goal) (placesOf (a .queue .now)) in
     let cleared = c .before .before .before .before .before .before .before .before .clear-work .ensures in
-    let S = c .before .before .before .before .before .before .before .before .before .before .before .before .before .before .before .answer-of .ensures .shows T (sym (ap length previous-again ∙ previous-long ∙ e)) refl (rw (known-again, previous-again) (run .ensures)) in
+    let S = c .before .before .before .before .before .before .before .before .before .before .before .before .before .before .before .answer-of .ensures .shows T (sym (ap length (previous-again found) ∙ previous-long found ∙ found .before .before .before .before .before .volume .ensures)) refl (rw (known-again found, previous-again found) (run .ensures)) in
     record {
       answer = S .0;
       path-is = rw (c .before .before .before .before .before .before .before .before .before .before .before .before .before .before .before .before .before .before .before .before .before .clear-words .kept .0) at (S .1);
-      known-is = cleared-whole known (a .known .now) v known-kept _ (cleared .0);
-      previous-is = cleared-whole previous (a .previous .now) v previous-kept _ (cleared .1);
-      classes-is = cleared-whole (run .last .1 .1 .1 .1 .1 .1 .1 .0) (a .classes .now) v (run .kept .1 .1 .1 .1 .1 .1 .1 .0) _ (cleared .2);
+      known-is = cleared-whole (known found) (a .known .now) (cells found) (run .kept .1 .1 .1 .1 .1 .0) _ (cleared .0);
+      previous-is = cleared-whole (previous found) (a .previous .now) (cells found) (run .kept .1 .1 .1 .1 .1 .1 .0) _ (cleared .1);
+      classes-is = cleared-whole (run .last .1 .1 .1 .1 .1 .1 .1 .0) (a .classes .now) (cells found) (run .kept .1 .1 .1 .1 .1 .1 .1 .0) _ (cleared .2);
       queue-is = cleared-to (run .kept .1 .1 .1 .1 .1 .1 .1 .1 .0) (cleared .3);
     }
 
