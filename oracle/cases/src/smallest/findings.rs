@@ -137,7 +137,14 @@ fn full_buffers() -> Vec<Point> {
             says: "number 13 in program `route`",
             input: Input::Job(steep()),
             sign: Sign::Job(fills_queue),
-            fewer: Fewer::Open("no walk goes so far"),
+            fewer: Fewer::Open("14 cells are needed; no walk goes so far"),
+        },
+        Point {
+            name: "queue-sheet",
+            says: "number 13 in program `route`, of a sheet as short as any with a sink",
+            input: Input::Job(steep_air()),
+            sign: Sign::Job(fills_queue),
+            fewer: Fewer::Open("the room named `queue`"),
         },
         Point {
             name: "branch-buffer",
@@ -165,8 +172,22 @@ fn opposed() -> Job {
     job
 }
 
-/// Flat steps cost much and stairs next to nothing: cells are reached again and again at lower costs.
+/// Flat steps cost much, and stairs and supports next to nothing: cells are reached again and again at lower costs.
 fn steep() -> Job {
+    let mut job = default_job([2, 3, 54], &[wire([1, 0, 0], facing::NONE)]);
+    job.source = wire([1, 2, 53], facing::NONE);
+    job.config = Config {
+        node_limit: MOST_NODES,
+        horizontal: 10_000,
+        stair: 2,
+        support: 5,
+    };
+    draw(&mut job, include_str!("steep.txt"));
+    job
+}
+
+/// As `steep`, with no block.
+fn steep_air() -> Job {
     let mut job = default_job([6, 3, 48], &[wire([5, 2, 0], facing::NONE)]);
     job.source = wire([0, 2, 44], facing::NONE);
     job.config = Config {
@@ -178,17 +199,29 @@ fn steep() -> Job {
     job
 }
 
-/// The Air cells are one way of 1,024 cells, with the source at its beginning and all sinks at its end; the rows of the text
-/// are x, and `#` is Solid. All goals cost nothing, so the first branch is the whole way and each other one all but a cell.
+/// A row of the text is a line of cells along z: the lowest of x 0 first, then those above it, then those of x 1, and so on.
+/// `#` is Solid, `w` RedstoneWire.
+fn draw(job: &mut Job, text: &str) {
+    let places = (0..job.sides[0]).flat_map(|x| (0..job.sides[1]).map(move |y| (x, y)));
+    for ((x, y), row) in places.zip(text.lines()) {
+        for (z, cell) in (0..).zip(row.chars()) {
+            let kind = match cell {
+                '#' => kind::SOLID,
+                'w' => kind::REDSTONE_WIRE,
+                _ => continue,
+            };
+            job.blocks.push(block(0, [x, y, z], kind));
+        }
+    }
+}
+
+/// The Air cells are one way of 1,024 cells, with the source at its beginning and all sinks at its end. All goals cost
+/// nothing, so the first branch is the whole way and each other one all but a cell.
 fn one_way() -> Job {
     let sink = wire([38, 0, 36], facing::NORTH);
     let mut job = default_job([39, 1, 41], &[sink; MOST_SINKS]);
     job.source = wire([0, 0, 2], facing::NONE);
-    for (x, row) in (0..).zip(include_str!("one_way.txt").lines()) {
-        let walls = (0..).zip(row.chars()).filter(|(_, cell)| *cell == '#');
-        let walls = walls.map(|(z, _)| block(0, [x, 0, z], kind::SOLID));
-        job.blocks.extend(walls);
-    }
+    draw(&mut job, include_str!("one_way.txt"));
     job.config.horizontal = 0;
     job
 }
