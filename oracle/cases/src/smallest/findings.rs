@@ -5,9 +5,9 @@ use super::signs::{
     repeater_opposed,
 };
 use super::space::{AIR, FACINGS, Jobs, Searches};
-use super::{Fewer, Input, Point, Sign};
+use super::{Fewer, Input, Point, Sign, draw};
 use crate::room::{Config, MOST_NODES, facing, kind, port};
-use crate::samples::{block, default_job, default_search, wire};
+use crate::samples::{default_job, default_search, wire};
 use crate::search::Search;
 use crate::sheet::{Job, MOST_SINKS};
 
@@ -197,22 +197,6 @@ fn steep_air() -> Job {
         support: 1,
     };
     job
-}
-
-/// A row of the text is a line of cells along z: the lowest of x 0 first, then those above it, then those of x 1, and so on.
-/// `#` is Solid, `w` RedstoneWire.
-fn draw(job: &mut Job, text: &str) {
-    let places = (0..job.sides[0]).flat_map(|x| (0..job.sides[1]).map(move |y| (x, y)));
-    for ((x, y), row) in places.zip(text.lines()) {
-        for (z, cell) in (0..).zip(row.chars()) {
-            let kind = match cell {
-                '#' => kind::SOLID,
-                'w' => kind::REDSTONE_WIRE,
-                _ => continue,
-            };
-            job.blocks.push(block(0, [x, y, z], kind));
-        }
-    }
 }
 
 /// The Air cells are one way of 1,024 cells, with the source at its beginning and all sinks at its end. All goals cost

@@ -8,6 +8,8 @@ pub mod signs;
 pub mod space;
 
 use crate::reading::Other;
+use crate::room::kind;
+use crate::samples::block;
 use crate::search::Search;
 use crate::sheet::Job;
 use space::{Jobs, Searches, Walked};
@@ -55,6 +57,22 @@ pub fn points() -> Vec<Point> {
     let mut points = findings::points();
     points.extend(readings::points());
     points
+}
+
+/// A row of the text is a line of cells along z: the lowest of x 0 first, then those above it, then those of x 1, and so on.
+/// `#` is Solid, `w` RedstoneWire.
+fn draw(job: &mut Job, text: &str) {
+    let places = (0..job.sides[0]).flat_map(|x| (0..job.sides[1]).map(move |y| (x, y)));
+    for ((x, y), row) in places.zip(text.lines()) {
+        for (z, cell) in (0..).zip(row.chars()) {
+            let kind = match cell {
+                '#' => kind::SOLID,
+                'w' => kind::REDSTONE_WIRE,
+                _ => continue,
+            };
+            job.blocks.push(block(0, [x, y, z], kind));
+        }
+    }
 }
 
 impl Input {

@@ -1,7 +1,7 @@
 //! The open points: inputs on which the other reading answers differently.
 
 use super::space::{CLEARANCES, CONDUCTORS, FACINGS, Jobs, RESERVED, TERMINALS};
-use super::{Fewer, Input, Point, Sign};
+use super::{Fewer, Input, Point, Sign, draw};
 use crate::reading::Other;
 use crate::room::{Config, facing, kind, port};
 use crate::samples::{block, default_job, wire};
@@ -254,7 +254,7 @@ fn conflicts() -> Vec<Point> {
             "sixty-three-conflicts",
             "63 conflicts and then a route pass",
             Other::SixtyThreeSearches,
-            stairs_without_clearance(),
+            many_conflicts(),
             Fewer::Open("63 conflicts, start and goal are 65 cells; no walk goes so far"),
         ),
     ]
@@ -293,14 +293,11 @@ fn over_a_block() -> Job {
     })
 }
 
-/// A corridor, a wall with a corridor on top beside it, and 64 stairs from one to the other, each tried in turn: above the
-/// lower end of all but the last there is a block.
-fn stairs_without_clearance() -> Job {
-    let solid = |x, y, z| block(0, [x, y, z], kind::SOLID);
-    job([2, 2, 64], plain([1, 1, 63]), &[plain([0; 3])], |job| {
-        costs(job, [10, 15, 15]);
-        job.blocks = (0..63).map(|z| solid(0, 1, z)).collect();
-        job.blocks.extend((0..64).map(|z| solid(1, 0, z)));
+/// Many ways, of which all but the dearest have a conflict: each way tried blocks a cell more.
+fn many_conflicts() -> Job {
+    job([6, 4, 8], plain([3, 3, 3]), &[plain([0, 0, 2])], |job| {
+        costs(job, [50, 20, 1]);
+        draw(job, include_str!("conflicts.txt"));
     })
 }
 
