@@ -135,14 +135,14 @@ fn full_buffers() -> Vec<Point> {
         Point {
             name: "queue",
             says: "number 13 in program `route`",
-            input: Input::Job(steep()),
+            input: Input::Job(steep_with_blocks()),
             sign: Sign::Job(fills_queue),
             fewer: Fewer::Open("14 cells are needed; no walk goes so far"),
         },
         Point {
             name: "queue-sheet",
             says: "number 13 in program `route`, of a sheet as short as any with a sink",
-            input: Input::Job(steep_air()),
+            input: Input::Job(steep([6, 3, 48], [[0, 2, 44], [5, 2, 0]], [99_999, 7, 1])),
             sign: Sign::Job(fills_queue),
             fewer: Fewer::Open("the room named `queue`"),
         },
@@ -172,30 +172,27 @@ fn opposed() -> Job {
     job
 }
 
-/// Flat steps cost much, and stairs and supports next to nothing: cells are reached again and again at lower costs.
-fn steep() -> Job {
-    let mut job = default_job([2, 3, 54], &[wire([1, 0, 0], facing::NONE)]);
-    job.source = wire([1, 2, 53], facing::NONE);
+/// A room with one sink, at these costs of a flat step, a stair and a support and at the highest node limit. Flat steps cost
+/// much, and stairs and supports next to nothing: cells are reached again and again at lower costs.
+fn steep(
+    sides: [u8; 3],
+    [source, sink]: [[u8; 3]; 2],
+    [horizontal, stair, support]: [u32; 3],
+) -> Job {
+    let mut job = default_job(sides, &[wire(sink, facing::NONE)]);
+    job.source = wire(source, facing::NONE);
     job.config = Config {
         node_limit: MOST_NODES,
-        horizontal: 10_000,
-        stair: 2,
-        support: 5,
+        horizontal,
+        stair,
+        support,
     };
-    draw(&mut job, include_str!("steep.txt"));
     job
 }
 
-/// As `steep`, with no block.
-fn steep_air() -> Job {
-    let mut job = default_job([6, 3, 48], &[wire([5, 2, 0], facing::NONE)]);
-    job.source = wire([0, 2, 44], facing::NONE);
-    job.config = Config {
-        node_limit: MOST_NODES,
-        horizontal: 99_999,
-        stair: 7,
-        support: 1,
-    };
+fn steep_with_blocks() -> Job {
+    let mut job = steep([2, 3, 54], [[1, 2, 53], [1, 0, 0]], [10_000, 2, 5]);
+    draw(&mut job, include_str!("steep.txt"));
     job
 }
 
