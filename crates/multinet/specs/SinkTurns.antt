@@ -20,7 +20,7 @@ use Rattle.multinet.specs.declared.GrowthEnd.{GrowthEnd}
 use Rattle.multinet.specs.declared.GrowthEnd.the-variants.{Whole, Early}
 use Rattle.multinet.specs.declared.GrownBranches.{GrownBranches}
 use Rattle.routing_resources.specs.Marks.{Marks}
-use Rattle.multinet.specs.Tree.{Plot, Growth, stopped, growthOf, sourceMarks}
+use Rattle.multinet.specs.Tree.{Plot, Growth, stopped, queueFullNumber, noGoalNumber, bufferFullNumber, growthOf, sourceMarks}
 use Rattle.multinet.specs.Growing.{SoundPlot, Growing}
 
 -- marks that joinable and blocked cells may have, and work memory of exactly V cells, whatever it holds
@@ -56,9 +56,9 @@ pub record Turnable (P : Plot) (turn : ℕ) (L : BranchLengths) (joinable blocke
 
 -- the number that is due, with its detail
 abbrev pub stopNumber : Stop → ℕ
-stopNumber (QueueFull x) = 13
-stopNumber (NoGoal cell) = 14
-stopNumber (BufferFull place) = 15
+stopNumber (QueueFull x) = queueFullNumber
+stopNumber (NoGoal cell) = noGoalNumber
+stopNumber (BufferFull place) = bufferFullNumber
 
 abbrev pub stopDetail : Stop → ℕ
 stopDetail (QueueFull x) = x .0

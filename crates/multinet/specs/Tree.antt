@@ -72,16 +72,28 @@ withBranch R k branch T = record {
   branches = set (T .branches) k branch;
 }
 
--- number 15: "branches so far, in the order searched, exceed the branch buffer"
+-- 13: "a push is due and the waiting entries fill the queue"
+abbrev pub queueFullNumber : ℕ
+queueFullNumber = 13
+
+-- 14: "no goal left for a sink"
+abbrev pub noGoalNumber : ℕ
+noGoalNumber = 14
+
+-- 15: "branches so far, in the order searched, exceed the branch buffer"
+abbrev pub bufferFullNumber : ℕ
+bufferFullNumber = 15
+
+-- the branch has place in the branch buffer behind those so far
 abbrev pub fitsIn : Plot → Tree → List ℕ → Bool
 fitsIn P T branch = leb (length (joined (T .branches)) + length branch) (P .buffer)
 
 -- "then per sink 13 or 14, then 15"
 unfoldable pub afterSink : Plot → ℕ → Tree → Trial → Growth
 afterSink P k T (found path cost) =
-    either (fitsIn P T (branchOf (tapAt P k) path)) (grown (withBranch (P .room) k (branchOf (tapAt P k) path) T)) (stopped 15 (k + 1))
-afterSink P k T failed = stopped 14 (tapAt P k .approach)
-afterSink P k T (full x) = stopped 13 x
+    either (fitsIn P T (branchOf (tapAt P k) path)) (grown (withBranch (P .room) k (branchOf (tapAt P k) path) T)) (stopped bufferFullNumber (k + 1))
+afterSink P k T failed = stopped noGoalNumber (tapAt P k .approach)
+afterSink P k T (full x) = stopped queueFullNumber x
 
 -- one sink's turn
 unfoldable pub growSink : Plot → ℕ → Tree → Growth
