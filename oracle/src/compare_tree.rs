@@ -82,7 +82,8 @@ fn first_bad_port(job: &Job) -> Result<u32, String> {
         .ok_or("a port error without a bad port".into())
 }
 
-fn tree_of(room: &Room, net: &RoutedNet) -> Result<TreeAnswer, String> {
+/// The published Rust's tree, by cell numbers.
+pub fn tree_of(room: &Room, net: &RoutedNet) -> Result<TreeAnswer, String> {
     let branches = net.branches.iter().map(|branch| cells(room, branch));
     let branches: Vec<_> = branches.collect::<Result<_, _>>()?;
     let source = terminal_for_endpoint(&net.source).map_err(|error| error.to_string())?;

@@ -14,7 +14,7 @@ pub use cases::search::{Search, SearchAnswer};
 pub use cases::sheet::{Sheet, TreeAnswer};
 
 pub use compare_search::check_search;
-pub use compare_tree::{check_route, check_sheet};
+pub use compare_tree::{check_route, check_sheet, tree_of};
 pub use published_side::{PublishedJob, cell_at, pos_of, router_config, world_of};
 
 /// The published Rust and the plain router differ on a case; the text shows the case and both answers.

@@ -22,7 +22,7 @@ use Rattle.routing.specs.PromiseLaws.{admitted}
 use Rattle.demands.specs.Statements.{Posed, Priced, Ample, Lawful, Cheapest, NoLawfulWay, Meaning}
 use Rattle.demands.specs.Numbers.{number-route, number-no-route, number-settled, same-expanded}
 use Rattle.demands.specs.Bridge.{step-lawful, lawful-step, way-lawful, lawful-way}
-use Rattle.demands.specs.Slackness.{slacks}
+use Rattle.room_search.specs.Slackness.{slacks}
 
 module _ {T : Task} (P : Posed T) where
   -- ---- the graph that is searched is the room's

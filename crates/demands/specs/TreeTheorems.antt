@@ -22,6 +22,7 @@ use Rattle.geometry.specs.Geometry.{conflictOf}
 use Rattle.goals.specs.Goals.{Site, Trial, found, failed, full, trialOf, searchedFor, atConflict, afterSearch, maxAttempts, attempts, triedGoal, routeToTree, siteTask, endsGoal}
 use Rattle.goals.specs.PathLaws.{found-by}
 use Rattle.goals.specs.Routes.{as-blocked, one-more}
+use Rattle.goals.specs.FullLaws.{search-not-full}
 use Rattle.goals.specs.RouteLaws.{tree-joins, below-failed}
 use Rattle.ends.specs.Ends.{endsOf}
 use Rattle.turns.specs.Turns.{far}
@@ -39,7 +40,7 @@ use Rattle.net_tree.specs.SheetTrees.{TreeOf}
 use Rattle.net_tree.specs.SheetTreeLaws.{tree-of}
 use Rattle.demands.specs.Statements.{Posed, Priced, Ample, NoLawfulWay}
 use Rattle.demands.specs.Theorems.{route-lawful, route-cheapest, no-route-true, settled}
-use Rattle.demands.specs.QueueLaws.{posed, search-not-full}
+use Rattle.demands.specs.QueueLaws.{posed, wide-enough}
 use Rattle.demands.specs.TreeStatements.{SearchMeans, RouteMeans, GoalEnds, no-way, conflict-stays, attempts-over, BranchMeans, TreeMeans, AnswerMeans}
 
 -- ---- one search
@@ -73,7 +74,7 @@ module _ (T : Task) (G : Good (T .room)) (start-in : T .start < volume (T .room)
     found-lawful = λ path cost e. let F = found-by T path cost e in route-lawful (found-posed path cost e) (F .is);
     found-cheapest = λ D path cost e. let F = found-by T path cost e in route-cheapest (found-posed path cost e) D (F .is);
     failed-true = λ D A e. failed-search D A e;
-    never-full = λ D A x e. search-not-full T G start-in goal-in D (omega (arith, A .queue-wide)) x e;
+    never-full = λ D A x e. search-not-full T start-in goal-in (wide-enough D (omega (arith, A .queue-wide))) x e;
   }
 
 -- ---- a sink's route

@@ -120,13 +120,10 @@ module _ (S : Site) (start n : ℕ) (blocked : List ℕ) {best : List ℕ} where
   unfolding routeToTree
   tree-all E h k = let e : n ≡ volume (S .room) = omega arith in rw e at E
 
--- ---- the loop over all goals
+-- ---- between goals
 
--- those below `goal` are done; marks and class bytes are as at the start, and all memory is as long
-pub record GoalsTried (S : Site) (start goal : ℕ) (kept : Tried) (joinable₀ joinable blocked₀ blocked classes₀ classes known₀ known previous₀ previous path₀ path best₀ best queue₀ queue : List ℕ) : Type 0 where
-  pub within : goal ≤ volume (S .room)
-  pub on : GoesOn kept
-  pub tells : Tells (bestBelow goal S start blocked₀) kept best
+-- marks and class bytes are as at the start, and all memory is as long
+pub record SameMemory (joinable₀ joinable blocked₀ blocked classes₀ classes known₀ known previous₀ previous path₀ path best₀ best queue₀ queue : List ℕ) : Type 0 where
   pub joinable-is : joinable ≡ joinable₀
   pub blocked-is : blocked ≡ blocked₀
   pub classes-is : classes ≡ classes₀
@@ -136,12 +133,9 @@ pub record GoalsTried (S : Site) (start goal : ℕ) (kept : Tried) (joinable₀ 
   pub best-long : length best ≡ length best₀
   pub queue-long : length queue ≡ length queue₀
 
-pub goals-first : (S : Site) (start : ℕ) (joinable blocked classes known previous path best queue : List ℕ)
-    → GoalsTried S start 0 Failed joinable joinable blocked blocked classes classes known known previous previous path path best best queue queue
-goals-first S start joinable blocked classes known previous path best queue = record {
-  within = omega arith;
-  on = tt;
-  tells = best-none S start blocked best;
+pub memory-first : (joinable blocked classes known previous path best queue : List ℕ)
+    → SameMemory joinable joinable blocked blocked classes classes known known previous previous path path best best queue queue
+memory-first joinable blocked classes known previous path best queue = record {
   joinable-is = refl;
   blocked-is = refl;
   classes-is = refl;
@@ -152,23 +146,59 @@ goals-first S start joinable blocked classes known previous path best queue = re
   queue-long = refl;
 }
 
+module _ (R : Room) (C : RouterConfig) (kinds : List ℕ) {joinable₀ joinable blocked₀ blocked classes₀ classes known₀ known previous₀ previous path₀ path best₀ best queue₀ queue : List ℕ}
+    (M : SameMemory joinable₀ joinable blocked₀ blocked classes₀ classes known₀ known previous₀ previous path₀ path best₀ best queue₀ queue) where
+  pub memory-site : siteOf R C kinds joinable queue ≡ siteOf R C kinds joinable₀ queue₀
+  memory-site = site-same R C kinds joinable₀ joinable queue₀ queue (M .joinable-is) (M .queue-long)
+
+  pub memory-able : {start : ℕ} → Attemptable (siteOf R C kinds joinable₀ queue₀) blocked₀ classes₀ known₀ previous₀ path₀ start start
+      → Attemptable (siteOf R C kinds joinable queue) blocked classes known previous path start start
+  memory-able A = rw (M .blocked-is, M .classes-is) (able-kept A memory-site (M .known-long) (M .previous-long) (M .path-long))
+
+pub memory-next : {joinable₀ joinable blocked₀ blocked classes₀ classes known₀ known previous₀ previous path₀ path best₀ best queue₀ queue : List ℕ}
+    → SameMemory joinable₀ joinable blocked₀ blocked classes₀ classes known₀ known previous₀ previous path₀ path best₀ best queue₀ queue
+    → {joinable′ blocked′ classes′ known′ previous′ path′ best′ queue′ : List ℕ} → (joinable′ ≡ joinable) × (blocked′ ≡ blocked) × (classes′ ≡ classes)
+    → length known′ ≡ length known → length previous′ ≡ length previous → length path′ ≡ length path → length best′ ≡ length best → length queue′ ≡ length queue
+    → SameMemory joinable₀ joinable′ blocked₀ blocked′ classes₀ classes′ known₀ known′ previous₀ previous′ path₀ path′ best₀ best′ queue₀ queue′
+memory-next M kept k p q b u = record {
+  joinable-is = kept .0 ∙ M .joinable-is;
+  blocked-is = kept .1 ∙ M .blocked-is;
+  classes-is = kept .2 ∙ M .classes-is;
+  known-long = k ∙ M .known-long;
+  previous-long = p ∙ M .previous-long;
+  path-long = q ∙ M .path-long;
+  best-long = b ∙ M .best-long;
+  queue-long = u ∙ M .queue-long;
+}
+
+-- ---- the loop over all goals
+
+-- those below `goal` are done
+pub record GoalsTried (S : Site) (start goal : ℕ) (kept : Tried) (joinable₀ joinable blocked₀ blocked classes₀ classes known₀ known previous₀ previous path₀ path best₀ best queue₀ queue : List ℕ) : Type 0 where
+  pub within : goal ≤ volume (S .room)
+  pub on : GoesOn kept
+  pub tells : Tells (bestBelow goal S start blocked₀) kept best
+  pub same : SameMemory joinable₀ joinable blocked₀ blocked classes₀ classes known₀ known previous₀ previous path₀ path best₀ best queue₀ queue
+
+pub goals-first : (S : Site) (start : ℕ) (joinable blocked classes known previous path best queue : List ℕ)
+    → GoalsTried S start 0 Failed joinable joinable blocked blocked classes classes known known previous previous path path best best queue queue
+goals-first S start joinable blocked classes known previous path best queue = record {
+  within = omega arith;
+  on = tt;
+  tells = best-none S start blocked best;
+  same = memory-first joinable blocked classes known previous path best queue;
+}
+
 module _ (R : Room) (C : RouterConfig) (kinds : List ℕ) {start goal : ℕ} {kept : Tried}
     {joinable₀ joinable blocked₀ blocked classes₀ classes known₀ known previous₀ previous path₀ path best₀ best queue₀ queue : List ℕ}
     (G : GoalsTried (siteOf R C kinds joinable₀ queue₀) start goal kept joinable₀ joinable blocked₀ blocked classes₀ classes known₀ known previous₀ previous path₀ path best₀ best queue₀ queue) where
-  same : siteOf R C kinds joinable queue ≡ siteOf R C kinds joinable₀ queue₀
-  same = site-same R C kinds joinable₀ joinable queue₀ queue (G .joinable-is) (G .queue-long)
-
-  pub goals-able : Attemptable (siteOf R C kinds joinable₀ queue₀) blocked₀ classes₀ known₀ previous₀ path₀ start start
-      → Attemptable (siteOf R C kinds joinable queue) blocked classes known previous path start start
-  goals-able A = rw (G .blocked-is, G .classes-is) (able-kept A same (G .known-long) (G .previous-long) (G .path-long))
-
   pub goals-tells : Tells (bestBelow goal (siteOf R C kinds joinable queue) start blocked) kept best
-  goals-tells = rw (same, G .blocked-is) (G .tells)
+  goals-tells = rw (memory-site R C kinds (G .same), G .same .blocked-is) (G .tells)
 
   -- what is said of the marks as they are is said of them as they were
   pub goals-told : (n : ℕ) {r : Tried} {best′ : List ℕ} → Tells (bestBelow n (siteOf R C kinds joinable queue) start blocked) r best′
       → Tells (bestBelow n (siteOf R C kinds joinable₀ queue₀) start blocked₀) r best′
-  goals-told n t = rw (same, G .blocked-is) at t
+  goals-told n t = rw (memory-site R C kinds (G .same), G .same .blocked-is) at t
 
   pub goals-next : goal < volume R → {kept′ : Tried} {joinable′ blocked′ classes′ known′ previous′ path′ best′ queue′ : List ℕ} → GoesOn kept′
       → Tells (bestBelow (goal + 1) (siteOf R C kinds joinable queue) start blocked) kept′ best′
@@ -179,12 +209,5 @@ module _ (R : Room) (C : RouterConfig) (kinds : List ℕ) {start goal : ℕ} {ke
     within = omega arith;
     on = on;
     tells = goals-told (goal + 1) t;
-    joinable-is = kept .0 ∙ G .joinable-is;
-    blocked-is = kept .1 ∙ G .blocked-is;
-    classes-is = kept .2 ∙ G .classes-is;
-    known-long = k ∙ G .known-long;
-    previous-long = p ∙ G .previous-long;
-    path-long = q ∙ G .path-long;
-    best-long = b ∙ G .best-long;
-    queue-long = u ∙ G .queue-long;
+    same = memory-next (G .same) kept k p q b u;
   }

@@ -1,8 +1,12 @@
 pub mod Goals
 pub mod Trials
 pub mod Routes
+pub mod Passing
 pub mod SearchForLaws
 pub mod PathLaws
 pub mod AttemptLaws
 pub mod GoalLaws
 pub mod RouteLaws
+pub mod LeastLaws
+pub mod FullLaws
+pub mod PassingLaws

@@ -24,13 +24,13 @@ use Rattle.goals.specs.Goals.{Site, Trial, found, failed, full, searched
 use Rattle.goals.specs.Routes.{as-blocked, one-more, Reaches, RouteJoins}
 use Rattle.goals.specs.PathLaws.{FoundBy, found-by, found-lawful, found-cells, found-short}
 
-same-path : (p q : List ℕ) (c d : ℕ) → found p c ≡ found q d → (p ≡ q) × (c ≡ d)
+pub same-path : (p q : List ℕ) (c d : ℕ) → found p c ≡ found q d → (p ≡ q) × (c ≡ d)
 same-path p q c d e = (cc, cc)
 
 -- ---- one goal
 
 module _ (S : Site) (start goal : ℕ) where
-  attempts-reach : (n : ℕ) (blocked path : List ℕ) (cost : ℕ) → attempts n S start goal blocked ≡ found path cost → Reaches S n blocked start goal path cost
+  pub attempts-reach : (n : ℕ) (blocked path : List ℕ) (cost : ℕ) → attempts n S start goal blocked ≡ found path cost → Reaches S n blocked start goal path cost
   unfolding attempts afterSearch atConflict
   attempts-reach zero blocked path cost e = never (cc)
   attempts-reach (suc n) blocked path cost e = after (searchedFor (siteTask S blocked start goal)) refl e (attempts-reach n)
@@ -90,12 +90,12 @@ module _ (S : Site) (start : ℕ) (blocked : List ℕ) where
       askSame goal n (λ q. rw q (both .1)) (λ d. below-failed n (both .0) goal (omega (arith, h, d)))
 
   -- of the goals below n, this one's route is kept
-  record KeptBelow (n : ℕ) (path : List ℕ) (cost : ℕ) : Type 0 where
-    goal : ℕ
-    goal-below : goal < n
-    its-route : triedGoal S start blocked goal ≡ found path cost
-    least : (other : ℕ) → other < n → (path′ : List ℕ) (cost′ : ℕ) → triedGoal S start blocked other ≡ found path′ cost′ → cost ≤ cost′
-    first : (other : ℕ) → other < goal → (path′ : List ℕ) (cost′ : ℕ) → triedGoal S start blocked other ≡ found path′ cost′ → cost < cost′
+  pub record KeptBelow (n : ℕ) (path : List ℕ) (cost : ℕ) : Type 0 where
+    pub goal : ℕ
+    pub goal-below : goal < n
+    pub its-route : triedGoal S start blocked goal ≡ found path cost
+    pub least : (other : ℕ) → other < n → (path′ : List ℕ) (cost′ : ℕ) → triedGoal S start blocked other ≡ found path′ cost′ → cost ≤ cost′
+    pub first : (other : ℕ) → other < goal → (path′ : List ℕ) (cost′ : ℕ) → triedGoal S start blocked other ≡ found path′ cost′ → cost < cost′
 
   module _ (n : ℕ) where
     -- the last goal's route, where none before it has one as cheap
@@ -118,7 +118,7 @@ module _ (S : Site) (start : ℕ) (blocked : List ℕ) where
         least other h path′ cost′ r =
             askSame other n (λ q. none path′ cost′ (rw q at r)) (λ d. K .least other (omega (arith, h, d)) path′ cost′ r)
 
-  below-kept : (n : ℕ) (path : List ℕ) (cost : ℕ) → bestBelow n S start blocked ≡ found path cost → KeptBelow n path cost
+  pub below-kept : (n : ℕ) (path : List ℕ) (cost : ℕ) → bestBelow n S start blocked ≡ found path cost → KeptBelow n path cost
   unfolding bestBelow cheaperRoute
   below-kept zero path cost e = never (cc)
   below-kept (suc n) path cost e = go (bestBelow n S start blocked) refl (triedGoal S start blocked n) refl e (below-kept n)

@@ -23,7 +23,7 @@ fn beats(kept: Tried, cost: Cost) -> bool
 }
 
 // Copies the first cells of one path to the front of another.
-fn copy_cells(from: &[u32], to: &mut [u32], count: usize)
+pub fn copy_cells(from: &[u32], to: &mut [u32], count: usize)
     requires { ⌜ (count ≤ length (now from)) × (count ≤ length (now to)) ⌝ }
     ensures { λ _. ⌜ now (to .exit) ≡ take count (now (from .entry)) ++ drop count (now (to .entry)) ⌝ }
 {

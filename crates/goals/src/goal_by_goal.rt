@@ -1,4 +1,4 @@
-// One sink's route to the tree: the cheapest of all goals.
+// One sink's goals one after another, each of them tried.
 ghost use mathlib.Core.Path.{_≡_};
 ghost use Prim.Native.Nat.{_+_, _<_};
 ghost use lib.ListN.{length};
@@ -16,7 +16,7 @@ const MAX_ATTEMPTS: usize = 64;
 
 // Between goals the class bytes have no goal beside the start. The goal becomes an end for its own searches, and is none
 // any more behind them.
-fn try_goal(
+pub fn try_goal(
     room: Room,
     config: RouterConfig,
     kinds: &[u8],
@@ -101,7 +101,7 @@ fn try_next(
 
 // "Each searches from its approach to every joinable cell in number order", and the first strictly cheapest route is kept.
 // Its path goes to the front of `best`. Marks and class bytes are as they were when this returns.
-pub fn route_to_tree(
+pub fn every_goal(
     room: Room,
     config: RouterConfig,
     kinds: &[u8],

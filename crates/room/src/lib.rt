@@ -7,7 +7,7 @@ ghost use Rattle.room.specs.Units.{kindKnown, facingKnown, facingHorizon
 
 const MAX_SIDE: usize = 64;
 
-const MAX_VOLUME: usize = 16384;
+pub const MAX_VOLUME: usize = 16384;
 
 const MAX_COST: u32 = 100000;
 
@@ -186,7 +186,7 @@ pub fn as_long(number: u32) -> u64
 }
 
 // |a - b|
-fn apart(a: usize, b: usize) -> usize
+pub fn apart(a: usize, b: usize) -> usize
     ensures { λ r. ⌜ r ≡ apart a b ⌝ }
 {
     if a < b { b - a } else { a - b }

@@ -1,5 +1,6 @@
 pub mod Routing
 pub mod GraphLaws
+pub mod Slackness
 pub mod Held
 pub mod HeldLaws
 pub mod TriedMoves

@@ -1,30 +1,32 @@
 //! Times of whole trees of sixteen sinks: the proved tree through its archive, and the published Rust.
 //!
-//! A time is the processor time of this thread, the least of several runs. The proved tree's has everything in it, from the
+//! A time is the processor time of this thread, the least of several runs, of the published Rust one. The proved tree's has everything in it, from the
 //! sheet's bytes to cleared memory; for the published Rust the circuit, in its Solid shell, is built before, and only
 //! `route_net_tree` is timed.
 
 use std::hint::black_box;
+use std::io::Write;
 use std::time::Duration;
 
 use cases::room::{MOST_CELLS, facing, kind};
 use cases::samples::{block, default_job, wire};
 use cases::sheet::{Block, Job, Port};
 use dustroute::lent::{TREE_VALUES, TreeMemory};
-use oracle::{PublishedJob, Rng, Sheet, check_sheet};
+use oracle::{PublishedJob, Rng, Sheet, tree_of};
 
 use crate::bench::best;
+use crate::compare_trees::tree_differs;
 use crate::proved;
 
-/// A job that is timed, and how often by each of the two.
+/// A job that is timed, and how often by the proved tree.
 struct Load {
     name: &'static str,
     job: Job,
     runs: usize,
-    runs_published: usize,
 }
 
-pub fn bench() {
+/// Both tables, or the trees alone whose names begin with one of these words.
+pub fn bench(only: &[String]) {
     println!(
         "{:<44}{:>7}{:>10}{:>12}{:>14}{:>9}",
         "trees", "cells", "occupied", "proved", "published", "faster"
@@ -39,9 +41,21 @@ pub fn bench() {
             "blocks and other nets 32x16x32",
             blocks_and_other_nets([32, 16, 32]),
         ),
+        load("storeys 32x16x32", storeys([32, 16, 32])),
+        load("serpentine 63x2x63", serpentine([63, 2, 63])),
+        load("noise 32x16x32", noise([32, 16, 32])),
     ] {
-        measure(&load);
+        if only.is_empty() || only.iter().any(|word| load.name.starts_with(word)) {
+            measure(&load);
+        }
     }
+    if only.is_empty() {
+        growths();
+    }
+}
+
+/// How the time grows with the cells and with the sinks.
+fn growths() {
     println!();
     println!(
         "{:<44}{:>7}{:>7}{:>12}",
@@ -60,7 +74,6 @@ fn load(name: &'static str, job: Job) -> Load {
         name,
         job,
         runs: 5,
-        runs_published: 1,
     }
 }
 
@@ -101,6 +114,65 @@ fn ground_and_pillars(sides: [u8; 3]) -> Job {
         }
     }
     job.blocks = blocks;
+    job
+}
+
+/// Four storeys: slabs of Solid, each but the lowest with a stairwell of eight by eight, in two corners by turns.
+fn storeys(sides: [u8; 3]) -> Job {
+    let [wide, high, deep] = sides;
+    let mut job = open(sides, 1);
+    for y in (0..high).step_by(4) {
+        for x in 0..wide {
+            for z in 0..deep {
+                let well = if y % 8 == 4 {
+                    x >= wide - 8 && z >= deep - 8
+                } else {
+                    x < 8 && z < 8
+                };
+                if y == 0 || !well {
+                    job.blocks.push(solid(0, [x, y, z]));
+                }
+            }
+        }
+    }
+    job
+}
+
+/// One lane that winds through the whole room: a wall at every other place, open at its ends by turns. A sink in every other lane.
+fn serpentine(sides: [u8; 3]) -> Job {
+    let [wide, high, deep] = sides;
+    let lanes: Vec<Port> = (0..16)
+        .map(|k: u8| wire([4 * k + 2, 0, (17 * k) % deep], facing::NONE))
+        .collect();
+    let mut job = default_job(sides, &lanes);
+    job.source = wire([0, 0, 0], facing::NONE);
+    for x in (1..wide).step_by(2) {
+        let gap = if x % 4 == 1 { deep - 1 } else { 0 };
+        for z in (0..deep).filter(|z| *z != gap) {
+            job.blocks.extend((0..high).map(|y| solid(0, [x, y, z])));
+        }
+    }
+    job
+}
+
+/// Solid in a quarter of the cells, but for those by the net's ends.
+fn noise(sides: [u8; 3]) -> Job {
+    let [wide, high, deep] = sides;
+    let mut job = open(sides, 1);
+    let mut rng = Rng::new(11);
+    for x in 0..wide {
+        for y in 0..high {
+            for z in 0..deep {
+                let ends = job.sinks.iter().chain([&job.source]);
+                let near = ends
+                    .into_iter()
+                    .any(|end| (0..3).all(|i| end.at[i].abs_diff([x, y, z][i]) <= 1));
+                if rng.below(4) == 0 && !near {
+                    job.blocks.push(solid(0, [x, y, z]));
+                }
+            }
+        }
+    }
     job
 }
 
@@ -158,22 +230,29 @@ fn proved_time(runs: usize, sheet: &Sheet, lent: &mut TreeMemory) -> Duration {
     })
 }
 
-/// Prints one line; the answers of both must be the same, branch by branch.
+/// Prints one line; the answers of both must be the same, in every lent byte.
 fn measure(load: &Load) {
     let (sheet, mut lent) = sheet_of(&load.job);
     let (job, room) = sheet.judge(MOST_CELLS).expect("a lawful sheet");
-    check_sheet(&sheet).unwrap_or_else(|difference| panic!("{difference}"));
     let proved = proved_time(load.runs, &sheet, &mut lent);
-    let published_job = PublishedJob::new(&room, &job);
-    let published = best(load.runs_published, || {
-        black_box(published_job.route()).expect("a tree");
-    });
-    println!(
-        "{:<44}{:>7}{:>10}{:>9.2} ms{:>11.1} ms{:>8.1}x",
+    print!(
+        "{:<44}{:>7}{:>10}{:>9.2} ms",
         load.name,
         room.cells(),
         lent.values[2],
         proved.as_secs_f64() * 1e3,
+    );
+    // The published Rust may take minutes.
+    std::io::stdout().flush().expect("standard output");
+    let published_job = PublishedJob::new(&room, &job);
+    let mut net = None;
+    let published = best(1, || {
+        net = Some(black_box(published_job.route()).expect("a tree"));
+    });
+    let due = tree_of(&room, &net.expect("a tree")).expect("a tree of this room");
+    tree_differs(&sheet, &due, lent.clone()).unwrap_or_else(|difference| panic!("{difference}"));
+    println!(
+        "{:>11.1} ms{:>8.1}x",
         published.as_secs_f64() * 1e3,
         published.as_secs_f64() / proved.as_secs_f64(),
     );

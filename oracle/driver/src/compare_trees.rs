@@ -93,7 +93,7 @@ fn at_branch_length_differs(case: &Sheet, expected: &TreeAnswer, salt: u8) -> Re
     Ok(())
 }
 
-fn tree_differs(case: &Sheet, expected: &TreeAnswer, before: TreeMemory) -> Result<(), String> {
+pub fn tree_differs(case: &Sheet, expected: &TreeAnswer, before: TreeMemory) -> Result<(), String> {
     let mut after = before.clone();
     let number = after.call(&case.bytes);
     let due = tree_due(&before, case, expected);

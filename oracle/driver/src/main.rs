@@ -22,7 +22,8 @@ driver compare searches|sheets --seed N --count N [--profile P] [--against oracl
                 rich: of the sheets only those that have a tree of two or more sinks with stairs and repeaters
 driver compare smallest compares the smallest inputs of docs/DIFFERENCES.md
 driver bench searches   times the proved search, the published Rust and plain Rust over flat arrays
-driver bench trees      times the proved tree and the published Rust
+driver bench trees [NAME..]
+                times the proved tree and the published Rust: of trees whose names begin so, or all
 driver wraps            shows costs at which the published Rust's sums wrap, and both answers
 Status 0: done; 1: answers differ; 2: bad input.
 ";
@@ -88,7 +89,7 @@ fn run(words: &[String]) -> Result<bool, String> {
             Ok(true)
         }
         ["bench", "trees"] => {
-            bench_trees::bench();
+            bench_trees::bench(&words[2..]);
             Ok(true)
         }
         _ => Err(format!("what is asked?\n{HELP}")),

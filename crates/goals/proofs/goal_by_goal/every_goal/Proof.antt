@@ -1,4 +1,4 @@
--- `route_to_tree` meets its contract: the loop's invariant is that the goals below are done. The measure is how many cells are left.
+-- `every_goal` meets its contract: the loop's invariant is that the goals below are done. The measure is how many cells are left.
 use borrow.Author.Needs.{needs}
 use mathlib.Core.Logic.{_⊎_, inl, inr}
 use mathlib.Core.Path.{_≡_, ap, _∙_}
@@ -10,9 +10,9 @@ use Rattle.goals.proofs.Tried as tried-enum
 use Rattle.goals.specs.declared.Tried.{Tried}
 use Rattle.goals.specs.declared.Tried.the-variants.{Found, Failed, Full}
 use Rattle.goals.specs.Trials.{siteOf, GoesOn}
-use Rattle.goals.specs.GoalLaws.{GoalsTried, goals-first, goals-able, goals-tells, goals-told, goals-next, tree-full, tree-all}
-use Rattle.goals.proofs.goal_by_goal.route_to_tree.Statement.{statement}
-use Rattle.goals.proofs.goal_by_goal.route_to_tree.Tie as tie
+use Rattle.goals.specs.GoalLaws.{memory-able, GoalsTried, goals-first, goals-tells, goals-told, goals-next, tree-full, tree-all}
+use Rattle.goals.proofs.goal_by_goal.every_goal.Statement.{statement}
+use Rattle.goals.proofs.goal_by_goal.every_goal.Tie as tie
 
 goes-on-by-tag : (r : Tried) → (tagOf tried-enum.the-type r ≡ 0) ⊎ (tagOf tried-enum.the-type r ≡ 1) → GoesOn r
 goes-on-by-tag (Found n cost) e = tt
@@ -37,7 +37,7 @@ try-next-requires c κs =
     let args = c .before .before .before .before .before .before .before .before .before .before .before .before .before .before .before .before .before .before .before .args in
     let loop = c .before .before .before .before .before .before .before .before .before .loop in
     let h = rw (pre .0 .grounds .kinds-long) at (loop-test .taken) in
-    (goals-able (args .room) (args .config) (args .kinds .now) (loop .inv) (pre .0), ((h, loop .inv .best-long ∙ pre .1), (loop .inv .on, goals-tells (args .room) (args .config) (args .kinds .now) (loop .inv))))
+    (memory-able (args .room) (args .config) (args .kinds .now) (loop .inv .same) (pre .0), ((h, loop .inv .same .best-long ∙ pre .1), (loop .inv .on, goals-tells (args .room) (args .config) (args .kinds .now) (loop .inv))))
 
 enum-told : tie.Need-enum-told Inv-loop μ-loop
 enum-told c = search needs
@@ -46,49 +46,49 @@ same-length : tie.Need-same-length Inv-loop μ-loop
 same-length c =
     let try-next = c .before .before .before .before .before .before .before .before .before .before .before .before .before .before .before .before .before .before .try-next in
     let loop = c .before .before .before .before .before .before .before .before .before .before .before .before .before .before .before .before .before .before .before .before .before .before .before .before .before .before .before .before .loop in
-    try-next .kept .1 .1 .1 .0 ∙ ap length (loop .inv .joinable-is)
+    try-next .kept .1 .1 .1 .0 ∙ ap length (loop .inv .same .joinable-is)
 
 same-length-2 : tie.Need-same-length-2 Inv-loop μ-loop
 same-length-2 c =
     let try-next = c .before .before .before .before .before .before .before .before .before .before .before .before .before .before .before .before .before .before .try-next in
     let loop = c .before .before .before .before .before .before .before .before .before .before .before .before .before .before .before .before .before .before .before .before .before .before .before .before .before .before .before .before .loop in
-    try-next .kept .1 .1 .1 .1 .0 ∙ ap length (loop .inv .blocked-is)
+    try-next .kept .1 .1 .1 .1 .0 ∙ ap length (loop .inv .same .blocked-is)
 
 same-length-3 : tie.Need-same-length-3 Inv-loop μ-loop
 same-length-3 c =
     let try-next = c .before .before .before .before .before .before .before .before .before .before .before .before .before .before .before .before .before .before .try-next in
     let loop = c .before .before .before .before .before .before .before .before .before .before .before .before .before .before .before .before .before .before .before .before .before .before .before .before .before .before .before .before .loop in
-    try-next .kept .1 .1 .1 .1 .1 .0 ∙ ap length (loop .inv .classes-is)
+    try-next .kept .1 .1 .1 .1 .1 .0 ∙ ap length (loop .inv .same .classes-is)
 
 same-length-4 : tie.Need-same-length-4 Inv-loop μ-loop
 same-length-4 c =
     let try-next = c .before .before .before .before .before .before .before .before .before .before .before .before .before .before .before .before .before .before .try-next in
     let loop = c .before .before .before .before .before .before .before .before .before .before .before .before .before .before .before .before .before .before .before .before .before .before .before .before .before .before .before .before .loop in
-    try-next .kept .1 .1 .1 .1 .1 .1 .0 ∙ loop .inv .known-long
+    try-next .kept .1 .1 .1 .1 .1 .1 .0 ∙ loop .inv .same .known-long
 
 same-length-5 : tie.Need-same-length-5 Inv-loop μ-loop
 same-length-5 c =
     let try-next = c .before .before .before .before .before .before .before .before .before .before .before .before .before .before .before .before .before .before .try-next in
     let loop = c .before .before .before .before .before .before .before .before .before .before .before .before .before .before .before .before .before .before .before .before .before .before .before .before .before .before .before .before .loop in
-    try-next .kept .1 .1 .1 .1 .1 .1 .1 .0 ∙ loop .inv .previous-long
+    try-next .kept .1 .1 .1 .1 .1 .1 .1 .0 ∙ loop .inv .same .previous-long
 
 same-length-6 : tie.Need-same-length-6 Inv-loop μ-loop
 same-length-6 c =
     let try-next = c .before .before .before .before .before .before .before .before .before .before .before .before .before .before .before .before .before .before .try-next in
     let loop = c .before .before .before .before .before .before .before .before .before .before .before .before .before .before .before .before .before .before .before .before .before .before .before .before .before .before .before .before .loop in
-    try-next .kept .1 .1 .1 .1 .1 .1 .1 .1 .0 ∙ loop .inv .path-long
+    try-next .kept .1 .1 .1 .1 .1 .1 .1 .1 .0 ∙ loop .inv .same .path-long
 
 same-length-7 : tie.Need-same-length-7 Inv-loop μ-loop
 same-length-7 c =
     let try-next = c .before .before .before .before .before .before .before .before .before .before .before .before .before .before .before .before .before .before .try-next in
     let loop = c .before .before .before .before .before .before .before .before .before .before .before .before .before .before .before .before .before .before .before .before .before .before .before .before .before .before .before .before .loop in
-    try-next .kept .1 .1 .1 .1 .1 .1 .1 .1 .1 .0 ∙ loop .inv .best-long
+    try-next .kept .1 .1 .1 .1 .1 .1 .1 .1 .1 .0 ∙ loop .inv .same .best-long
 
 same-length-8 : tie.Need-same-length-8 Inv-loop μ-loop
 same-length-8 c =
     let try-next = c .before .before .before .before .before .before .before .before .before .before .before .before .before .before .before .before .before .before .try-next in
     let loop = c .before .before .before .before .before .before .before .before .before .before .before .before .before .before .before .before .before .before .before .before .before .before .before .before .before .before .before .before .loop in
-    try-next .kept .1 .1 .1 .1 .1 .1 .1 .1 .1 .1 .0 ∙ loop .inv .queue-long
+    try-next .kept .1 .1 .1 .1 .1 .1 .1 .1 .1 .1 .0 ∙ loop .inv .same .queue-long
 
 returns : tie.Need-returns Inv-loop μ-loop
 returns c =
@@ -102,7 +102,7 @@ returns c =
     let t = goals-told (args .room) (args .config) (args .kinds .now) (loop .inv) (loop .goal + 1) (try-next .ensures .0) in
     let same = try-next .ensures .1 in (
       rw (enum-told .given .1) (tree-full (siteOf (args .room) (args .config) (args .kinds .now) (args .joinable .now) (args .queue .now)) (args .start) (loop .goal + 1) (args .blocked .now) (rw (enum-told .given .1) at t) (omega arith)),
-      (same .0 ∙ loop .inv .joinable-is, same .1 ∙ loop .inv .blocked-is, same .2 ∙ loop .inv .classes-is),
+      (same .0 ∙ loop .inv .same .joinable-is, same .1 ∙ loop .inv .same .blocked-is, same .2 ∙ loop .inv .same .classes-is),
     )
 
 add-goal : tie.Need-add-goal Inv-loop μ-loop
@@ -126,28 +126,28 @@ loop-again c =
     goals-next (args .room) (args .config) (args .kinds .now) (loop .inv) h (goes-on-by-tag (try-next .result) (c .match .keys2)) (try-next .ensures .0) (try-next .ensures .1) (try-next .kept .1 .1 .1 .1 .1 .1 .0) (try-next .kept .1 .1 .1 .1 .1 .1 .1 .0) (try-next .kept .1 .1 .1 .1 .1 .1 .1 .1 .0) (try-next .kept .1 .1 .1 .1 .1 .1 .1 .1 .1 .0) (try-next .kept .1 .1 .1 .1 .1 .1 .1 .1 .1 .1 .0)
 
 same-length-9 : tie.Need-same-length-9 Inv-loop μ-loop
-same-length-9 c = ap length (c .before .loop .inv .joinable-is)
+same-length-9 c = ap length (c .before .loop .inv .same .joinable-is)
 
 same-length-10 : tie.Need-same-length-10 Inv-loop μ-loop
-same-length-10 c = ap length (c .before .loop .inv .blocked-is)
+same-length-10 c = ap length (c .before .loop .inv .same .blocked-is)
 
 same-length-11 : tie.Need-same-length-11 Inv-loop μ-loop
-same-length-11 c = ap length (c .before .loop .inv .classes-is)
+same-length-11 c = ap length (c .before .loop .inv .same .classes-is)
 
 same-length-12 : tie.Need-same-length-12 Inv-loop μ-loop
-same-length-12 c = c .before .loop .inv .known-long
+same-length-12 c = c .before .loop .inv .same .known-long
 
 same-length-13 : tie.Need-same-length-13 Inv-loop μ-loop
-same-length-13 c = c .before .loop .inv .previous-long
+same-length-13 c = c .before .loop .inv .same .previous-long
 
 same-length-14 : tie.Need-same-length-14 Inv-loop μ-loop
-same-length-14 c = c .before .loop .inv .path-long
+same-length-14 c = c .before .loop .inv .same .path-long
 
 same-length-15 : tie.Need-same-length-15 Inv-loop μ-loop
-same-length-15 c = c .before .loop .inv .best-long
+same-length-15 c = c .before .loop .inv .same .best-long
 
 same-length-16 : tie.Need-same-length-16 Inv-loop μ-loop
-same-length-16 c = c .before .loop .inv .queue-long
+same-length-16 c = c .before .loop .inv .same .queue-long
 
 returns-2 : tie.Need-returns-2 Inv-loop μ-loop
 returns-2 c =
@@ -156,11 +156,11 @@ returns-2 c =
     let loop = c .before .loop in
     let h = rw (pre .0 .grounds .kinds-long) at (c .loop-test .left) in (
       tree-all (siteOf (args .room) (args .config) (args .kinds .now) (args .joinable .now) (args .queue .now)) (args .start) (loop .goal) (args .blocked .now) (loop .inv .tells) (loop .inv .within) h,
-      (loop .inv .joinable-is, loop .inv .blocked-is, loop .inv .classes-is),
+      (loop .inv .same .joinable-is, loop .inv .same .blocked-is, loop .inv .same .classes-is),
     )
 
-pub route-to-tree-spec : {M : Type 1} → statement M
-route-to-tree-spec =
+pub every-goal-spec : {M : Type 1} → statement M
+every-goal-spec =
     tie.close
     (tie.spec
     Inv-loop

@@ -1,0 +1,296 @@
+// Goals that can't win are not searched. Where no queue is ever full, the first strictly cheapest route is the one that
+// comes first by cost and goal number, in whatever order the goals are tried. A goal's bid is the least that its route can
+// cost, with its number; goals are tried from the lowest bid on, until none is left that may come before what is kept.
+ghost use mathlib.Core.Path.{_≡_};
+ghost use Prim.Native.Nat.{_+_, _-_, _≤_, _<_, min};
+ghost use lib.ListN.{length};
+ghost use Rattle.room.specs.Room.{Good, SmallPos, volume};
+ghost use Rattle.room.specs.Units.{maxCost, GoodConfig};
+ghost use Rattle.room_search.specs.TriedMoves.{placesOf};
+ghost use Rattle.goals.specs.Goals.{routeToTree};
+ghost use Rattle.goals.specs.Trials.{Tells, lengthOf, siteOf, Attemptable};
+ghost use Rattle.goals.specs.Passing.{leastAt, NeverFull, precedes, bidOf, noBid, bidToBeat, SmallKept, Passes, KeepsFirst, Passable, LowerBid, NextBid};
+use crate::Bid;
+use crate::Kept;
+use crate::Tried;
+use crate::cheapest::copy_cells;
+use crate::goal_by_goal::try_goal;
+use room::Pos;
+use room::Room;
+use room::RouterConfig;
+
+// What the cost counts for in a bid: a goal's number is below it.
+const PER_COST: u64 = room::MAX_VOLUME as u64;
+
+// Above every bid: no cost of 32 bits comes to so much.
+const NO_BID: u64 = 4294967296 * PER_COST;
+
+// The cheaper of a flat step and a stair.
+fn cheaper_step(config: RouterConfig) -> u32
+    requires { ⌜ GoodConfig config ⌝ }
+    ensures { λ r. ⌜ (r ≡ min (config .horizontal .0) (config .stair .0)) × (r ≤ maxCost) ⌝ }
+{
+    if config.horizontal.0 < config.stair.0 {
+        config.horizontal.0
+    } else {
+        config.stair.0
+    }
+}
+
+// How much a is above b.
+fn beyond(a: usize, b: usize) -> usize
+    ensures { λ r. ⌜ r ≡ a - b ⌝ }
+{
+    if b < a { a - b } else { 0 }
+}
+
+// What any route between two positions costs at least: a stair for each cell up or down, and the cheaper step for each cell
+// aside that is then left.
+fn least_at(config: RouterConfig, p: Pos, q: Pos) -> u32
+    requires { ⌜ GoodConfig config ⌝ }
+    requires { ⌜ SmallPos p ⌝ }
+    requires { ⌜ SmallPos q ⌝ }
+    ensures { λ r. ⌜ r ≡ leastAt config p q ⌝ }
+{
+    let up = room::apart(p.y, q.y);
+    let aside = room::apart(p.x, q.x) + room::apart(p.z, q.z);
+    let rest = beyond(aside, up);
+    let cheaper = cheaper_step(config);
+    up as u32 * config.stair.0 + rest as u32 * cheaper
+}
+
+// Whether a route of this cost to this goal comes before what is kept: it is cheaper, or as cheap and its goal has the
+// lower number.
+fn precedes(kept: Kept, cost: u32, goal: usize) -> bool
+    ensures { λ r. ⌜ r ≡ precedes cost goal (kept .tried) (kept .goal) ⌝ }
+{
+    let tried = kept.tried;
+    match tried {
+        Tried::Found {
+            length: _,
+            cost: other,
+        } => {
+            if cost == other.0 {
+                goal < kept.goal
+            } else {
+                cost < other.0
+            }
+        }
+        Tried::Failed => true,
+        Tried::Full(_) => false,
+    }
+}
+
+// Of what is kept and what this goal came to, the one that comes first.
+fn keep_first(kept: Kept, goal: usize, tried: Tried, path: &[u32], best: &mut [u32]) -> Kept
+    requires { ⌜ (length (now path) ≡ length (now best)) × (lengthOf tried ≤ length (now path)) ⌝ }
+    ensures { λ r. ⌜ KeepsFirst kept goal tried (now (path .entry)) (now (best .entry)) r (now (best .exit)) ⌝ }
+{
+    match tried {
+        Tried::Found { length, cost } => {
+            if !precedes(kept, cost.0, goal) {
+                return kept;
+            }
+            copy_cells(path, best, length);
+            Kept {
+                tried: tried,
+                goal: goal,
+            }
+        }
+        Tried::Failed => kept,
+        Tried::Full(_) => kept,
+    }
+}
+
+// A goal's bid.
+fn bid_of(room: Room, config: RouterConfig, from: Pos, goal: usize) -> u64
+    requires { ⌜ Good room ⌝ }
+    requires { ⌜ GoodConfig config ⌝ }
+    requires { ⌜ goal < volume room ⌝ }
+    requires { ⌜ SmallPos from ⌝ }
+    ensures { λ r. ⌜ r ≡ bidOf config room from goal ⌝ }
+{
+    let least = room::as_long(least_at(config, from, room.pos(goal)));
+    least * PER_COST + goal as u64
+}
+
+// The bid from which on no goal comes before what is kept.
+fn bid_to_beat(kept: Kept) -> u64
+    requires { ⌜ SmallKept (kept .tried) (kept .goal) ⌝ }
+    ensures { λ r. ⌜ r ≡ bidToBeat (kept .tried) (kept .goal) ⌝ }
+{
+    let tried = kept.tried;
+    match tried {
+        Tried::Found { length: _, cost } => room::as_long(cost.0) * PER_COST + kept.goal as u64,
+        Tried::Failed => NO_BID,
+        Tried::Full(_) => NO_BID,
+    }
+}
+
+// One cell more: where it is joinable and its bid is `low` or higher, it may be the lowest or the second.
+fn lower_bid(
+    room: Room,
+    config: RouterConfig,
+    joinable: &[u8],
+    from: Pos,
+    low: u64,
+    next: Bid,
+    goal: usize,
+) -> Bid
+    requires { ⌜ Good room ⌝ }
+    requires { ⌜ GoodConfig config ⌝ }
+    requires { ⌜ (length (now joinable) ≡ volume room) × (goal < volume room) ⌝ }
+    requires { ⌜ SmallPos from ⌝ }
+    ensures { λ r. ⌜ LowerBid config room (now (joinable .entry)) from low goal next r ⌝ }
+{
+    if joinable[goal] != routing_resources::MARKED {
+        return next;
+    }
+    let bid = bid_of(room, config, from, goal);
+    if bid < low {
+        return next;
+    }
+    if bid < next.bid {
+        return Bid {
+            bid: bid,
+            goal: goal,
+            second: next.bid,
+        };
+    }
+    if next.second <= bid {
+        return next;
+    }
+    Bid {
+        bid: next.bid,
+        goal: next.goal,
+        second: bid,
+    }
+}
+
+// No goal bids any more.
+fn none_bids(cells: usize) -> Bid
+    ensures { λ r. ⌜ (r .goal ≡ cells) × (r .bid ≡ noBid) ⌝ }
+{
+    Bid {
+        bid: NO_BID,
+        goal: cells,
+        second: NO_BID,
+    }
+}
+
+// The joinable cell of the lowest bid from `low` on and before `end`.
+fn next_bid(room: Room, config: RouterConfig, joinable: &[u8], from: Pos, low: u64, end: u64) -> Bid
+    requires { ⌜ Good room ⌝ }
+    requires { ⌜ GoodConfig config ⌝ }
+    requires { ⌜ length (now joinable) ≡ volume room ⌝ }
+    requires { ⌜ SmallPos from ⌝ }
+    ensures { λ r. ⌜ NextBid config room (now (joinable .entry)) from low end r ⌝ }
+{
+    let cells = joinable.len();
+    if end <= low {
+        return none_bids(cells);
+    }
+    let mut next = Bid {
+        bid: end,
+        goal: cells,
+        second: end,
+    };
+    let mut goal: usize = 0;
+    while goal < cells {
+        next = lower_bid(room, config, joinable, from, low, next, goal);
+        goal += 1;
+    }
+    if next.goal < cells {
+        return next;
+    }
+    none_bids(cells)
+}
+
+// One goal is tried, and the route that comes first is kept.
+fn pass_goal(
+    room: Room,
+    config: RouterConfig,
+    kinds: &[u8],
+    joinable: &mut [u8],
+    blocked: &mut [u8],
+    classes: &mut [u8],
+    known: &mut [u32],
+    previous: &mut [u32],
+    path: &mut [u32],
+    best: &mut [u32],
+    queue: &mut [u64],
+    start: usize,
+    goal: usize,
+    kept: Kept,
+) -> Kept
+    requires { ⌜ Attemptable (siteOf room config (now kinds) (now joinable) (now queue)) (now blocked) (now classes) (now known) (now previous) (now path) start start ⌝ }
+    requires { ⌜ Passable (siteOf room config (now kinds) (now joinable) (now queue)) start (now blocked) (now best) goal kept ⌝ }
+    ensures { λ r. ⌜ Passes (siteOf room config (now (kinds .entry)) (now (joinable .entry)) (now (queue .entry))) start (now (blocked .entry)) goal kept r (now (best .exit)) ⌝ }
+    ensures { λ _. ⌜ (now (joinable .exit) ≡ now (joinable .entry)) × (now (blocked .exit) ≡ now (blocked .entry)) × (now (classes .exit) ≡ now (classes .entry)) ⌝ }
+{
+    let tried = try_goal(
+        room,
+        config,
+        kinds,
+        joinable,
+        blocked,
+        classes,
+        known,
+        previous,
+        path,
+        queue,
+        start,
+        goal,
+    );
+    keep_first(kept, goal, tried, path, best)
+}
+
+// Goals are tried from the lowest bid on, until none is left whose route may come before what is kept.
+pub fn by_bids(
+    room: Room,
+    config: RouterConfig,
+    kinds: &[u8],
+    joinable: &mut [u8],
+    blocked: &mut [u8],
+    classes: &mut [u8],
+    known: &mut [u32],
+    previous: &mut [u32],
+    path: &mut [u32],
+    best: &mut [u32],
+    queue: &mut [u64],
+    start: usize,
+) -> Tried
+    requires { ⌜ Attemptable (siteOf room config (now kinds) (now joinable) (now queue)) (now blocked) (now classes) (now known) (now previous) (now path) start start ⌝ }
+    requires { ⌜ length (now best) ≡ volume room ⌝ }
+    requires { ⌜ NeverFull config (volume room) (placesOf (now queue)) ⌝ }
+    ensures { λ r. ⌜ Tells (routeToTree (siteOf room config (now (kinds .entry)) (now (joinable .entry)) (now (queue .entry))) start (now (blocked .entry))) r (now (best .exit)) ⌝ }
+    ensures { λ _. ⌜ (now (joinable .exit) ≡ now (joinable .entry)) × (now (blocked .exit) ≡ now (blocked .entry)) × (now (classes .exit) ≡ now (classes .entry)) ⌝ }
+{
+    let cells = kinds.len();
+    let from = room.pos(start);
+    let mut kept = Kept {
+        tried: Tried::Failed,
+        goal: 0,
+    };
+    let mut next = next_bid(room, config, joinable, from, 0, NO_BID);
+    while next.goal < cells {
+        kept = pass_goal(
+            room,
+            config,
+            kinds,
+            joinable,
+            blocked,
+            classes,
+            known,
+            previous,
+            path,
+            best,
+            queue,
+            start,
+            next.goal,
+            kept,
+        );
+        next = next_bid(room, config, joinable, from, next.second, bid_to_beat(kept));
+    }
+    kept.tried
+}
