@@ -15,9 +15,9 @@
  * A room has sides of 1 to 64 and V = wide * high * deep cells, at most 16,384. The cell at (x, y, z) has the number
  * (x * high + y) * deep + z.
  *
- * WHAT COMES BACK: a number, 0 for a route or a tree, else one of 1 to 15 below, whose detail is then values[0].
- *   Numbers 1 to 6 leave every buffer as it was, `values` included: read nothing from it.
- *   A number from 7 on leaves zeros in every buffer that can be written, to its very end, but for the detail in values[0].
+ * WHAT COMES BACK: a number, 0 for a route or a tree, else one of 1 to 15 below.
+ *   Numbers 1 to 6 leave every buffer as it was, `values` included: read nothing from it. Their detail is 0.
+ *   A number from 7 on has its detail in values[0] and leaves zeros in all else that can be written, to its very end.
  *   0 leaves the answer at the front of the outputs, zeros behind it, and zeros in the work memory. */
 #ifndef DUSTROUTE_H
 #define DUSTROUTE_H
@@ -80,8 +80,8 @@ enum {
  * known, previous, classes
  *                V at least each. Work memory
  * queue          2 at least; see DUSTROUTE_QUEUE_LENGTH. Work memory
- * values         DUSTROUTE_SEARCH_VALUES at least. Output: the detail, how many cells the route has, its cost in tenths, how many
- *                cells were expanded; the last three are 0 after a refusal */
+ * values         DUSTROUTE_SEARCH_VALUES at least. Output, untouched by numbers 2 to 6: the detail, how many cells the route has,
+ *                its cost in tenths, how many cells were expanded; the last three are 0 from number 10 on */
 uint32_t dustroute_search(
     size_t wide, size_t high, size_t deep,
     uint32_t limit, uint32_t horizontal, uint32_t stair, uint32_t support,
@@ -105,8 +105,9 @@ uint32_t dustroute_search(
  * kinds, blocked, classes, joinable, known, previous, path, best
  *                V at least each. Work memory
  * queue          2 at least; see DUSTROUTE_QUEUE_LENGTH. Work memory
- * values         DUSTROUTE_TREE_VALUES at least. Output: the detail; how many branches, occupied cells and repeaters there are; then
- *                sixteen lengths, those of the branches and zeros behind them. All but the detail are 0 after a refusal */
+ * values         DUSTROUTE_TREE_VALUES at least. Output, untouched by numbers 1 to 6: the detail; how many branches, occupied cells
+ *                and repeaters there are; then sixteen lengths, those of the branches and zeros behind them. All but the detail
+ *                are 0 from number 7 on */
 uint32_t dustroute_tree(
     const uint8_t *sheet, size_t sheet_length,
     uint32_t *branches, size_t branches_length,

@@ -36,7 +36,7 @@ def remade(job):
     return to_bytes(texts.job_of(draft))
 
 
-# ---- the oracle's stored sheets; their format is in oracle/README.md
+# ---- the oracle's stored sheets; their format is in oracle/answers/README.md
 
 class Stored:
     def __init__(self, sheet, number, detail, branches, occupied, repeaters):

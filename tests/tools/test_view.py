@@ -209,7 +209,7 @@ class Answers(unittest.TestCase):
 
 class Language(unittest.TestCase):
     def test_python_3_9_reads_the_tools(self):
-        files = [os.path.join(TOOLS, name) for name in ("sheet", "view")]
+        files = [os.path.join(TOOLS, name) for name in ("sheet", "view", "picture")]
         files += [os.path.join(TOOLS, "dustsheet", name) for name in os.listdir(os.path.join(TOOLS, "dustsheet")) if name.endswith(".py")]
         for name in files:
             with open(name, encoding="utf-8") as file:

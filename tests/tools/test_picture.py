@@ -1,0 +1,40 @@
+"""Pictures: the one in the documents is what the tool draws, each example can be drawn, and bad answers are refused."""
+import os
+import unittest
+import xml.etree.ElementTree as ElementTree
+
+from common import EXAMPLES, ROOT, content, examples, run
+from dustsheet import answer as answers
+from dustsheet.job import from_bytes
+from dustsheet.solid import Picture
+
+SVG = "{http://www.w3.org/2000/svg}"
+
+
+def drawn(name):
+    job = from_bytes(content(name + ".sheet"))
+    answer = answers.read(content(name + ".out").decode(), job)
+    return job, answer, ElementTree.fromstring(Picture(job, answer).svg())
+
+
+class Pictures(unittest.TestCase):
+    def test_the_picture_of_the_documents(self):
+        with open(os.path.join(ROOT, "docs", "lane.svg"), "rb") as file:
+            kept = file.read()
+        status, made, said = run("picture", os.path.join(EXAMPLES, "lane.sheet"), os.path.join(EXAMPLES, "lane.out"))
+        self.assertEqual((status, said), (0, ""))
+        self.assertEqual(made, kept)
+
+    def test_examples_show_their_ends_and_steps(self):
+        for name in examples():
+            with self.subTest(name=name):
+                job, answer, tree = drawn(name)
+                self.assertEqual(len(list(tree.iter(SVG + "circle"))), 1 + len(job.sinks))
+                thick = [line for line in tree.iter(SVG + "polyline") if line.get("stroke-width") == "4"]
+                self.assertEqual(len(thick), sum(len(branch) - 1 for branch in answer.branches))
+
+    def test_what_can_not_be_drawn(self):
+        lane, lamp = os.path.join(EXAMPLES, "lane.sheet"), os.path.join(EXAMPLES, "lamp.out")
+        status, made, said = run("picture", lane, lamp)
+        self.assertEqual((status, made), (2, b""))
+        self.assertIn("lamp.out", said)
