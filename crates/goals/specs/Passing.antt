@@ -123,9 +123,16 @@ pub record LowestBid (C : RouterConfig) (R : Room) (joinable : List ℕ) (from :
   pub below : t .goal < volume R → (t .goal < n) × (t .bid < t .second)
   pub none : volume R ≤ t .goal → t .bid ≡ end
 
--- one cell more
-pub record LowerBid (C : RouterConfig) (R : Room) (joinable : List ℕ) (from : Pos) (low n : ℕ) (t t′ : Bid) : Type 0 where
-  pub lowers : (end : ℕ) → LowestBid C R joinable from low end n t → LowestBid C R joinable from low end (n + 1) t′
+-- one goal more
+pub record LowerBid (C : RouterConfig) (R : Room) (from : Pos) (low n : ℕ) (t t′ : Bid) : Type 0 where
+  pub lowers : (joinable : List ℕ) (end : ℕ) → isMarked joinable n ≡ true → LowestBid C R joinable from low end n t → LowestBid C R joinable from low end (n + 1) t′
+
+-- the first marked cell from here on, or the number of cells
+pub record NextMarked (marks : List ℕ) (from r : ℕ) : Type 0 where
+  pub onwards : from ≤ r
+  pub within : r ≤ length marks
+  pub unmarked : (other : ℕ) → from ≤ other → other < r → isMarked marks other ≡ false
+  pub marked : r < length marks → isMarked marks r ≡ true
 
 -- of all of them. Where no goal is left, every bid from `low` on is `end` or higher
 pub record NextBid (C : RouterConfig) (R : Room) (joinable : List ℕ) (from : Pos) (low end : ℕ) (t : Bid) : Type 0 where

@@ -1,6 +1,6 @@
 -- Laws of passing: a goal whose route can't come before what is kept is passed without a search, and once every goal is passed what is kept is the first
 -- strictly cheapest route, in whatever order they were passed.
-use mathlib.Core.Path.{_≡_, refl, sym, _∙_}
+use mathlib.Core.Path.{_≡_, refl, sym, ap, _∙_}
 use mathlib.Core.Logic.{_≢_}
 use mathlib.Core.Bool.{true, false}
 use mathlib.Core.List.{List, _++_}
@@ -9,7 +9,7 @@ use native.Mathlib.Omega.{arith}
 use lib.Dec.{eqb, ltb}
 use lib.ListN.{length, getD, take, drop, length-append}
 use lib.Seq.{take-at, length-take-le}
-use borrow.Author.Tests.{eqb-true, eqb-false, ltb-true, ltb-false, eq-eqb}
+use borrow.Author.Tests.{eqb-true, eqb-false, ltb-true, ltb-false, eq-eqb, ne-eqb}
 use Rattle.basics.specs.Tests.{ask, askSame, askLess, never}
 use Rattle.room.specs.declared.Room.{Room}
 use Rattle.room.specs.declared.RouterConfig.{RouterConfig}
@@ -30,7 +30,7 @@ use Rattle.goals.specs.RouteLaws.{same-path, below-failed, KeptBelow, be
 use Rattle.goals.specs.LeastLaws.{bid-few, tried-least}
 use Rattle.goals.specs.FullLaws.{tried-not-full, best-not-full}
 use Rattle.goals.specs.GoalLaws.{SameMemory, memory-first, memory-site, memory-next}
-use Rattle.goals.specs.Passing.{leastAt, leastCost, NeverFull, precedes, bidOf, noBid, bidToBeat, SmallKept, HoldsRoute, Holds, NotBefore, Yields, Passes, KeepsFirst, Passable, LowestBid, LowerBid, NextBid}
+use Rattle.goals.specs.Passing.{leastAt, leastCost, NeverFull, precedes, bidOf, noBid, bidToBeat, SmallKept, HoldsRoute, Holds, NotBefore, Yields, Passes, KeepsFirst, Passable, LowestBid, LowerBid, NextMarked, NextBid}
 
 -- ---- the order
 
@@ -195,6 +195,37 @@ module _ (S : Site) (start : ℕ) (start-in : start < volume (S .room)) (F : Nev
   unfolding routeToTree
   kept-is K H Y = all-passed (K .tried) (K .goal) (H .holds) (λ other h. Y other h .yields) _ refl
 
+-- ---- the next marked cell
+
+module _ (marks : List ℕ) (from cell : ℕ) where
+  -- all before this cell are unmarked
+  pub record Unmarked : Type 0 where
+    pub onwards : from ≤ cell
+    pub within : cell ≤ length marks
+    pub unmarked : (other : ℕ) → from ≤ other → other < cell → isMarked marks other ≡ false
+
+pub unmarked-first : (marks : List ℕ) (from : ℕ) → from ≤ length marks → Unmarked marks from from
+unmarked-first marks from h = record { onwards = omega arith; within = h; unmarked = λ other l m. absurd (omega arith) }
+
+module _ {marks : List ℕ} {from cell : ℕ} (U : Unmarked marks from cell) where
+  pub unmarked-next : cell < length marks → getD marks cell 0 ≢ 1 → Unmarked marks from (cell + 1)
+  unmarked-next h d = record {
+    onwards = omega (arith, U .onwards);
+    within = omega arith;
+    unmarked = λ other l m. askSame other cell (λ s. rw s (ne-eqb _ _ d)) (λ n. U .unmarked other l (omega (arith, n, m)));
+  }
+
+  pub marked-here : getD marks cell 0 ≡ 1 → NextMarked marks from cell
+  marked-here m = record { onwards = U .onwards; within = U .within; unmarked = U .unmarked; marked = λ h. eq-eqb _ _ m }
+
+  pub none-marked : length marks ≤ cell → NextMarked marks from (length marks)
+  none-marked h = record {
+    onwards = omega (arith, U .onwards, U .within);
+    within = omega arith;
+    unmarked = λ other l m. U .unmarked other l (omega (arith, m, h));
+    marked = λ l. absurd (omega arith);
+  }
+
 -- ---- whose bid is next
 
 -- no two goals bid the same
@@ -206,6 +237,54 @@ bids-differ C R from G a b h k d e =
     go : (m n x y : ℕ) → m * maxVolume + x ≡ n * maxVolume + y → x < maxVolume → y < maxVolume → x ≢ y → ⊥
     go m n x y e h k d = omega (arith, d)
 
+-- one goal more
+module _ (C : RouterConfig) (R : Room) (from : Pos) (low : ℕ) {n : ℕ} {t : Bid} {bid : ℕ} (e : bid ≡ bidOf C R from n) where
+  -- it is neither the lowest nor the second
+  lower-same : (low ≤ bid → (t .bid ≤ bid) × (t .second ≤ bid)) → LowerBid C R from low n t t
+  lower-same f = record {
+    lowers = λ joinable end marked S. record {
+      least = λ other h m l. askSame other n (λ s. rw s (omega (arith, e, f (omega (arith, e, ap (bidOf C R from) s, l)) .0))) (λ d. S .least other (omega (arith, d, h)) m l);
+      others = λ other h m l o. askSame other n (λ s. rw s (omega (arith, e, f (omega (arith, e, ap (bidOf C R from) s, l)) .1))) (λ d. S .others other (omega (arith, d, h)) m l o);
+      its-bid = S .its-bid;
+      below = λ l. (omega (arith, S .below l .0), S .below l .1);
+      none = S .none;
+    };
+  }
+
+  pub lower-over : bid < low → LowerBid C R from low n t t
+  lower-over h = lower-same (λ l. absurd (omega (arith, h, l)))
+
+  pub lower-third : t .bid ≤ bid → t .second ≤ bid → LowerBid C R from low n t t
+  lower-third h k = lower-same (λ l. (h, k))
+
+  module _ (n-in : n < volume R) (low-enough : low ≤ bid) where
+    -- it is the lowest
+    pub lower-first : bid < t .bid → LowerBid C R from low n t (record { bid = bid; goal = n; second = t .bid })
+    lower-first k = record {
+      lowers = λ joinable end marked S. record {
+        least = λ other h m l. askSame other n (λ s. rw s (omega (arith, e))) (λ d. omega (arith, k, S .least other (omega (arith, d, h)) m l));
+        others = λ other h m l o. S .least other (omega (arith, o, h)) m l;
+        its-bid = λ x. (e, marked, low-enough);
+        below = λ x. (omega arith, k);
+        none = λ x. absurd (omega arith);
+      };
+    }
+
+    -- it is the second
+    pub lower-second : Good R → t .bid ≤ bid → bid < t .second → LowerBid C R from low n t (record { bid = t .bid; goal = t .goal; second = bid })
+    lower-second G h k = record {
+      lowers = λ joinable end marked S. record {
+        least = λ other i m l. askSame other n (λ s. rw s (omega (arith, e, h))) (λ d. S .least other (omega (arith, d, i)) m l);
+        others = λ other i m l o. askSame other n (λ s. rw s (omega (arith, e))) (λ d. omega (arith, k, S .others other (omega (arith, d, i)) m l o));
+        its-bid = S .its-bid;
+        below = λ x. (omega (arith, S .below x .0), rises (bids-differ C R from G (t .goal) n x n-in (λ s. omega (arith, s, S .below x .0))) (S .its-bid x .0));
+        none = S .none;
+      };
+    }
+      where
+        rises : bidOf C R from (t .goal) ≢ bidOf C R from n → t .bid ≡ bidOf C R from (t .goal) → t .bid < bid
+        rises d s = let other : t .bid ≢ bid = λ q. d (sym s ∙ q ∙ e) in omega (arith, h, other)
+
 module _ (C : RouterConfig) (R : Room) (joinable : List ℕ) (from : Pos) (low : ℕ) where
   pub lowest-none : (end : ℕ) (t : Bid) → t .bid ≡ end → volume R ≤ t .goal → LowestBid C R joinable from low end 0 t
   lowest-none end t e h = record {
@@ -216,57 +295,16 @@ module _ (C : RouterConfig) (R : Room) (joinable : List ℕ) (from : Pos) (low :
     none = λ l. e;
   }
 
-  module _ {n : ℕ} {t : Bid} where
-    -- one more that is neither the lowest nor the second
-    lower-same : (isMarked joinable n ≡ true → low ≤ bidOf C R from n → (t .bid ≤ bidOf C R from n) × (t .second ≤ bidOf C R from n))
-        → LowerBid C R joinable from low n t t
-    lower-same f = record {
-      lowers = λ end S. record {
-        least = λ other h m l. askSame other n (λ e. rw e (f (rw e at m) (rw e at l) .0)) (λ d. S .least other (omega (arith, d, h)) m l);
-        others = λ other h m l o. askSame other n (λ e. rw e (f (rw e at m) (rw e at l) .1)) (λ d. S .others other (omega (arith, d, h)) m l o);
-        its-bid = S .its-bid;
-        below = λ l. (omega (arith, S .below l .0), S .below l .1);
-        none = S .none;
-      };
-    }
-
-    pub lower-unmarked : getD joinable n 0 ≢ 1 → LowerBid C R joinable from low n t t
-    lower-unmarked d = lower-same (λ m l. absurd (d (eqb-true _ _ m)))
-
-    module _ {bid : ℕ} (e : bid ≡ bidOf C R from n) where
-      pub lower-over : bid < low → LowerBid C R joinable from low n t t
-      lower-over h = lower-same (λ m l. absurd (omega (arith, e, h, l)))
-
-      pub lower-third : t .bid ≤ bid → t .second ≤ bid → LowerBid C R joinable from low n t t
-      lower-third h k = lower-same (λ m l. (omega (arith, e, h), omega (arith, e, k)))
-
-      module _ (n-in : n < volume R) (marked : getD joinable n 0 ≡ 1) (low-enough : low ≤ bid) where
-        -- one more that is the lowest
-        pub lower-first : bid < t .bid → LowerBid C R joinable from low n t (record { bid = bid; goal = n; second = t .bid })
-        lower-first k = record {
-          lowers = λ end S. record {
-            least = λ other h m l. askSame other n (λ s. rw s (omega (arith, e))) (λ d. omega (arith, k, S .least other (omega (arith, d, h)) m l));
-            others = λ other h m l o. S .least other (omega (arith, o, h)) m l;
-            its-bid = λ x. (e, eq-eqb _ _ marked, low-enough);
-            below = λ x. (omega arith, k);
-            none = λ x. absurd (omega arith);
-          };
-        }
-
-        -- one more that is the second
-        pub lower-second : Good R → t .bid ≤ bid → bid < t .second → LowerBid C R joinable from low n t (record { bid = t .bid; goal = t .goal; second = bid })
-        lower-second G h k = record {
-          lowers = λ end S. record {
-            least = λ other i m l. askSame other n (λ s. rw s (omega (arith, e, h))) (λ d. S .least other (omega (arith, d, i)) m l);
-            others = λ other i m l o. askSame other n (λ s. rw s (omega (arith, e))) (λ d. omega (arith, k, S .others other (omega (arith, d, i)) m l o));
-            its-bid = S .its-bid;
-            below = λ x. (omega (arith, S .below x .0), apart-by (S .below x .0) (bids-differ C R from G (t .goal) n x n-in (λ s. omega (arith, s, S .below x .0))) (S .its-bid x .0));
-            none = S .none;
-          };
-        }
-          where
-            apart-by : t .goal < n → bidOf C R from (t .goal) ≢ bidOf C R from n → t .bid ≡ bidOf C R from (t .goal) → t .bid < bid
-            apart-by l d s = let other : t .bid ≢ bid = λ q. d (sym s ∙ q ∙ e) in omega (arith, h, other)
+  -- cells that are not joinable don't bid
+  pub lowest-skip : {end n : ℕ} {t : Bid} → LowestBid C R joinable from low end n t → (m : ℕ) → n ≤ m
+      → ((other : ℕ) → n ≤ other → other < m → isMarked joinable other ≡ false) → LowestBid C R joinable from low end m t
+  lowest-skip {end} {n} {t} S m h none = record {
+    least = λ other l m l′. askLess other n (λ i. S .least other i m l′) (λ o. let f = none other o l in never (cc));
+    others = λ other l m l′ d. askLess other n (λ i. S .others other i m l′ d) (λ o. let f = none other o l in never (cc));
+    its-bid = S .its-bid;
+    below = λ l. (omega (arith, S .below l .0), S .below l .1);
+    none = S .none;
+  }
 
   pub next-found : {end n : ℕ} {t : Bid} → LowestBid C R joinable from low end n t → n ≡ volume R → t .goal < volume R → NextBid C R joinable from low end t
   next-found S all h = record { lowest = λ x. rw all at S; none = λ x. absurd (omega arith); ended = λ x. absurd (omega arith) }

@@ -9,7 +9,7 @@ ghost use Rattle.room.specs.Units.{maxCost, GoodConfig};
 ghost use Rattle.room_search.specs.TriedMoves.{placesOf};
 ghost use Rattle.goals.specs.Goals.{routeToTree};
 ghost use Rattle.goals.specs.Trials.{Tells, lengthOf, siteOf, Attemptable};
-ghost use Rattle.goals.specs.Passing.{leastAt, NeverFull, precedes, bidOf, noBid, bidToBeat, SmallKept, Passes, KeepsFirst, Passable, LowerBid, NextBid};
+ghost use Rattle.goals.specs.Passing.{leastAt, NeverFull, precedes, bidOf, noBid, bidToBeat, SmallKept, Passes, KeepsFirst, Passable, NextMarked, LowerBid, NextBid};
 use crate::Bid;
 use crate::Kept;
 use crate::Tried;
@@ -127,25 +127,31 @@ fn bid_to_beat(kept: Kept) -> u64
     }
 }
 
-// One cell more: where it is joinable and its bid is `low` or higher, it may be the lowest or the second.
-fn lower_bid(
-    room: Room,
-    config: RouterConfig,
-    joinable: &[u8],
-    from: Pos,
-    low: u64,
-    next: Bid,
-    goal: usize,
-) -> Bid
+// The first marked cell from here on, or the number of cells where none is left. A loop of its own, since most cells are
+// unmarked.
+fn next_marked(marks: &[u8], from: usize) -> usize
+    requires { ⌜ from ≤ length (now marks) ⌝ }
+    ensures { λ r. ⌜ NextMarked (now (marks .entry)) from r ⌝ }
+{
+    let cells = marks.len();
+    let mut cell = from;
+    while cell < cells {
+        if marks[cell] == routing_resources::MARKED {
+            return cell;
+        }
+        cell += 1;
+    }
+    cells
+}
+
+// One goal more: where its bid is `low` or higher, it may be the lowest or the second.
+fn lower_bid(room: Room, config: RouterConfig, from: Pos, low: u64, next: Bid, goal: usize) -> Bid
     requires { ⌜ Good room ⌝ }
     requires { ⌜ GoodConfig config ⌝ }
-    requires { ⌜ (length (now joinable) ≡ volume room) × (goal < volume room) ⌝ }
+    requires { ⌜ goal < volume room ⌝ }
     requires { ⌜ SmallPos from ⌝ }
-    ensures { λ r. ⌜ LowerBid config room (now (joinable .entry)) from low goal next r ⌝ }
+    ensures { λ r. ⌜ LowerBid config room from low goal next r ⌝ }
 {
-    if joinable[goal] != routing_resources::MARKED {
-        return next;
-    }
     let bid = bid_of(room, config, from, goal);
     if bid < low {
         return next;
@@ -195,10 +201,10 @@ fn next_bid(room: Room, config: RouterConfig, joinable: &[u8], from: Pos, low: u
         goal: cells,
         second: end,
     };
-    let mut goal: usize = 0;
+    let mut goal = next_marked(joinable, 0);
     while goal < cells {
-        next = lower_bid(room, config, joinable, from, low, next, goal);
-        goal += 1;
+        next = lower_bid(room, config, from, low, next, goal);
+        goal = next_marked(joinable, goal + 1);
     }
     if next.goal < cells {
         return next;

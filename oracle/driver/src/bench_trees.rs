@@ -25,7 +25,7 @@ struct Load {
     runs: usize,
 }
 
-/// Both tables, or the trees alone whose names begin with one of these words.
+/// Both tables, or of these words the trees whose names begin so, and the second table where one is `growth`.
 pub fn bench(only: &[String]) {
     println!(
         "{:<44}{:>7}{:>10}{:>12}{:>14}{:>9}",
@@ -49,7 +49,7 @@ pub fn bench(only: &[String]) {
             measure(&load);
         }
     }
-    if only.is_empty() {
+    if only.is_empty() || only.iter().any(|word| word == "growth") {
         growths();
     }
 }
@@ -66,6 +66,9 @@ fn growths() {
     }
     for sinks in [1, 2, 4, 8, 16] {
         growth(20, sinks);
+    }
+    for side in [12, 20] {
+        in_a_closet(side);
     }
 }
 
@@ -224,9 +227,9 @@ fn sheet_of(job: &Job) -> (Sheet, TreeMemory) {
     (sheet, lent)
 }
 
-fn proved_time(runs: usize, sheet: &Sheet, lent: &mut TreeMemory) -> Duration {
+fn proved_time(runs: usize, sheet: &Sheet, lent: &mut TreeMemory, number: u32) -> Duration {
     best(runs, || {
-        assert_eq!(lent.call(black_box(&sheet.bytes)), 0, "a tree");
+        assert_eq!(lent.call(black_box(&sheet.bytes)), number, "its number");
     })
 }
 
@@ -234,7 +237,7 @@ fn proved_time(runs: usize, sheet: &Sheet, lent: &mut TreeMemory) -> Duration {
 fn measure(load: &Load) {
     let (sheet, mut lent) = sheet_of(&load.job);
     let (job, room) = sheet.judge(MOST_CELLS).expect("a lawful sheet");
-    let proved = proved_time(load.runs, &sheet, &mut lent);
+    let proved = proved_time(load.runs, &sheet, &mut lent, 0);
     print!(
         "{:<44}{:>7}{:>10}{:>9.2} ms",
         load.name,
@@ -262,12 +265,34 @@ fn measure(load: &Load) {
 fn growth(side: u8, count: usize) {
     let mut job = open([side; 3], 0);
     job.sinks.truncate(count);
-    let (sheet, mut lent) = sheet_of(&job);
-    let time = proved_time(3, &sheet, &mut lent);
-    let name = format!("open {side}x{side}x{side}");
+    growth_line(&format!("open {side}x{side}x{side}"), &job, 0);
+}
+
+/// The same where the last of sixteen sinks stands in a closet: each goal is searched for, and number 14 said.
+fn in_a_closet(side: u8) {
+    let mut job = open([side; 3], 0);
+    let at = job.sinks[15].at;
+    let round = |i: usize| at[i].saturating_sub(1)..=(at[i] + 1).min(side - 1);
+    for x in round(0) {
+        for y in round(1) {
+            let walls = round(2).filter(|z| [x, y, *z] != at);
+            job.blocks.extend(walls.map(|z| solid(0, [x, y, z])));
+        }
+    }
+    growth_line(
+        &format!("the last in a closet {side}x{side}x{side}"),
+        &job,
+        14,
+    );
+}
+
+fn growth_line(name: &str, job: &Job, number: u32) {
+    let (sheet, mut lent) = sheet_of(job);
+    let time = proved_time(15, &sheet, &mut lent, number);
     println!(
-        "{name:<44}{:>7}{count:>7}{:>9.2} ms",
-        usize::from(side).pow(3),
+        "{name:<44}{:>7}{:>7}{:>9.3} ms",
+        job.sides.iter().map(|side| usize::from(*side)).product::<usize>(),
+        job.sinks.len(),
         time.as_secs_f64() * 1e3
     );
 }
