@@ -2,20 +2,21 @@
 -- than the slacks of the moves into it have values.
 use mathlib.Core.Path.{_≡_, refl, sym, ap, _∙_}
 use mathlib.Core.Logic.{_⊎_, inl, inr, _≢_}
+use mathlib.Core.Bool.{Bool, not}
 use mathlib.Core.List.{List, [], _∷_}
-use Prim.Native.Nat.{ℕ, suc, _+_, _-_, _*_, _≤_, _<_, zero-le}
+use Prim.Native.Nat.{ℕ, zero, suc, _+_, _-_, _*_, _≤_, _<_, zero-le}
 use native.Mathlib.Omega.{arith}
-use native.Mathlib.Nat.{mul-comm, suc-mul}
+use native.Mathlib.Nat.{mul-zero, mul-one, mul-add, mul-le-mul-left}
 use lib.ListN.{length, getD}
 use lib.Dec.{eqb, ltb}
 use borrow.Author.Tests.{eq-eqb, ne-eqb, ltb-true, lt-ltb, le-ltb}
 use Rattle.basics.specs.Tests.{ask, askSame}
 use Rattle.basics.specs.Lists.{In}
-use Rattle.basics.specs.Counts.{times, times-most}
-use Rattle.basics.specs.Sums.{sumBelow, sum-same, sum-more, single, single-most, Single, there, elsewhere, at-single}
+use Rattle.basics.specs.Counts.{bit, bit-small, times, times-most}
+use Rattle.basics.specs.Sums.{sumBelow, sum-le, sum-same, sum-more, single, single-most, Single, there, elsewhere, at-single}
 use Rattle.best_first.specs.Search.{Graph, Move, Entry, State, push, oneMoreExpanded, bestFirst}
 use Rattle.best_first.specs.Ways.{Sound, Consistent}
-use Rattle.best_first.specs.Statements.{knownAt, pushes, slack, Slacks}
+use Rattle.best_first.specs.Statements.{knownAt, pushes, slack, Slacks, countBelow, OnlyInto}
 use Rattle.best_first.specs.Equations.{Gain, offered}
 use Rattle.best_first.specs.Predecessors.{not-start}
 use Rattle.best_first.specs.Base.{Mid, due-lawful, same, now-known}
@@ -134,28 +135,46 @@ module _ {G : Graph} {degree dearest : ℕ} (S : Sound G degree dearest) (K : Co
 
 -- ---- the pushes counted
 
+sum-scaled : (k n : ℕ) (f : ℕ → ℕ) → sumBelow n (λ x. k * f x) ≡ k * sumBelow n f
+unfolding sumBelow
+sum-scaled k zero f = rw mul-zero
+sum-scaled k (suc n) f = rw (mul-add, sum-scaled k n f)
+
+-- any graph's moves lead to the start or to another cell, of which there are fewer than cells
+module _ (G : Graph) where
+  abbrev another : ℕ → Bool
+  another v = not (eqb v (G .start))
+
+  others : OnlyInto G another
+  others = record { passes = λ u m i n. rw (ne-eqb (m .to) (G .start) n) }
+
+  few-others : G .start < G .size → countBelow (G .size) another ≤ G .size - 1
+  few-others h = omega (
+    arith,
+    sum-more (G .size) (G .start) 1 (λ v. bit (another v)) (λ v. 1) h (λ v _. at v (at-single _ _ v)),
+    sum-same (G .size) 1,
+    mul-one (G .size),
+  )
+    where
+      at : (v : ℕ) → Single (G .start) 1 v → bit (another v) + single (G .start) 1 v ≤ 1
+      at v (there e q) = rw (eq-eqb v (G .start) (sym e)) (omega arith)
+      at v (elsewhere n q) = omega (arith, bit-small (another v))
+
 -- a cell is pushed at most k times, and the start never
 module _ {G : Graph} {k : ℕ} {Z : Slacks G k} {top : ℕ} {pushed : List ℕ} {s : State} (A : Slotted G k Z top pushed s) where
   pub slot-cell : (v : ℕ) → times (eqb v) pushed ≤ k
   slot-cell v = elim (A .last v) [ inl z ↦ omega arith | inr L ↦ omega (arith, L .used) ]
 
-  slot-all : G .start < G .size → length pushed ≤ k * (G .size - 1)
-  slot-all h = omega (
-    arith,
-    A .whole,
-    sum-more (G .size) (G .start) k _ (λ v. k) h (λ v _. at v (at-single _ _ v)),
-    sum-same (G .size) k,
-    mul-comm (G .size - 1) k,
-    suc-mul (G .size - 1) k,
-    ap (λ (n : ℕ). n * k) size,
-  )
+  -- only cells that the moves lead into are pushed
+  slot-all : {test : ℕ → Bool} → OnlyInto G test → length pushed ≤ k * countBelow (G .size) test
+  slot-all {test} O =
+      omega (arith, A .whole, sum-le (G .size) (λ v. times (eqb v) pushed) (λ v. k * bit (test v)) (λ v _. at v), sum-scaled k (G .size) (λ v. bit (test v)))
     where
-      size : G .size ≡ suc (G .size - 1)
-      size = omega arith
-
-      at : (v : ℕ) → Single (G .start) k v → times (eqb v) pushed + single (G .start) k v ≤ k
-      at v (there e q) = omega (arith, ap (λ (n : ℕ). times (eqb n) pushed) e, A .start-never)
-      at v (elsewhere n q) = omega (arith, slot-cell v)
+      at : (v : ℕ) → times (eqb v) pushed ≤ k * bit (test v)
+      at v = askSame v (G .start) (λ e. rw e (omega (arith, A .start-never))) (λ n. elim (A .last v) [
+        | inl z ↦ omega arith
+        | inr L ↦ rw (rw (L .leads-to) at (O .passes (L .by) (L .move) (L .lawful) (rw (L .leads-to) n)), mul-one) (omega (arith, L .used))
+      ])
 
 -- ---- throughout
 
@@ -194,6 +213,13 @@ module _ {G : Graph} {k : ℕ} (Z : Slacks G k) where
     unfolding slotting
     slots-hold P less bound = pushes-hold S K slotting P less (λ closed due top pushed s o A. bound top pushed s A)
 
+    module _ {test : ℕ → Bool} (O : OnlyInto G test) where
+      pub entered-frugal : (limit : ℕ) → Frugal G (k * countBelow (G .size) test) (bestFirst G limit)
+      unfolding slotting
+      entered-frugal = frugal S K slotting (k * countBelow (G .size) test) (λ closed due top pushed s o A. slot-all A O)
+
     pub slot-frugal : (limit : ℕ) → Frugal G (k * (G .size - 1)) (bestFirst G limit)
-    unfolding slotting
-    slot-frugal = frugal S K slotting (k * (G .size - 1)) (λ closed due top pushed s o A. slot-all A (S .start-in))
+    slot-frugal limit =
+        let F = entered-frugal (others G) limit in
+        let few = mul-le-mul-left k (few-others G (S .start-in)) in
+        record { expanded = omega (arith, F .expanded, few); spare = λ x e. omega (arith, F .spare x e, few) }

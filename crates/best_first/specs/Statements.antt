@@ -1,12 +1,14 @@
 -- What the theorems speak of besides the search and its ways: definitions only.
 use mathlib.Core.Path.{_≡_}
 use mathlib.Core.Logic.{_⊎_, _≢_}
-use mathlib.Core.Bool.{true, false}
+use mathlib.Core.Bool.{Bool, true, false}
 use mathlib.Core.List.{List, [], _∷_}
 use Prim.Native.Nat.{ℕ, zero, suc, pred, _+_, _-_, _*_, _≤_, _<_}
 use lib.ListN.{length, getD}
 use lib.Dec.{ltb}
 use Rattle.basics.specs.Lists.{In}
+use Rattle.basics.specs.Counts.{bit}
+use Rattle.basics.specs.Sums.{sumBelow}
 use Rattle.best_first.specs.Search.{Graph, Move, Entry, State, Taken, Pushed, full, on, push, cheaper, expand, oneMoreExpanded, ends, expands, takeOne, firstState, Answer, route, no-route, limit-passed, queue-full}
 use Rattle.best_first.specs.Ways.{Way, NoWay}
 
@@ -137,3 +139,11 @@ pub record Slacks (G : Graph) (k : ℕ) : Type 0 where
   pub values : ℕ → List ℕ
   pub few : (v : ℕ) → length (values v) ≤ k
   pub among : (u : ℕ) (m : Move) → In m (G .moves u) → In (slack G u m) (values (m .to))
+
+-- how many of the numbers below n pass a test
+abbrev pub countBelow : ℕ → (ℕ → Bool) → ℕ
+countBelow n test = sumBelow n (λ v. bit (test v))
+
+-- every move leads to a cell that passes the test, or to the start
+pub record OnlyInto (G : Graph) (test : ℕ → Bool) : Type 0 where
+  pub passes : (u : ℕ) (m : Move) → In m (G .moves u) → m .to ≢ G .start → test (m .to) ≡ true

@@ -2,6 +2,7 @@
 -- One more stands where it is used: where nothing waits any more, no move leaves the known cells (`empty-shut`, NoRoute).
 use mathlib.Core.Path.{_≡_, refl}
 use mathlib.Core.Logic.{inl, inr, _≢_, _↔_}
+use mathlib.Core.Bool.{Bool}
 use mathlib.Core.List.{List}
 use Prim.Native.Nat.{ℕ, suc, _+_, _-_, _*_, _≤_}
 use native.Mathlib.Omega.{arith}
@@ -11,14 +12,14 @@ use lib.Dec.{eqb}
 use Rattle.basics.specs.Counts.{times}
 use Rattle.best_first.specs.Search.{Graph, State, Taken, on, oneMoreExpanded, Answer, route, no-route, limit-passed, queue-full, bestFirst}
 use Rattle.best_first.specs.Ways.{NoWay, Sound, Consistent}
-use Rattle.best_first.specs.Statements.{knownAt, Taking, outcome, Reached, Honest, Right, Decided, by-route, by-no-route, expandedOf, Bounded, pushes, Slacks}
+use Rattle.best_first.specs.Statements.{knownAt, Taking, outcome, Reached, Honest, Right, Decided, by-route, by-no-route, expandedOf, Bounded, pushes, Slacks, countBelow, OnlyInto}
 use Rattle.best_first.specs.Reached.{ending}
 use Rattle.best_first.specs.Bounds.{bounded, sane}
 use Rattle.best_first.specs.Base.{taken-fresh, again-outcome}
 use Rattle.best_first.specs.Induction.{invariant-holds, bare}
 use Rattle.best_first.specs.Demand.{honest-by, right-by}
 use Rattle.best_first.specs.Pushes.{all-frugal}
-use Rattle.best_first.specs.Slacks.{slot-cell, slots-hold, slot-frugal}
+use Rattle.best_first.specs.Slacks.{slot-cell, slots-hold, slot-frugal, entered-frugal}
 
 -- ---- at any costs and any estimate
 
@@ -76,3 +77,11 @@ module _ {G : Graph} {degree dearest : ℕ} (S : Sound G degree dearest) where
 
       pub slacks-places : k * (G .size - 1) ≤ G .places → (x : ℕ) → bestFirst G limit ≢ queue-full x
       slacks-places h x e = omega (arith, slot-frugal Z S K limit .spare x e)
+
+      -- a cell that no move leads into is not pushed at all
+      module _ {test : ℕ → Bool} (O : OnlyInto G test) where
+        pub entered-expanded : expandedOf (bestFirst G limit) ≤ k * countBelow (G .size) test + 1
+        entered-expanded = entered-frugal Z S K O limit .expanded
+
+        pub entered-places : k * countBelow (G .size) test ≤ G .places → (x : ℕ) → bestFirst G limit ≢ queue-full x
+        entered-places h x e = omega (arith, entered-frugal Z S K O limit .spare x e)

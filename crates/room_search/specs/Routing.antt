@@ -1,6 +1,6 @@
 -- "One search" of the requirement, in its order: which cells may be entered and what that costs make a graph of the room, and the search is
 -- `bestFirst` over that graph. Definitions alone.
-use mathlib.Core.Bool.{Bool, true, false, _||_}
+use mathlib.Core.Bool.{Bool, true, false, not, _||_}
 use mathlib.Core.List.{List, [], _∷_, _++_}
 use Prim.Native.Nat.{ℕ, _+_, _*_, _/_}
 use lib.Dec.{eqb}
@@ -58,6 +58,10 @@ classFor isEnd kind below = either (routeableKind isEnd kind) (bearing below) 0
 -- the class of a cell, as one of the ends or not
 abbrev pub classAt : Bool → Room → List ℕ → ℕ → ℕ
 classAt isEnd R kinds v = classFor isEnd (getD kinds v air) (kindAt kinds (beneath R v))
+
+-- a cell of that class can be entered
+abbrev pub canEnter : ℕ → Bool
+canEnter class = not (eqb class 0)
 
 -- what it takes to enter a cell in that search
 abbrev pub entering : Task → ℕ → ℕ

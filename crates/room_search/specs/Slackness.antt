@@ -1,12 +1,13 @@
--- Where a flat step costs at least 10 and a stair at least 20, the slacks of the moves into a cell are among five values: a flat step brings a cell one
+-- The moves of a room lead only into cells that can be entered. Where a flat step costs at least 10 and a stair at least 20, the slacks of the moves into a cell are among five values: a flat step brings a cell one
 -- nearer to the goal or one farther from it, a stair two nearer, none or two farther.
 use mathlib.Core.Path.{_≡_}
 use mathlib.Core.Logic.{inl, inr}
+use mathlib.Core.Bool.{true}
 use mathlib.Core.List.{List, [], _∷_}
 use Prim.Native.Nat.{ℕ, _+_, _-_, _*_, _≤_}
 use native.Mathlib.Omega.{arith}
 use lib.Dec.{eqb}
-use borrow.Author.Tests.{eqb-true, eqb-false}
+use borrow.Author.Tests.{ne-eqb, eqb-true, eqb-false}
 use Rattle.basics.specs.Tests.{either, ask, askLess}
 use Rattle.basics.specs.Lists.{In}
 use Rattle.room.specs.declared.Room.{Room}
@@ -16,8 +17,8 @@ use Rattle.room.specs.declared.RouterConfig.{RouterConfig}
 use Rattle.room.specs.Room.{posOf, moves, apart, distance, flat}
 use Rattle.room.specs.MoveLaws.{Moved, Small, small, leads}
 use Rattle.best_first.specs.Search
-use Rattle.best_first.specs.Statements.{slack, Slacks}
-use Rattle.room_search.specs.Routing.{priceOf, total, graphOf}
+use Rattle.best_first.specs.Statements.{slack, Slacks, OnlyInto}
+use Rattle.room_search.specs.Routing.{canEnter, priceOf, total, graphOf}
 use Rattle.room_search.specs.GraphLaws.{Made, made}
 
 -- ---- the change of a distance
@@ -69,6 +70,13 @@ module _ (C : RouterConfig) (lay near far : ℕ) where
   stair-slack h (less e) (more k) p q = inr (inr (inr (inl (omega arith))))
   stair-slack h (more e) (less k) p q = inr (inr (inr (inl (omega arith))))
   stair-slack h (more e) (more k) p q = inr (inr (inr (inr (inl (omega arith)))))
+
+pub into-enterable : (R : Room) (C : RouterConfig) (class : ℕ → ℕ) (start goal places : ℕ) → OnlyInto (graphOf R C class start goal places) (λ v. canEnter (class v))
+unfolding graphOf
+into-enterable R C class start goal places = record { passes = λ u m i _. passes u m (made R C class u moves m i) }
+  where
+    passes : (u : ℕ) (m : Search.Move) → Made R C class u moves m → canEnter (class (m .to)) ≡ true
+    passes u m a = rw (a .is, ne-eqb (class (a .into)) 0 (a .entered))
 
 module _ (R : Room) (C : RouterConfig) (class : ℕ → ℕ) (start goal places : ℕ) (flat-least : 10 ≤ C .horizontal .0) (stair-least : 20 ≤ C .stair .0) where
   abbrev laid : ℕ → ℕ
