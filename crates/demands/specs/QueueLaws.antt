@@ -12,8 +12,8 @@ use Rattle.room.specs.Room.{Good, volume}
 use Rattle.room_search.specs.Routing.{Task, routeable}
 use Rattle.ends.specs.Ends.{NetInside}
 use Rattle.goals.specs.Goals.{Trial, found, failed, full, routeToTree}
-use Rattle.goals.specs.Passing.{NeverFull}
-use Rattle.goals.specs.FullLaws.{route-not-full}
+use Rattle.goals.specs.NeverFull.{FivePlaces}
+use Rattle.goals.specs.FullLaws.{cells-never, route-not-full}
 use Rattle.branches.specs.Branches.{branchOf}
 use Rattle.multinet.specs.Tree.{Plot, Tree, Growth, grown, stopped, tapAt, siteAt, sinkNow, fitsIn, afterSink, growSink, growOn, growFrom, growthOf}
 use Rattle.multinet.specs.GrowingLaws.{sink-now}
@@ -26,8 +26,8 @@ pub posed : (T : Task) → Good (T .room) → T .start < volume (T .room) → T 
     → routeable T (T .start) ≡ true → routeable T (T .goal) ≡ true → Posed T
 posed T G start-in goal-in s g = record { good = G; start-in = start-in; goal-in = goal-in; start-free = s; goal-free = g }
 
--- its costs and places are those at which no queue is ever full
-pub wide-enough : {C : RouterConfig} {cells places : ℕ} → Priced C → 5 * (cells - 1) ≤ places → NeverFull C cells places
+-- at such costs, 5 places for each of so many cells
+pub wide-enough : {C : RouterConfig} {cells places : ℕ} → Priced C → 5 * cells ≤ places → FivePlaces C cells places
 wide-enough D wide = record { flat-least = D .flat-least; stair-least = D .stair-least; wide = wide }
 
 -- ---- the tree
@@ -40,7 +40,10 @@ module _ (P : Plot) (G : Good (P .room)) (N : NetInside (P .room) (P .source) (P
       go : (trial : Trial) → routeToTree (siteAt P (T .joinable)) (tapAt P k .approach) (T .blocked) ≡ trial → afterSink P k T trial ≡ stopped 13 x → ⊥
       go (found path cost) w q = ask (fitsIn P T (branchOf (tapAt P k) path)) (λ t. never (cc (rw t at q))) (λ f. never (cc (rw f at q)))
       go failed w q = never (cc)
-      go (full y) w q = route-not-full (siteAt P (T .joinable)) (tapAt P k .approach) (N .taps-in .approach-in k h) (wide-enough D wide) (T .blocked) y w
+      go (full y) w q =
+          let S = siteAt P (T .joinable) in
+          let start = tapAt P k .approach in
+          route-not-full S start (T .blocked) (cells-never S start (T .blocked) (N .taps-in .approach-in k h) (wide-enough D wide)) y w
 
   turns-not-full : (n turn : ℕ) → turn + n ≤ P .taps .count → (T : Tree) (x : ℕ) → growFrom n P turn T ≢ stopped 13 x
   unfolding growFrom

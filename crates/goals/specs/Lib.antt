@@ -1,6 +1,7 @@
 pub mod Goals
 pub mod Trials
 pub mod Routes
+pub mod NeverFull
 pub mod Passing
 pub mod SearchForLaws
 pub mod PathLaws
@@ -8,5 +9,6 @@ pub mod AttemptLaws
 pub mod GoalLaws
 pub mod RouteLaws
 pub mod LeastLaws
+pub mod EnterLaws
 pub mod FullLaws
 pub mod PassingLaws

@@ -1,11 +1,11 @@
--- What the contracts of the functions cite that pass over goals that can't win: what any route costs at least, where no queue is ever full, in what order
+-- What the contracts of the functions cite that pass over goals that can't win: what any route costs at least, in what order
 -- routes come, what is kept of the goals that are done, and what a goal that is passed leaves. Definitions alone; that the answer is `routeToTree` is shown in PassingLaws.
 use mathlib.Core.Path.{_≡_}
 use mathlib.Core.Logic.{_≢_}
-use mathlib.Core.Bool.{Bool, true, false, _&&_}
+use mathlib.Core.Bool.{Bool, true, false}
 use mathlib.Core.List.{List}
 use Prim.Native.Nat.{ℕ, _+_, _-_, _*_, _^_, _≤_, _<_, min}
-use lib.Dec.{leb, eqb, ltb}
+use lib.Dec.{eqb, ltb}
 use lib.ListN.{length, take}
 use Rattle.basics.specs.Tests.{either}
 use Rattle.room.specs.declared.Room.{Room}
@@ -19,6 +19,7 @@ use Rattle.goals.specs.declared.Kept.{Kept}
 use Rattle.goals.specs.declared.Bid.{Bid}
 use Rattle.goals.specs.Goals.{Site, found, full, triedGoal}
 use Rattle.goals.specs.Trials.{Tells}
+use Rattle.goals.specs.NeverFull.{NeverFull}
 
 -- ---- what any route costs at least
 
@@ -32,18 +33,6 @@ leastAt C p q =
 
 unfoldable pub leastCost : Room → RouterConfig → ℕ → ℕ → ℕ
 leastCost R C a b = leastAt C (posOf R a) (posOf R b)
-
--- ---- where number 13 can't occur
-
--- costs and places at which no queue is ever full
-pub record NeverFull (C : RouterConfig) (cells places : ℕ) : Type 0 where
-  pub flat-least : 10 ≤ C .horizontal .0
-  pub stair-least : 20 ≤ C .stair .0
-  pub wide : 5 * (cells - 1) ≤ places
-
--- its test
-unfoldable pub neverFull : RouterConfig → ℕ → ℕ → Bool
-neverFull C cells places = leb 10 (C .horizontal .0) && (leb 20 (C .stair .0) && leb (5 * cells) (places + 5))
 
 -- ---- the order, and what is kept
 
@@ -109,7 +98,7 @@ pub record Passable (S : Site) (start : ℕ) (blocked best : List ℕ) (goal : �
   pub goal-in : goal < volume (S .room)
   pub marked : isMarked (S .joinable) goal ≡ true
   pub best-long : length best ≡ volume (S .room)
-  pub never-full : NeverFull (S .config) (volume (S .room)) (S .places)
+  pub never-full : NeverFull S start blocked
   pub held : Holds S start blocked best K
 
 -- ---- whose bid is next

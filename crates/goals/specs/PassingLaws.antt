@@ -18,7 +18,6 @@ use Rattle.room.specs.declared.Cost.{Cost}
 use Rattle.room.specs.Room.{Good, maxVolume, volume, posOf}
 use Rattle.room.specs.RoomLaws.{small-pos}
 use Rattle.room.specs.Units.{GoodConfig}
-use Rattle.room_search.specs.Routing.{placesIn}
 use Rattle.routing_resources.specs.Marks.{isMarked}
 use Rattle.goals.specs.declared.Tried.{Tried}
 use Rattle.goals.specs.declared.Tried.the-variants.{Found, Failed, Full}
@@ -26,11 +25,12 @@ use Rattle.goals.specs.declared.Kept.{Kept}
 use Rattle.goals.specs.declared.Bid.{Bid}
 use Rattle.goals.specs.Goals.{Site, Trial, found, failed, full, maxAttempts, attempts, triedGoal, bestBelow, routeToTree}
 use Rattle.goals.specs.Trials.{Tells, GoesOn, siteOf}
+use Rattle.goals.specs.NeverFull.{NeverFull}
 use Rattle.goals.specs.RouteLaws.{same-path, below-failed, KeptBelow, below-kept}
 use Rattle.goals.specs.LeastLaws.{bid-few, tried-least}
-use Rattle.goals.specs.FullLaws.{tried-not-full, best-not-full}
+use Rattle.goals.specs.FullLaws.{best-not-full}
 use Rattle.goals.specs.GoalLaws.{SameMemory, memory-first, memory-site, memory-next}
-use Rattle.goals.specs.Passing.{leastAt, leastCost, NeverFull, precedes, bidOf, noBid, bidToBeat, SmallKept, HoldsRoute, Holds, NotBefore, Yields, Passes, KeepsFirst, Passable, LowestBid, LowerBid, NextMarked, NextBid}
+use Rattle.goals.specs.Passing.{leastAt, leastCost, precedes, bidOf, noBid, bidToBeat, SmallKept, HoldsRoute, Holds, NotBefore, Yields, Passes, KeepsFirst, Passable, LowestBid, LowerBid, NextMarked, NextBid}
 
 -- ---- the order
 
@@ -158,20 +158,20 @@ module _ (K : Kept) (goal : ℕ) {path best : List ℕ} where
 
 -- ---- one goal
 
-pub tried-passes : {S : Site} {start : ℕ} {blocked best : List ℕ} {goal : ℕ} {K : Kept} → start < volume (S .room) → Passable S start blocked best goal K
+pub tried-passes : {S : Site} {start : ℕ} {blocked best : List ℕ} {goal : ℕ} {K : Kept} → Passable S start blocked best goal K
     → {tried : Tried} {path : List ℕ} → Tells (attempts maxAttempts S start goal blocked) tried path → {K′ : Kept} {best′ : List ℕ} → KeepsFirst K goal tried path best K′ best′
     → Passes S start blocked goal K K′ best′
 unfolding triedGoal
-tried-passes {S} {start} {blocked} {best} {goal} start-in P t keep =
-    keep .keeps S start blocked (P .goal-in) (P .held) (rw (P .marked) t) (tried-not-full S start start-in (P .never-full) blocked goal (P .goal-in))
+tried-passes {S} {start} {blocked} {best} {goal} P t keep =
+    keep .keeps S start blocked (P .goal-in) (P .held) (rw (P .marked) t) (P .never-full .never goal (P .goal-in))
 
 -- ---- every goal passed
 
-module _ (S : Site) (start : ℕ) (start-in : start < volume (S .room)) (F : NeverFull (S .config) (volume (S .room)) (S .places)) (blocked best : List ℕ) where
+module _ (S : Site) (start : ℕ) (blocked best : List ℕ) (F : NeverFull S start blocked) where
   all-passed : (t : Tried) (goal : ℕ) → HoldsRoute S start blocked best t goal
       → ((other : ℕ) → other < volume (S .room) → (path : List ℕ) (cost : ℕ) → triedGoal S start blocked other ≡ found path cost → NotBefore t goal cost other)
       → (best-of : Trial) → bestBelow (volume (S .room)) S start blocked ≡ best-of → Tells best-of t best
-  all-passed t goal H N (full x) e = absurd (best-not-full S start start-in F blocked (volume (S .room)) (omega arith) x e)
+  all-passed t goal H N (full x) e = absurd (best-not-full S start blocked F (volume (S .room)) (omega arith) x e)
   all-passed (Full y) goal H N (found p c) e = absurd H
   all-passed (Full y) goal H N failed e = absurd H
   all-passed Failed goal H N failed e = record { is = refl; fits = omega arith }
@@ -370,7 +370,7 @@ module _ (R : Room) (C : RouterConfig) (kinds : List ℕ) (start : ℕ) (R-good 
   module _ {t : Bid} {K : Kept}
       {joinable₀ joinable blocked₀ blocked classes₀ classes known₀ known previous₀ previous path₀ path best₀ best queue₀ queue : List ℕ}
       (G : GoalsPassed (siteOf R C kinds joinable₀ queue₀) start t K joinable₀ joinable blocked₀ blocked classes₀ classes known₀ known previous₀ previous path₀ path best₀ best queue₀ queue) where
-    pub passed-able : length best₀ ≡ volume R → NeverFull C (volume R) (placesIn (length queue₀)) → t .goal < volume R
+    pub passed-able : length best₀ ≡ volume R → NeverFull (siteOf R C kinds joinable₀ queue₀) start blocked₀ → t .goal < volume R
         → Passable (siteOf R C kinds joinable queue) start blocked best (t .goal) K
     passed-able long F h = rw (memory-site R C kinds (G .same), G .same .blocked-is) (record {
       goal-in = h;
@@ -417,10 +417,10 @@ module _ (R : Room) (C : RouterConfig) (kinds : List ℕ) (start : ℕ) (R-good 
             (λ j. absurd (omega (arith, l, N .lowest j .least other i m s)))
             (λ o. beaten-yields (siteOf R C kinds joinable₀ queue₀) start blocked₀ R-good C-good start-in K′ best′ (now-passes .held) other i (N .ended o other i m s))
 
-    pub passed-all : NeverFull C (volume R) (placesIn (length queue₀)) → volume R ≤ t .goal
+    pub passed-all : NeverFull (siteOf R C kinds joinable₀ queue₀) start blocked₀ → volume R ≤ t .goal
         → Tells (routeToTree (siteOf R C kinds joinable₀ queue₀) start blocked₀) (K .tried) best
     passed-all F h =
-        kept-is (siteOf R C kinds joinable₀ queue₀) start start-in F blocked₀ best K (G .held)
+        kept-is (siteOf R C kinds joinable₀ queue₀) start blocked₀ best F K (G .held)
         (λ other i. ask (isMarked joinable₀ other)
         (λ m. G .lower other i m (omega (arith, G .none h, few other i)))
         (λ n. unmarked-yields (siteOf R C kinds joinable₀ queue₀) start blocked₀ other K n))

@@ -6,10 +6,10 @@ ghost use Prim.Native.Nat.{_+_, _-_, _≤_, _<_, min};
 ghost use lib.ListN.{length};
 ghost use Rattle.room.specs.Room.{Good, SmallPos, volume};
 ghost use Rattle.room.specs.Units.{maxCost, GoodConfig};
-ghost use Rattle.room_search.specs.TriedMoves.{placesOf};
 ghost use Rattle.goals.specs.Goals.{routeToTree};
 ghost use Rattle.goals.specs.Trials.{Tells, lengthOf, siteOf, Attemptable};
-ghost use Rattle.goals.specs.Passing.{leastAt, NeverFull, precedes, bidOf, noBid, bidToBeat, SmallKept, Passes, KeepsFirst, Passable, NextMarked, LowerBid, NextBid};
+ghost use Rattle.goals.specs.NeverFull.{NeverFull};
+ghost use Rattle.goals.specs.Passing.{leastAt, precedes, bidOf, noBid, bidToBeat, SmallKept, Passes, KeepsFirst, Passable, NextMarked, LowerBid, NextBid};
 use crate::Bid;
 use crate::Kept;
 use crate::Tried;
@@ -268,7 +268,7 @@ pub fn by_bids(
 ) -> Tried
     requires { ⌜ Attemptable (siteOf room config (now kinds) (now joinable) (now queue)) (now blocked) (now classes) (now known) (now previous) (now path) start start ⌝ }
     requires { ⌜ length (now best) ≡ volume room ⌝ }
-    requires { ⌜ NeverFull config (volume room) (placesOf (now queue)) ⌝ }
+    requires { ⌜ NeverFull (siteOf room config (now kinds) (now joinable) (now queue)) start (now blocked) ⌝ }
     ensures { λ r. ⌜ Tells (routeToTree (siteOf room config (now (kinds .entry)) (now (joinable .entry)) (now (queue .entry))) start (now (blocked .entry))) r (now (best .exit)) ⌝ }
     ensures { λ _. ⌜ (now (joinable .exit) ≡ now (joinable .entry)) × (now (blocked .exit) ≡ now (blocked .entry)) × (now (classes .exit) ≡ now (classes .entry)) ⌝ }
 {

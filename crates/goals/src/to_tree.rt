@@ -5,18 +5,33 @@ ghost use lib.ListN.{length};
 ghost use Rattle.room.specs.Room.{maxVolume, volume};
 ghost use Rattle.goals.specs.Goals.{routeToTree};
 ghost use Rattle.goals.specs.Trials.{Tells, siteOf, Attemptable};
-ghost use Rattle.goals.specs.Passing.{neverFull};
+ghost use Rattle.goals.specs.NeverFull.{enterableCount, neverFull};
 use crate::Tried;
 use crate::goal_by_goal::every_goal;
 use crate::passing::by_bids;
 use room::Room;
 use room::RouterConfig;
 
-// Whether no search can find a queue of so many numbers full: a flat step costs at least 10 and a stair at least 20, and
-// there are 5 places for each cell but one.
-fn never_full(config: RouterConfig, cells: usize, longs: usize) -> bool
-    requires { ⌜ cells ≤ maxVolume ⌝ }
-    ensures { λ r. ⌜ r ≡ neverFull config cells (longs / 2) ⌝ }
+// How many cells can be entered, by their class bytes.
+fn count_enterable(classes: &[u8]) -> usize
+    ensures { λ r. ⌜ r ≡ enterableCount (length (now (classes .entry))) (now (classes .entry)) ⌝ }
+{
+    let mut count: usize = 0;
+    let mut v: usize = 0;
+    while v < classes.len() {
+        if classes[v] != 0 {
+            count += 1;
+        }
+        v += 1;
+    }
+    count
+}
+
+// Whether no search of this turn can find a queue of so many numbers full: a flat step costs at least 10 and a stair at
+// least 20, and there are 5 places for each cell but the start, or for each cell that can be entered and for the goal.
+fn never_full(config: RouterConfig, classes: &[u8], longs: usize) -> bool
+    requires { ⌜ length (now classes) ≤ maxVolume ⌝ }
+    ensures { λ r. ⌜ r ≡ neverFull config (now (classes .entry)) (longs / 2) ⌝ }
 {
     if config.horizontal.0 < 10 {
         return false;
@@ -24,7 +39,10 @@ fn never_full(config: RouterConfig, cells: usize, longs: usize) -> bool
     if config.stair.0 < 20 {
         return false;
     }
-    5 * cells <= longs / 2 + 5
+    if 5 * classes.len() <= longs / 2 + 5 {
+        return true;
+    }
+    5 * (count_enterable(classes) + 1) <= longs / 2
 }
 
 // "Each searches from its approach to every joinable cell in number order", and the first strictly cheapest route is kept.
@@ -49,7 +67,7 @@ pub fn route_to_tree(
     ensures { λ r. ⌜ Tells (routeToTree (siteOf room config (now (kinds .entry)) (now (joinable .entry)) (now (queue .entry))) start (now (blocked .entry))) r (now (best .exit)) ⌝ }
     ensures { λ _. ⌜ (now (joinable .exit) ≡ now (joinable .entry)) × (now (blocked .exit) ≡ now (blocked .entry)) × (now (classes .exit) ≡ now (classes .entry)) ⌝ }
 {
-    if never_full(config, kinds.len(), queue.len()) {
+    if never_full(config, classes, queue.len()) {
         return by_bids(
             room,
             config,

@@ -42,7 +42,7 @@ returns : tie.Need-returns
 returns c =
     let pre = c .before .before .before .before .before .before .before .before .before .before .before .before .before .before .before .before .before .before .before .before .before .before .before .before .before .before .before .before .before .before .before .before .before .before .before .before .pre in
     let try-goal = c .before .before .before .before .before .before .before .before .before .before .before .before .before .before .before .before .before .before .before .try-goal in
-    (tried-passes (pre .0 .grounds .start-in) (pre .1) (try-goal .ensures .0) (c .before .before .keep-first .ensures), try-goal .ensures .1)
+    (tried-passes (pre .1) (try-goal .ensures .0) (c .before .before .keep-first .ensures), try-goal .ensures .1)
 
 pub pass-goal-spec : {M : Type 1} → statement M
 pass-goal-spec =

@@ -10,8 +10,8 @@ never-full-requires c κs = search needs
 
 by-bids-requires : tie.Need-by-bids-requires
 by-bids-requires c κs =
-    let pre = c .before .before .before .before .before .before .before .before .before .before .before .before .before .before .before .before .before .before .before .pre in
-    (pre .0, (pre .1, rw (pre .0 .grounds .kinds-long) at (tested-never _ _ _ (sym (c .before .before .before .before .before .before .before .before .before .never-full .ensures) ∙ c .before .before .before .before .before .before .before .before .if1 .taken))))
+    let pre = c .before .before .before .before .before .before .before .before .before .before .before .before .before .before .before .before .before .before .before .before .pre in
+    (pre .0, (pre .1, tested-never (pre .0) (sym (c .before .before .before .before .before .before .before .before .before .never-full .ensures) ∙ c .before .before .before .before .before .before .before .before .if1 .taken)))
 
 same-length : tie.Need-same-length
 same-length c = search needs
