@@ -1,7 +1,7 @@
 -- What can be entered in a sink's searches: its goal, and else only what can be entered at its turn, before any cell is blocked for one goal.
 use mathlib.Core.Path.{_≡_, refl, sym, ap, _∙_}
 use mathlib.Core.Logic.{_≢_}
-use mathlib.Core.Bool.{Bool, true, false, not, _||_, or-false, or-self}
+use mathlib.Core.Bool.{Bool, true, false, _||_, or-false, or-self}
 use mathlib.Core.List.{List, [], _∷_}
 use Prim.Native.Nat.{ℕ, zero, suc, _+_, _≤_, _<_, zero-le}
 use native.Mathlib.Omega.{arith}
@@ -19,7 +19,6 @@ use Rattle.room.specs.declared.Neighbour.the-variants.{Inside, Outside}
 use Rattle.room.specs.Room.{volume, beneath}
 use Rattle.room.specs.RoomLaws.{beneath-in}
 use Rattle.room.specs.Units.{air, solid}
-use Rattle.best_first.specs.Search
 use Rattle.best_first.specs.Statements.{countBelow, OnlyInto}
 use Rattle.room_search.specs.Routing.{kindAt, anEnd, routeableKind, bearing, classFor, canEnter, entering, graphOf, graph}
 use Rattle.room_search.specs.GraphLaws.{sound}
