@@ -26,6 +26,7 @@ use Rattle.blocked_world.specs.BlockedWorld.{countsAsSolid, seenKinds}
 use Rattle.turns.specs.Turns.{far, goesBefore, turnOf, sinkAt}
 use Rattle.goals.specs.Goals.{searchedFor, atConflict, afterSearch, attempts, cheaperRoute, triedGoal, bestBelow, routeToTree}
 use Rattle.branches.specs.Branches.{branchOf, allButLast}
+use Rattle.walk.specs.Walks as walks
 use Rattle.repeaters.specs.Repeaters as repeaters
 use Rattle.multinet.specs.Tree.{planted, withBranch, afterSink, growSink, growFrom, growthOf, isNetEnd, repeatersOf}
 use Rattle.net_tree.specs.declared.Lengths.{Lengths}
@@ -211,5 +212,5 @@ rows =
     ∷ []
 
 pub samples : map (λ s. said (s .ask)) rows ≡ map (λ s. s .answer) rows
-unfolding answerOf judged sidesGood configGood buffersGood endsInside fitAnswer routeable searched graphOf movesBy priceOf classFor bearing routeableKind posOf cellOf moves between stays neighbour beneath distance sooner least push offer expand trace takeOne takeAll firstState bestFirst growthOf growFrom growSink afterSink withBranch planted isNetEnd repeatersOf far goesBefore turnOf sinkAt routeToTree bestBelow triedGoal cheaperRoute attempts afterSearch atConflict searchedFor countsAsSolid seenKinds standsIn conductor upperOfPair firstBelow firstPair atClearance stairConflict conflictAmong withByte clearanceOf isClearance branchOf allButLast above repeaters.isStep repeaters.besideOn repeaters.neighbouring repeaters.cellsPassing repeaters.treeNeighbours repeaters.meet repeaters.spread repeaters.parentsFrom repeaters.facingBy repeaters.straight repeaters.fits repeaters.latest repeaters.earliest repeaters.withRepeater repeaters.resume repeaters.candidate repeaters.stride repeaters.strides repeaters.run repeaters.reinforced along repeaters.planned repeaters.repeaterMarks jobOutcome ofBlock tabulated endings.sourceEnd endings.sinkEnd endings.firstDue endings.tapOf endings.faultOf endings.endsOf terminalOf approachOf realizedOf outset-of.powers outset-of.solidOf outset-of.blockKeepout outset-of.blockedBy outset-of.atOrBeneath outset-of.ownCell outset-of.blockedAtOutset facingMove ahead isNeighbour inKeepout directions
+unfolding answerOf judged sidesGood configGood buffersGood endsInside fitAnswer routeable searched graphOf movesBy priceOf classFor bearing routeableKind posOf cellOf moves between stays neighbour beneath distance sooner least push offer expand trace takeOne takeAll firstState bestFirst growthOf growFrom growSink afterSink withBranch planted isNetEnd repeatersOf far goesBefore turnOf sinkAt routeToTree bestBelow triedGoal cheaperRoute attempts afterSearch atConflict searchedFor countsAsSolid seenKinds standsIn conductor upperOfPair firstBelow firstPair atClearance stairConflict conflictAmong withByte clearanceOf isClearance branchOf allButLast above repeaters.isStep repeaters.besideOn repeaters.neighbouring repeaters.cellsPassing repeaters.treeNeighbours walks.meet walks.spread walks.parentsFrom repeaters.facingBy repeaters.straight repeaters.fits repeaters.latest repeaters.earliest repeaters.withRepeater repeaters.resume repeaters.candidate repeaters.stride repeaters.strides repeaters.run repeaters.reinforced along repeaters.planned repeaters.repeaterMarks jobOutcome ofBlock tabulated endings.sourceEnd endings.sinkEnd endings.firstDue endings.tapOf endings.faultOf endings.endsOf terminalOf approachOf realizedOf outset-of.powers outset-of.solidOf outset-of.blockKeepout outset-of.blockedBy outset-of.atOrBeneath outset-of.ownCell outset-of.blockedAtOutset facingMove ahead isNeighbour inKeepout directions
 samples = refl

@@ -50,10 +50,10 @@ one-list (x ∷ xs) (y ∷ ys) a b f g =
 -- ---- the cells that pass a test, from one on
 
 module _ (p : ℕ → Bool) where
-  cells-in : (n v w : ℕ) → In w (cellsPassing p n v) → (v ≤ w) × (w < v + n) × (p w ≡ true)
+  pub passing-in : (n v w : ℕ) → In w (cellsPassing p n v) → (v ≤ w) × (w < v + n) × (p w ≡ true)
   unfolding cellsPassing
-  cells-in zero v w i = absurd i
-  cells-in (suc n) v w i = ask (p v) (λ t. first t (cells-in n (suc v) w) (rw t at i)) (λ f. later (cells-in n (suc v) w (rw f at i)))
+  passing-in zero v w i = absurd i
+  passing-in (suc n) v w i = ask (p v) (λ t. first t (passing-in n (suc v) w) (rw t at i)) (λ f. later (passing-in n (suc v) w (rw f at i)))
     where
       later : (suc v ≤ w) × (w < suc v + n) × (p w ≡ true) → (v ≤ w) × (w < v + suc n) × (p w ≡ true)
       later r = (omega (arith, r .0), omega (arith, r .1), r .2)
@@ -63,18 +63,18 @@ module _ (p : ℕ → Bool) where
       first t ih (inl e) = (omega arith, omega arith, rw e t)
       first t ih (inr j) = later (ih j)
 
-  cells-all : (n v w : ℕ) → v ≤ w → w < v + n → p w ≡ true → In w (cellsPassing p n v)
+  pub passing-all : (n v w : ℕ) → v ≤ w → w < v + n → p w ≡ true → In w (cellsPassing p n v)
   unfolding cellsPassing
-  cells-all zero v w h k e = absurd (omega arith)
-  cells-all (suc n) v w h k e =
+  passing-all zero v w h k e = absurd (omega arith)
+  passing-all (suc n) v w h k e =
       askSame w v
       (λ q. let t : p v ≡ true = rw (← q) e in rw t (inl q))
-      (λ d. let rest = cells-all n (suc v) w (omega (arith, d)) (omega arith) e in ask (p v) (λ t. rw t (inr rest)) (λ f. rw f rest))
+      (λ d. let rest = passing-all n (suc v) w (omega (arith, d)) (omega arith) e in ask (p v) (λ t. rw t (inr rest)) (λ f. rw f rest))
 
   cells-ascend : (n v : ℕ) → Ascending (cellsPassing p n v)
   unfolding cellsPassing
   cells-ascend zero v = tt
-  cells-ascend (suc n) v = ask (p v) (λ t. rw t ((λ w i. cells-in n (suc v) w i .0), cells-ascend n (suc v))) (λ f. rw f (cells-ascend n (suc v)))
+  cells-ascend (suc n) v = ask (p v) (λ t. rw t ((λ w i. passing-in n (suc v) w i .0), cells-ascend n (suc v))) (λ f. rw f (cells-ascend n (suc v)))
 
 -- ---- the cells that the bits lead to
 
@@ -141,7 +141,7 @@ abbrev inOrder : List Move → Bool
 inOrder [] = true
 inOrder (m ∷ ms) = every (earlier m) ms && inOrder ms
 
-or-cases : (a b : Bool) → a || b ≡ true → (a ≡ true) ⊎ (b ≡ true)
+pub or-cases : (a b : Bool) → a || b ≡ true → (a ≡ true) ⊎ (b ≡ true)
 or-cases true b e = inl refl
 or-cases false b e = inr e
 
@@ -211,7 +211,7 @@ module _ {R : Room} (G : Good R) where
       (λ t. beside-step (b ∷ rest) (s .1) u v t)
       (or-cases (isStep a b u v) _ e)
 
-  neighbour-step : (branches : List (List ℕ)) → AllSteps R branches → (u v : ℕ) → neighbouring branches u v ≡ true → Step R u v
+  pub neighbour-step : (branches : List (List ℕ)) → AllSteps R branches → (u v : ℕ) → neighbouring branches u v ≡ true → Step R u v
   unfolding neighbouring
   neighbour-step [] s u v e = never (cc)
   neighbour-step (branch ∷ branches) s u v e =
@@ -233,12 +233,12 @@ module _ {R : Room} (G : Good R) where
           let r = picked-in R (posOf R u) orderedMoves (isLink R (neighbouring branches) u) w i in
           let l = leads R u (orderedMove (r .k)) w (r .there) in
           let t : neighbouring branches u w ≡ true = rw (r .there) at (r .set) in
-          cells-all (neighbouring branches u) (volume R) 0 w (omega arith) (omega (arith, l .inside)) t
+          passing-all (neighbouring branches u) (volume R) 0 w (omega arith) (omega (arith, l .inside)) t
 
       in-links : (w : ℕ) → In w (treeNeighbours branches (volume R) u) → In w (picked R (posOf R u) (isLink R (neighbouring branches) u) orderedMoves)
       unfolding treeNeighbours orderedMoves neighbour moves
       in-links w i =
-          let t = cells-in (neighbouring branches u) (volume R) 0 w i .2 in
+          let t = passing-in (neighbouring branches u) (volume R) 0 w i .2 in
           let s = neighbour-step branches S u w t in
           let o = step-ordered s in
           in-picked R (posOf R u) orderedMoves (isLink R (neighbouring branches) u) w (stepIndex R u w) (step-in s) (rw o t) o
@@ -254,7 +254,7 @@ module _ {R : Room} (G : Good R) where
     far u h =
         rw (List·getD-eq-default links 0 {n = u} (rw (M .long) h), by-nothing R (posOf R u) orderedMoves)
         (one-list [] (cellsPassing (neighbouring branches u) (volume R) 0) tt (cells-ascend (neighbouring branches u) (volume R) 0) (λ w i. absurd i)
-        (λ w i. absurd (omega (arith, neighbour-step branches S u w (cells-in (neighbouring branches u) (volume R) 0 w i .2) .from-in))))
+        (λ w i. absurd (omega (arith, neighbour-step branches S u w (passing-in (neighbouring branches u) (volume R) 0 w i .2) .from-in))))
 
     linked-neighbours : linkedCells R links ≡ treeNeighbours branches (volume R)
     linked-neighbours = fun-ext (λ u. askLess u (volume R) (near u) (far u))

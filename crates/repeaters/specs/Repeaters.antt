@@ -1,5 +1,5 @@
--- The repeaters of a net's tree, as "The tree of one net" of the requirement has them: tree neighbours, the path from the source, the cells where a
--- repeater may stand, the runs, the tails. Definitions alone; their laws are in the files named Laws.
+-- The repeaters of a net's tree, as "The tree of one net" of the requirement has them: tree neighbours, the cells where a repeater may stand, the runs, the
+-- tails; the path from the source is `rootPath` of `walk`. Definitions alone; their laws are in the files named Laws.
 use mathlib.Core.Bool.{Bool, true, false, not, _&&_, _||_}
 use mathlib.Core.List.{List, [], _∷_, _++_}
 use Prim.Native.Nat.{ℕ, zero, suc, _+_, _-_, _*_}
@@ -11,9 +11,9 @@ use Rattle.room.specs.declared.Room.{Room}
 use Rattle.room.specs.declared.Pos.{Pos}
 use Rattle.room.specs.Room.{volume, posOf}
 use Rattle.room.specs.Units.{noFacing, north, east, south, west}
-use Rattle.best_first.specs.Search.{trace}
 use Rattle.routing_resources.specs.Marks.{noMarks, isMarked}
 use Rattle.ends.specs.declared.Tap.{Tap}
+use Rattle.walk.specs.Walks.{parentsFrom, rootPath}
 use Rattle.basics.specs.Folds.{along}
 
 -- ---- the tree
@@ -44,41 +44,6 @@ cellsPassing p (suc n) v = consIf (p v) v (cellsPassing p n (suc v))
 -- the tree neighbours of a cell, of the cells below n, in number order
 unfoldable pub treeNeighbours : List (List ℕ) → ℕ → ℕ → List ℕ
 treeNeighbours branches n u = cellsPassing (neighbouring branches u) n 0
-
--- ---- "the path from the source (breadth first, neighbours in number order)"
-
--- the parent u of each cell reached, as u + 1, with 0 for a cell that is not reached; and the cells that wait to be visited
-pub record Wave : Type 0 where
-  pub parents : List ℕ
-  pub waiting : List ℕ
-
-abbrev pub wave : List ℕ → List ℕ → Wave
-wave ps ws = record { parents = ps; waiting = ws }
-
--- a cell v met from u is reached, unless it was before
-unfoldable pub meet : ℕ → ℕ → Wave → Wave
-meet u v w = either (eqb (getD (w .parents) v 0) 0) (wave (set (w .parents) v (u + 1)) (w .waiting ++ (v ∷ []))) w
-
--- cells met one after another
-abbrev pub meetAll : ℕ → List ℕ → Wave → Wave
-meetAll u = along (meet u)
-
--- the cells are visited, at most n of them, in the order in which they were reached
-unfoldable pub spread : ℕ → (ℕ → List ℕ) → Wave → List ℕ
-spread zero next w = w .parents
-spread (suc n) next w = elim (w .waiting) [ [] ↦ w .parents | u ∷ rest ↦ spread n next (meetAll u (next u) (wave (w .parents) rest)) ]
-
--- at the outset the source alone is reached
-abbrev pub firstParents : ℕ → ℕ → List ℕ
-firstParents n source = set (replicate n 0) source (source + 1)
-
--- the source itself has no parent
-unfoldable pub parentsFrom : (ℕ → List ℕ) → ℕ → ℕ → List ℕ
-parentsFrom next n source = set (spread n next (wave (firstParents n source) (source ∷ []))) source 0
-
--- the path to a cell by its parents; a cell that is not reached stands alone on it
-abbrev pub rootPath : List ℕ → ℕ → List ℕ
-rootPath parents cell = trace (length parents) parents cell []
 
 -- ---- the cells where a repeater may stand
 
@@ -138,8 +103,8 @@ pub record RunWalk : Type 0 where
   pub reset : ℕ
   pub place : ℕ
 
-abbrev pub walk : List ℕ → ℕ → ℕ → RunWalk
-walk m r i = record { marks = m; reset = r; place = i }
+abbrev pub runWalk : List ℕ → ℕ → ℕ → RunWalk
+runWalk m r i = record { marks = m; reset = r; place = i }
 
 -- "the latest cell after that reset, up to and including this one, that" fits, of the places below n
 unfoldable pub candidate : (ℕ → Bool) → ℕ → ℕ → ℕ
@@ -147,14 +112,14 @@ candidate fit reset n = latest (λ i. ltb reset i && fit i) n
 
 -- "It becomes the reset and the walk resumes after it; where none fits, the walk goes on to the next cell"
 unfoldable pub resume : List ℕ → RunWalk → ℕ → RunWalk
-resume path w c = either (eqb c 0) (walk (w .marks) (w .reset) (w .place + 1)) (walk (withRepeater path (w .marks) c) c (c + 1))
+resume path w c = either (eqb c 0) (runWalk (w .marks) (w .reset) (w .place + 1)) (runWalk (withRepeater path (w .marks) c) c (c + 1))
 
 module _ (limit : ℕ) (fit : ℕ → Bool) (path : List ℕ) where
   -- "A repeater met is a reset"; "at a cell more than 12 steps past the last reset" one is due
   unfoldable pub stride : RunWalk → RunWalk
   stride w =
-      either (repeaterAt path (w .marks) (w .place)) (walk (w .marks) (w .place) (w .place + 1))
-      (either (ltb (w .reset + limit) (w .place)) (resume path w (candidate fit (w .reset) (w .place + 1))) (walk (w .marks) (w .reset) (w .place + 1)))
+      either (repeaterAt path (w .marks) (w .place)) (runWalk (w .marks) (w .place) (w .place + 1))
+      (either (ltb (w .reset + limit) (w .place)) (resume path w (candidate fit (w .reset) (w .place + 1))) (runWalk (w .marks) (w .reset) (w .place + 1)))
 
   -- at most n strides, while the walk is on the path: the repeaters that it then leaves
   unfoldable pub strides : ℕ → RunWalk → List ℕ
@@ -163,7 +128,7 @@ module _ (limit : ℕ) (fit : ℕ → Bool) (path : List ℕ) where
 
   -- each stride goes on or moves the reset on: so many are enough. "At first the source" is the reset
   unfoldable pub run : List ℕ → List ℕ
-  run marks = strides ((length path + 1) * (length path + 1)) (walk marks 0 1)
+  run marks = strides ((length path + 1) * (length path + 1)) (runWalk marks 0 1)
 
 -- ---- the tails
 

@@ -22,7 +22,8 @@ use Rattle.best_first.specs.ListsAfterSet.{nonzeros, nonzeros-none, nonzeros-ne
 use Rattle.best_first.specs.Search.{trace}
 use Rattle.best_first.specs.Equations.{trace-start, trace-back}
 use Rattle.trace.specs.Traces.{PreviousInside}
-use Rattle.repeaters.specs.Repeaters.{Wave, wave, meet, meetAll, spread, firstParents, parentsFrom, rootPath}
+use Rattle.walk.specs.Walks.{Wave, wave, meetAll, spread, firstParents, parentsFrom, rootPath}
+use Rattle.walk.specs.WalkLaws.{meet-new, meet-old, spread-visit, spread-done}
 use Rattle.repeaters.specs.Links.{orderedMoves, orderedMove, linkedPlace, consPlace, cellsBy, linkedCells}
 use Rattle.repeaters.specs.LinkLaws.{cellsLeft, cells-more, cells-none}
 use Rattle.repeaters.specs.Roots.{LineHeld, Met, Rooted, Traced}
@@ -34,28 +35,16 @@ use Rattle.routing_resources.specs.Marks.{AllCells}
 nonzeros-less : (ps : List ℕ) (v : ℕ) → v < length ps → getD ps v 0 ≡ 0 → nonzeros ps < length ps
 nonzeros-less ps v h e = omega (arith, nonzeros-new ps v 0 h e, times-most (ltb 0) (set ps v 1), length-set ps v 1)
 
--- ---- the equations of the definition, case by case
+-- ---- one cell is met
 
 module _ (u v : ℕ) (parents waiting : List ℕ) where
   meet-before : getD parents v 0 ≢ 0 → wave parents waiting ≡ meetAll u (v ∷ []) (wave parents waiting)
-  unfolding along meet
-  meet-before n = rw (ne-eqb (getD parents v 0) 0 n)
+  unfolding along
+  meet-before n = sym (meet-old u v parents waiting n)
 
   meet-now : getD parents v 0 ≡ 0 → wave (set parents v (u + 1)) (waiting ++ (v ∷ [])) ≡ meetAll u (v ∷ []) (wave parents waiting)
-  unfolding along meet
-  meet-now e = rw (eq-eqb (getD parents v 0) 0 e)
-
-spread-visit : (n : ℕ) (next : ℕ → List ℕ) (parents : List ℕ) (u : ℕ) (waiting : List ℕ)
-    → spread (suc n) next (wave parents (u ∷ waiting)) ≡ spread n next (meetAll u (next u) (wave parents waiting))
-unfolding spread
-spread-visit n next parents u waiting = refl
-
-spread-done : (n : ℕ) (next : ℕ → List ℕ) (parents : List ℕ) → spread n next (wave parents []) ≡ parents
-unfolding spread
-spread-done zero next parents = refl
-spread-done (suc n) next parents = refl
-
--- ---- one cell is met
+  unfolding along
+  meet-now e = sym (meet-new u v parents waiting e)
 
 waiting-more : (line : List ℕ) (head reached v : ℕ) → reached < length line → head ≤ reached → slice head (reached + 1) (set line reached v) ≡ slice head reached line ++ (v ∷ [])
 waiting-more line head reached v h k =

@@ -9,7 +9,7 @@ use Rattle.room.specs.declared.Room.{Room}
 use Rattle.room.specs.Room.{volume}
 use Rattle.best_first.specs.ListsAfterSet.{nonzeros}
 use Rattle.trace.specs.Traces.{PreviousInside}
-use Rattle.repeaters.specs.Repeaters.{wave, meetAll, parentsFrom, rootPath}
+use Rattle.walk.specs.Walks.{wave, meetAll, parentsFrom, rootPath}
 use Rattle.repeaters.specs.Links.{linkedCells}
 
 -- each cell reached, one whose parent is not 0, stands in the line once, so that the line is long enough for all

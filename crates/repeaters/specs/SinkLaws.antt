@@ -12,7 +12,8 @@ use Rattle.ends.specs.declared.Tap.{Tap}
 use Rattle.ends.specs.declared.Taps.{Taps}
 use Rattle.ends.specs.Ends.{noTap, tapsIn, TapsInside}
 use Rattle.branches.specs.declared.BranchLengths.{BranchLengths}
-use Rattle.repeaters.specs.Repeaters.{treeNeighbours, parentsFrom, runOf, tailOf, planned, repeaterMarks}
+use Rattle.walk.specs.Walks.{parentsFrom}
+use Rattle.repeaters.specs.Repeaters.{treeNeighbours, runOf, tailOf, planned, repeaterMarks}
 use Rattle.repeaters.specs.Links.{linkedCells, PathReady}
 use Rattle.repeaters.specs.Roots.{Rooted, Traced}
 use Rattle.repeaters.specs.RootLaws.{path-cells}

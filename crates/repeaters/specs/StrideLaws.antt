@@ -12,7 +12,7 @@ use lib.ListN.{length, getD, set}
 use borrow.Author.Tests.{lt-ltb, le-ltb, ltb-true, eq-eqb, ne-eqb}
 use Rattle.basics.specs.Tests.{either, ask, and-left}
 use Rattle.repeaters.specs.declared.Stride.{Stride}
-use Rattle.repeaters.specs.Repeaters.{pathCell, latest, withRepeater, walk, candidate, resume, stride, strides, run}
+use Rattle.repeaters.specs.Repeaters.{pathCell, latest, withRepeater, runWalk, candidate, resume, stride, strides, run}
 use Rattle.repeaters.specs.Strides.{Walking, stridesLeft, Strode}
 
 -- ---- the latest place that passes a test
@@ -136,7 +136,7 @@ pub record Striding (limit : ℕ) (fit : ℕ → Bool) (path start marks : List 
   pub long : length marks ≡ length start
   pub fuel : ℕ
   pub enough : stridesLeft path s ≤ fuel
-  pub same : strides limit fit path fuel (walk marks (s .reset) (s .place)) ≡ run limit fit path start
+  pub same : strides limit fit path fuel (runWalk marks (s .reset) (s .place)) ≡ run limit fit path start
 
 module _ {limit : ℕ} {fit : ℕ → Bool} {path start : List ℕ} where
   pub striding-first : Striding limit fit path start start (record { reset = 0; place = 1; latest = 0 })
@@ -155,7 +155,7 @@ module _ {limit : ℕ} {fit : ℕ → Bool} {path start : List ℕ} where
     unfolding strides
     striding-next h {marks′} {r} e S = go (I .fuel) (I .enough) (I .same)
       where
-        go : (f : ℕ) → stridesLeft path s ≤ f → strides limit fit path f (walk marks (s .reset) (s .place)) ≡ run limit fit path start → Striding limit fit path start marks′ r
+        go : (f : ℕ) → stridesLeft path s ≤ f → strides limit fit path f (runWalk marks (s .reset) (s .place)) ≡ run limit fit path start → Striding limit fit path start marks′ r
         go zero a q = absurd (omega (arith, S .less))
         go (suc f) a q = record {
           walking = S .walking;
@@ -169,6 +169,6 @@ module _ {limit : ℕ} {fit : ℕ → Bool} {path start : List ℕ} where
     unfolding strides
     striding-all h = go (I .fuel) (I .same)
       where
-        go : (f : ℕ) → strides limit fit path f (walk marks (s .reset) (s .place)) ≡ run limit fit path start → marks ≡ run limit fit path start
+        go : (f : ℕ) → strides limit fit path f (runWalk marks (s .reset) (s .place)) ≡ run limit fit path start → marks ≡ run limit fit path start
         go zero q = q
         go (suc f) q = rw (le-ltb (s .place) (length path) h, strides) at q

@@ -5,7 +5,7 @@ use mathlib.Core.List.{List}
 use Prim.Native.Nat.{ℕ, _+_, _-_, _*_, _<_}
 use lib.ListN.{length}
 use Rattle.repeaters.specs.declared.Stride.{Stride}
-use Rattle.repeaters.specs.Repeaters.{walk, candidate, stride}
+use Rattle.repeaters.specs.Repeaters.{runWalk, candidate, stride}
 
 -- the latest place after the reset and before this one where a repeater may stand is known
 pub record Walking (fit : ℕ → Bool) (s : Stride) : Type 0 where
@@ -18,6 +18,6 @@ stridesLeft path s = (length path - s .reset) * (length path + 1) + (length path
 
 -- one stride of the code is one of the definition, and fewer are left
 pub record Strode (limit : ℕ) (fit : ℕ → Bool) (path marks : List ℕ) (s : Stride) (marks′ : List ℕ) (r : Stride) : Type 0 where
-  pub is : walk marks′ (r .reset) (r .place) ≡ stride limit fit path (walk marks (s .reset) (s .place))
+  pub is : runWalk marks′ (r .reset) (r .place) ≡ stride limit fit path (runWalk marks (s .reset) (s .place))
   pub walking : Walking fit r
   pub less : stridesLeft path r < stridesLeft path s

@@ -1,0 +1,149 @@
+-- THE WHOLE NET HANGS TOGETHER: what Connected claims, of each grown tree and of each tree that `route_net_tree` answers.
+use mathlib.Core.Path.{_≡_, refl, sym, ap, _∙_}
+use mathlib.Core.Logic.{_⊎_, inl, inr, ⊎-elim, _≢_}
+use mathlib.Core.Bool.{true, false}
+use mathlib.Core.List.{List, [], _∷_}
+use Prim.Native.Nat.{ℕ, zero, suc, _<_}
+use native.Mathlib.Omega.{arith}
+use lib.ListN.{length, getD, take, length-replicate}
+use borrow.Author.Tests.{eqb-true}
+use Rattle.basics.specs.Tests.{ask, never}
+use Rattle.basics.specs.Lists.{In}
+use Rattle.room.specs.Room.{volume}
+use Rattle.routing_resources.specs.Marks.{isMarked, noMarks}
+use Rattle.routing_resources.specs.MarkLaws.{marked-after}
+use Rattle.ends.specs.declared.Tap.{Tap}
+use Rattle.ends.specs.Ends.{noTap, tapsIn}
+use Rattle.outset.specs.SetOut.{ready}
+use Rattle.multinet.specs.Tree.{Plot, Tree, Growth, grown, stopped, growthOf, tapAt, netEndMarks, isNetEnd, repeatersOf}
+use Rattle.multinet.specs.Growing.{SoundPlot}
+use Rattle.net_tree.specs.declared.Lengths.{Lengths}
+use Rattle.net_tree.specs.declared.Answer as trees
+use Rattle.net_tree.specs.declared.Ended.the-variants.{Routed, Refused}
+use Rattle.net_tree.specs.Answers.{Lent, lengthsOf, TreeOutcome, routed, no-tree, plotFor, outcomeOf, jobOutcome, Comes, unread, unlent, set-out, answerOf, lentAfter, Promise}
+use Rattle.net_tree.specs.JobLaws.{plot-sound}
+use Rattle.connected.specs.Grafts.{OnSome, TreeFrom}
+use Rattle.connected.specs.GraftLaws.{on-below, neighbour-in, neighbours-on, chain-on}
+use Rattle.connected.specs.TreeWalkLaws.{tree-chained, tree-path, path-ends, path-step, path-goes, repeater-stands-between}
+use Rattle.connected.specs.GrownTreeLaws.{tree-from, tree-steps, approach-on-tree, terminal-on-tree, occupied-on-tree, tree-occupied, branch-goes-on, branch-from-to}
+use Rattle.connected.specs.Connected.{neighboursIn, parentsIn, pathIn, TreePath, StandsBetween, Connected, NetConnected, AnswerConnected}
+
+in-taken : (l : List Tap) (n : ℕ) (t : Tap) → In t (take n l) → (k : ℕ) × (k < n) × (getD l k noTap ≡ t)
+in-taken l zero t i = absurd i
+in-taken [] (suc n) t i = absurd i
+in-taken (x ∷ l) (suc n) t (inl e) = (0, omega arith, sym e)
+in-taken (x ∷ l) (suc n) t (inr i) = let r = in-taken l n t i in (suc (r .0), omega (arith, r .1), r .2)
+
+-- ---- of a grown tree
+
+module _ {P : Plot} (S : SoundPlot P) (blocked : List ℕ) (T : Tree) (e : growthOf P blocked ≡ grown T) where
+  from : TreeFrom (volume (P .room)) (P .source) (T .branches)
+  from = tree-from S blocked T e
+
+  on-tree : (v : ℕ) → isMarked (T .occupied) v ≡ true → (v ≡ P .source) ⊎ OnSome v (T .branches)
+  on-tree = occupied-on-tree S blocked T e
+
+  occupied : (v : ℕ) → (v ≡ P .source) ⊎ OnSome v (T .branches) → isMarked (T .occupied) v ≡ true
+  occupied = tree-occupied S blocked T e
+
+  path : (v : ℕ) → (v ≡ P .source) ⊎ OnSome v (T .branches) → TreePath P T v (pathIn P T v)
+  path v i =
+      let W = tree-path from v i in
+      record {
+        rest = W .rest;
+        begins = W .begins;
+        ends = path-ends W;
+        beside = λ i h. neighbour-in (T .branches) (volume (P .room)) _ _ (path-step W i h) .1;
+        steps = path-goes (S .good) (T .branches) (tree-steps S blocked T e) W;
+        none-twice = W .none-twice;
+        short = W .short;
+      }
+
+  terminals : (tap : Tap) → In tap (tapsIn (P .taps)) → (tap .terminal ≡ P .source) ⊎ OnSome (tap .terminal) (T .branches)
+  terminals tap i =
+      let r = in-taken (P .taps .taps) (P .taps .count) tap i in
+      inr (rw (← r .2) (terminal-on-tree S blocked T e (r .0) (r .1)))
+
+  -- ---- a repeater
+
+  module _ (v : ℕ) (m : isMarked (repeatersOf P T) v ≡ true) where
+    stands : StandsBetween (P .room) (neighboursIn P T) (parentsIn P T) v × (getD (netEndMarks (P .room) (P .source) (P .taps)) v 0 ≢ 1)
+    unfolding repeatersOf
+    stands = repeater-stands-between (P .room) from (netEndMarks (P .room) (P .source) (P .taps)) (tapsIn (P .taps)) terminals v m
+
+    before-in : In (stands .0 .before) (neighboursIn P T v)
+    before-in = ⊎-elim {C = In (stands .0 .before) (neighboursIn P T v)} (λ q. rw q (inl refl)) (λ q. rw q (inr (inl refl))) (stands .0 .neighbours)
+
+    repeater-on : OnSome v (T .branches)
+    repeater-on = neighbours-on (T .branches) v (stands .0 .before) (neighbour-in (T .branches) (volume (P .room)) v (stands .0 .before) before-in .1) .0
+
+    no-end : isNetEnd (P .source) (P .taps) v ≡ false
+    no-end =
+        ask (isNetEnd (P .source) (P .taps) v)
+        (λ t. absurd (stands .1 (eqb-true _ 1 (marked-after (isNetEnd (P .source) (P .taps)) (noMarks (volume (P .room))) v inside ∙ rw t))))
+        (λ f. f)
+      where
+        inside : v < length (noMarks (volume (P .room)))
+        inside = omega (arith, on-below (volume (P .room)) (T .branches) (from .within) v repeater-on, length-replicate {A = ℕ} (volume (P .room)) 0)
+
+  pub connected : Connected P T
+  connected = record {
+    occupied = λ v. (on-tree v, occupied v);
+    joined = λ v. ((λ o. tree-chained from v (on-tree v o)), (λ C. occupied v (chain-on (T .branches) (volume (P .room)) (P .source) v C)));
+    path-to = λ v o. path v (on-tree v o);
+    approach-path = λ k h. path (tapAt P k .approach) (inr (approach-on-tree S blocked T e k h));
+    terminal-path = λ k h. path (tapAt P k .terminal) (inr (terminal-on-tree S blocked T e k h));
+    branch-steps = branch-goes-on S blocked T e;
+    branch-from-to = branch-from-to S blocked T e;
+    repeater-on = λ v m. occupied v (inr (repeater-on v m));
+    repeater-no-end = no-end;
+    repeater-between = λ v m. stands v m .0;
+  }
+
+-- ---- of the public tree
+
+net-connected : {sheet : List ℕ} {L : Lengths} {branches : List (List ℕ)} {occupied repeaters : List ℕ} → Comes sheet L (routed branches occupied repeaters)
+    → NetConnected sheet L branches occupied repeaters
+unfolding jobOutcome
+net-connected (unread r p f e) = never (cc)
+net-connected (unlent J m g b e) = never (cc)
+net-connected {sheet} {L} {branches} {occupied} {repeaters} (set-out J m g b O kinds nodes blocked s e) =
+    ask (ready O) (λ t. go t (growthOf (plotFor J L O kinds) blocked) refl (rw t at e)) (λ f. never (cc (rw f at e)))
+  where
+    go : ready O ≡ true → (growth : Growth) → growthOf (plotFor J L O kinds) blocked ≡ growth
+        → routed branches occupied repeaters ≡ outcomeOf (plotFor J L O kinds) growth → NetConnected sheet L branches occupied repeaters
+    go t (grown T) d q = record {
+      tree-of = record {
+        contents = J;
+        means = m;
+        outset = O;
+        kinds = kinds;
+        nodes = nodes;
+        blocked = blocked;
+        is-set = s;
+        sound = plot-sound J m g L b s t;
+        tree = T;
+        grows = d;
+        branches-are = cc;
+      };
+      occupied-are = cc;
+      repeaters-are = cc;
+      connected = connected (plot-sound J m g L b s t) blocked T d;
+    }
+    go t (stopped number detail) d q = never (cc)
+
+-- from the promise alone: each tree answered hangs together
+pub answer-connected : {sheet : List ℕ} {B : Lent} {r : trees.Answer} {B′ : Lent} → Promise sheet B r B′ → {cells marks : ℕ} → r .ended ≡ Routed cells marks
+    → AnswerConnected sheet B r B′
+answer-connected {sheet} {B} {r} {B′} K {cells} {marks} e = go (K .outcome) (K .comes) (K .answer) (K .lent-is)
+  where
+    go : (o : TreeOutcome) → Comes sheet (lengthsOf B) o → r ≡ answerOf o → B′ ≡ lentAfter o B → AnswerConnected sheet B r B′
+    go (routed branches occupied repeaters) c a l = record {
+      branches = branches;
+      occupied = occupied;
+      repeaters = repeaters;
+      answer = a;
+      lent-is = l;
+      net = net-connected c;
+    }
+    go (no-tree number detail) c a l = let z : Refused number detail ≡ Routed cells marks = sym (ap (λ x. x .ended) a) ∙ e in never (cc)
