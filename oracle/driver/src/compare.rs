@@ -41,6 +41,10 @@ impl Differences {
         }
     }
 
+    pub fn count(&self) -> u64 {
+        self.0
+    }
+
     /// Prints the count; whether there are none.
     pub fn told(&self) -> bool {
         println!("{} differences", self.0);

@@ -66,7 +66,7 @@ pub fn differs(case: &Sheet, expected: &TreeAnswer, salt: u8) -> Result<(), Stri
 }
 
 /// The lengths that a case names: cells, the branch buffer, and the queue's numbers, two a place.
-fn lengths(case: &Sheet) -> [usize; 3] {
+pub fn lengths(case: &Sheet) -> [usize; 3] {
     [case.lent, case.branch, 2 * case.queue].map(|length| length as usize)
 }
 

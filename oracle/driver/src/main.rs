@@ -7,6 +7,7 @@ mod clock;
 mod compare;
 mod compare_smallest;
 mod compare_trees;
+mod connected;
 mod flat;
 mod proved;
 mod wraps;
@@ -21,6 +22,8 @@ driver compare searches|sheets --seed N --count N [--profile P] [--against oracl
                 oracle (the default): the published Rust and the plain router, which must agree; plain: the latter alone.
                 rich: of the sheets only those that have a tree of two or more sinks with stairs and repeaters
 driver compare smallest compares the smallest inputs of docs/DIFFERENCES.md
+driver connected --seed N --count N [--profile P]
+                tests on so many trees of random sheets that the whole net hangs together
 driver bench searches   times the proved search, the published Rust and plain Rust over flat arrays
 driver bench trees [NAME..]
                 times the proved tree and the published Rust: of trees whose names begin so, or all
@@ -80,6 +83,10 @@ fn run(words: &[String]) -> Result<bool, String> {
         },
         ["compare", "sheets"] => Ok(compare_trees::compare(&draw(&words[2..])?)),
         ["compare", "smallest"] => Ok(compare_smallest::compare()),
+        ["connected", ..] => match draw(&words[1..])? {
+            draw if draw.rich || !draw.published => Err("no --against, no --only".into()),
+            draw => Ok(connected::check(&draw)),
+        },
         ["bench", "searches"] => {
             bench::bench();
             Ok(true)
