@@ -18,12 +18,12 @@ use Rattle.repeaters.specs.Masks.{Steps, AllSteps}
 use Rattle.walk.specs.Chains.{Chained}
 use Rattle.walk.specs.ChainLaws.{chained-here, chain-last, chain-step-at, chain-all, none-twice-at}
 use Rattle.walk.specs.Walks.{parentsFrom, rootPath, StaysBelow, PathFrom}
-use Rattle.walk.specs.WalkLaws.{root-path}
+use Rattle.walk.specs.WalkLaws.{root-path, path-parent}
 use Rattle.connected.specs.Grafts.{OnSome, TreeFrom}
-use Rattle.connected.specs.GraftLaws.{neighbours-below, neighbour-back, chain-on, grafts-chained, chain-goes}
+use Rattle.connected.specs.GraftLaws.{neighbours-below, neighbour-back, grafts-chained, chain-goes}
 use Rattle.connected.specs.Connected.{StandsBetween}
 use Rattle.connected.specs.Standing.{PlaceFits}
-use Rattle.connected.specs.StandingLaws.{place-fits, path-parent, repeater-stands}
+use Rattle.connected.specs.StandingLaws.{place-fits, repeater-stands}
 use Rattle.connected.specs.OppositeLaws.{are-opposite}
 
 -- ---- the walk reaches the tree

@@ -187,38 +187,54 @@ module _ (R : Room) (u : ℕ) where
       cons rest (Neighbour.Inside v) e = (above v e, rest)
       cons rest Neighbour.Outside e = rest
 
--- ---- tree neighbours are one step apart
+-- ---- what holds both ways of each two cells that stand next to each other on a branch holds of tree neighbours
+
+abbrev pub BothWays : (ℕ → ℕ → Type 0) → List ℕ → Type 0
+BothWays P [] = Unit {0}
+BothWays P (a ∷ []) = Unit {0}
+BothWays P (a ∷ (b ∷ rest)) = P a b × P b a × BothWays P (b ∷ rest)
 
 both-eq : (a b u v : ℕ) → (eqb a u && eqb b v) ≡ true → (a ≡ u) × (b ≡ v)
 both-eq a b u v e = (search passed, search passed)
 
-module _ {R : Room} (G : Good R) where
-  step-either : (a b u v : ℕ) → Step R a b → isStep a b u v ≡ true → Step R u v
+module _ (P : ℕ → ℕ → Type 0) (u v : ℕ) where
+  step-holds : (a b : ℕ) → P a b → P b a → isStep a b u v ≡ true → P u v
   unfolding isStep
-  step-either a b u v s e =
-      ⊎-elim {C = Step R u v}
-      (λ t. let q = both-eq a b u v t in rw (← q .0, ← q .1) s)
-      (λ t. let q = both-eq b a u v t in rw (← q .0, ← q .1) (step-back s G))
+  step-holds a b p q e =
+      ⊎-elim {C = P u v}
+      (λ t. let r = both-eq a b u v t in rw (← r .0, ← r .1) p)
+      (λ t. let r = both-eq b a u v t in rw (← r .0, ← r .1) q)
       (or-cases (eqb a u && eqb b v) _ e)
 
-  beside-step : (branch : List ℕ) → Steps R branch → (u v : ℕ) → besideOn branch u v ≡ true → Step R u v
+  beside-holds : (branch : List ℕ) → BothWays P branch → besideOn branch u v ≡ true → P u v
   unfolding besideOn
-  beside-step [] s u v e = never (cc)
-  beside-step (a ∷ []) s u v e = never (cc)
-  beside-step (a ∷ (b ∷ rest)) s u v e =
-      ⊎-elim {C = Step R u v}
-      (λ t. step-either a b u v (s .0) t)
-      (λ t. beside-step (b ∷ rest) (s .1) u v t)
-      (or-cases (isStep a b u v) _ e)
+  beside-holds [] s e = never (cc)
+  beside-holds (a ∷ []) s e = never (cc)
+  beside-holds (a ∷ (b ∷ rest)) s e = ⊎-elim {C = P u v} (step-holds a b (s .0) (s .1)) (beside-holds (b ∷ rest) (s .2)) (or-cases (isStep a b u v) _ e)
+
+  pub neighbours-hold : (branches : List (List ℕ)) → ((branch : List ℕ) → In branch branches → BothWays P branch) → neighbouring branches u v ≡ true → P u v
+  unfolding neighbouring
+  neighbours-hold [] s e = never (cc)
+  neighbours-hold (branch ∷ branches) s e =
+      ⊎-elim {C = P u v}
+      (beside-holds branch (s branch (inl refl)))
+      (neighbours-hold branches (λ b i. s b (inr i)))
+      (or-cases (besideOn branch u v) _ e)
+
+-- ---- tree neighbours are one step apart
+
+module _ {R : Room} (G : Good R) where
+  steps-both : (l : List ℕ) → Steps R l → BothWays (Step R) l
+  steps-both [] s = tt {0}
+  steps-both (a ∷ []) s = tt {0}
+  steps-both (a ∷ (b ∷ rest)) s = (s .0, step-back (s .0) G, steps-both (b ∷ rest) (s .1))
+
+  all-both : (branches : List (List ℕ)) → AllSteps R branches → (branch : List ℕ) → In branch branches → BothWays (Step R) branch
+  all-both (b ∷ bs) s branch (inl e) = rw e (steps-both b (s .0))
+  all-both (b ∷ bs) s branch (inr i) = all-both bs (s .1) branch i
 
   pub neighbour-step : (branches : List (List ℕ)) → AllSteps R branches → (u v : ℕ) → neighbouring branches u v ≡ true → Step R u v
-  unfolding neighbouring
-  neighbour-step [] s u v e = never (cc)
-  neighbour-step (branch ∷ branches) s u v e =
-      ⊎-elim {C = Step R u v}
-      (λ t. beside-step branch (s .0) u v t)
-      (λ t. neighbour-step branches (s .1) u v t)
-      (or-cases (besideOn branch u v) _ e)
+  neighbour-step branches s u v e = neighbours-hold (Step R) u v branches (all-both branches s) e
 
   -- ---- and the masks lead to them
   module _ (branches : List (List ℕ)) (S : AllSteps R branches) (links : List ℕ) (M : Masks R (neighbouring branches) links) where

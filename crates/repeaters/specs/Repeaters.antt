@@ -1,10 +1,10 @@
 -- The repeaters of a net's tree, as "The tree of one net" of the requirement has them: tree neighbours, the cells where a repeater may stand, the runs, the
 -- tails; the path from the source is `rootPath` of `walk`. Definitions alone; their laws are in the files named Laws.
 use mathlib.Core.Bool.{Bool, true, false, not, _&&_, _||_}
-use mathlib.Core.List.{List, [], _∷_, _++_}
+use mathlib.Core.List.{List, [], _∷_}
 use Prim.Native.Nat.{ℕ, zero, suc, _+_, _-_, _*_}
 use lib.Dec.{ltb, eqb}
-use lib.ListN.{length, getD, set, replicate}
+use lib.ListN.{length, getD, set}
 use Rattle.basics.specs.Tests.{either}
 use Rattle.basics.specs.Lists.{any}
 use Rattle.room.specs.declared.Room.{Room}

@@ -44,3 +44,9 @@ pub record WalkedAll (next : ℕ → List ℕ) (n source : ℕ) (met parents : L
   pub inside : (v : ℕ) → In v met → v < n
   pub few : length met ≤ n
   pub closed : AllMet next met met
+
+-- each cell of the list is the parent of the next
+abbrev pub ByParents : List ℕ → List ℕ → Type 0
+ByParents parents [] = Unit {0}
+ByParents parents (a ∷ []) = Unit {0}
+ByParents parents (a ∷ (b ∷ rest)) = (getD parents b 0 ≡ suc a) × ByParents parents (b ∷ rest)
