@@ -42,7 +42,3 @@ leastUpper R conducts = along (λ cell. lesserPlace (pairWith R conducts cell))
 pub record OnPath (R : Room) (conducts : ℕ → Bool) (path : List ℕ) : Type 0 where
   pub conducting : (v : ℕ) → In v path → conducts v ≡ true
   pub touched : (v u : ℕ) → v < volume R → beneath R v ≡ Inside u → conducts v ≡ true → conducts u ≡ true → In v path ⊎ In u path
-
--- a test that no cell passes
-abbrev pub nowhere : ℕ → Bool
-nowhere v = false

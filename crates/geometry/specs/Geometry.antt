@@ -41,23 +41,22 @@ abbrev pub ifPassed : (ℕ → Bool) → Neighbour → Neighbour
 ifPassed test (Inside v) = inOrOut (test v) v
 ifPassed test Outside = Outside
 
--- "the clearance (above the lower end): not Air in the unblocked room gives the path's cell there, else the pair's second cell; a conductor
--- above the clearance gives that cell." A step with no clearance is no stair
-unfoldable pub atClearance : Room → List ℕ → (ℕ → Bool) → (ℕ → Bool) → ℕ → Neighbour → Neighbour
-atClearance R kinds onPath conducts second Outside = Outside
-atClearance R kinds onPath conducts second (Inside v) =
-    either (eqb (getD kinds v air) air) (ifPassed conducts (above R v)) (Inside (either (onPath v) v second))
+-- "the clearance (above the lower end): not Air in the unblocked room gives .. the pair's second cell; a conductor above the clearance gives that
+-- cell." Left out is "the path's cell there", which never is one: AsWritten has the rule whole. A step with no clearance is no stair
+unfoldable pub atClearance : Room → List ℕ → (ℕ → Bool) → ℕ → Neighbour → Neighbour
+atClearance R kinds conducts second Outside = Outside
+atClearance R kinds conducts second (Inside v) = either (eqb (getD kinds v air) air) (ifPassed conducts (above R v)) (Inside second)
 
 -- "along the path's stairs"
-unfoldable pub stairConflict : Room → List ℕ → (ℕ → Bool) → (ℕ → Bool) → List ℕ → Neighbour
-stairConflict R kinds onPath conducts [] = Outside
-stairConflict R kinds onPath conducts (a ∷ []) = Outside
-stairConflict R kinds onPath conducts (a ∷ (b ∷ rest)) =
-    orElse (atClearance R kinds onPath conducts b (clearanceOf R a b)) (stairConflict R kinds onPath conducts (b ∷ rest))
+unfoldable pub stairConflict : Room → List ℕ → (ℕ → Bool) → List ℕ → Neighbour
+stairConflict R kinds conducts [] = Outside
+stairConflict R kinds conducts (a ∷ []) = Outside
+stairConflict R kinds conducts (a ∷ (b ∷ rest)) =
+    orElse (atClearance R kinds conducts b (clearanceOf R a b)) (stairConflict R kinds conducts (b ∷ rest))
 
 -- the conflict of a path with given conductors, and with the joinable cells; `Outside` where there is none
 unfoldable pub conflictAmong : Room → List ℕ → (ℕ → Bool) → List ℕ → Neighbour
-conflictAmong R kinds conducts path = orElse (firstPair R conducts) (stairConflict R kinds (standsIn path) conducts path)
+conflictAmong R kinds conducts path = orElse (firstPair R conducts) (stairConflict R kinds conducts path)
 
 abbrev pub conflictOf : Room → List ℕ → List ℕ → List ℕ → Neighbour
 conflictOf R kinds joinable path = conflictAmong R kinds (conductor joinable path) path

@@ -55,7 +55,7 @@ module _ (R : Room) (kinds : List ℕ) (conducts : ℕ → Bool) (path : List �
   unfolding conflictAmong
   pair-first v e = rw e
 
-  pub then-stairs : firstPair R conducts ≡ Outside → stairConflict R kinds (standsIn path) conducts path ≡ conflictAmong R kinds conducts path
+  pub then-stairs : firstPair R conducts ≡ Outside → stairConflict R kinds conducts path ≡ conflictAmong R kinds conducts path
   unfolding conflictAmong
   then-stairs e = rw e
 
@@ -64,7 +64,7 @@ module _ (R : Room) (kinds joinable path : List ℕ) (free : conflictOf R kinds 
   unfolding conflictAmong
   no-pair-among =
       no-first-pair R (conductor joinable path)
-      (or-none (firstPair R (conductor joinable path)) (stairConflict R kinds (standsIn path) (conductor joinable path) path) free .0)
+      (or-none (firstPair R (conductor joinable path)) (stairConflict R kinds (conductor joinable path) path) free .0)
 
   -- so with the path's cells marked, or only some of them, the joinable cells have none
   pub no-pair-after : (test : ℕ → Bool) → ((v : ℕ) → test v ≡ true → standsIn path v ≡ true) → NoPair R (isMarked (markedBy test joinable))

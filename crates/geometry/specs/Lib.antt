@@ -4,3 +4,4 @@ pub mod PairLaws
 pub mod StairLaws
 pub mod LayLaws
 pub mod GeometryLaws
+pub mod AsWritten

@@ -9,8 +9,8 @@ ghost use lib.ListN.{length};
 ghost use Rattle.room.specs.Room.{Good, volume};
 ghost use Rattle.routing_resources.specs.Marks.{isMarked, Marks, CellsBelow, AllCells};
 ghost use Rattle.routing_resources.specs.Resources.{clearanceOf};
-ghost use Rattle.geometry.specs.Geometry.{standsIn, NoPair, firstPair, ifPassed, atClearance, stairConflict, conflictAmong, conflictOf};
-ghost use Rattle.geometry.specs.Along.{replaced, conductsBy, pairWith, lesserPlace, OnPath, nowhere};
+ghost use Rattle.geometry.specs.Geometry.{NoPair, firstPair, ifPassed, atClearance, stairConflict, conflictAmong, conflictOf};
+ghost use Rattle.geometry.specs.Along.{replaced, conductsBy, pairWith, lesserPlace, OnPath};
 
 // The byte of a cell of the path that is not joinable.
 const ON_PATH: u8 = 2;
@@ -90,12 +90,13 @@ fn first_pair(room: Room, bytes: &[u8], path: &[u32]) -> Neighbour
     Neighbour::Outside
 }
 
-// What a stair from one cell to a second gives. Where conductors make no pair, no cell of the path stands at its clearance.
+// What a stair from one cell to a second gives. The path is not looked through for a cell at the clearance: where the stairs
+// decide, conductors make no pair, and none of the path's cells stands there (`conflict-as-written`).
 fn stair_at(room: Room, kinds: &[u8], bytes: &[u8], from: usize, second: usize) -> Neighbour
     requires { ⌜ Good room ⌝ }
     requires { ⌜ (length (now kinds) ≡ volume room) × (length (now bytes) ≡ volume room) ⌝ }
     requires { ⌜ (from < volume room) × (second < volume room) ⌝ }
-    ensures { λ r. ⌜ r ≡ atClearance room (now (kinds .entry)) nowhere (conductsBy (now (bytes .entry))) second (clearanceOf room from second) ⌝ }
+    ensures { λ r. ⌜ r ≡ atClearance room (now (kinds .entry)) (conductsBy (now (bytes .entry))) second (clearanceOf room from second) ⌝ }
 {
     let Neighbour::Inside(free) = routing_resources::clearance(room, from, second) else {
         return Neighbour::Outside;
@@ -106,14 +107,12 @@ fn stair_at(room: Room, kinds: &[u8], bytes: &[u8], from: usize, second: usize) 
     conductor_at(bytes, room.above(free))
 }
 
-// The first conflict along the path's stairs, where conductors make no pair.
+// The first conflict along the path's stairs.
 fn stair_conflict(room: Room, kinds: &[u8], bytes: &[u8], path: &[u32]) -> Neighbour
     requires { ⌜ Good room ⌝ }
     requires { ⌜ (length (now kinds) ≡ volume room) × (length (now bytes) ≡ volume room) ⌝ }
     requires { ⌜ AllCells room (now path) ⌝ }
-    requires { ⌜ OnPath room (conductsBy (now bytes)) (now path) ⌝ }
-    requires { ⌜ NoPair room (conductsBy (now bytes)) ⌝ }
-    ensures { λ r. ⌜ r ≡ stairConflict room (now (kinds .entry)) (standsIn (now (path .entry))) (conductsBy (now (bytes .entry))) (now (path .entry)) ⌝ }
+    ensures { λ r. ⌜ r ≡ stairConflict room (now (kinds .entry)) (conductsBy (now (bytes .entry))) (now (path .entry)) ⌝ }
 {
     let mut i: usize = 0;
     while i + 1 < path.len() {

@@ -23,7 +23,7 @@ use Rattle.room_search.specs.GraphLaws.{sound}
 use Rattle.trace.specs.TraceLaws.{trace-short}
 use Rattle.routing_resources.specs.Resources.{clearanceOf}
 use Rattle.routing_resources.specs.ResourceLaws.{clearance-in}
-use Rattle.geometry.specs.Geometry.{firstPair, ifPassed, atClearance, stairConflict, conflictAmong, conflictOf, upperOfPair, conductor, standsIn}
+use Rattle.geometry.specs.Geometry.{firstPair, ifPassed, atClearance, stairConflict, conflictAmong, conflictOf, upperOfPair, conductor}
 use Rattle.goals.specs.Goals.{found, failed, trialOf, searchedFor}
 use Rattle.room.specs.PlaceLaws.{first-passed}
 use Rattle.routing_resources.specs.Marks.{AllCells}
@@ -97,32 +97,32 @@ found-short {T} F = subst AtMost (F .is) (short (ending (graph T) (T .config .li
 
 -- ---- its conflict
 
-module _ (R : Room) (G : Good R) (kinds : List ℕ) (onPath conducts : ℕ → Bool) where
+module _ (R : Room) (G : Good R) (kinds : List ℕ) (conducts : ℕ → Bool) where
   passed-in : (place : Neighbour) (u v : ℕ) → u < volume R → above R u ≡ place → ifPassed conducts place ≡ Inside v → v < volume R
   passed-in (Inside w) u v h e q = above-in R G u v h (e ∙ ap Inside (inside-passed (conducts w) w v q .0))
   passed-in Outside u v h e q = never (cc)
 
-  clearance-conflict : (a b v : ℕ) → a < volume R → b < volume R → atClearance R kinds onPath conducts b (clearanceOf R a b) ≡ Inside v → v < volume R
+  clearance-conflict : (a b v : ℕ) → a < volume R → b < volume R → atClearance R kinds conducts b (clearanceOf R a b) ≡ Inside v → v < volume R
   unfolding atClearance
   clearance-conflict a b v a-in b-in e = go (clearanceOf R a b) refl e
     where
-      go : (place : Neighbour) → clearanceOf R a b ≡ place → atClearance R kinds onPath conducts b place ≡ Inside v → v < volume R
+      go : (place : Neighbour) → clearanceOf R a b ≡ place → atClearance R kinds conducts b place ≡ Inside v → v < volume R
       go Outside w q = never (cc)
       go (Inside u) w q =
           let u-in = clearance-in R G a b a-in b-in u w in
           ask (eqb (getD kinds u air) air)
           (λ t. passed-in (above R u) u v u-in refl (rw t at q))
-          (λ f. ask (onPath u) (λ t. rw (same-cell u v (rw (f, t) at q)) at u-in) (λ n. rw (same-cell b v (rw (f, n) at q)) at b-in))
+          (λ f. rw (same-cell b v (rw f at q)) at b-in)
 
-  stairs-in : (path : List ℕ) → ((i : ℕ) → i < length path → getD path i 0 < volume R) → (v : ℕ) → stairConflict R kinds onPath conducts path ≡ Inside v → v < volume R
+  stairs-in : (path : List ℕ) → ((i : ℕ) → i < length path → getD path i 0 < volume R) → (v : ℕ) → stairConflict R kinds conducts path ≡ Inside v → v < volume R
   unfolding stairConflict
   stairs-in [] all v e = never (cc)
   stairs-in (a ∷ []) all v e = never (cc)
-  stairs-in (a ∷ (b ∷ rest)) all v e = go (atClearance R kinds onPath conducts b (clearanceOf R a b)) refl e (stairs-in (b ∷ rest) (λ i h. all (suc i) (omega arith)) v)
+  stairs-in (a ∷ (b ∷ rest)) all v e = go (atClearance R kinds conducts b (clearanceOf R a b)) refl e (stairs-in (b ∷ rest) (λ i h. all (suc i) (omega arith)) v)
     where
-      go : (place : Neighbour) → atClearance R kinds onPath conducts b (clearanceOf R a b) ≡ place
-          → orElse place (stairConflict R kinds onPath conducts (b ∷ rest)) ≡ Inside v
-          → (stairConflict R kinds onPath conducts (b ∷ rest) ≡ Inside v → v < volume R) → v < volume R
+      go : (place : Neighbour) → atClearance R kinds conducts b (clearanceOf R a b) ≡ place
+          → orElse place (stairConflict R kinds conducts (b ∷ rest)) ≡ Inside v
+          → (stairConflict R kinds conducts (b ∷ rest) ≡ Inside v → v < volume R) → v < volume R
       go (Inside u) w q later = clearance-conflict a b v (all 0 (omega arith)) (all 1 (omega arith)) (w ∙ q)
       go Outside w q later = later q
 
@@ -130,6 +130,6 @@ pub conflict-in : (R : Room) → Good R → (kinds joinable path : List ℕ) →
 unfolding conflictAmong firstPair
 conflict-in R G kinds joinable path cells v e = go (conductor joinable path) (firstPair R (conductor joinable path)) refl e
   where
-    go : (conducts : ℕ → Bool) (place : Neighbour) → firstPair R conducts ≡ place → orElse place (stairConflict R kinds (standsIn path) conducts path) ≡ Inside v → v < volume R
+    go : (conducts : ℕ → Bool) (place : Neighbour) → firstPair R conducts ≡ place → orElse place (stairConflict R kinds conducts path) ≡ Inside v → v < volume R
     go conducts (Inside u) w q = first-passed (upperOfPair R conducts) (volume R) v (w ∙ q) .0
-    go conducts Outside w q = stairs-in R G kinds (standsIn path) conducts path (cells .below) v q
+    go conducts Outside w q = stairs-in R G kinds conducts path (cells .below) v q

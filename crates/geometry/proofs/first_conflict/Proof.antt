@@ -1,7 +1,7 @@
--- `first_conflict` meets its contract: where there is no first pair there is none, so the stairs decide.
+-- `first_conflict` meets its contract: where there is no first pair, the stairs decide.
 use mathlib.Core.Path.{sym, _∙_}
 use borrow.Author.Needs.{needs}
-use Rattle.geometry.specs.GeometryLaws.{no-first-pair, pair-first, then-stairs}
+use Rattle.geometry.specs.GeometryLaws.{pair-first, then-stairs}
 use Rattle.geometry.proofs.first_conflict.Statement.{statement}
 use Rattle.geometry.proofs.first_conflict.Tie as tie
 
@@ -18,9 +18,7 @@ enum-told-2 : tie.Need-enum-told-2
 enum-told-2 c = search needs
 
 stair-conflict-requires : tie.Need-stair-conflict-requires
-stair-conflict-requires c κs =
-    let pre = c .before .before .before .before .before .before .pre in
-    (pre .0, (pre .1 .0, (pre .1 .1 .0, (pre .1 .1 .1, no-first-pair _ _ (sym (c .before .before .first-pair .ensures) ∙ c .enum-told2 .given .1)))))
+stair-conflict-requires c κs = search needs
 
 returns-2 : tie.Need-returns-2
 returns-2 c = c .stair-conflict .ensures ∙ then-stairs _ _ _ _ (sym (c .before .before .before .first-pair .ensures) ∙ c .before .enum-told2 .given .1)

@@ -1,4 +1,4 @@
--- `stair_at` meets its contract: its tests are the definition's, where no cell of the path stands at a clearance.
+-- `stair_at` meets its contract: its tests are the definition's.
 use mathlib.Core.Path.{_≡_, sym, _∙_}
 use Prim.Native.Nat.{ℕ, _<_}
 use borrow.Author.Tests.{eq-eqb, ne-eqb}

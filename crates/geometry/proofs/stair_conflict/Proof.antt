@@ -4,14 +4,14 @@ use Prim.Native.Nat.{_≤_, _-_}
 use native.Mathlib.Omega.{arith}
 use lib.ListN.{length}
 use borrow.Author.Needs.{needs}
-use Rattle.geometry.specs.Geometry.{standsIn, stairConflict}
+use Rattle.geometry.specs.Geometry.{stairConflict}
 use Rattle.geometry.specs.Along.{conductsBy}
-use Rattle.geometry.specs.StairLaws.{stairsFrom, stairAt, stairs-next, stairs-found, stairs-end, stair-read}
+use Rattle.geometry.specs.StairLaws.{stairsFrom, stairAt, stairs-next, stairs-found, stairs-end}
 use Rattle.geometry.proofs.stair_conflict.Statement.{statement}
 use Rattle.geometry.proofs.stair_conflict.Tie as tie
 
 abbrev Inv-loop : tie.InvT-loop
-Inv-loop room kinds bytes path i₀ i = (i ≤ length path) × (stairsFrom room kinds (standsIn path) (conductsBy bytes) path i ≡ stairConflict room kinds (standsIn path) (conductsBy bytes) path)
+Inv-loop room kinds bytes path i₀ i = (i ≤ length path) × (stairsFrom room kinds (conductsBy bytes) path i ≡ stairConflict room kinds (conductsBy bytes) path)
 
 abbrev μ-loop : tie.MeasureT-loop
 μ-loop room kinds bytes path i₀ i = length path - i
@@ -44,13 +44,11 @@ as-index-requires-2 : tie.Need-as-index-requires-2 Inv-loop μ-loop
 as-index-requires-2 c κs = search needs
 
 stair-at-requires : tie.Need-stair-at-requires Inv-loop μ-loop
-stair-at-requires c κs = let s = c .before .before .before .before .before .before .before .before .before in (s .pre .0, (s .pre .1 .0, (rw (c .before .before .as-index .ensures .0) (s .pre .1 .1 .0 .below _ (omega arith)), rw (c .as-index2 .ensures .0) (s .pre .1 .1 .0 .below _ (c .before .before .before .before .loop-test .taken)))))
+stair-at-requires c κs = let s = c .before .before .before .before .before .before .before .before .before in (s .pre .0, (s .pre .1 .0, (rw (c .before .before .as-index .ensures .0) (s .pre .1 .1 .below _ (omega arith)), rw (c .as-index2 .ensures .0) (s .pre .1 .1 .below _ (c .before .before .before .before .loop-test .taken)))))
 
 -- what the stair here gives
-stair-told : (c : tie.After-stair-at Inv-loop μ-loop) → c .stair-at .result ≡ stairAt (c .before .before .before .before .before .before .before .before .before .before .args .room) (c .before .before .before .before .before .before .before .before .before .before .args .kinds .now) (standsIn (c .before .before .before .before .before .before .before .before .before .before .args .path .now)) (conductsBy (c .before .before .before .before .before .before .before .before .before .before .args .bytes .now)) (c .before .before .before .before .before .before .before .before .before .before .args .path .now) (c .before .before .before .before .before .before .loop .i)
-stair-told c =
-    let pre = c .before .before .before .before .before .before .before .before .before .before .pre in
-    c .stair-at .ensures ∙ stair-read _ (pre .0) _ _ _ (pre .1 .1 .0) (pre .1 .1 .1 .0) (pre .1 .1 .1 .1) (c .before .before .before .before .before .before .loop .i) (c .before .before .before .before .before .loop-test .taken) _ _ (c .before .before .before .as-index .ensures .0) (c .before .as-index2 .ensures .0)
+stair-told : (c : tie.After-stair-at Inv-loop μ-loop) → c .stair-at .result ≡ stairAt (c .before .before .before .before .before .before .before .before .before .before .args .room) (c .before .before .before .before .before .before .before .before .before .before .args .kinds .now) (conductsBy (c .before .before .before .before .before .before .before .before .before .before .args .bytes .now)) (c .before .before .before .before .before .before .before .before .before .before .args .path .now) (c .before .before .before .before .before .before .loop .i)
+stair-told c = rw (c .before .before .before .as-index .ensures .0, c .before .as-index2 .ensures .0) at (c .stair-at .ensures)
 
 enum-told : tie.Need-enum-told Inv-loop μ-loop
 enum-told c = search needs
@@ -60,7 +58,7 @@ returns c =
     let i = c .before .before .before .before .before .before .before .before .loop .i in
     let more = c .before .before .before .before .before .before .before .loop-test .taken in
     let read = stair-told (c .before .before) in
-    read ∙ stairs-found _ _ _ _ _ i more _ (sym read ∙ c .enum-told .given .1) ∙ c .before .before .before .before .before .before .before .before .loop .inv .1
+    read ∙ stairs-found _ _ _ _ i more _ (sym read ∙ c .enum-told .given .1) ∙ c .before .before .before .before .before .before .before .before .loop .inv .1
 
 enum-told-2 : tie.Need-enum-told-2 Inv-loop μ-loop
 enum-told-2 c = search needs
@@ -76,10 +74,10 @@ loop-again c =
     let i = c .before .before .before .before .before .before .before .before .loop .i in
     let more = c .before .before .before .before .before .before .before .loop-test .taken in
     let read = stair-told (c .before .before) in
-    (omega arith, stairs-next _ _ _ _ _ i more (sym read ∙ c .enum-told2 .given .1) ∙ c .before .before .before .before .before .before .before .before .loop .inv .1)
+    (omega arith, stairs-next _ _ _ _ i more (sym read ∙ c .enum-told2 .given .1) ∙ c .before .before .before .before .before .before .before .before .loop .inv .1)
 
 returns-2 : tie.Need-returns-2 Inv-loop μ-loop
-returns-2 c = stairs-end _ _ _ _ _ _ (c .loop-test .left) ∙ c .before .loop .inv .1
+returns-2 c = stairs-end _ _ _ _ _ (c .loop-test .left) ∙ c .before .loop .inv .1
 
 pub stair-conflict-spec : {M : Type 1} → statement M
 stair-conflict-spec =
