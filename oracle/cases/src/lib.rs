@@ -4,6 +4,7 @@
 
 pub mod answers;
 mod blocked;
+pub mod conflict;
 pub mod connected;
 pub mod examples;
 pub mod files;

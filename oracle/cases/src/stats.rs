@@ -3,10 +3,10 @@
 use std::collections::BTreeMap;
 use std::fmt::Display;
 
+use crate::conflict::stairs;
 use crate::room::{MOST_CELLS, Room, kind, port, sideways};
 use crate::search::{Search, SearchAnswer};
 use crate::sheet::{Job, Port, Sheet, TreeAnswer};
-use crate::tree::stairs;
 
 /// Counts under names, printed in the order of the names.
 #[derive(Default)]

@@ -4,9 +4,10 @@ use std::collections::BTreeSet;
 
 use crate::Refusal;
 use crate::blocked::blocked_at_outset;
+use crate::conflict::{ConflictTest, Stair, StairRule, stairs};
 use crate::reading::{Other, Reading};
 use crate::repeaters::{Laid, place_repeaters};
-use crate::room::{DOWN, MOST_CELLS, Place, Room, UP, kind, port, sideways};
+use crate::room::{MOST_CELLS, Place, Room, kind, port, sideways};
 use crate::search::{End, Question, Searched, cells16};
 use crate::sheet::{Job, Port, Sheet, TreeAnswer};
 
@@ -369,69 +370,18 @@ impl<'a> Tree<'a> {
         question.search()
     }
 
-    /// The first conflict of a path with the joinable cells, in the unblocked room. The path begins at the approach.
+    /// The first conflict of a path with the joinable cells, in the unblocked room.
     fn conflict(&self, path: &[usize]) -> Option<usize> {
-        let mut conductors = match self.reading.is(Other::ConflictWithOccupied) {
-            true => self.occupied.clone(),
-            false => self.joinable.clone(),
+        let joinable = match self.reading.is(Other::ConflictWithOccupied) {
+            true => &self.occupied,
+            false => &self.joinable,
         };
-        conductors.extend(path);
-        let conducts = |cell: &usize| conductors.contains(cell);
-        let beneath = |cell: &usize| self.room.next(*cell, DOWN).filter(conducts);
-        if let Some(upper) = conductors.iter().find(|cell| beneath(cell).is_some()) {
-            let lower = beneath(upper).filter(|_| self.reading.is(Other::LowerOfPair));
-            return Some(lower.unwrap_or(*upper));
-        }
-        let mut stairs = stairs(self.room, path);
-        if self.reading.is(Other::StairsFromGoal) {
-            stairs.reverse();
-        }
-        let conflict = |stair: &Stair| self.stair_conflict(path, &conductors, stair);
-        stairs.iter().find_map(conflict)
-    }
-
-    /// The conflict at one stair: a clearance that is not Air gives the path's cell there, else the pair's second cell;
-    /// then a conductor above the clearance gives that cell.
-    fn stair_conflict(
-        &self,
-        path: &[usize],
-        conductors: &BTreeSet<usize>,
-        stair: &Stair,
-    ) -> Option<usize> {
-        let Stair { pair, clearance } = stair;
-        let second = match self.reading.is(Other::SecondFromGoal) {
-            true => pair[0],
-            false => pair[1],
+        let test = ConflictTest {
+            room: self.room,
+            kinds: &self.kinds,
+            rule: StairRule::Shorter,
+            reading: self.reading,
         };
-        let on_path = path.iter().find(|cell| *cell == clearance);
-        let given = *on_path.unwrap_or(&second);
-        let filled = (self.kinds[*clearance] != kind::AIR).then_some(given);
-        let conducts = |cell: &usize| conductors.contains(cell);
-        let above = self.room.next(*clearance, UP).filter(conducts);
-        match self.reading.is(Other::AboveClearanceFirst) {
-            true => above.or(filled),
-            false => filled.or(above),
-        }
+        test.conflict(joinable, path)
     }
-}
-
-/// Two cells of a path that follow each other at different heights, and the clearance, which lies above the lower one.
-pub struct Stair {
-    pub pair: [usize; 2],
-    pub clearance: usize,
-}
-
-/// A path's stairs, from its beginning on.
-pub fn stairs(room: &Room, path: &[usize]) -> Vec<Stair> {
-    let height = |cell| room.place(cell).y;
-    path.windows(2)
-        .filter(|pair| height(pair[0]) != height(pair[1]))
-        .filter_map(|pair| {
-            let lower = *pair.iter().min_by_key(|cell| height(**cell))?;
-            Some(Stair {
-                pair: [pair[0], pair[1]],
-                clearance: room.next(lower, UP)?,
-            })
-        })
-        .collect()
 }
