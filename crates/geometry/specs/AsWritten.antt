@@ -44,41 +44,41 @@ conflictAsWritten R kinds joinable path =
 
 -- ---- what is left out of it never comes
 
-module _ (R : Room) (G : Good R) (kinds joinable path : List ℕ) (all : AllCells R path) where
+module _ (R : Room) (G : Good R) (joinable path : List ℕ) (all : AllCells R path) (alone : NoPair R (conductor joinable path)) where
   path-conducts : (v : ℕ) → standsIn path v ≡ true → conductor joinable path v ≡ true
   unfolding conductor
   path-conducts v t = rw t (or-true (isMarked joinable v))
 
-  module _ (alone : NoPair R (conductor joinable path)) where
-    -- at the clearance of a stair between two of the path's cells stands no conductor, so neither a cell of the path
-    pub no-conductor-at-clearance : (a b : ℕ) → In a path → In b path → (v : ℕ) → clearanceOf R a b ≡ Inside v → conductor joinable path v ≡ false
-    no-conductor-at-clearance a b a-on b-on =
-        clear-of-conductors R G (conductor joinable path) alone a b (cells-in R path all a a-on) (cells-in R path all b b-on)
-        (path-conducts a (in-stands path a a-on)) (path-conducts b (in-stands path b b-on))
+  -- at the clearance of a stair between two cells of the path there is no conductor
+  pub no-conductor-at-clearance : (a b : ℕ) → In a path → In b path → (v : ℕ) → clearanceOf R a b ≡ Inside v → conductor joinable path v ≡ false
+  no-conductor-at-clearance a b a-on b-on =
+      clear-of-conductors R G (conductor joinable path) alone a b (cells-in R path all a a-on) (cells-in R path all b b-on)
+      (path-conducts a (in-stands path a a-on)) (path-conducts b (in-stands path b b-on))
 
-    pub not-on-path-at-clearance : (a b : ℕ) → In a path → In b path → (v : ℕ) → clearanceOf R a b ≡ Inside v → standsIn path v ≡ false
-    not-on-path-at-clearance a b a-on b-on v e =
-        ask (standsIn path v)
-        (λ t. let c = path-conducts v t in let f = no-conductor-at-clearance a b a-on b-on v e in never (cc))
-        (λ f. f)
+  -- so no cell of the path either
+  pub not-on-path-at-clearance : (a b : ℕ) → In a path → In b path → (v : ℕ) → clearanceOf R a b ≡ Inside v → standsIn path v ≡ false
+  not-on-path-at-clearance a b a-on b-on v e =
+      ask (standsIn path v)
+      (λ t. let c = path-conducts v t in let f = no-conductor-at-clearance a b a-on b-on v e in never (cc))
+      (λ f. f)
 
-    stair-as-written : (a b : ℕ) → In a path → In b path
-        → atClearanceAsWritten R kinds (standsIn path) (conductor joinable path) b (clearanceOf R a b) ≡ atClearance R kinds (conductor joinable path) b (clearanceOf R a b)
-    unfolding atClearanceAsWritten atClearance
-    stair-as-written a b a-on b-on = go (clearanceOf R a b) (not-on-path-at-clearance a b a-on b-on)
-      where
-        go : (place : Neighbour) → ((v : ℕ) → place ≡ Inside v → standsIn path v ≡ false)
-            → atClearanceAsWritten R kinds (standsIn path) (conductor joinable path) b place ≡ atClearance R kinds (conductor joinable path) b place
-        go (Inside v) off = rw (off v refl)
-        go Outside off = refl
+  stair-as-written : (kinds : List ℕ) (a b : ℕ) → In a path → In b path
+      → atClearanceAsWritten R kinds (standsIn path) (conductor joinable path) b (clearanceOf R a b) ≡ atClearance R kinds (conductor joinable path) b (clearanceOf R a b)
+  unfolding atClearanceAsWritten atClearance
+  stair-as-written kinds a b a-on b-on = go (clearanceOf R a b) (not-on-path-at-clearance a b a-on b-on)
+    where
+      go : (place : Neighbour) → ((v : ℕ) → place ≡ Inside v → standsIn path v ≡ false)
+          → atClearanceAsWritten R kinds (standsIn path) (conductor joinable path) b place ≡ atClearance R kinds (conductor joinable path) b place
+      go (Inside v) off = rw (off v refl)
+      go Outside off = refl
 
-    stairs-as-written : (cells : List ℕ) → ((v : ℕ) → In v cells → In v path)
-        → stairConflictAsWritten R kinds (standsIn path) (conductor joinable path) cells ≡ stairConflict R kinds (conductor joinable path) cells
-    unfolding stairConflictAsWritten stairConflict
-    stairs-as-written [] on = refl
-    stairs-as-written (a ∷ []) on = refl
-    stairs-as-written (a ∷ (b ∷ rest)) on =
-        rw (stair-as-written a b (on a (inl refl)) (on b (inr (inl refl))), stairs-as-written (b ∷ rest) (λ v i. on v (inr i)))
+  stairs-as-written : (kinds cells : List ℕ) → ((v : ℕ) → In v cells → In v path)
+      → stairConflictAsWritten R kinds (standsIn path) (conductor joinable path) cells ≡ stairConflict R kinds (conductor joinable path) cells
+  unfolding stairConflictAsWritten stairConflict
+  stairs-as-written kinds [] on = refl
+  stairs-as-written kinds (a ∷ []) on = refl
+  stairs-as-written kinds (a ∷ (b ∷ rest)) on =
+      rw (stair-as-written kinds a b (on a (inl refl)) (on b (inr (inl refl))), stairs-as-written kinds (b ∷ rest) (λ v i. on v (inr i)))
 
 -- in a good room, whatever the kinds and the joinable cells, each list of cells has by the rule as written the conflict that Geometry gives it
 pub conflict-as-written : (R : Room) → Good R → (kinds joinable path : List ℕ) → AllCells R path
@@ -89,4 +89,4 @@ conflict-as-written R G kinds joinable path all = go (firstPair R (conductor joi
     go : (place : Neighbour) → firstPair R (conductor joinable path) ≡ place
         → orElse place (stairConflictAsWritten R kinds (standsIn path) (conductor joinable path) path) ≡ orElse place (stairConflict R kinds (conductor joinable path) path)
     go (Inside v) e = refl
-    go Outside e = stairs-as-written R G kinds joinable path all (no-first-pair R (conductor joinable path) e) path (λ v i. i)
+    go Outside e = stairs-as-written R G joinable path all (no-first-pair R (conductor joinable path) e) kinds path (λ v i. i)

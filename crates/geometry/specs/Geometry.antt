@@ -42,7 +42,8 @@ ifPassed test (Inside v) = inOrOut (test v) v
 ifPassed test Outside = Outside
 
 -- "the clearance (above the lower end): not Air in the unblocked room gives .. the pair's second cell; a conductor above the clearance gives that
--- cell." Left out is "the path's cell there", which never is one: AsWritten has the rule whole. A step with no clearance is no stair
+-- cell." Left out is "the path's cell there, else", for none ever stands there: AsWritten has the whole rule, and that it comes to the same. A
+-- step with no clearance is no stair
 unfoldable pub atClearance : Room → List ℕ → (ℕ → Bool) → ℕ → Neighbour → Neighbour
 atClearance R kinds conducts second Outside = Outside
 atClearance R kinds conducts second (Inside v) = either (eqb (getD kinds v air) air) (ifPassed conducts (above R v)) (Inside second)
