@@ -23,8 +23,8 @@ oracle search FILE|-                        answers one search, in text or a fil
 oracle sheet [--hex] FILE|-                 prints what program `route` prints for a sheet
 oracle sheet [--hex] [--queue N] [--branch N] [--lent N] FILE|-
                                             the same as the library's tree, with such buffers
-oracle samples                              runs the samples of document 01
-oracle smallest [POINT]                     the smallest inputs of docs/DIFFERENCES.md, and the walks through smaller ones
+oracle samples                              runs the samples of docs/RULES.md
+oracle smallest [POINT]                     the smallest inputs of docs/SMALLEST.md, and the walks through smaller ones
 oracle generate KIND --seed N --count N --out FILE [--profile P] [--examples] [--force]
                                             writes random cases, with --examples behind the samples and examples
 oracle answer KIND IN OUT [--force]         answers the cases of a file

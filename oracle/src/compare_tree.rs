@@ -48,7 +48,7 @@ fn check(case: &Sheet, most_cells: usize) -> Result<TreeAnswer, Disagreement> {
     agreed(answer, &expected, found, lines, tree_answer_lines)
 }
 
-/// The Rust keeps the later of two records of one node in one cell; document 01 refuses.
+/// The Rust keeps the later of two records of one node in one cell; we refuse.
 fn repeats_within_a_node(job: &Job) -> bool {
     let mut held = BTreeSet::new();
     job.blocks

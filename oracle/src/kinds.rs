@@ -11,7 +11,7 @@ use oracle::{
 
 pub trait Asked: Case<Answer: Eq> {
     fn random(rng: &mut Rng, profile: Profile) -> Self;
-    /// The samples of document 01 and the examples.
+    /// The samples of docs/RULES.md and the examples.
     fn examples() -> Vec<Self>;
     fn check(&self) -> Result<Self::Answer, Disagreement>;
     fn count(&self, answer: &Self::Answer, tally: &mut Tally);

@@ -1,4 +1,4 @@
-//! `oracle smallest`: the smallest inputs of docs/DIFFERENCES.md, and the walks through all smaller ones.
+//! `oracle smallest`: the smallest inputs of docs/SMALLEST.md, and the walks through all smaller ones.
 
 use cases::smallest::signs::read_otherwise;
 use cases::smallest::{Fewer, Input, Point, Sign, Step, points};

@@ -1,4 +1,4 @@
-//! The published Rust against document 01 and against the plain router.
+//! The published Rust against docs/RULES.md and against the plain router.
 
 use cases::files::write_answered;
 use cases::samples::{HEX_SHEET, HEX_SHEET_LINES, Sample, default_job, samples};

@@ -113,7 +113,7 @@ static void expect_work_cleared(struct search asked) {
         EXPECT(cleared(asked.lent[i]));
 }
 
-/* Document 01's sample b, over these lengths: path 0 1 2, cost 20, expanded 2. */
+/* Sample b of docs/RULES.md, over these lengths: path 0 1 2, cost 20, expanded 2. */
 static void expect_sample_b(const size_t lengths[SEARCH_BUFFERS]) {
     static const uint8_t air[3] = {0, 0, 0};
     struct search asked = search_row(air, 3, lengths);
@@ -195,7 +195,7 @@ static void free_tree(struct tree asked) {
         give_back(asked.lent[i]);
 }
 
-/* Document 01's hex sheet: a row of ten cells, from end to end. */
+/* The hex sheet of tools/README.md: a row of ten cells, from end to end. */
 static const uint8_t ROW[45] = {
     1, 0, 0, 0, 40, 10, 1, 1, 0, 0, 0x75, 0x30, 0, 0, 0, 10, 0, 0, 0, 25, 0, 0, 0, 15,
     0, 0, 0, 0, 0, 0, 0, 0, 0, 0, 0, 0, 0, 0, 0, 1, 9, 0, 0, 0, 0};

@@ -1,4 +1,4 @@
-"""A job, its bytes, and numbers 1 to 5: "The job sheet" of document 01."""
+"""A job, its bytes, and numbers 1 to 5: docs/RULES.md, The job sheet."""
 from __future__ import annotations
 
 from dataclasses import dataclass, field
@@ -83,7 +83,7 @@ class Refused(Exception):
 # ---- a job's bytes
 
 def groups(job: Job) -> List[bytes]:
-    """The bytes in the groups of document 01's hex sheet: a record each, the lists' counts by themselves."""
+    """The bytes in the groups of the hex sheet of tools/README.md: a record each, the lists' counts by themselves."""
     rest = [bytes(job.sides)]
     rest += [value.to_bytes(4, "big") for value in (job.limit, *job.costs)]
     rest.append(len(job.blocks).to_bytes(2, "big"))

@@ -1,5 +1,5 @@
-"""What the router makes of a good job before its first search: ends, numbers 7 to 9, and what is blocked at the outset.
-Document 01, "The tree of one net"."""
+"""What the router makes of a good job before its first search: ends, numbers 7 to 9, and what is blocked at the outset:
+docs/RULES.md, The tree of one net."""
 from __future__ import annotations
 
 from typing import Iterator, List, Optional, Set, Tuple

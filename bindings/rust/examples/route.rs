@@ -1,5 +1,5 @@
-//! Routes a job sheet: `route FILE`, or document 01's hex sheet with no argument. Prints what program `route` prints: a tree's
-//! lines, or its refusal. Program `route` refuses rooms of over 4,096 cells; this doesn't.
+//! Routes a job sheet: `route FILE`, or the hex sheet of tools/README.md with no argument. Prints what program `route`
+//! prints: a tree's lines, or its refusal. Program `route` refuses rooms of over 4,096 cells; this doesn't.
 
 use std::path::Path;
 use std::process::ExitCode;

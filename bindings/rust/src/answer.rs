@@ -1,4 +1,4 @@
-//! What comes back: a route or a tree, or the refusal that is due, as document 01's table of numbers has it.
+//! What comes back: a route or a tree, or the refusal that is due, as docs/RULES.md, Numbers that come back, has it.
 
 use std::fmt;
 

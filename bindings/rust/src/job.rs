@@ -46,7 +46,7 @@ pub struct Config {
 }
 
 impl Default for Config {
-    /// The costs of document 01's samples.
+    /// The costs of the samples of docs/RULES.md.
     fn default() -> Self {
         Self {
             limit: 30_000,

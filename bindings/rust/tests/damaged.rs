@@ -1,4 +1,4 @@
-//! Damaged sheets and short memory. The plain router, which states document 01 a second time, says what is due.
+//! Damaged sheets and short memory. The plain router, which states docs/RULES.md a second time, says what is due.
 
 use cases::sheet::TreeAnswer;
 use checks::{dirty_search, dirty_tree, tree_due};

@@ -1,4 +1,4 @@
-//! Document 01's samples, a to l, and its hex sheet.
+//! The samples a to l of docs/RULES.md, and the hex sheet of tools/README.md.
 
 use cases::samples::{HEX_SHEET, HEX_SHEET_LINES};
 use cases::text::parse_hex;

@@ -17,7 +17,7 @@ pub fn searches() -> Vec<(&'static str, Search, SearchAnswer)> {
     list
 }
 
-/// The samples of document 01 that are searches, then the examples, without their answers.
+/// The samples of docs/RULES.md that are searches, then the examples, without their answers.
 pub fn search_cases() -> Vec<Search> {
     let samples = samples().into_iter();
     let samples = samples.filter_map(|(_, sample)| match sample {
@@ -29,7 +29,7 @@ pub fn search_cases() -> Vec<Search> {
         .collect()
 }
 
-/// The samples of document 01 that are sheets, then the examples, without their answers.
+/// The samples of docs/RULES.md that are sheets, then the examples, without their answers.
 pub fn sheet_cases() -> Vec<Sheet> {
     let samples = samples().into_iter();
     let samples = samples.filter_map(|(_, sample)| match sample {

@@ -1,5 +1,5 @@
-//! Cases for the oracle: what a search or a sheet asks, the answers that document 01 gives, the files they are kept in
-//! and the generator that makes them. The plain router here states document 01 a second time and shares no code with
+//! Cases for the oracle: what a search or a sheet asks, the answers that docs/RULES.md gives, the files they are kept in
+//! and the generator that makes them. The plain router here states docs/RULES.md a second time and shares no code with
 //! the published Rust: it judges the refusals that the Rust lacks and is a second opinion on all others.
 
 pub mod answers;
@@ -21,7 +21,7 @@ pub mod stats;
 pub mod text;
 pub mod tree;
 
-/// A refusal: its number and detail in document 01's table.
+/// A refusal: its number and detail in docs/RULES.md, Numbers that come back.
 #[derive(Clone, Copy, Debug, Eq, PartialEq)]
 pub struct Refusal {
     pub number: u8,

@@ -1,4 +1,4 @@
-//! Points that document 01 leaves open. The published Rust settles each; `Other` names what could have been read instead,
+//! The points of docs/OPEN-POINTS.md. The published Rust settles each; `Other` names what could have been read instead,
 //! so that a case can be looked for on which the two readings answer differently.
 
 /// The other reading of one point.

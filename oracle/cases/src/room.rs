@@ -1,4 +1,4 @@
-//! The room of document 01: sides, cell numbers, kinds, facings, the twelve moves, and the costs with their ranges.
+//! docs/RULES.md, The room: sides, cell numbers, kinds, facings, the twelve moves, and the costs with their ranges.
 
 const MOST_SIDE: u8 = 64;
 pub const MOST_CELLS: usize = 16_384;

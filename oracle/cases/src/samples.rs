@@ -1,4 +1,4 @@
-//! Samples a to l of document 01 and its hex sheet, with the answers that document 01 and docs/DECISIONS.md give.
+//! Samples a to l of docs/RULES.md, with the answers given there, and the hex sheet of tools/README.md.
 
 use crate::Refusal;
 use crate::room::{Config, facing, kind, port};
@@ -139,7 +139,7 @@ pub fn block(node: u16, at: [u8; 3], kind: u8) -> Block {
     }
 }
 
-/// Document 01's sheet in hex, and what program `route` prints for it.
+/// The hex sheet of tools/README.md, and what program `route` prints for it.
 pub const HEX_SHEET: &str = "01 00000028 0A0101 00007530 0000000A 00000019 0000000F \
     0000 0000 0000 0000 0000 0000000000 01 0900000000";
 pub const HEX_SHEET_LINES: &str = "net 1 10\nbranch 0 1 2 3 4 5 6 7 8 9\nrepeaters 1\n";

@@ -134,7 +134,7 @@ pub struct Question<'a> {
 }
 
 impl Question<'_> {
-    /// The search of document 01, on flat arrays.
+    /// The search of docs/RULES.md, on flat arrays.
     pub fn search(&self) -> Searched {
         let mut state = State::new(self.room.cells());
         let end = self.search_from(&mut state);

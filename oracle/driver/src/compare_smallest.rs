@@ -1,4 +1,5 @@
-//! The smallest inputs of docs/DIFFERENCES.md: the proved search and the proved tree against the oracle's answers.
+//! The smallest inputs of docs/DIFFERENCES.md and docs/OPEN-POINTS.md: the proved search and the proved tree against the
+//! oracle's answers.
 
 use cases::smallest::{Input, points};
 use cases::text::{search_lines, sheet_lines};

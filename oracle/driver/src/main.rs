@@ -21,7 +21,7 @@ driver compare searches|sheets --seed N --count N [--profile P] [--against oracl
                 compares random cases; P is tiny, small, middle, large or mixed (the default).
                 oracle (the default): the published Rust and the plain router, which must agree; plain: the latter alone.
                 rich: of the sheets only those that have a tree of two or more sinks with stairs and repeaters
-driver compare smallest compares the smallest inputs of docs/DIFFERENCES.md
+driver compare smallest compares the smallest inputs of docs/SMALLEST.md
 driver connected --seed N --count N [--profile P]
                 tests on so many trees of random sheets that the whole net hangs together
 driver bench searches   times the proved search, the published Rust and plain Rust over flat arrays

@@ -1,6 +1,7 @@
-//! The smallest inputs of docs/DIFFERENCES.md, by the number of cells: each finding and each open point has an input that
-//! shows it, and a walk through all inputs of fewer cells that a few lists of parts make up, or the reason why there are
-//! none. `oracle smallest` goes the walks; the tests hold each input to what it shows.
+//! The smallest inputs of docs/DIFFERENCES.md and docs/OPEN-POINTS.md, by the number of cells (docs/SMALLEST.md): each
+//! finding and each open point has an input that shows it, and a walk through all inputs of fewer cells that a few lists of
+//! parts make up, or the reason why there are none. `oracle smallest` goes the walks; the tests hold each input to what it
+//! shows.
 
 mod findings;
 mod readings;
