@@ -11,7 +11,7 @@ use crate::room::{DOWN, Room, UP, kind};
 pub enum StairRule {
     /// Not Air gives the pair's second cell.
     Shorter,
-    /// As document 01 has it written: not Air gives the path's cell there, else the pair's second cell.
+    /// As the requirement has it written: not Air gives the path's cell there, else the pair's second cell.
     AsWritten,
     /// As the published Rust has it: not Air or a conductor gives the path's cell there, else the pair's second cell.
     Published,
