@@ -42,7 +42,7 @@ def word_edits(line, first, last, words):
 
 def constant_edits(line, first, last):
     """One more and one less. A number behind a dot or before `=` is a field's name."""
-    for match in re.finditer(r"(?<![\w.·-])\d+(?![\w·-]*[·-]| =)", line[:last]):
+    for match in re.finditer(r"(?<![\w.·-])\d+(?=(?:u8|u16|u32|u64|usize)?(?![\w·-]))(?! = )", line[:last]):
         if match.start() >= first:
             for other in {int(match[0]) + 1, max(int(match[0]) - 1, 0)} - {int(match[0])}:
                 yield "constant", replaced(line, *match.span(), str(other))
