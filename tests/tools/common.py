@@ -36,7 +36,7 @@ def remade(job):
     return to_bytes(texts.job_of(draft))
 
 
-# ---- the oracle's stored sheets; their format is in oracle/answers/README.md
+# ---- the oracle's stored sheets; their format is in oracle/STORED.md
 
 class Stored:
     def __init__(self, sheet, number, detail, branches, occupied, repeaters):
@@ -53,7 +53,7 @@ class Stored:
 
 
 def stored():
-    with open(os.path.join(ROOT, "oracle", "answers", "sheets.bin"), "rb") as file:
+    with open(os.path.join(ROOT, "crates", "replay_sheets", "data", "sheets.bin"), "rb") as file:
         data = file.read()
     assert data[:4] == b"DRT1"
     place = 4

@@ -7,7 +7,8 @@ use crate::generate::{self, Profile};
 use crate::search::Search;
 use crate::sheet::Sheet;
 
-/// A file of the samples and examples, followed by random cases of the mixed profile.
+/// A file of the samples and examples, followed by random cases of the mixed profile. It lies below the repository's `crates`,
+/// beside the proved program that replays it.
 pub struct Stored {
     pub file: &'static str,
     pub seed: u64,
@@ -15,13 +16,13 @@ pub struct Stored {
 }
 
 pub const SEARCHES: Stored = Stored {
-    file: "searches.bin",
+    file: "replay/data/searches.bin",
     seed: 1,
     count: 1_950,
 };
 
 pub const SHEETS: Stored = Stored {
-    file: "sheets.bin",
+    file: "replay_sheets/data/sheets.bin",
     seed: 100,
     count: 990,
 };
@@ -29,7 +30,7 @@ pub const SHEETS: Stored = Stored {
 impl Stored {
     /// The file's bytes. Only tests ask: the path is that of the sources.
     pub fn bytes(&self) -> Vec<u8> {
-        let folder = PathBuf::from(env!("CARGO_MANIFEST_DIR")).join("../answers");
+        let folder = PathBuf::from(env!("CARGO_MANIFEST_DIR")).join("../../crates");
         let file = folder.join(self.file);
         std::fs::read(&file).unwrap_or_else(|error| panic!("{}: {error}", file.display()))
     }
