@@ -4,7 +4,6 @@ mod replay;
 mod searches;
 
 use crate::replay::Stand;
-use crate::replay::count_number;
 use crate::replay::replay;
 use libc::STDOUT_FILENO;
 use stored::memory::FILE_LENGTH;
@@ -27,17 +26,16 @@ fn print_number(number: u32, count: u32) {
     print_count_line(b": ", count);
 }
 
-fn print_numbers(file: &[u8]) {
-    let mut number: u32 = 0;
-    while number < 16 {
-        print_number(number, count_number(file, number));
-        number += 1;
+fn print_numbers(met: [u32; 16]) {
+    for number in 0..16 {
+        print_number(number, met[number as usize]);
     }
 }
 
-fn print_agreed(file: &[u8], stand: Stand) {
+fn print_agreed(stand: Stand) {
     print_count_line(b"searches ", stand.searches);
-    print_numbers(file);
+    let met = stand.met;
+    print_numbers(met);
     print_count_line(b"comparisons ", stand.runs);
     io::write_all(STDOUT_FILENO, b"all agree\n");
 }
@@ -56,7 +54,7 @@ fn print_outcome(file: &[u8], ended: bool, stand: Stand) {
         print_count_line(b"the file does not end after search ", stand.searches);
         return;
     }
-    print_agreed(file, stand);
+    print_agreed(stand);
 }
 
 fn main() {

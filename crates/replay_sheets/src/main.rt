@@ -16,9 +16,7 @@ use libc::STDOUT_FILENO;
 use stored::memory::FILE_LENGTH;
 use stored::memory::QUEUE_LENGTH;
 use stored::memory::file_buffer;
-ghost use mathlib.Core.Path.{_≡_};
 ghost use Prim.Native.Nat.{_<_};
-ghost use Rattle.replay_sheets.specs.Replays.{endsThere};
 
 fn print_count(word: &[u8], count: u32) {
     io::write_all(STDOUT_FILENO, word);
@@ -40,10 +38,8 @@ fn print_number(number: u32, count: u32) {
 }
 
 fn print_numbers(met: [u32; 16]) {
-    let mut number: u32 = 0;
-    while number < 16 {
+    for number in 0..16 {
         print_number(number, met[number as usize]);
-        number += 1;
     }
 }
 
@@ -98,16 +94,6 @@ fn print_comparisons(compared: [u32; 5], differ: [u32; 5], first: [u32; 5]) {
     );
 }
 
-// Whether the file ends with the last record, and within the buffer that it was read into.
-fn ends_there(at: usize, bytes: usize) -> bool
-    ensures { λ r. ⌜ r ≡ endsThere at bytes ⌝ }
-{
-    if bytes == FILE_LENGTH {
-        return false;
-    }
-    at == bytes
-}
-
 fn print_tally(tally: Tally, whole: bool) {
     print_count(b"sheets ", tally.sheets);
     end_line();
@@ -136,5 +122,6 @@ fn main() {
     let mut queue = [0u64; QUEUE_LENGTH];
     let stand = replay::replay(&file[..bytes], &mut queue);
     let tally = stand.tally;
-    print_tally(tally, ends_there(stand.at, bytes));
+    // the file ends with the last record, and within the buffer that it was read into
+    print_tally(tally, bytes < FILE_LENGTH && stand.at == bytes);
 }

@@ -7,32 +7,21 @@ use crate::sheets::LETTERS;
 use crate::sheets::Told;
 use crate::sheets::answer_at;
 use crate::sheets::asked_at;
-use crate::sheets::sheet_at;
-use crate::sheets::smaller;
-use crate::sheets::told_if;
 use crate::tallies::Tally;
 use crate::tallies::nothing_yet;
 use crate::tallies::one_comparison_more;
 use crate::tallies::one_sheet_more;
+use stored::file_places::FIRST_PLACE;
 use stored::file_places::count_in;
-use stored::file_places::first_place;
+use stored::file_places::part;
+use stored::file_places::past;
+use stored::file_places::word_at;
 use stored::memory::OWN_LENGTH;
-use stored::runs::Gap;
 use stored::runs::Verdict;
-use stored::runs::is_open;
-use stored::runs::is_same;
-use stored::runs::longer;
+use stored::runs::longer_queue;
 use stored::runs::longer_unless;
-use stored::runs::middle;
-use stored::runs::narrowed;
-use stored::runs::queue_more;
-use stored::runs::twice;
-ghost use mathlib.Core.Path.{_≡_};
-ghost use Prim.Native.Nat.{_-_};
-ghost use lib.ListN.{length};
-ghost use Rattle.stored.specs.Runs.{Halved};
-ghost use Rattle.replay_sheets.specs.Runs.{SizeOf, longerLengths, branchBuffer, lengthsFor, isFull, agreedBy, dueIn, RanWith, Narrows, AgreesIn};
-ghost use Rattle.replay_sheets.specs.Replays.{InComparison, InComparisons, Next, Replayed};
+use stored::runs::smaller;
+ghost use Prim.Native.Nat.{_<_};
 
 // The kinds of comparison: buffers of exactly V cells, longer ones, a branch buffer exactly full, one that is one cell short, and
 // the least queue.
@@ -58,9 +47,7 @@ struct Size {
     limit: usize,
 }
 
-fn size_of(sheet: &[u8], lent: usize) -> Size
-    ensures { λ r. ⌜ SizeOf (now (sheet .entry)) lent r ⌝ }
-{
+fn size_of(sheet: &[u8], lent: usize) -> Size {
     let reading = sheet_reader::read_sheet(sheet);
     let judgement = reading.judgement;
     if !judgement.is_good() {
@@ -76,113 +63,39 @@ fn size_of(sheet: &[u8], lent: usize) -> Size
     }
 }
 
-// Longer buffers that change no answer. Numbers 6, 13 and 15 hang on lengths.
-fn longer_lengths(asked: Asked, number: u32) -> LentLengths
-    ensures { λ r. ⌜ r ≡ longerLengths asked number ⌝ }
-{
-    LentLengths {
-        cells: longer_unless(6, asked.lent, number),
-        branches: longer_unless(15, asked.branches, number),
-        queue: longer(twice(asked.places), queue_more(number)),
-    }
-}
-
-fn one_less(count: usize) -> usize
-    ensures { λ r. ⌜ r ≡ count - 1 ⌝ }
-{
-    if count == 0 { 0 } else { count - 1 }
-}
-
-fn branch_buffer(comparison: usize, branches: usize, total: usize) -> usize
-    ensures { λ r. ⌜ r ≡ branchBuffer comparison branches total ⌝ }
-{
-    if comparison == BRANCH_FULL {
-        return total;
-    }
-    if comparison == BRANCH_SHORT {
-        return one_less(total);
-    }
-    branches
-}
-
-// The lengths of a comparison, whose buffers of a number a cell have so many unless they are longer ones.
-fn lengths_for(comparison: usize, asked: Asked, cells: usize, told: Told) -> LentLengths
-    ensures { λ r. ⌜ r ≡ lengthsFor comparison asked cells told ⌝ }
-{
+// The lengths of a comparison. Longer buffers change no answer: numbers 6, 13 and 15 hang on lengths.
+fn lengths_for(comparison: usize, asked: Asked, cells: usize, told: Told) -> LentLengths {
     if comparison == LONGER {
-        return longer_lengths(asked, told.number);
+        return LentLengths {
+            cells: longer_unless(6, asked.lent, told.number),
+            branches: longer_unless(15, asked.branches, told.number),
+            queue: longer_queue(asked.places, told.number),
+        };
+    }
+    let mut branches = asked.branches;
+    if comparison == BRANCH_FULL {
+        branches = told.total;
+    }
+    if comparison == BRANCH_SHORT && 0 < told.total {
+        branches = told.total - 1;
     }
     LentLengths {
         cells,
-        branches: branch_buffer(comparison, asked.branches, told.total),
-        queue: twice(asked.places),
+        branches,
+        queue: asked.places as usize * 2,
     }
 }
 
-// Every sheet in the first two kinds; a tree with a branch in the others.
-fn due_in(comparison: usize, told: Told) -> bool
-    ensures { λ r. ⌜ r ≡ dueIn comparison told ⌝ }
-{
-    if comparison <= LONGER {
-        return true;
-    }
-    if told.total == 0 {
-        return false;
-    }
-    true
-}
-
-fn is_full(verdict: Verdict) -> bool
-    ensures { λ r. ⌜ r ≡ isFull verdict ⌝ }
-{
+// A buffer that is one cell short gives its number, any other the stored answer.
+fn agreed_by(comparison: usize, verdict: Verdict) -> bool {
     match verdict {
-        Verdict::Same => false,
-        Verdict::Full => true,
+        Verdict::Same => comparison != BRANCH_SHORT,
+        Verdict::Full => comparison == BRANCH_SHORT,
         Verdict::Other => false,
     }
 }
 
-fn agreed_by(comparison: usize, verdict: Verdict) -> bool
-    ensures { λ r. ⌜ r ≡ agreedBy comparison verdict ⌝ }
-{
-    if comparison == BRANCH_SHORT {
-        return is_full(verdict);
-    }
-    is_same(verdict)
-}
-
-// Halves the gap: half way the answer is the stored one, or the queue is full. A gap of one place stays.
-fn narrow_once(
-    sheet: &[u8],
-    gap: Gap,
-    asked: Asked,
-    size: Size,
-    told: Told,
-    cells: &[u32],
-    covered: &[u8],
-    marks: &[u8],
-    queue: &mut [u64],
-) -> Gap
-    ensures { λ r. ⌜ Halved (RanWith (now (sheet .entry)) asked size told (now (cells .entry)) (now (covered .entry)) (now (marks .entry)) (length (now (queue .entry)))) gap r ⌝ }
-{
-    if !is_open(gap) {
-        return gap;
-    }
-    let places = middle(gap.full, gap.enough);
-    let lent = LentLengths {
-        cells: size.cells,
-        branches: asked.branches,
-        queue: twice(places),
-    };
-    let shortage = Shortage {
-        number: 13,
-        most: size.limit,
-    };
-    let verdict = run_sheet(sheet, told, lent, shortage, cells, covered, marks, queue);
-    narrowed(gap, places, verdict)
-}
-
-// Looks for the least queue that gives the stored answer: with one place less the queue is full. A count of places has 32 bits.
+// Looks for the least queue that gives the stored answer: with one place less the queue is full.
 fn narrows(
     sheet: &[u8],
     asked: Asked,
@@ -192,21 +105,28 @@ fn narrows(
     covered: &[u8],
     marks: &[u8],
     queue: &mut [u64],
-) -> bool
-    ensures { λ r. ⌜ Narrows (now (sheet .entry)) asked size told (now (cells .entry)) (now (covered .entry)) (now (marks .entry)) (length (now (queue .entry))) r ⌝ }
-{
-    let mut gap = Gap {
-        full: 0,
-        enough: asked.places,
-        runs: 0,
-        agreed: true,
-    };
-    let mut rounds: u32 = 0;
-    while rounds < 32 {
-        gap = narrow_once(sheet, gap, asked, size, told, cells, covered, marks, queue);
-        rounds += 1;
+) -> bool {
+    let mut full: u32 = 0;
+    let mut enough = asked.places;
+    while 1 < enough - full {
+        let places = full + (enough - full) / 2;
+        let lent = LentLengths {
+            cells: size.cells,
+            branches: asked.branches,
+            queue: places as usize * 2,
+        };
+        let shortage = Shortage {
+            number: 13,
+            most: size.limit,
+        };
+        let verdict = run_sheet(sheet, told, lent, shortage, cells, covered, marks, queue);
+        match verdict {
+            Verdict::Same => enough = places,
+            Verdict::Full => full = places,
+            Verdict::Other => return false,
+        }
     }
-    gap.agreed
+    true
 }
 
 fn agrees_in(
@@ -218,9 +138,7 @@ fn agrees_in(
     covered: &[u8],
     marks: &[u8],
     queue: &mut [u64],
-) -> bool
-    ensures { λ r. ⌜ AgreesIn comparison (now (sheet .entry)) asked told (now (cells .entry)) (now (covered .entry)) (now (marks .entry)) (length (now (queue .entry))) r ⌝ }
-{
+) -> bool {
     let size = size_of(sheet, asked.lent);
     if comparison == QUEUE {
         return narrows(sheet, asked, size, told, cells, covered, marks, queue);
@@ -234,7 +152,7 @@ fn agrees_in(
     agreed_by(comparison, verdict)
 }
 
-// A sheet in one comparison, if it is due.
+// A sheet in one comparison: every sheet in the first two kinds, a tree with a branch in the others.
 fn replay_comparison(
     tally: Tally,
     comparison: usize,
@@ -246,9 +164,9 @@ fn replay_comparison(
     marks: &[u8],
     queue: &mut [u64],
 ) -> Tally
-    ensures { λ r. ⌜ InComparison comparison (now (sheet .entry)) asked told (now (cells .entry)) (now (covered .entry)) (now (marks .entry)) (length (now (queue .entry))) tally r ⌝ }
+    requires { ⌜ comparison < 5 ⌝ }
 {
-    if !due_in(comparison, told) {
+    if LONGER < comparison && told.total == 0 {
         return tally;
     }
     let agreed = agrees_in(comparison, sheet, asked, told, cells, covered, marks, queue);
@@ -265,12 +183,9 @@ fn replay_comparisons(
     covered: &[u8],
     marks: &[u8],
     queue: &mut [u64],
-) -> Tally
-    ensures { λ r. ⌜ InComparisons (now (sheet .entry)) asked told (now (cells .entry)) (now (covered .entry)) (now (marks .entry)) (length (now (queue .entry))) tally r ⌝ }
-{
+) -> Tally {
     let mut now = one_sheet_more(tally, told.number);
-    let mut comparison: usize = 0;
-    while comparison < 5 {
+    for comparison in 0..5 {
         now = replay_comparison(
             now,
             comparison,
@@ -282,29 +197,27 @@ fn replay_comparisons(
             marks,
             queue,
         );
-        comparison += 1;
     }
     now
 }
 
-// The record that stands there: its sheet in each comparison. The next one stands where it ends.
-fn replay_next(file: &[u8], stand: Stand, queue: &mut [u64]) -> Stand
-    ensures { λ r. ⌜ Next (now (file .entry)) (length (now (queue .entry))) stand r ⌝ }
-{
+// The record that stands there: its sheet in each comparison. The next one stands where it ends. Of a sheet that the file does not hold
+// whole nothing is run: number 1 comes of no bytes, and is not what stands past the file's end.
+fn replay_next(file: &[u8], stand: Stand, queue: &mut [u64]) -> Stand {
     let mut cells = [0u32; OWN_LENGTH];
     let mut covered = [0u8; OWN_LENGTH];
     let mut marks = [0u8; OWN_LENGTH];
     let tally = stand.tally;
-    let part = sheet_at(file, stand.at);
-    let from = part.from;
-    let end = part.end;
+    let length = word_at(file, stand.at, 12);
+    let from = past(stand.at, 16);
+    let end = past(from, length);
     let answered = answer_at(file, end, &mut cells, &mut covered, &mut marks);
     let told = answered.told;
     let after = replay_comparisons(
         tally,
-        &file[from..end],
+        part(file, from, length),
         asked_at(file, stand.at),
-        told_if(part.whole, told),
+        told,
         &cells,
         &covered,
         &marks,
@@ -317,18 +230,13 @@ fn replay_next(file: &[u8], stand: Stand, queue: &mut [u64]) -> Stand
 }
 
 // All stored sheets in their order.
-pub fn replay(file: &[u8], queue: &mut [u64]) -> Stand
-    ensures { λ r. ⌜ Replayed (now (file .entry)) (length (now (queue .entry))) r ⌝ }
-{
-    let count = count_in(file, LETTERS);
+pub(crate) fn replay(file: &[u8], queue: &mut [u64]) -> Stand {
     let mut stand = Stand {
-        at: first_place(file),
+        at: FIRST_PLACE,
         tally: nothing_yet(),
     };
-    let mut passed: u32 = 0;
-    while passed < count {
+    for passed in 0..count_in(file, LETTERS) {
         stand = replay_next(file, stand, queue);
-        passed += 1;
     }
     stand
 }

@@ -9,10 +9,8 @@ use stored::memory::spoil_words;
 use stored::runs::Verdict;
 ghost use mathlib.Core.Path.{_≡_};
 ghost use Prim.Native.Nat.{_≤_};
-ghost use lib.ListN.{length, take};
-ghost use Rattle.net_tree.specs.Answers.{lent, lengthsOf};
-ghost use Rattle.stored.specs.Memory.{Rubbish};
-ghost use Rattle.replay_sheets.specs.Verdicts.{OwnRubbish, AllRubbish, Judged, memoryFits, Ran};
+ghost use lib.ListN.{length};
+ghost use Rattle.stored.specs.Memory.{ownLength};
 
 // The lengths at which buffers are lent: those of a number a cell, the branch buffer, and the queue.
 pub struct LentLengths {
@@ -23,7 +21,7 @@ pub struct LentLengths {
 
 // Buffers of the program's own, full of rubbish.
 fn rubbish_words() -> [u32; OWN_LENGTH]
-    ensures { λ r. ⌜ OwnRubbish r ⌝ }
+    ensures { λ r. ⌜ ownLength ≡ length r ⌝ }
 {
     let mut words = [0u32; OWN_LENGTH];
     spoil_words(&mut words);
@@ -31,19 +29,11 @@ fn rubbish_words() -> [u32; OWN_LENGTH]
 }
 
 fn rubbish_bytes() -> [u8; OWN_LENGTH]
-    ensures { λ r. ⌜ OwnRubbish r ⌝ }
+    ensures { λ r. ⌜ ownLength ≡ length r ⌝ }
 {
     let mut bytes = [0u8; OWN_LENGTH];
     spoil_bytes(&mut bytes);
     bytes
-}
-
-// Fills the front of the queue with rubbish.
-fn spoil_front(queue: &mut [u64], longs: usize)
-    requires { ⌜ longs ≤ length (now queue) ⌝ }
-    ensures { λ _. ⌜ Rubbish (take longs (now (queue .exit))) ⌝ }
-{
-    spoil_longs(&mut queue[..longs]);
 }
 
 // The answer over memory full of rubbish, and all memory behind it, held to what is stored.
@@ -66,10 +56,7 @@ fn run_judged(
     path: &mut [u32],
     best: &mut [u32],
     queue: &mut [u64],
-) -> Verdict
-    requires { ⌜ AllRubbish (lent (now branches) (now occupied) (now repeaters) (now kinds) (now blocked) (now classes) (now joinable) (now known) (now previous) (now path) (now best) (now queue)) ⌝ }
-    ensures { λ r. ⌜ Judged (now (sheet .entry)) (lengthsOf (lent (now (branches .entry)) (now (occupied .entry)) (now (repeaters .entry)) (now (kinds .entry)) (now (blocked .entry)) (now (classes .entry)) (now (joinable .entry)) (now (known .entry)) (now (previous .entry)) (now (path .entry)) (now (best .entry)) (now (queue .entry)))) told shortage (now (cells .entry)) (now (covered .entry)) (now (marks .entry)) r ⌝ }
-{
+) -> Verdict {
     let answer = net_tree::route_net_tree(
         sheet,
         branches,
@@ -107,20 +94,8 @@ fn run_judged(
     )
 }
 
-fn memory_fits(lent: LentLengths, longs: usize) -> bool
-    ensures { λ r. ⌜ r ≡ memoryFits lent longs ⌝ }
-{
-    if OWN_LENGTH < lent.branches {
-        return false;
-    }
-    if OWN_LENGTH < lent.cells {
-        return false;
-    }
-    lent.queue <= longs
-}
-
-// The run at these lengths, in the front of each buffer. Lengths that a buffer doesn't have would be no run.
-pub fn run_sheet(
+// The run in the front of each buffer; that of the queue is full of rubbish already.
+fn run_lent(
     sheet: &[u8],
     told: Told,
     lent: LentLengths,
@@ -130,12 +105,11 @@ pub fn run_sheet(
     marks: &[u8],
     queue: &mut [u64],
 ) -> Verdict
-    ensures { λ r. ⌜ Ran (now (sheet .entry)) lent told shortage (now (cells .entry)) (now (covered .entry)) (now (marks .entry)) (length (now (queue .entry))) r ⌝ }
+    requires { ⌜ (lent .branches ≤ ownLength) × (lent .cells ≤ ownLength) × (lent .queue ≤ length (now queue)) ⌝ }
 {
-    if !memory_fits(lent, queue.len()) {
-        return Verdict::Other;
-    }
-    spoil_front(queue, lent.queue);
+    let branch = lent.branches;
+    let count = lent.cells;
+    let longs = lent.queue;
     let words = rubbish_words();
     let bytes = rubbish_bytes();
     let mut branches = words;
@@ -156,17 +130,42 @@ pub fn run_sheet(
         cells,
         covered,
         marks,
-        &mut branches[..lent.branches],
-        &mut occupied[..lent.cells],
-        &mut repeaters[..lent.cells],
-        &mut kinds[..lent.cells],
-        &mut blocked[..lent.cells],
-        &mut classes[..lent.cells],
-        &mut joinable[..lent.cells],
-        &mut known[..lent.cells],
-        &mut previous[..lent.cells],
-        &mut path[..lent.cells],
-        &mut best[..lent.cells],
-        &mut queue[..lent.queue],
+        &mut branches[..branch],
+        &mut occupied[..count],
+        &mut repeaters[..count],
+        &mut kinds[..count],
+        &mut blocked[..count],
+        &mut classes[..count],
+        &mut joinable[..count],
+        &mut known[..count],
+        &mut previous[..count],
+        &mut path[..count],
+        &mut best[..count],
+        &mut queue[..longs],
     )
+}
+
+// The run at these lengths, the queue filled with rubbish first. Lengths that a buffer doesn't have would be no run.
+pub(crate) fn run_sheet(
+    sheet: &[u8],
+    told: Told,
+    lent: LentLengths,
+    shortage: Shortage,
+    cells: &[u32],
+    covered: &[u8],
+    marks: &[u8],
+    queue: &mut [u64],
+) -> Verdict {
+    let longs = lent.queue;
+    if OWN_LENGTH < lent.branches {
+        return Verdict::Other;
+    }
+    if OWN_LENGTH < lent.cells {
+        return Verdict::Other;
+    }
+    if queue.len() < longs {
+        return Verdict::Other;
+    }
+    spoil_longs(&mut queue[..longs]);
+    run_lent(sheet, told, lent, shortage, cells, covered, marks, queue)
 }

@@ -17,7 +17,7 @@ abbrev pub fileLength : ℕ
 fileLength = 1000000
 
 -- the rubbish at a place: never 0 nor a mark
-unfoldable pub rubbish : ℕ → ℕ
+abbrev pub rubbish : ℕ → ℕ
 rubbish i = i % 251 + 2
 
 -- full of rubbish
@@ -30,23 +30,12 @@ allFrom p i [] = true
 allFrom p i (x ∷ xs) = p i x && allFrom p (suc i) xs
 
 -- what is due at a place: the rubbish, where it is to be kept; else what is expected there, and 0 behind that
-unfoldable pub dueAt : Bool → List ℕ → ℕ → ℕ
+abbrev pub dueAt : Bool → List ℕ → ℕ → ℕ
 dueAt kept expected i = either kept (rubbish i) (getD expected i 0)
 
 -- each place holds what is due
 abbrev pub isDue : Bool → List ℕ → ℕ → ℕ → Bool
 isDue kept expected i x = eqb x (dueAt kept expected i)
 
-unfoldable pub holds : Bool → List ℕ → List ℕ → Bool
+abbrev pub holds : Bool → List ℕ → List ℕ → Bool
 holds kept expected s = allFrom (isDue kept expected) 0 s
-
--- four buffers in which nothing is expected: the rubbish that was there, or zeros
-unfoldable pub fourHold : Bool → (a b c d : List ℕ) → Bool
-fourHold kept a b c d = holds kept [] a && holds kept [] b && holds kept [] c && holds kept [] d
-
--- each place holds a mark or 0, and a mark where one is expected
-unfoldable pub coversAt : List ℕ → ℕ → ℕ → Bool
-coversAt expected i x = leb x 1 && leb (dueAt false expected i) x
-
-unfoldable pub covers : List ℕ → List ℕ → Bool
-covers expected s = allFrom (coversAt expected) 0 s

@@ -8,7 +8,6 @@ use native.Mathlib.Numerals.{add-one}
 use native.Mathlib.Omega.{arith}
 use lib.Dec.{eqb}
 use lib.ListN.{length, getD, set, drop, drop-of-length-le, length-set}
-use lib.Seq.{ext-getD}
 use borrow.Author.Tests.{eq-eqb, ne-eqb}
 use Rattle.basics.specs.Lists.{front-written, drop-next}
 use Rattle.stored.specs.Memory.{rubbish, Rubbish, allFrom}
@@ -32,10 +31,6 @@ module _ {s₀ : List ℕ} where
 
     pub spoiled-all : length s ≤ i → Rubbish s
     spoiled-all h = λ j l. S .front j (omega arith)
-
--- rubbish is determined by its length
-pub rubbish-one : (s t : List ℕ) → length s ≡ length t → Rubbish s → Rubbish t → s ≡ t
-rubbish-one s t e p q = ext-getD 0 s t e (λ i h. p i h ∙ sym (q i (omega (arith, e))))
 
 -- ---- a test of each place: those before the i-th have passed
 

@@ -3,10 +3,7 @@ ghost use mathlib.Core.Path.{_≡_};
 ghost use mathlib.Core.List.{[]};
 ghost use Prim.Native.Nat.{_<_};
 ghost use lib.ListN.{length};
-ghost use Rattle.stored.specs.Memory.{fileLength, rubbish, Rubbish, dueAt, holds, coversAt, covers};
-ghost use Rattle.stored.specs.FilePlaces.{cellsFrom};
-use crate::file_places::cell_at;
-use crate::file_places::past;
+ghost use Rattle.stored.specs.Memory.{fileLength, rubbish, Rubbish, dueAt, holds};
 
 // How many numbers the programs' own buffers have: those of the longest buffer that is stored, 16,484, and some more.
 pub const OWN_LENGTH: usize = 16600;
@@ -33,30 +30,24 @@ fn rubbish(i: usize) -> u8
 pub fn spoil_bytes(s: &mut [u8])
     ensures { λ _. ⌜ Rubbish (now (s .exit)) ⌝ }
 {
-    let mut i: usize = 0;
-    while i < s.len() {
+    for i in 0..s.len() {
         s[i] = rubbish(i);
-        i += 1;
     }
 }
 
 pub fn spoil_words(s: &mut [u32])
     ensures { λ _. ⌜ Rubbish (now (s .exit)) ⌝ }
 {
-    let mut i: usize = 0;
-    while i < s.len() {
+    for i in 0..s.len() {
         s[i] = rubbish(i) as u32;
-        i += 1;
     }
 }
 
 pub fn spoil_longs(s: &mut [u64])
     ensures { λ _. ⌜ Rubbish (now (s .exit)) ⌝ }
 {
-    let mut i: usize = 0;
-    while i < s.len() {
+    for i in 0..s.len() {
         s[i] = rubbish(i) as u64;
-        i += 1;
     }
 }
 
@@ -85,19 +76,6 @@ fn word_due(kept: bool, expected: &[u32], i: usize) -> u32
     0
 }
 
-// The same where cells of a stored file are expected, so many from a place on.
-fn cell_due(kept: bool, file: &[u8], at: usize, count: u32, i: usize) -> u32
-    ensures { λ r. ⌜ r ≡ dueAt kept (cellsFrom (now (file .entry)) at count) i ⌝ }
-{
-    if kept {
-        return rubbish(i) as u32;
-    }
-    if i < count as usize {
-        return cell_at(file, past(file, at, i * 2));
-    }
-    0
-}
-
 fn long_due(kept: bool, i: usize) -> u64
     ensures { λ r. ⌜ r ≡ dueAt kept [] i ⌝ }
 {
@@ -107,12 +85,10 @@ fn long_due(kept: bool, i: usize) -> u64
 pub fn bytes_hold(kept: bool, expected: &[u8], s: &[u8]) -> bool
     ensures { λ r. ⌜ r ≡ holds kept (now (expected .entry)) (now (s .entry)) ⌝ }
 {
-    let mut i: usize = 0;
-    while i < s.len() {
+    for i in 0..s.len() {
         if s[i] != byte_due(kept, expected, i) {
             return false;
         }
-        i += 1;
     }
     true
 }
@@ -120,25 +96,10 @@ pub fn bytes_hold(kept: bool, expected: &[u8], s: &[u8]) -> bool
 pub fn words_hold(kept: bool, expected: &[u32], s: &[u32]) -> bool
     ensures { λ r. ⌜ r ≡ holds kept (now (expected .entry)) (now (s .entry)) ⌝ }
 {
-    let mut i: usize = 0;
-    while i < s.len() {
+    for i in 0..s.len() {
         if s[i] != word_due(kept, expected, i) {
             return false;
         }
-        i += 1;
-    }
-    true
-}
-
-pub fn cells_hold(kept: bool, file: &[u8], at: usize, count: u32, s: &[u32]) -> bool
-    ensures { λ r. ⌜ r ≡ holds kept (cellsFrom (now (file .entry)) at count) (now (s .entry)) ⌝ }
-{
-    let mut i: usize = 0;
-    while i < s.len() {
-        if s[i] != cell_due(kept, file, at, count, i) {
-            return false;
-        }
-        i += 1;
     }
     true
 }
@@ -147,36 +108,10 @@ pub fn cells_hold(kept: bool, file: &[u8], at: usize, count: u32, s: &[u32]) -> 
 pub fn longs_hold(kept: bool, s: &[u64]) -> bool
     ensures { λ r. ⌜ r ≡ holds kept [] (now (s .entry)) ⌝ }
 {
-    let mut i: usize = 0;
-    while i < s.len() {
+    for i in 0..s.len() {
         if s[i] != long_due(kept, i) {
             return false;
         }
-        i += 1;
-    }
-    true
-}
-
-// Whether a byte is a mark or 0, and a mark where one is expected.
-fn covers_at(expected: &[u8], i: usize, byte: u8) -> bool
-    ensures { λ r. ⌜ r ≡ coversAt (now (expected .entry)) i byte ⌝ }
-{
-    if 1 < byte {
-        return false;
-    }
-    byte_due(false, expected, i) <= byte
-}
-
-// Whether all are marks or 0, marks wherever one is expected.
-pub fn covers(expected: &[u8], s: &[u8]) -> bool
-    ensures { λ r. ⌜ r ≡ covers (now (expected .entry)) (now (s .entry)) ⌝ }
-{
-    let mut i: usize = 0;
-    while i < s.len() {
-        if !covers_at(expected, i, s[i]) {
-            return false;
-        }
-        i += 1;
     }
     true
 }

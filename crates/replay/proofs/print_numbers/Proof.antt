@@ -4,43 +4,18 @@ use borrow.Author.Needs.{needs}
 use Rattle.replay.proofs.print_numbers.Statement.{statement}
 use Rattle.replay.proofs.print_numbers.Tie as tie
 
-abbrev Inv-loop : tie.InvT-loop
-Inv-loop file number₀ number = Unit {0}
-
-abbrev μ-loop : tie.MeasureT-loop
-μ-loop file number₀ number = 16 - number
-
-loop-holds : tie.Need-loop-holds Inv-loop μ-loop
-loop-holds c = search needs
-
-count-number-requires : tie.Need-count-number-requires Inv-loop μ-loop
-count-number-requires c κs = search needs
-
-print-number-requires : tie.Need-print-number-requires Inv-loop μ-loop
-print-number-requires c κs = search needs
-
-add-number : tie.Need-add-number Inv-loop μ-loop
-add-number c = search needs
-
-loop-less : tie.Need-loop-less Inv-loop μ-loop
-loop-less c = search needs
-
-loop-again : tie.Need-loop-again Inv-loop μ-loop
-loop-again c = search needs
-
-returns : tie.Need-returns Inv-loop μ-loop
-returns c = search needs
-
 pub print-numbers-spec : {M : Type 1} → statement M
 print-numbers-spec =
     tie.close
     (tie.spec
-    Inv-loop
-    μ-loop
-    loop-holds
-    count-number-requires
-    print-number-requires
-    add-number
-    loop-less
-    loop-again
-    returns)
+    (λ met number₀ number. Unit {0})
+    (λ met number₀ number. 16 - number)
+    (λ c. search needs)
+    (λ c. search needs)
+    (λ c. search needs)
+    (λ c. search needs)
+    (λ c κs. search needs)
+    (λ c. search needs)
+    (λ c. search needs)
+    (λ c. search needs)
+    (λ c. search needs))

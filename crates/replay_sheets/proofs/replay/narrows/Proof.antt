@@ -1,51 +1,32 @@
--- `narrows` meets its contract: the gap is halved once a round.
-use mathlib.Core.Path.{refl}
-use Prim.Native.Nat.{_-_}
+-- `narrows` is safe and ends: fewer places lie between.
+use mathlib.Core.Path.{_≡_}
+use Prim.Native.Nat.{_^_, _≤_, _<_, _-_}
 use lib.ListN.{length}
 use borrow.Author.Needs.{needs}
-use Rattle.replay_sheets.specs.Runs.{RanWith}
-use Rattle.stored.specs.Runs.{Halved}
-use Rattle.stored.specs.RunLaws.{RoundsDone, rounds-none, rounds-next, rounds-all}
 use Rattle.replay_sheets.proofs.replay.narrows.Statement.{statement}
 use Rattle.replay_sheets.proofs.replay.narrows.Tie as tie
-
-abbrev Inv-loop : tie.InvT-loop
-Inv-loop sheet asked size told cells covered marks queue₀ gap₀ rounds₀ queue gap rounds = RoundsDone (λ longs _. Halved (RanWith sheet asked size told cells covered marks longs)) gap₀ 32 (length queue₀) (length queue) rounds gap
-
-abbrev μ-loop : tie.MeasureT-loop
-μ-loop sheet asked size told cells covered marks queue₀ gap₀ rounds₀ queue gap rounds = 32 - rounds
-
-loop-holds : tie.Need-loop-holds Inv-loop μ-loop
-loop-holds c = rounds-none refl
-
-narrow-once-requires : tie.Need-narrow-once-requires Inv-loop μ-loop
-narrow-once-requires c κs = search needs
-
-add-rounds : tie.Need-add-rounds Inv-loop μ-loop
-add-rounds c = search needs
-
-loop-less : tie.Need-loop-less Inv-loop μ-loop
-loop-less c = search needs
-
-loop-again : tie.Need-loop-again Inv-loop μ-loop
-loop-again c = rounds-next (c .before .before .before .before .before .loop .inv) (c .before .before .before .before .loop-test .taken) (c .before .before .narrow-once .kept .1 .1 .1 .1 .1 .1 .1 .1 .0) (c .before .before .narrow-once .ensures)
-
-same-length : tie.Need-same-length Inv-loop μ-loop
-same-length c = c .before .loop .inv .long
-
-returns : tie.Need-returns Inv-loop μ-loop
-returns c = record { gap = _; narrowed = record { halvings = rounds-all (c .before .loop .inv) (c .loop-test .left) }; says = refl }
 
 pub narrows-spec : {M : Type 1} → statement M
 narrows-spec =
     tie.close
     (tie.spec
-    Inv-loop
-    μ-loop
-    loop-holds
-    narrow-once-requires
-    add-rounds
-    loop-less
-    loop-again
-    same-length
-    returns)
+    (λ sheet asked size told cells covered marks queue₀ full₀ enough₀ queue full enough. (full ≤ enough) × (enough < 2 ^ 32) × (length queue ≡ length queue₀))
+    (λ sheet asked size told cells covered marks queue₀ full₀ enough₀ queue full enough. enough - full)
+    (λ c. search needs)
+    (λ c. search needs)
+    (λ c. search needs)
+    (λ c. search needs)
+    (λ c. search needs)
+    (λ c. search needs)
+    (λ c κs. search needs)
+    (λ c. search needs)
+    (λ c. search needs)
+    (λ c. search needs)
+    (λ c. search needs)
+    (λ c. search needs)
+    (λ c. search needs)
+    (λ c. search needs)
+    (λ c. search needs)
+    (λ c. search needs)
+    (λ c. search needs)
+    (λ c. search needs))

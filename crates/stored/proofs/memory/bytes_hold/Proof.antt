@@ -1,55 +1,23 @@
 -- `bytes_hold` meets its contract: the law of the testing loop, at this width.
 use Prim.Native.Nat.{_-_}
-use lib.ListN.{length}
-use Rattle.stored.specs.Memory.{isDue, holds}
+use native.Mathlib.Omega.{arith}
+use Rattle.stored.specs.Memory.{isDue}
 use Rattle.stored.specs.MemoryLaws.{PassedSoFar, passed-none, passed-next, passed-failed, passed-all, is-due, not-due}
 use borrow.Author.Needs.{needs}
 use Rattle.stored.proofs.memory.bytes_hold.Statement.{statement}
 use Rattle.stored.proofs.memory.bytes_hold.Tie as tie
 
-abbrev Inv-loop : tie.InvT-loop
-Inv-loop kept expected s i₀ i = PassedSoFar (isDue kept expected) s i
-
-abbrev μ-loop : tie.MeasureT-loop
-μ-loop kept expected s i₀ i = length s - i
-
-loop-holds : tie.Need-loop-holds Inv-loop μ-loop
-loop-holds c = passed-none
-
-shared-slice-read-if1 : tie.Need-shared-slice-read-if1 Inv-loop μ-loop
-shared-slice-read-if1 c = search needs
-
-byte-due-requires : tie.Need-byte-due-requires Inv-loop μ-loop
-byte-due-requires c κs = search needs
-
-returns : tie.Need-returns Inv-loop μ-loop
-unfolding holds
-returns c = passed-failed (c .before .before .before .before .loop .inv) (c .before .before .before .loop-test .taken) (not-due (c .before .byte-due .ensures) (c .if1 .taken))
-
-add-i : tie.Need-add-i Inv-loop μ-loop
-add-i c = search needs
-
-loop-less : tie.Need-loop-less Inv-loop μ-loop
-loop-less c = search needs
-
-loop-again : tie.Need-loop-again Inv-loop μ-loop
-loop-again c = passed-next (c .before .before .before .before .loop .inv) (c .before .before .before .loop-test .taken) (is-due (c .before .byte-due .ensures) (c .if1 .left))
-
-returns-2 : tie.Need-returns-2 Inv-loop μ-loop
-unfolding holds
-returns-2 c = passed-all (c .before .loop .inv) (c .loop-test .left)
-
 pub bytes-hold-spec : {M : Type 1} → statement M
 bytes-hold-spec =
     tie.close
     (tie.spec
-    Inv-loop
-    μ-loop
-    loop-holds
-    shared-slice-read-if1
-    byte-due-requires
-    returns
-    add-i
-    loop-less
-    loop-again
-    returns-2)
+    (λ kept expected s i₀ i-end i. PassedSoFar (isDue kept expected) s i)
+    (λ kept expected s i₀ i-end i. i-end - i)
+    (λ c. passed-none)
+    (λ c. search needs)
+    (λ c κs. search needs)
+    (λ c. passed-failed (c .before .before .before .before .loop .inv) (omega arith) (not-due (c .before .byte-due .ensures) (c .if1 .taken)))
+    (λ c. search needs)
+    (λ c. search needs)
+    (λ c. passed-next (c .before .before .before .before .loop .inv) (omega arith) (is-due (c .before .byte-due .ensures) (c .if1 .left)))
+    (λ c. passed-all (c .before .loop .inv) (omega arith)))
