@@ -201,8 +201,8 @@ fn replay_comparisons(
     now
 }
 
-// The record that stands there: its sheet in each comparison. The next one stands where it ends. Of a sheet that the file does not hold
-// whole nothing is run: number 1 comes of no bytes, and is not what stands past the file's end.
+// The record that stands there: its sheet in each comparison. The next one stands where it ends. A sheet that the file
+// does not hold whole is run without a byte, which gives number 1, and the answer behind it reads as 0: so it differs.
 fn replay_next(file: &[u8], stand: Stand, queue: &mut [u64]) -> Stand {
     let mut cells = [0u32; OWN_LENGTH];
     let mut covered = [0u8; OWN_LENGTH];
