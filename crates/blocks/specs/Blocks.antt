@@ -1,4 +1,4 @@
--- The blocks of a sheet laid out in the room, and number 7 of the requirement. Definitions alone; their laws are in BlockLaws.
+-- The blocks of a sheet laid out in the room, and number 7 of docs/RULES.md. Definitions alone; their laws are in BlockLaws.
 use mathlib.Core.Path.{_≡_}
 use mathlib.Core.Logic.{_⊎_}
 use mathlib.Core.List.{List, [], _∷_}

@@ -1,4 +1,4 @@
--- A sink's branch, as "The tree of one net" of the requirement has it. Definitions alone; their laws are in the files named Laws. A tree's branches
+-- A sink's branch, as docs/RULES.md, The tree of one net, has it. Definitions alone; their laws are in the files named Laws. A tree's branches
 -- are a list in sheet order, with [] for a sink that has no branch yet; `joined` of the sheet's crate puts them one after another.
 use mathlib.Core.Path.{_≡_}
 use mathlib.Core.List.{List, [], _∷_, _++_, map, reverse, dropLast}

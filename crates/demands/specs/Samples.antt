@@ -1,4 +1,4 @@
--- The sample rooms a to l of the requirement, computed: what the public search answers and what comes of a job, row by row, under one claim.
+-- The sample rooms a to l of docs/RULES.md, computed: what the public search answers and what comes of a job, row by row, under one claim.
 use mathlib.Core.Path.{_≡_, refl}
 use mathlib.Core.List.{List, [], _∷_, map}
 use Prim.Native.Nat.{ℕ, zero, suc, _*_}

@@ -1,4 +1,4 @@
--- "Conflict of a path with the joinable cells", as "The tree of one net" of the requirement has it. Definitions alone; their laws are in the
+-- "Conflict of a path with the joinable cells", as docs/RULES.md, The tree of one net, has it. Definitions alone; their laws are in the
 -- files named Laws. Conductors are given by a test of a cell.
 use mathlib.Core.Path.{_≡_}
 use mathlib.Core.Bool.{Bool, false, _&&_, _||_}

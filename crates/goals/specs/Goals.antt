@@ -1,4 +1,4 @@
--- One sink's goals, as "The tree of one net" of the requirement has them: the search for one goal, its attempts, and the cheapest of all goals.
+-- One sink's goals, as docs/RULES.md, The tree of one net, has them: the search for one goal, its attempts, and the cheapest of all goals.
 -- Definitions alone; their laws are in the files named Laws.
 use mathlib.Core.Bool.{_||_, Bool, true, false}
 use mathlib.Core.List.{List}

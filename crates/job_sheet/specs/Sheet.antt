@@ -1,4 +1,4 @@
--- "The job sheet" of the requirement, and numbers 1 to 5 over it: what a sheet says, the bytes that say it, which sheets mean something, and what
+-- docs/RULES.md, The job sheet, and numbers 1 to 5 over it: what a sheet says, the bytes that say it, which sheets mean something, and what
 -- the reading answers. Definitions alone; their laws are in the files named Laws, what they come to in Theorems.
 use mathlib.Core.Path.{_≡_}
 use mathlib.Core.Bool.{Bool, true, false, not}

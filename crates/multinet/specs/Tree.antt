@@ -1,4 +1,4 @@
--- "The tree of one net" of the requirement, from the outset to the repeaters: a tree grows by one branch a sink. Definitions alone; their laws are in
+-- docs/RULES.md, The tree of one net, from the outset to the repeaters: a tree grows by one branch a sink. Definitions alone; their laws are in
 -- the files named Laws.
 use mathlib.Core.Bool.{Bool, _||_}
 use mathlib.Core.List.{List, []}

@@ -1,4 +1,4 @@
--- What `route_net_tree` answers, and what every lent buffer then holds, as "Numbers that come back" has it for a tree. A sheet and the lengths of the
+-- What `route_net_tree` answers, and what every lent buffer then holds, as docs/RULES.md, Numbers that come back, has it for a tree. A sheet and the lengths of the
 -- lent buffers determine all of it. Definitions alone; their laws are in the files named Laws.
 use mathlib.Core.Path.{_≡_}
 use mathlib.Core.Bool.{Bool, true, false, _&&_}

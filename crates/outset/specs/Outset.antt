@@ -1,4 +1,4 @@
--- "Blocked at the outset", as "The tree of one net" of the requirement has it: which cells no branch may enter when the first search starts.
+-- "Blocked at the outset", as docs/RULES.md, The tree of one net, has it: which cells no branch may enter when the first search starts.
 -- Definitions alone; their laws are in OutsetLaws.
 use mathlib.Core.Path.{_≡_}
 use mathlib.Core.Bool.{Bool, true, false, not, _&&_, _||_}

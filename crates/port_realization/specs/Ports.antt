@@ -1,4 +1,4 @@
--- Where an end of a net meets the wire, as "The tree of one net" of the requirement begins. An end is its position in the room, its port kind and
+-- Where an end of a net meets the wire, as docs/RULES.md, The tree of one net, begins. An end is its position in the room, its port kind and
 -- its facing. Definitions alone; their laws are in PortLaws.
 use Prim.Native.Nat.{ℕ}
 use lib.Dec.{eqb}

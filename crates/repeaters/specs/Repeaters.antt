@@ -1,4 +1,4 @@
--- The repeaters of a net's tree, as "The tree of one net" of the requirement has them: tree neighbours, the cells where a repeater may stand, the runs, the
+-- The repeaters of a net's tree, as docs/RULES.md, The tree of one net, has them: tree neighbours, the cells where a repeater may stand, the runs, the
 -- tails; the path from the source is `rootPath` of `walk`. Definitions alone; their laws are in the files named Laws.
 use mathlib.Core.Bool.{Bool, true, false, not, _&&_, _||_}
 use mathlib.Core.List.{List, [], _∷_}

@@ -1,4 +1,4 @@
--- "The room" of the requirement: sides, cell numbers, the twelve moves, the cells beneath and above, distances. Definitions alone; their laws are
+-- docs/RULES.md, The room: sides, cell numbers, the twelve moves, the cells beneath and above, distances. Definitions alone; their laws are
 -- in the files named Laws.
 use mathlib.Core.Path.{_≡_}
 use mathlib.Core.Bool.{Bool, true, false, _&&_}

@@ -1,4 +1,4 @@
--- Kinds, facings with the cell ahead, port kinds, and the config with its ranges, as "The room" of the requirement has them.
+-- Kinds, facings with the cell ahead, port kinds, and the config with its ranges, as docs/RULES.md, The room, has them.
 use mathlib.Core.Bool.{Bool, _&&_}
 use Prim.Native.Nat.{ℕ, _≤_}
 use lib.Dec.{leb, eqb}

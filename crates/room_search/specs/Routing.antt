@@ -1,4 +1,4 @@
--- "One search" of the requirement, in its order: which cells may be entered and what that costs make a graph of the room, and the search is
+-- docs/RULES.md, One search, in its order: which cells may be entered and what that costs make a graph of the room, and the search is
 -- `bestFirst` over that graph. Definitions alone.
 use mathlib.Core.Bool.{Bool, true, false, not, _||_}
 use mathlib.Core.List.{List, [], _∷_, _++_}

@@ -1,4 +1,4 @@
--- What `route` prints, byte for byte: the end of "Sample rooms" of the requirement.
+-- What `route` prints, byte for byte: docs/RULES.md, Program route.
 use mathlib.Core.List.{List, [], _∷_, _++_, map}
 use Prim.Native.Nat.{ℕ, zero, suc, _+_, _/_, _%_}
 use lib.Dec.{ltb}

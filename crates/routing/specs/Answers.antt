@@ -1,4 +1,4 @@
--- What `astar_route` answers, and what every lent buffer then holds, as "Numbers that come back" has it for a search. Each input determines all of
+-- What `astar_route` answers, and what every lent buffer then holds, as docs/RULES.md, Numbers that come back, has it for a search. Each input determines all of
 -- it.
 use mathlib.Core.Path.{_≡_}
 use mathlib.Core.Bool.{Bool, _&&_}
@@ -82,7 +82,7 @@ answerFor (Unfit why) I = Refused why
 unfoldable pub answerOf : Input → Answer
 answerOf I = answerFor (judged I) I
 
--- the paper's number of each answer, 0 for a route, and its detail
+-- the number of each answer, 0 for a route, and its detail
 abbrev pub refusalNumber : Refusal → ℕ
 refusalNumber Sides = 2
 refusalNumber Config = 3

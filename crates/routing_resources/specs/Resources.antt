@@ -1,4 +1,4 @@
--- What a wire keeps clear of others, as "The tree of one net" of the requirement has it. Definitions alone; their laws are in ResourceLaws.
+-- What a wire keeps clear of others, as docs/RULES.md, The tree of one net, has it. Definitions alone; their laws are in ResourceLaws.
 use mathlib.Core.Bool.{Bool, false, _||_}
 use mathlib.Core.List.{List, [], _∷_}
 use Prim.Native.Nat.{ℕ, _+_}
