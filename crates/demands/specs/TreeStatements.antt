@@ -33,12 +33,12 @@ pub record RouteMeans (S : Site) (start : ℕ) (blocked path : List ℕ) (cost :
   pub lawful : Lawful (siteTask S (joins .reaches .blocked-last) start (joins .goal)) path cost
   pub cheapest : Priced (S .config) → Cheapest (siteTask S (joins .reaches .blocked-last) start (joins .goal)) cost
 
--- why so many attempts found a goal no route: after some conflicts were blocked there is no lawful way; or the next route has a conflict that can't
--- be blocked, at the start, the goal or a cell blocked already; or the attempts are over
+-- why so many attempts found a goal no route: after fewer conflicts than attempts were blocked there is no lawful way; or, after as few, the next route
+-- has a conflict that can't be blocked, at the start, the goal or a cell blocked already; or a conflict was blocked at each attempt, and they are over
 pub data GoalEnds (S : Site) (start goal : ℕ) : ℕ → List ℕ → Type 0 where
-  no-way : {attempts : ℕ} {blocked : List ℕ} (n : ℕ) (later : List ℕ) → Conflicts S start goal n blocked later → NoLawfulWay (siteTask S later start goal)
+  no-way : {attempts : ℕ} {blocked : List ℕ} (n : ℕ) (later : List ℕ) → n < attempts → Conflicts S start goal n blocked later → NoLawfulWay (siteTask S later start goal)
       → GoalEnds S start goal attempts blocked
-  conflict-stays : {attempts : ℕ} {blocked : List ℕ} (n : ℕ) (later path : List ℕ) (cost v : ℕ) → Conflicts S start goal n blocked later
+  conflict-stays : {attempts : ℕ} {blocked : List ℕ} (n : ℕ) (later path : List ℕ) (cost v : ℕ) → n < attempts → Conflicts S start goal n blocked later
       → searchedFor (siteTask S later start goal) ≡ found path cost → conflictOf (S .room) (S .kinds) (S .joinable) path ≡ Inside v
       → endsGoal later start goal v ≡ true → GoalEnds S start goal attempts blocked
   attempts-over : {attempts : ℕ} {blocked : List ℕ} (later : List ℕ) → Conflicts S start goal attempts blocked later → GoalEnds S start goal attempts blocked

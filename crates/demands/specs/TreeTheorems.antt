@@ -99,8 +99,8 @@ module _ (S : Site) (G : Good (S .room)) (start : ℕ) (start-in : start < volum
     prepend : {goal n : ℕ} {blocked path : List ℕ} {cost v : ℕ} → searchedFor (siteTask S blocked start goal) ≡ found path cost
         → conflictOf (S .room) (S .kinds) (S .joinable) path ≡ Inside v → endsGoal blocked start goal v ≡ false
         → GoalEnds S start goal n (markedBy (eqb v) blocked) → GoalEnds S start goal (suc n) blocked
-    prepend w f g (no-way m later r q) = no-way (suc m) later (one-more w f g r) q
-    prepend w f g (conflict-stays m later path cost v r s c e) = conflict-stays (suc m) later path cost v (one-more w f g r) s c e
+    prepend {n = n} w f g (no-way m later few r q) = no-way {attempts = suc n} (suc m) later (omega arith) (one-more w f g r) q
+    prepend {n = n} w f g (conflict-stays m later path cost v few r s c e) = conflict-stays {attempts = suc n} (suc m) later path cost v (omega arith) (one-more w f g r) s c e
     prepend w f g (attempts-over later r) = attempts-over later (one-more w f g r)
 
     module _ (goal : ℕ) (goal-in : goal < volume (S .room)) where
@@ -117,7 +117,7 @@ module _ (S : Site) (G : Good (S .room)) (start : ℕ) (start-in : start < volum
           at p c w Outside f q later = never (cc)
           at p c w (Inside v) f q later =
               ask (endsGoal blocked start goal v)
-              (λ t. conflict-stays 0 blocked p c v as-blocked w f t)
+              (λ t. conflict-stays {attempts = suc n} 0 blocked p c v (omega arith) as-blocked w f t)
               (λ g. prepend w f g (later (markedBy (eqb v) blocked) (rw g at q)))
 
           after : (trial : Trial) → searchedFor (siteTask S blocked start goal) ≡ trial
@@ -125,7 +125,7 @@ module _ (S : Site) (G : Good (S .room)) (start : ℕ) (start-in : start < volum
               → ((blocked′ : List ℕ) → attempts n S start goal blocked′ ≡ failed → GoalEnds S start goal n blocked′)
               → GoalEnds S start goal (suc n) blocked
           after (found p c) w q later = at p c w (conflictOf (S .room) (S .kinds) (S .joinable) p) refl q later
-          after failed w q later = no-way 0 blocked as-blocked (means blocked goal goal-in .failed-true D (ample blocked goal) w)
+          after failed w q later = no-way {attempts = suc n} 0 blocked (omega arith) as-blocked (means blocked goal goal-in .failed-true D (ample blocked goal) w)
           after (full x) w q later = absurd (means blocked goal goal-in .never-full D (ample blocked goal) x w)
 
     -- number 14: every joinable cell was tried, and each has its reason
