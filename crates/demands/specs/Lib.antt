@@ -2,6 +2,7 @@ pub mod Lawful
 pub mod Statements
 pub mod Theorems
 pub mod Samples
+pub mod SheetSamples
 pub mod Bridge
 pub mod Numbers
 pub mod TreeStatements

@@ -1,0 +1,186 @@
+-- The sample rooms k and l of the requirement, computed from the bytes of their sheets: what comes of a sheet, its branch, its occupied cells and its
+-- repeaters, row by row, under one claim.
+use mathlib.Core.Path.{_≡_, refl}
+use mathlib.Core.Logic.{inl, inr}
+use mathlib.Core.Bool.{true}
+use mathlib.Core.List.{List, [], _∷_, _++_}
+use Prim.Native.Nat.{ℕ, zero, suc, _*_, _<_}
+use native.Mathlib.Omega.{arith}
+use borrow.Author.Tests.{leb-true}
+use lib.Dec.{leb}
+use lib.ListN.{length, replicate, set}
+use Rattle.basics.specs.Folds.{along}
+use Rattle.room.specs.declared.Room.{Room}
+use Rattle.room.specs.Room.{at, within, posOf, cellOf, moves, between, sidesGood, stays, neighbour, beneath, above, distance, firstBelow}
+use Rattle.room.specs.Units.{solid, facingMove, ahead, usualConfig, configGood}
+use Rattle.best_first.specs.Search.{sooner, least, push, offer, expand, trace, takeOne, takeAll, firstState, bestFirst}
+use Rattle.room_search.specs.Routing.{routeableKind, routeable, bearing, classFor, priceOf, movesBy, graphOf, searched}
+use Rattle.routing_resources.specs.Marks.{withByte}
+use Rattle.routing_resources.specs.Resources.{directions, isNeighbour, inKeepout, clearanceOf, isClearance}
+use Rattle.port_realization.specs.Ports.{terminalOf, approachOf, realizedOf}
+use Rattle.job_sheet.specs.declared.Block.{Block}
+use Rattle.job_sheet.specs.declared.Endpoint.{Endpoint}
+use Rattle.job_sheet.specs.declared.Judgement.the-variants.{Good}
+use Rattle.job_sheet.specs.Sheet.{Contents, maxBytes, maxSinks, bytesOf, rest, bytesBy, firstFault, blockFault, endpointFault, judged}
+use Rattle.blocks.specs.declared.Placement.{Placement}
+use Rattle.blocks.specs.Blocks.{ofBlock, tabulated, kindsOf, nodesOf, recordNode, Repeat, each-its-own}
+use Rattle.ends.specs.Ends as endings
+use Rattle.outset.specs.declared.Outset.{Outset}
+use Rattle.outset.specs.Outset as outset-of
+use Rattle.outset.specs.SetOut.{ready}
+use Rattle.geometry.specs.Geometry.{standsIn, conductor, upperOfPair, firstPair, atClearance, stairConflict, conflictAmong}
+use Rattle.blocked_world.specs.BlockedWorld.{countsAsSolid, seenKinds}
+use Rattle.turns.specs.Turns.{far, goesBefore, turnOf, sinkAt}
+use Rattle.goals.specs.Goals.{searchedFor, atConflict, afterSearch, attempts, cheaperRoute, triedGoal, bestBelow, routeToTree}
+use Rattle.branches.specs.Branches.{branchOf, allButLast}
+use Rattle.walk.specs.Walks as walks
+use Rattle.repeaters.specs.Repeaters as repeaters
+use Rattle.multinet.specs.Tree.{planted, withBranch, afterSink, growSink, growFrom, growthOf, isNetEnd, repeatersOf}
+use Rattle.net_tree.specs.declared.Lengths.{Lengths}
+use Rattle.net_tree.specs.Answers.{TreeOutcome, routed, buffersGood, jobOutcome, Comes, set-out}
+
+-- ---- what comes of a sheet with at most one block
+
+-- a block alone is no repeat
+alone : (R : Room) (bs : List Block) → leb (length bs) 1 ≡ true → (i : ℕ) → Repeat R bs (length bs) i → ⊥
+alone R bs few i r =
+    let one = leb-true (length bs) 1 few in
+    let i-first : i ≡ 0 = omega (arith, r .repeat-in, one) in
+    let holder-first : r .holder ≡ 0 = omega (arith, r .holder-in, one) in
+    elim (r .held) [
+      | inl h ↦ (let z : recordNode bs 0 < recordNode bs 0 = rw (i-first, holder-first) at h in omega arith)
+      | inr h ↦ omega (arith, h .1, i-first, holder-first)
+    ]
+
+abbrev outsetFor : Contents → Outset
+outsetFor J = record { placement = Placement.Placed; ends = endings.endsOf (J .room) (J .source) (J .sinks) }
+
+abbrev blockedFor : Contents → List ℕ
+blockedFor J =
+    outset-of.blockedAtOutset (kindsOf (J .room) (J .blocks)) (nodesOf (J .room) (J .blocks)) J (outsetFor J .ends .source) (outsetFor J .ends .taps)
+
+comes-by : (J : Contents) {sheet : List ℕ} {L : Lengths} {o : TreeOutcome} → bytesOf J ≡ sheet → leb (length sheet) maxBytes ≡ true → leb (length (J .sinks)) maxSinks ≡ true
+    → judged J ≡ Good → buffersGood (J .room) L ≡ true → leb (length (J .blocks)) 1 ≡ true → ready (outsetFor J) ≡ true
+    → o ≡ jobOutcome J L (outsetFor J) (kindsOf (J .room) (J .blocks)) (blockedFor J) → Comes sheet L o
+comes-by J {sheet} bytes short few good lent one is-ready is =
+    set-out J
+    (record { bytes = bytes; short = leb-true (length sheet) maxBytes short; few-sinks = leb-true (length (J .sinks)) maxSinks few })
+    good
+    lent
+    (outsetFor J)
+    (kindsOf (J .room) (J .blocks))
+    (nodesOf (J .room) (J .blocks))
+    (blockedFor J)
+    (record {
+      laid = record { placing = each-its-own (alone (J .room) (J .blocks) one) refl; kinds-are = refl; nodes-are = refl };
+      ends-are = refl;
+      blocked-are = rw is-ready;
+    })
+    is
+
+-- ---- the sheets
+
+-- a row of n cells with a Wire source at 0 and one sink, costs 10, 25, 15 and node limit 30,000; so many bytes stand behind the length
+abbrev sheetOf : ℕ → ℕ → List ℕ → List ℕ → List ℕ
+sheetOf size n blocks sink =
+    (1 ∷ 0 ∷ 0 ∷ 0 ∷ size ∷ n ∷ 1 ∷ 1 ∷ [])
+    ++ (0 ∷ 0 ∷ 117 ∷ 48 ∷ 0 ∷ 0 ∷ 0 ∷ 10 ∷ 0 ∷ 0 ∷ 0 ∷ 25 ∷ 0 ∷ 0 ∷ 0 ∷ 15 ∷ [])
+    ++ blocks
+    ++ (0 ∷ 0 ∷ 0 ∷ 0 ∷ 0 ∷ 0 ∷ 0 ∷ 0 ∷ [])
+    ++ (0 ∷ 0 ∷ 0 ∷ 0 ∷ 0 ∷ [])
+    ++ (1 ∷ [])
+    ++ sink
+
+-- without blocks, with a Wire sink
+abbrev wireSheet : ℕ → ℕ → List ℕ
+wireSheet n sink = sheetOf 40 n (0 ∷ 0 ∷ []) (sink ∷ 0 ∷ 0 ∷ 0 ∷ 0 ∷ [])
+
+-- "queue 12V"; a branch buffer of 16 cells for each cell of the row
+abbrev lengths : ℕ → Lengths
+lengths n = record {
+  branches = 16 * n;
+  occupied = n;
+  repeaters = n;
+  kinds = n;
+  blocked = n;
+  classes = n;
+  joinable = n;
+  known = n;
+  previous = n;
+  path = n;
+  best = n;
+  queue = 24 * n;
+}
+
+-- what they mean
+abbrev wireAt : ℕ → Endpoint
+wireAt x = record { at = at x 0 0; port = 0; facing = 0 }
+
+abbrev row : ℕ → List Block → Endpoint → Contents
+row n blocks sink = record {
+  room = record { wide = n; high = 1; deep = 1 };
+  config = usualConfig;
+  blocks = blocks;
+  conductors = [];
+  clearances = [];
+  terminals = [];
+  reserved = [];
+  source = wireAt 0;
+  sinks = sink ∷ [];
+}
+
+-- ---- the rows
+
+abbrev upTo : ℕ → ℕ → List ℕ
+upTo zero v = v ∷ []
+upTo (suc n) v = v ∷ upTo n (suc v)
+
+-- one branch over the first cells, which are occupied, so many being left free behind them; and these marks of repeaters
+abbrev tree : ℕ → ℕ → List ℕ → TreeOutcome
+tree last free marks = routed (upTo last 0 ∷ []) (replicate (suc last) 1 ++ replicate free 0) marks
+
+pub record SheetSample : Type 0 where
+  pub sheet : List ℕ
+  pub cells : ℕ
+  pub outcome : TreeOutcome
+
+abbrev rows : List SheetSample
+rows =
+    -- k, "20x1x1, Wire source at 0, one Wire sink, facing 0"
+    record { sheet = wireSheet 20 8; cells = 20; outcome = tree 8 11 (replicate 20 0) }
+    ∷ record { sheet = wireSheet 20 9; cells = 20; outcome = tree 9 10 (set (replicate 20 0) 1 1) }
+    ∷ record { sheet = wireSheet 20 12; cells = 20; outcome = tree 12 7 (set (replicate 20 0) 4 1) }
+    ∷ record { sheet = wireSheet 20 13; cells = 20; outcome = tree 13 6 (set (replicate 20 0) 12 1) }
+    ∷ record { sheet = wireSheet 20 16; cells = 20; outcome = tree 16 3 (set (replicate 20 0) 13 1) }
+    -- the same in a row of 10 cells, the sink in the last
+    ∷ record { sheet = wireSheet 10 9; cells = 10; outcome = tree 9 0 (set (replicate 10 0) 1 1) }
+    -- l, "6x1x1, Wire source at 0, Solid block at 5, BlockPower sink at 5 facing West"
+    ∷ record { sheet = sheetOf 47 6 (0 ∷ 1 ∷ 0 ∷ 0 ∷ 5 ∷ 0 ∷ 0 ∷ solid ∷ 0 ∷ []) (5 ∷ 0 ∷ 0 ∷ 1 ∷ 4 ∷ []); cells = 6; outcome = tree 4 1 (replicate 6 0) }
+    ∷ []
+
+abbrev AllCome : List SheetSample → Type 0
+AllCome [] = Unit {0}
+AllCome (s ∷ l) = Comes (s .sheet) (lengths (s .cells)) (s .outcome) × AllCome l
+
+pub sheet-samples : AllCome rows
+unfolding bytesBy rest judged firstFault blockFault endpointFault within sidesGood configGood buffersGood routeable searched graphOf movesBy priceOf classFor bearing routeableKind posOf cellOf moves between stays neighbour beneath distance sooner least push offer expand trace takeOne takeAll firstState bestFirst growthOf growFrom growSink afterSink withBranch planted isNetEnd repeatersOf far goesBefore turnOf sinkAt routeToTree bestBelow triedGoal cheaperRoute attempts afterSearch atConflict searchedFor countsAsSolid seenKinds standsIn conductor upperOfPair firstBelow firstPair atClearance stairConflict conflictAmong withByte clearanceOf isClearance branchOf allButLast above repeaters.isStep repeaters.besideOn repeaters.neighbouring repeaters.cellsPassing repeaters.treeNeighbours walks.meet walks.spread walks.parentsFrom repeaters.facingBy repeaters.straight repeaters.fits repeaters.latest repeaters.earliest repeaters.withRepeater repeaters.resume repeaters.candidate repeaters.stride repeaters.strides repeaters.run repeaters.reinforced along repeaters.planned repeaters.repeaterMarks jobOutcome ofBlock tabulated endings.sourceEnd endings.sinkEnd endings.firstDue endings.tapOf endings.faultOf endings.endsOf terminalOf approachOf realizedOf outset-of.powers outset-of.solidOf outset-of.blockKeepout outset-of.blockedBy outset-of.atOrBeneath outset-of.ownCell outset-of.blockedAtOutset facingMove ahead isNeighbour inKeepout directions
+sheet-samples =
+    let wire : (n x : ℕ) → Contents = λ n x. row n [] (wireAt x) in (
+      comes-by (wire 20 8) refl refl refl refl refl refl refl refl,
+      (
+        comes-by (wire 20 9) refl refl refl refl refl refl refl refl,
+        (
+          comes-by (wire 20 12) refl refl refl refl refl refl refl refl,
+          (
+            comes-by (wire 20 13) refl refl refl refl refl refl refl refl,
+            (
+              comes-by (wire 20 16) refl refl refl refl refl refl refl refl,
+              (
+                comes-by (wire 10 9) refl refl refl refl refl refl refl refl,
+                (comes-by (row 6 (record { node = 0; at = at 5 0 0; kind = solid; facing = 0 } ∷ []) (record { at = at 5 0 0; port = 1; facing = 4 })) refl refl refl refl refl refl refl refl, tt),
+              ),
+            ),
+          ),
+        ),
+      ),
+    )
