@@ -1,5 +1,6 @@
 pub mod Lawful
 pub mod Statements
+pub mod LimitLaws
 pub mod Theorems
 pub mod Samples
 pub mod SheetSamples
