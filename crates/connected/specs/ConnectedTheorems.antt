@@ -14,14 +14,14 @@ use Rattle.routing_resources.specs.Marks.{isMarked, noMarks}
 use Rattle.routing_resources.specs.MarkLaws.{marked-after}
 use Rattle.ends.specs.declared.Tap.{Tap}
 use Rattle.ends.specs.Ends.{noTap, tapsIn}
-use Rattle.outset.specs.SetOut.{ready}
-use Rattle.multinet.specs.Tree.{Plot, Tree, Growth, grown, stopped, growthOf, tapAt, netEndMarks, isNetEnd, repeatersOf}
+use Rattle.multinet.specs.Tree.{Plot, Tree, grown, growthOf, tapAt, netEndMarks, isNetEnd, repeatersOf}
 use Rattle.multinet.specs.Growing.{SoundPlot}
 use Rattle.net_tree.specs.declared.Lengths.{Lengths}
 use Rattle.net_tree.specs.declared.Answer as trees
 use Rattle.net_tree.specs.declared.Ended.the-variants.{Routed, Refused}
-use Rattle.net_tree.specs.Answers.{Lent, lengthsOf, TreeOutcome, routed, no-tree, plotFor, outcomeOf, jobOutcome, Comes, unread, unlent, set-out, answerOf, lentAfter, Promise}
-use Rattle.net_tree.specs.JobLaws.{plot-sound}
+use Rattle.net_tree.specs.Answers.{Lent, lengthsOf, TreeOutcome, routed, no-tree, Comes, answerOf, lentAfter, Promise}
+use Rattle.net_tree.specs.SheetTrees.{TreeOf}
+use Rattle.net_tree.specs.SheetTreeLaws.{tree-of}
 use Rattle.connected.specs.Grafts.{OnSome, TreeFrom}
 use Rattle.connected.specs.GraftLaws.{on-below, neighbour-in, neighbours-on, chain-on}
 use Rattle.connected.specs.TreeWalkLaws.{tree-chained, tree-path, path-ends, path-step, path-goes, repeater-stands-between}
@@ -102,35 +102,9 @@ module _ {P : Plot} (S : SoundPlot P) (blocked : List ℕ) (T : Tree) (e : growt
 
 -- ---- of the public tree
 
-net-connected : {sheet : List ℕ} {L : Lengths} {branches : List (List ℕ)} {occupied repeaters : List ℕ} → Comes sheet L (routed branches occupied repeaters)
+net-connected : {sheet : List ℕ} {L : Lengths} {branches : List (List ℕ)} {occupied repeaters : List ℕ} → TreeOf sheet L branches occupied repeaters
     → NetConnected sheet L branches occupied repeaters
-unfolding jobOutcome
-net-connected (unread r p f e) = never (cc)
-net-connected (unlent J m g b e) = never (cc)
-net-connected {sheet} {L} {branches} {occupied} {repeaters} (set-out J m g b O kinds nodes blocked s e) =
-    ask (ready O) (λ t. go t (growthOf (plotFor J L O kinds) blocked) refl (rw t at e)) (λ f. never (cc (rw f at e)))
-  where
-    go : ready O ≡ true → (growth : Growth) → growthOf (plotFor J L O kinds) blocked ≡ growth
-        → routed branches occupied repeaters ≡ outcomeOf (plotFor J L O kinds) growth → NetConnected sheet L branches occupied repeaters
-    go t (grown T) d q = record {
-      tree-of = record {
-        contents = J;
-        means = m;
-        outset = O;
-        kinds = kinds;
-        nodes = nodes;
-        blocked = blocked;
-        is-set = s;
-        sound = plot-sound J m g L b s t;
-        tree = T;
-        grows = d;
-        branches-are = cc;
-      };
-      occupied-are = cc;
-      repeaters-are = cc;
-      connected = connected (plot-sound J m g L b s t) blocked T d;
-    }
-    go t (stopped number detail) d q = never (cc)
+net-connected T = record { tree-of = T; connected = connected (T .sound) (T .blocked) (T .tree) (T .grows) }
 
 -- from the promise alone: each tree answered hangs together
 pub answer-connected : {sheet : List ℕ} {B : Lent} {r : trees.Answer} {B′ : Lent} → Promise sheet B r B′ → {cells marks : ℕ} → r .ended ≡ Routed cells marks
@@ -144,6 +118,6 @@ answer-connected {sheet} {B} {r} {B′} K {cells} {marks} e = go (K .outcome) (K
       repeaters = repeaters;
       answer = a;
       lent-is = l;
-      net = net-connected c;
+      net = net-connected (tree-of c);
     }
     go (no-tree number detail) c a l = let z : Refused number detail ≡ Routed cells marks = sym (ap (λ x. x .ended) a) ∙ e in never (cc)

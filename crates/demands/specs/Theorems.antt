@@ -1,26 +1,33 @@
 -- THE THIRD DEMAND, said of rooms: their kinds, costs and ends. Statements says what is claimed; the search over any graph has its own theorems,
 -- and Bridge shows that the moves of a room's graph are the lawful steps at their costs.
-use mathlib.Core.Path.{_≡_, refl, sym, ap, subst}
-use mathlib.Core.Logic.{_≢_, _↔_}
-use mathlib.Core.Bool.{true}
+use mathlib.Core.Path.{_≡_, refl, sym, ap, subst, _∙_}
+use mathlib.Core.Logic.{_⊎_, inl, inr, _≢_, _↔_}
 use mathlib.Core.List.{List}
-use Prim.Native.Nat.{ℕ, suc, _+_, _-_, _*_, _≤_, max}
+use Prim.Native.Nat.{ℕ, suc, _+_, _-_, _*_, _≤_, _<_, max, zero-le}
 use native.Mathlib.Omega.{arith}
 use lib.Dec.{eqb}
+use Rattle.basics.specs.Tests.{ask, never}
 use Rattle.room.specs.Room.{volume}
 use Rattle.basics.specs.Counts.{times}
 use Rattle.best_first.specs.Search.{State, Taken, on, oneMoreExpanded, Answer, route, no-route, limit-passed, queue-full}
 use Rattle.best_first.specs.Ways.{GraphStep, Way, Sound, Consistent}
-use Rattle.best_first.specs.Statements.{Honest, Right, Decided, expandedOf, knownAt, Taking, outcome, Reached, pushes, Slacks}
+use Rattle.best_first.specs.Statements.{Honest, Right, Decided, by-route, by-no-route, expandedOf, knownAt, Taking, outcome, Reached, pushes, Slacks}
 use Rattle.best_first.specs.Theorems as any-graph
-use Rattle.routing.specs.declared.Judgement.the-variants.{Fit}
+use Rattle.routing.specs.declared.Judgement.{Judgement}
+use Rattle.routing.specs.declared.Judgement.the-variants.{Fit, Unfit}
+use Rattle.routing.specs.declared.Refusal.{Refusal}
+use Rattle.routing.specs.declared.Refusal.the-variants.{Sides, Config, Buffer, Code, Position}
+use Rattle.routing.specs.declared.Route.{Route}
+use Rattle.routing.specs.declared.Answer as public
+use Rattle.routing.specs.declared.Answer.the-variants.{Routed, Refused, NotRouteable, NoRoute, LimitPassed, QueueFull}
 use Rattle.room_search.specs.Routing.{Task, routeable, entering, graphOf, graph, searched}
 use Rattle.room_search.specs.GraphLaws.{dearest, sound, consistent}
 use Rattle.demands.specs.Lawful.{LawfulStep, stepCost, LawfulWay, wayCost}
-use Rattle.routing.specs.Answers.{Input, taskOf, judged, answered, fitAnswer, answerOf, routeCost, cellsFor}
+use Rattle.routing.specs.Answers.{Input, taskOf, judged, answered, fitAnswer, answerOf, numberOf, routeCost, Promise}
 use Rattle.routing.specs.PromiseLaws.{admitted}
-use Rattle.demands.specs.Statements.{Posed, Priced, Ample, Lawful, Cheapest, NoLawfulWay, Meaning}
-use Rattle.demands.specs.Numbers.{number-route, number-no-route, number-settled, same-expanded}
+use Rattle.demands.specs.Statements.{Posed, Priced, Ample, Enough, Lawful, Cheapest, NoLawfulWay, expandedFor, Unrefused, RouteHeld, Meaning}
+use Rattle.demands.specs.Numbers.{number-no-route, number-full, number-settled, same-expanded}
+use Rattle.demands.specs.LimitLaws.{limit-never-full}
 use Rattle.demands.specs.Bridge.{step-lawful, lawful-step, way-lawful, lawful-way}
 use Rattle.room_search.specs.Slackness.{slacks}
 
@@ -115,45 +122,137 @@ module _ {T : Task} (P : Posed T) where
     pub never-passed : 5 * (volume (T .room) - 1) + 1 ≤ T .config .limit .0 → (x : ℕ) → searched T ≢ limit-passed x
     never-passed h x e = omega (arith, limit-passed-by-one e, expanded-few, ap expandedOf e)
 
-    -- ---- with a node limit and a queue of 12 for each cell
+    -- ---- with a node limit and a queue that are enough
 
-    module _ (A : Ample T) where
+    module _ (E : Enough (T .room) (T .config) (T .places)) where
       -- a route or "no route" is answered
       pub settled : Decided (searched T)
-      unfolding searched graphOf
-      settled = any-graph.decided graph-sound estimate-falls (T .config .limit .0) (A .limit-wide) (A .queue-wide)
+      settled = go (searched T) refl
+        where
+          go : (a : Answer) → searched T ≡ a → Decided a
+          go (route path cost x) e = by-route path cost x
+          go (no-route x) e = by-no-route x
+          go (limit-passed x) e = absurd (never-passed (E .limit-enough) x e)
+          go (queue-full x) e = absurd (never-full (E .queue-enough) x e)
 
       -- "no route" comes exactly when no lawful way exists
       pub no-route-exactly : ((x : ℕ) × (searched T ≡ no-route x)) ↔ NoLawfulWay T
-      unfolding searched graphOf
-      no-route-exactly =
-          let of-graph = any-graph.no-route-exactly graph-sound estimate-falls (T .config .limit .0) (A .limit-wide) (A .queue-wide) in
-          (λ r. no-route-true (r .1), λ n. of-graph .1 (λ after d w. n after (ways-exactly after d .0 w .0)))
+      no-route-exactly = (λ r. no-route-true (r .1), λ n. go n (searched T) refl settled)
+        where
+          go : NoLawfulWay T → (a : Answer) → searched T ≡ a → Decided a → (x : ℕ) × (a ≡ no-route x)
+          go n (route path cost x) e d = let l = route-lawful e in absurd (n (l .after) (l .lawful))
+          go n (no-route x) e d = (x, refl)
 
--- ---- the public search, for an input that no number from 2 to 10 refuses
+  -- "a node limit and queue of that size or more", 12 for each cell, are enough
+  pub ample-enough : Ample T → Enough (T .room) (T .config) (T .places)
+  ample-enough A = record { limit-enough = omega (arith, A .limit-wide, P .start-in); queue-enough = omega (arith, A .queue-wide) }
 
-module _ (I : Input) (fit : judged I ≡ Fit) (start-free : routeable (taskOf I) (I .start) ≡ true) (goal-free : routeable (taskOf I) (I .goal) ≡ true) where
-  ready : Posed (taskOf I)
-  ready =
-      let r = admitted {R = I .room} {C = I .config} {kinds = I .kinds} {start = I .start} {goal = I .goal} {L = I .lengths} fit in
-      record { good = r .good; start-in = r .start-in; goal-in = r .goal-in; start-free = start-free; goal-free = goal-free }
+-- ---- the public search, from its promise alone
 
-  said : answerOf I ≡ answered (searched (taskOf I))
+-- an answer that comes of no search: its number is from 2 to 10, and nothing was expanded
+record Unsearched (a : public.Answer) : Type 0 where
+  some : 2 ≤ numberOf a
+  small : numberOf a ≤ 10
+  none-expanded : expandedFor a ≡ 0
+
+unsearched-refused : (why : Refusal) → Unsearched (Refused why)
+unsearched-refused Sides = record { some = omega arith; small = omega arith; none-expanded = refl }
+unsearched-refused Config = record { some = omega arith; small = omega arith; none-expanded = refl }
+unsearched-refused Buffer = record { some = omega arith; small = omega arith; none-expanded = refl }
+unsearched-refused Code = record { some = omega arith; small = omega arith; none-expanded = refl }
+unsearched-refused Position = record { some = omega arith; small = omega arith; none-expanded = refl }
+
+unsearched-end : (cell : ℕ) → Unsearched (NotRouteable cell)
+unsearched-end cell = record { some = omega arith; small = omega arith; none-expanded = refl }
+
+-- a route's length, 0 where there is none
+abbrev lengthTold : public.Answer → ℕ
+lengthTold (Routed w) = w .length
+lengthTold (Refused why) = 0
+lengthTold (NotRouteable cell) = 0
+lengthTold (NoRoute x) = 0
+lengthTold (LimitPassed x) = 0
+lengthTold (QueueFull x) = 0
+
+module _ (I : Input) where
+  module _ (U : Unrefused I) where
+    ready : Posed (taskOf I)
+    ready =
+        let r = admitted {R = I .room} {C = I .config} {kinds = I .kinds} {start = I .start} {goal = I .goal} {L = I .lengths} (U .fit) in
+        record { good = r .good; start-in = r .start-in; goal-in = r .goal-in; start-free = U .start-free; goal-free = U .goal-free }
+
+    said : answerOf I ≡ answered (searched (taskOf I))
+    unfolding answerOf fitAnswer
+    said = rw (U .fit, U .start-free, U .goal-free)
+
+  -- it is searched, or its number is from 2 to 10
+  searched-or-not : Unrefused I ⊎ Unsearched (answerOf I)
   unfolding answerOf fitAnswer
-  said = rw (fit, start-free, goal-free)
+  searched-or-not = go (judged I) refl
+    where
+      go : (j : Judgement) → judged I ≡ j → Unrefused I ⊎ Unsearched (answerOf I)
+      go (Unfit why) e = inr (rw e (unsearched-refused why))
+      go Fit e =
+          ask (routeable (taskOf I) (I .start))
+          (λ s. ask (routeable (taskOf I) (I .goal))
+          (λ g. inl (record { fit = e; start-free = s; goal-free = g }))
+          (λ g. inr (rw (e, s, g) (unsearched-end (I .goal)))))
+          (λ s. inr (rw (e, s) (unsearched-end (I .start))))
 
-  as-route : {path : List ℕ} {cost x : ℕ} → searched (taskOf I) ≡ route path cost x
-      → Lawful (taskOf I) (cellsFor (answerOf I) I) (routeCost (answerOf I)) × (Priced (I .config) → Cheapest (taskOf I) (routeCost (answerOf I)))
-  as-route e = (rw (said, e, e) (route-lawful ready e), λ D. rw (said, e) (route-cheapest ready D e))
+  module _ {path known previous classes queue : List ℕ} {r : public.Answer} {path′ known′ previous′ classes′ queue′ : List ℕ}
+      (K : Promise I path known previous classes queue r path′ known′ previous′ classes′ queue′) where
+    as-route : (w : Route) → r ≡ Routed w → Unrefused I ⊎ Unsearched (answerOf I) → RouteHeld I path w path′
+    as-route w z (inr n) = absurd (omega (arith, n .some, ap numberOf (sym (K .answer) ∙ z)))
+    as-route w z (inl U) = go (searched (taskOf I)) refl (sym (said U) ∙ sym (K .answer) ∙ z)
+      where
+        go : (a : Answer) → searched (taskOf I) ≡ a → answered a ≡ Routed w → RouteHeld I path w path′
+        go (route cells cost x) e q =
+            let c : cost ≡ w .cost .0 = ap routeCost q in
+            record {
+              cells = cells;
+              path-is = rw (said U, e, e) at (K .path-is);
+              length-is = sym (ap lengthTold q);
+              lawful = rw (← c) (route-lawful (ready U) e);
+              cheapest = λ D. rw (← c) (route-cheapest (ready U) D e);
+            }
+        go (no-route x) e q = never (cc)
+        go (limit-passed x) e q = never (cc)
+        go (queue-full x) e q = never (cc)
 
-  -- number 0 is a lawful route, at those costs a cheapest one; number 11 says truly that there is none; the expanded count is small; with that limit and
-  -- queue it is 0 or 11
-  pub third-demand : Meaning I
-  third-demand = record {
-    route-lawful = λ z. as-route (number-route (searched (taskOf I)) (rw said at z) .3) .0;
-    no-route-true = λ z. no-route-true ready (number-no-route (searched (taskOf I)) (rw said at z) .1);
-    route-cheapest = λ D z. as-route (number-route (searched (taskOf I)) (rw said at z) .3) .1 D;
-    expands-few = λ D. rw (said, same-expanded (searched (taskOf I))) (expanded-twelve ready D);
-    settled = λ D A. rw said (number-settled (settled ready D A));
-    no-route-due = λ D A n. rw (said, no-route-exactly ready D A .1 n .1);
-  }
+    no-route-so : numberOf r ≡ 11 → Unrefused I ⊎ Unsearched (answerOf I) → NoLawfulWay (taskOf I)
+    no-route-so z (inr n) = absurd (omega (arith, n .small, ap numberOf (sym (K .answer)), z))
+    no-route-so z (inl U) = no-route-true (ready U) (number-no-route (searched (taskOf I)) (ap numberOf (sym (said U) ∙ sym (K .answer)) ∙ z) .1)
+
+    no-limit-so : Priced (I .config) → Enough (I .room) (I .config) (taskOf I .places) → Unrefused I ⊎ Unsearched (answerOf I)
+        → (numberOf r ≢ 12) × (numberOf r ≢ 13)
+    no-limit-so D E (inr n) = ((λ z. omega (arith, n .small, ap numberOf (K .answer), z)), (λ z. omega (arith, n .small, ap numberOf (K .answer), z)))
+    no-limit-so D E (inl U) = go (number-settled (settled (ready U) D E))
+      where
+        is : numberOf r ≡ numberOf (answered (searched (taskOf I)))
+        is = ap numberOf (K .answer ∙ said U)
+
+        go : (numberOf (answered (searched (taskOf I))) ≡ 0) ⊎ (numberOf (answered (searched (taskOf I))) ≡ 11) → (numberOf r ≢ 12) × (numberOf r ≢ 13)
+        go (inl e) = ((λ z. omega (arith, is, e, z)), (λ z. omega (arith, is, e, z)))
+        go (inr e) = ((λ z. omega (arith, is, e, z)), (λ z. omega (arith, is, e, z)))
+
+    few-so : Priced (I .config) → Unrefused I ⊎ Unsearched (answerOf I) → expandedFor r ≤ 12 * volume (I .room)
+    few-so D (inr n) = rw (K .answer, n .none-expanded) zero-le
+    few-so D (inl U) = rw (K .answer, said U, same-expanded (searched (taskOf I))) (expanded-twelve (ready U) D)
+
+    not-full-so : 11 * I .config .limit .0 < taskOf I .places → numberOf r ≡ 13 → Unrefused I ⊎ Unsearched (answerOf I) → ⊥
+    not-full-so wide z (inr n) = omega (arith, n .small, ap numberOf (K .answer), z)
+    not-full-so wide z (inl U) =
+        let f = number-full (searched (taskOf I)) (ap numberOf (sym (said U) ∙ sym (K .answer)) ∙ z) in
+        limit-never-full (taskOf I) (ready U .start-in) (ready U .goal-in) wide (f .0) (f .1)
+
+    -- THE THIRD DEMAND of `astar_route`
+    pub third-demand : Meaning I path r path′
+    third-demand = record {
+      route-held = λ w z. as-route w z searched-or-not;
+      no-route-true = λ z. no-route-so z searched-or-not;
+      no-route-exactly = λ U D E. ((λ z. no-route-so z (inl U)), (λ n. rw (K .answer, said U, no-route-exactly (ready U) D E .1 n .1) refl));
+      settled = λ U D E. rw (K .answer, said U) (number-settled (settled (ready U) D E));
+      no-limit = λ D E. no-limit-so D E searched-or-not;
+      expands-few = λ D. few-so D searched-or-not;
+      never-full = λ wide z. not-full-so wide z searched-or-not;
+    }

@@ -1,13 +1,14 @@
--- THE THIRD DEMAND IN A TREE: what TreeStatements claims of each search made there, of a sink's route, of number 14, of every branch, and of the branches
--- that the public tree gives out.
+-- THE THIRD DEMAND IN A TREE: what TreeStatements claims of each search made there, of a sink's route, of every branch, of a tree that stops growing, and
+-- of what the public tree gives out: its branches and marks, or a number from 13 on.
 use mathlib.Core.Path.{_≡_, refl, sym, ap, _∙_}
 use mathlib.Core.Logic.{_≢_}
 use mathlib.Core.Bool.{true, false}
 use mathlib.Core.List.{List, []}
-use Prim.Native.Nat.{ℕ, zero, suc, _+_, _*_, _≤_, _<_}
+use Prim.Native.Nat.{ℕ, zero, suc, _+_, _-_, _*_, _≤_, _<_}
 use native.Mathlib.Numerals.{add-one}
 use native.Mathlib.Omega.{arith}
-use lib.Dec.{eqb}
+use lib.Dec.{eqb, ltb}
+use borrow.Author.Tests.{ltb-true, ltb-false, leb-false}
 use lib.ListN.{length}
 use lib.Seq.{getD-set-same, getD-set-other}
 use Rattle.basics.specs.Tests.{ask, askSame, never}
@@ -16,19 +17,21 @@ use Rattle.room.specs.declared.Neighbour.the-variants.{Inside, Outside}
 use Rattle.room.specs.Room.{Good, volume}
 use Rattle.best_first.specs.Search.{Answer, route, no-route}
 use Rattle.best_first.specs.Statements.{Decided}
-use Rattle.room_search.specs.Routing.{Task, routeable, searched}
+use Rattle.room_search.specs.Routing.{Task, placesIn, routeable, searched}
+use Rattle.job_sheet.specs.Sheet.{Contents, Means}
+use Rattle.job_sheet.specs.Theorems.{one-meaning}
 use Rattle.routing_resources.specs.Marks.{isMarked, markedBy}
 use Rattle.geometry.specs.Geometry.{conflictOf}
 use Rattle.goals.specs.Goals.{Site, Trial, found, failed, full, trialOf, searchedFor, atConflict, afterSearch, maxAttempts, attempts, triedGoal, routeToTree, siteTask, endsGoal}
 use Rattle.goals.specs.PathLaws.{found-by}
 use Rattle.goals.specs.Routes.{as-blocked, one-more}
-use Rattle.goals.specs.FullLaws.{search-not-full}
+use Rattle.goals.specs.FullLaws.{search-not-full, cells-never, route-not-full}
 use Rattle.goals.specs.RouteLaws.{tree-joins, below-failed}
 use Rattle.ends.specs.Ends.{endsOf}
 use Rattle.turns.specs.Turns.{far}
 use Rattle.turns.specs.TurnLaws.{turn-in}
 use Rattle.branches.specs.Branches.{branchOf}
-use Rattle.multinet.specs.Tree.{Plot, Tree, Growth, grown, stopped, tapAt, siteAt, sinkNow, planted, withBranch, fitsIn, afterSink, growSink, growOn, growFrom, growthOf}
+use Rattle.multinet.specs.Tree.{Plot, Tree, Growth, grown, stopped, tapAt, siteAt, sinkNow, planted, withBranch, queueFullNumber, fitsIn, afterSink, growSink, growOn, growFrom, growthOf}
 use Rattle.multinet.specs.Growing.{SoundPlot, turnIn, branchIn}
 use Rattle.multinet.specs.GrowthLaws.{same-tree, turn-more, turns-count, growth-count}
 use Rattle.multinet.specs.GrowingLaws.{sink-now, other-turn}
@@ -36,12 +39,13 @@ use Rattle.net_tree.specs.declared.Lengths.{Lengths}
 use Rattle.net_tree.specs.declared.Answer as trees
 use Rattle.net_tree.specs.declared.Ended.the-variants.{Routed, Refused}
 use Rattle.net_tree.specs.Answers.{Lent, lengthsOf, plotFor, TreeOutcome, routed, no-tree, Comes, answerOf, lentAfter, Promise}
-use Rattle.net_tree.specs.SheetTrees.{TreeOf}
-use Rattle.net_tree.specs.SheetTreeLaws.{tree-of}
-use Rattle.demands.specs.Statements.{Posed, Priced, Ample, NoLawfulWay}
+use Rattle.net_tree.specs.SheetTrees.{TreeOf, StopOf}
+use Rattle.net_tree.specs.SheetTreeLaws.{tree-of, stop-of}
+use Rattle.demands.specs.Statements.{Posed, Priced, Enough, NoLawfulWay}
 use Rattle.demands.specs.Theorems.{route-lawful, route-cheapest, no-route-true, settled}
 use Rattle.demands.specs.QueueLaws.{posed, wide-enough}
-use Rattle.demands.specs.TreeStatements.{SearchMeans, RouteMeans, GoalEnds, no-way, conflict-stays, attempts-over, BranchMeans, TreeMeans, AnswerMeans}
+use Rattle.demands.specs.LimitLaws.{limit-never}
+use Rattle.demands.specs.TreeStatements.{SearchMeans, RouteMeans, GoalEnds, no-way, conflict-stays, attempts-over, BranchMeans, SinkEnds, queue-fills, no-goal-left, buffer-fills, StopsAt, TreeMeans, AnswerMeans, StopMeans}
 
 -- ---- one search
 
@@ -56,7 +60,7 @@ module _ (T : Task) (G : Good (T .room)) (start-in : T .start < volume (T .room)
   no-end : routeable T (T .goal) ≡ false → NoLawfulWay T
   no-end f after w = let z : false ≡ true = sym f ∙ w .goal-free in never (cc)
 
-  module _ (D : Priced (T .config)) (A : Ample T) where
+  module _ (D : Priced (T .config)) (A : Enough (T .room) (T .config) (T .places)) where
     failed-search : searchedFor T ≡ failed → NoLawfulWay T
     unfolding searchedFor
     failed-search e =
@@ -74,7 +78,7 @@ module _ (T : Task) (G : Good (T .room)) (start-in : T .start < volume (T .room)
     found-lawful = λ path cost e. let F = found-by T path cost e in route-lawful (found-posed path cost e) (F .is);
     found-cheapest = λ D path cost e. let F = found-by T path cost e in route-cheapest (found-posed path cost e) D (F .is);
     failed-true = λ D A e. failed-search D A e;
-    never-full = λ D A x e. search-not-full T start-in goal-in (wide-enough D (omega (arith, A .queue-wide))) x e;
+    never-full = λ D h x e. search-not-full T start-in goal-in (wide-enough D h) x e;
   }
 
 -- ---- a sink's route
@@ -88,13 +92,10 @@ module _ (S : Site) (G : Good (S .room)) (start : ℕ) (start-in : start < volum
 
   -- ---- number 14
 
-  -- with a node limit and a queue of 12 for each cell, at costs of 10 and 20 or more
-  module _ (D : Priced (S .config)) (limit-wide : 12 * volume (S .room) ≤ S .config .limit .0) (queue-wide : 12 * volume (S .room) ≤ S .places) where
+  -- with a node limit and a queue that are enough, at costs of 10 and 20 or more
+  module _ (D : Priced (S .config)) (E : Enough (S .room) (S .config) (S .places)) where
     means : (blocked : List ℕ) (goal : ℕ) → goal < volume (S .room) → SearchMeans (siteTask S blocked start goal)
     means blocked goal h = search-means (siteTask S blocked start goal) G start-in h
-
-    ample : (blocked : List ℕ) (goal : ℕ) → Ample (siteTask S blocked start goal)
-    ample blocked goal = record { limit-wide = limit-wide; queue-wide = queue-wide }
 
     prepend : {goal n : ℕ} {blocked path : List ℕ} {cost v : ℕ} → searchedFor (siteTask S blocked start goal) ≡ found path cost
         → conflictOf (S .room) (S .kinds) (S .joinable) path ≡ Inside v → endsGoal blocked start goal v ≡ false
@@ -125,8 +126,8 @@ module _ (S : Site) (G : Good (S .room)) (start : ℕ) (start-in : start < volum
               → ((blocked′ : List ℕ) → attempts n S start goal blocked′ ≡ failed → GoalEnds S start goal n blocked′)
               → GoalEnds S start goal (suc n) blocked
           after (found p c) w q later = at p c w (conflictOf (S .room) (S .kinds) (S .joinable) p) refl q later
-          after failed w q later = no-way {attempts = suc n} 0 blocked (omega arith) as-blocked (means blocked goal goal-in .failed-true D (ample blocked goal) w)
-          after (full x) w q later = absurd (means blocked goal goal-in .never-full D (ample blocked goal) x w)
+          after failed w q later = no-way {attempts = suc n} 0 blocked (omega arith) as-blocked (means blocked goal goal-in .failed-true D E w)
+          after (full x) w q later = absurd (means blocked goal goal-in .never-full D (E .queue-enough) x w)
 
     -- number 14: every joinable cell was tried, and each has its reason
     pub no-goal-means : (blocked : List ℕ) → routeToTree S start blocked ≡ failed → (goal : ℕ) → goal < volume (S .room) → isMarked (S .joinable) goal ≡ true
@@ -208,9 +209,90 @@ module _ (P : Plot) (S : SoundPlot P) (blocked : List ℕ) where
   tree-means T e k h =
       all-meant (P .taps .count) 0 (omega arith) (planted P blocked) T at-outset e .each k h (omega (arith, turn-in (far (P .room) (P .source) (P .taps .taps)) (P .taps .count) k h))
 
+-- ---- a tree that stops growing
+
+module _ (P : Plot) (S : SoundPlot P) (blocked : List ℕ) where
+  -- the sink at whose turn it stops, and the tree before that turn
+  record Halt (number detail : ℕ) : Type 0 where
+    sink : ℕ
+    sink-in : sink < P .taps .count
+    before : Tree
+    at-turn : growFrom (turnIn P sink) P 0 (planted P blocked) ≡ grown before
+    halts : growSink P sink before ≡ stopped number detail
+
+  halts-from : (n turn : ℕ) → turn + n ≤ P .taps .count → (T : Tree) → growFrom turn P 0 (planted P blocked) ≡ grown T → (number detail : ℕ)
+      → growFrom n P turn T ≡ stopped number detail → Halt number detail
+  unfolding growFrom
+  halts-from zero turn h T so number detail q = never (cc)
+  halts-from (suc n) turn h T so number detail q = go (growSink P (sinkNow P turn) T) refl q (halts-from n (turn + 1) (omega arith))
+    where
+      now : (sinkNow P turn < P .taps .count) × (turnIn P (sinkNow P turn) ≡ turn)
+      now = sink-now P turn (sinkNow P turn) refl (omega arith)
+
+      next : growFrom (turn + 1) P 0 (planted P blocked) ≡ growSink P (sinkNow P turn) T
+      next = let z : 0 + turn ≡ turn = omega arith in rw add-one (turn-more P turn 0 (planted P blocked) T so ∙ rw z refl)
+
+      go : (g : Growth) → growSink P (sinkNow P turn) T ≡ g → growOn (growFrom n P (turn + 1)) g ≡ stopped number detail
+          → ((T′ : Tree) → growFrom (turn + 1) P 0 (planted P blocked) ≡ grown T′ → (m x : ℕ) → growFrom n P (turn + 1) T′ ≡ stopped m x → Halt m x)
+          → Halt number detail
+      go (grown T′) e z later = later T′ (next ∙ e) number detail z
+      go (stopped m x) e z later = record { sink = sinkNow P turn; sink-in = now .0; before = T; at-turn = rw (now .1) so; halts = e ∙ z }
+
+  halt : (number detail : ℕ) → growthOf P blocked ≡ stopped number detail → Halt number detail
+  unfolding growthOf growFrom
+  halt number detail e = halts-from (P .taps .count) 0 (omega arith) (planted P blocked) refl number detail e
+
+  -- what a sink that stops it comes to
+  module _ (k : ℕ) (h : k < P .taps .count) (T : Tree) where
+    same : {m x number detail : ℕ} → stopped m x ≡ stopped number detail → SinkEnds P k T m x → SinkEnds P k T number detail
+    same {m} {x} {number} {detail} q s = let a : m ≡ number = cc in let b : x ≡ detail = cc in rw (← a, ← b) s
+
+    abbrev site : Site
+    site = siteAt P (T .joinable)
+
+    abbrev start : ℕ
+    start = tapAt P k .approach
+
+    start-inside : start < volume (P .room)
+    start-inside = S .net .taps-in .approach-in k h
+
+    too-few : (x : ℕ) → routeToTree site start (T .blocked) ≡ full x → Priced (P .config) → P .places < 5 * (volume (P .room) - 1)
+    too-few x w D =
+        ask (ltb (P .places) (5 * (volume (P .room) - 1)))
+        (λ t. ltb-true _ _ t)
+        (λ f. absurd (route-not-full site start (T .blocked) (cells-never site start (T .blocked) start-inside (wide-enough D (ltb-false _ _ f))) x w))
+
+    below-limit : (x : ℕ) → routeToTree site start (T .blocked) ≡ full x → P .places ≤ 11 * P .config .limit .0
+    below-limit x w =
+        ask (ltb (11 * P .config .limit .0) (P .places))
+        (λ t. absurd (route-not-full site start (T .blocked) (limit-never site start start-inside (ltb-true _ _ t) (T .blocked)) x w))
+        (λ f. ltb-false _ _ f)
+
+    sink-ends : (number detail : ℕ) (trial : Trial) → routeToTree site start (T .blocked) ≡ trial → afterSink P k T trial ≡ stopped number detail → SinkEnds P k T number detail
+    unfolding afterSink
+    sink-ends number detail (found path cost) w q =
+        ask (fitsIn P T (branchOf (tapAt P k) path))
+        (λ t. never (cc (rw t at q)))
+        (λ f. same (rw f at q) (buffer-fills path cost (route-means site (S .good) start start-inside (T .blocked) path cost w) (leb-false _ _ f)))
+    sink-ends number detail failed w q = same q (no-goal-left (λ D E goal i j. no-goal-means site (S .good) start start-inside D E (T .blocked) w goal i j))
+    sink-ends number detail (full x) w q = same q (queue-fills x (below-limit x w) (too-few x w))
+
+  -- a tree that stops growing does so at a sink's turn, for one of these reasons
+  pub tree-stops : (number detail : ℕ) → growthOf P blocked ≡ stopped number detail → StopsAt P blocked number detail
+  unfolding growSink
+  tree-stops number detail e =
+      let h = halt number detail e in
+      record {
+        sink = h .sink;
+        sink-in = h .sink-in;
+        before = h .before;
+        at-turn = h .at-turn;
+        why = sink-ends (h .sink) (h .sink-in) (h .before) number detail _ refl (h .halts);
+      }
+
 -- ---- the public tree
 
-module _ {sheet : List ℕ} {L : Lengths} {branches : List (List ℕ)} (T : TreeOf sheet L branches) where
+module _ {sheet : List ℕ} {L : Lengths} {branches : List (List ℕ)} {occupied repeaters : List ℕ} (T : TreeOf sheet L branches occupied repeaters) where
   abbrev P : Plot
   P = plotFor (T .contents) L (T .outset) (T .kinds)
 
@@ -219,9 +301,9 @@ module _ {sheet : List ℕ} {L : Lengths} {branches : List (List ℕ)} (T : Tree
 
   sinks-count : P .taps .count ≡ length (T .contents .sinks)
   unfolding endsOf
-  sinks-count = ap (λ e. e .taps .count) (T .is-set .ends-are)
+  sinks-count = ap (λ e. e .taps .count) (T .unrefused .is-set .ends-are)
 
-  tree-branches : TreeMeans sheet L branches
+  tree-branches : TreeMeans sheet L branches occupied repeaters
   tree-branches = record {
     tree-of = T;
     count-is = taps-count ∙ sinks-count;
@@ -242,3 +324,44 @@ answer-means {sheet} {B} {r} {B′} K {cells} {marks} e = go (K .outcome) (K .co
       means = tree-branches (tree-of c);
     }
     go (no-tree number detail) c a l = let z : Refused number detail ≡ Routed cells marks = sym (ap (λ x. x .ended) a) ∙ e in never (cc)
+
+stop-means : {sheet : List ℕ} {L : Lengths} {number detail : ℕ} → StopOf sheet L number detail → StopMeans sheet L number detail
+stop-means {L = L} {number} {detail} K = record {
+  stop-of = K;
+  stops-at = tree-stops (plotFor (K .contents) L (K .outset) (K .kinds)) (K .sound) (K .blocked) number detail (K .stops);
+}
+
+-- where it promises a number from 10 on, a tree had grown so far, and the number has its reason
+pub stopped-means : {sheet : List ℕ} {B : Lent} {r : trees.Answer} {B′ : Lent} → Promise sheet B r B′ → {number detail : ℕ} → r .ended ≡ Refused number detail
+    → 9 < number → StopMeans sheet (lengthsOf B) number detail
+stopped-means {sheet} {B} {r} K {number} {detail} e h = go (K .outcome) (K .comes) (K .answer)
+  where
+    go : (o : TreeOutcome) → Comes sheet (lengthsOf B) o → r ≡ answerOf o → StopMeans sheet (lengthsOf B) number detail
+    go (routed branches occupied repeaters) c a = let z : Routed _ _ ≡ Refused number detail = sym (ap (λ x. x .ended) a) ∙ e in never (cc)
+    go (no-tree m x) c a =
+        let z : Refused m x ≡ Refused number detail = sym (ap (λ y. y .ended) a) ∙ e in
+        let p : m ≡ number = cc in
+        let q : x ≡ detail = cc in
+        stop-means (stop-of (rw (p, q) at c) h)
+
+full-few : {P : Plot} {k : ℕ} {T : Tree} {number detail : ℕ} → SinkEnds P k T number detail → number ≡ queueFullNumber
+    → (P .places ≤ 11 * P .config .limit .0) × (Priced (P .config) → P .places < 5 * (volume (P .room) - 1))
+full-few (queue-fills x below few) e = (below, few)
+full-few (no-goal-left each) e = absurd (omega arith)
+full-few (buffer-fills path cost means long) e = absurd (omega arith)
+
+module _ {sheet : List ℕ} {B : Lent} {r : trees.Answer} {B′ : Lent} (K : Promise sheet B r B′) (J : Contents) (m : Means sheet J) (detail : ℕ)
+    (e : r .ended ≡ Refused queueFullNumber detail) where
+  full-stop : StopMeans sheet (lengthsOf B) queueFullNumber detail
+  full-stop = stopped-means K e (omega arith)
+
+  same-contents : J ≡ full-stop .stop-of .contents
+  same-contents = one-meaning sheet J (full-stop .stop-of .contents) m (full-stop .stop-of .unrefused .means)
+
+  -- 5 places for each cell but the start never give 13, at those costs
+  pub answer-not-full : Priced (J .config) → 5 * (volume (J .room) - 1) ≤ placesIn (length (B .queue)) → ⊥
+  answer-not-full D wide = omega (arith, wide, full-few (full-stop .stops-at .why) refl .1 (rw same-contents at D), ap (λ (c : Contents). volume (c .room)) same-contents)
+
+  -- nor do, at any costs, 11 for each node of the limit and one more
+  pub answer-below-limit : 11 * J .config .limit .0 < placesIn (length (B .queue)) → ⊥
+  answer-below-limit wide = omega (arith, wide, full-few (full-stop .stops-at .why) refl .0, ap (λ (c : Contents). c .config .limit .0) same-contents)
