@@ -1,4 +1,4 @@
--- The sample rooms k and l of the requirement, computed from the bytes of their sheets: what comes of a sheet, its branch, its occupied cells and its
+-- The sample rooms k and l of docs/RULES.md, computed from the bytes of their sheets: what comes of a sheet, its branch, its occupied cells and its
 -- repeaters, row by row, under one claim.
 use mathlib.Core.Path.{_≡_, refl}
 use mathlib.Core.Logic.{inl, inr}
