@@ -9,3 +9,4 @@ pub mod Numbers
 pub mod TreeStatements
 pub mod QueueLaws
 pub mod TreeTheorems
+pub mod ExportTheorems
