@@ -6,6 +6,7 @@ use mathlib.Core.Bool.{true}
 use mathlib.Core.List.{List, []}
 use Prim.Native.Nat.{ℕ, _+_, _-_, _*_, _≤_, _<_}
 use lib.ListN.{length, getD}
+use Rattle.numbers.specs.Refusals.{queueFullNumber, noGoalNumber, branchesFullNumber}
 use Rattle.basics.specs.Lists.{joined}
 use Rattle.room.specs.declared.Neighbour.the-variants.{Inside}
 use Rattle.room.specs.Room.{volume}
@@ -15,7 +16,7 @@ use Rattle.geometry.specs.Geometry.{conflictOf}
 use Rattle.goals.specs.Goals.{Site, found, failed, full, searchedFor, siteTask, endsGoal, maxAttempts}
 use Rattle.goals.specs.Routes.{Conflicts, RouteJoins}
 use Rattle.branches.specs.Branches.{branchOf}
-use Rattle.multinet.specs.Tree.{Plot, Tree, grown, tapAt, siteAt, planted, queueFullNumber, noGoalNumber, bufferFullNumber, growFrom}
+use Rattle.multinet.specs.Tree.{Plot, Tree, grown, tapAt, siteAt, planted, growFrom}
 use Rattle.multinet.specs.Growing.{turnIn}
 use Rattle.net_tree.specs.declared.Lengths.{Lengths}
 use Rattle.net_tree.specs.declared.Answer.{Answer}
@@ -65,7 +66,7 @@ pub data SinkEnds (P : Plot) (k : ℕ) (T : Tree) : ℕ → ℕ → Type 0 where
       → GoalEnds (siteAt P (T .joinable)) (tapAt P k .approach) goal maxAttempts (T .blocked)) → SinkEnds P k T noGoalNumber (tapAt P k .approach)
   -- 15, with the sink's place in the sheet: it has a route, and its branch and those before it are longer than the branch buffer
   buffer-fills : (path : List ℕ) (cost : ℕ) → RouteMeans (siteAt P (T .joinable)) (tapAt P k .approach) (T .blocked) path cost
-      → P .buffer < length (joined (T .branches)) + length (branchOf (tapAt P k) path) → SinkEnds P k T bufferFullNumber (k + 1)
+      → P .buffer < length (joined (T .branches)) + length (branchOf (tapAt P k) path) → SinkEnds P k T branchesFullNumber (k + 1)
 
 -- the sink at whose turn a tree stopped that grew where these cells were blocked at the outset, the tree as it was before that turn, and why it stopped
 pub record StopsAt (P : Plot) (blocked : List ℕ) (number detail : ℕ) : Type 0 where

@@ -11,6 +11,7 @@ use lib.Dec.{eqb, ltb}
 use borrow.Author.Tests.{ltb-true, ltb-false, leb-false}
 use lib.ListN.{length}
 use lib.Seq.{getD-set-same, getD-set-other}
+use Rattle.numbers.specs.Refusals.{queueFullNumber}
 use Rattle.basics.specs.Tests.{ask, askSame, never}
 use Rattle.room.specs.declared.Neighbour.{Neighbour}
 use Rattle.room.specs.declared.Neighbour.the-variants.{Inside, Outside}
@@ -31,7 +32,7 @@ use Rattle.ends.specs.Ends.{endsOf}
 use Rattle.turns.specs.Turns.{far}
 use Rattle.turns.specs.TurnLaws.{turn-in}
 use Rattle.branches.specs.Branches.{branchOf}
-use Rattle.multinet.specs.Tree.{Plot, Tree, Growth, grown, stopped, tapAt, siteAt, sinkNow, planted, withBranch, queueFullNumber, fitsIn, afterSink, growSink, growOn, growFrom, growthOf}
+use Rattle.multinet.specs.Tree.{Plot, Tree, Growth, grown, stopped, tapAt, siteAt, sinkNow, planted, withBranch, fitsIn, afterSink, growSink, growOn, growFrom, growthOf}
 use Rattle.multinet.specs.Growing.{SoundPlot, turnIn, branchIn}
 use Rattle.multinet.specs.GrowthLaws.{same-tree, turn-more, turns-count, growth-count}
 use Rattle.multinet.specs.GrowingLaws.{sink-now, other-turn}

@@ -4,6 +4,7 @@ use mathlib.Core.Path.{_≡_}
 use mathlib.Core.List.{List, _∷_}
 use Prim.Native.Nat.{ℕ, _+_, _≤_, _<_}
 use lib.ListN.{length}
+use Rattle.numbers.specs.Refusals.{doneNumber, bufferNumber}
 use Rattle.basics.specs.Tests.{either}
 use Rattle.lent.specs.Lent.{outputAfter}
 use Rattle.job_sheet.specs.declared.Reading.{Reading}
@@ -21,7 +22,7 @@ valueCount = 4 + maxSinks
 -- ---- an answer as numbers
 
 abbrev pub numberEnded : Ended → ℕ
-numberEnded (Routed occupied repeaters) = 0
+numberEnded (Routed occupied repeaters) = doneNumber
 numberEnded (Refused number detail) = number
 
 abbrev pub detailEnded : Ended → ℕ
@@ -53,7 +54,7 @@ valuesAfter a values = outputAfter (numberTold a) (treeValues a) values
 pub record ShortNumber (sheet : List ℕ) (number : ℕ) : Type 0 where
   pub reading : Reading
   pub read : Read sheet reading
-  pub number-is : number ≡ either (isGood (reading .judgement)) 6 (numberOf (reading .judgement))
+  pub number-is : number ≡ either (isGood (reading .judgement)) bufferNumber (numberOf (reading .judgement))
 
 -- what comes of a sheet, where this many values are lent
 pub data TreeComes (sheet : List ℕ) (L : Lengths) (values : ℕ) (o : TreeOutcome) : Type 0 where

@@ -7,6 +7,7 @@ use native.Mathlib.Omega.{arith}
 use borrow.Rule.Slice.PartMut.{putMid, midOf}
 use lib.ListN.{length, drop, replicate, drop-of-length-le}
 use lib.Seq.{take-length}
+use Rattle.numbers.specs.Refusals.{bufferNumber}
 use Rattle.basics.specs.Tests.{either, ask}
 use Rattle.basics.specs.Zeros.{drop-zeros}
 use Rattle.basics.specs.Promises.{Determines}
@@ -35,7 +36,7 @@ lengths-behind a b c d n each e f =
 
 -- ---- the promise by its cases
 
-short-small : (v : Judgement) (number : ℕ) → number ≡ either (isGood v) 6 (numberOf v) → touches number ≡ false
+short-small : (v : Judgement) (number : ℕ) → number ≡ either (isGood v) bufferNumber (numberOf v) → touches number ≡ false
 short-small v number e = ask (isGood v) (λ t. rw (e, t)) (λ f. rw (e, f) (unread-touches-none v f))
 
 module _ {sheet : List ℕ} {B : Lent} {values : List ℕ} where

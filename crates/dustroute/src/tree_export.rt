@@ -24,7 +24,7 @@ fn short_number(sheet: &[u8]) -> u32
     if !judgement.is_good() {
         return judgement.number();
     }
-    6
+    numbers::BUFFER_NUMBER
 }
 
 // Sixteen lengths, to the front of what is left of the values.
@@ -73,7 +73,7 @@ fn tell_tree(answer: Answer, values: &mut [u64]) -> u32
             repeaters,
         } => {
             write_values(values, 0, occupied, repeaters, answer.lengths);
-            0
+            numbers::DONE_NUMBER
         }
         Ended::Refused { number, detail } => {
             if lent::touches(number) {

@@ -10,6 +10,7 @@ use lib.Dec.{eqb}
 use borrow.Author.Tests.{eq-eqb, ne-eqb, eqb-false}
 use lib.ListN.{length, getD, take, drop, set, replicate, length-map, List·getD-append}
 use lib.Seq.{slice-cons, slice-empty, getD-take, take-suc, length-take-le}
+use Rattle.numbers.specs.Refusals.{portFacingNumber, endOutsideNumber}
 use Rattle.basics.specs.Tests.{ask, never}
 use Rattle.basics.specs.Padding.{padded-long, padded-next}
 use Rattle.room.specs.declared.Room.{Room}
@@ -28,7 +29,7 @@ use Rattle.ends.specs.declared.Taps.{Taps}
 use Rattle.ends.specs.declared.Fault.{Fault}
 use Rattle.ends.specs.declared.Fault.the-variants.{Good, NoFacing, Outside}
 use Rattle.ends.specs.declared.Ends.{Ends}
-use Rattle.ends.specs.Ends.{sinksIn, sourceEnd, sinkEnd, withoutFacing, endOutside, dueFor, firstDue, endsAt, noTap, tapOf, tapsOf, tapFrom, withoutApproach, terminalIn, faultBy, faultOf, endsOf, tapsIn, TapsInside, NetInside}
+use Rattle.ends.specs.Ends.{sinksIn, sourceEnd, sinkEnd, dueFor, firstDue, endsAt, noTap, tapOf, tapsOf, tapFrom, withoutApproach, terminalIn, faultBy, faultOf, endsOf, tapsIn, TapsInside, NetInside}
 
 module _ {R : Room} {k : Sinks} (S : SinkList R k) where
   pub sinks-long : length (sinksIn k) ≡ k .count
@@ -119,19 +120,19 @@ by-none zero zero h g = refl
 by-none zero (suc m) h g = absurd (omega arith)
 by-none (suc n) m h g = absurd (omega arith)
 
-module _ (R : Room) (source : Endpoint) (sinks : List Endpoint) {n : ℕ} (e : n ≡ firstDue withoutFacing 0 (endsAt R source sinks)) where
+module _ (R : Room) (source : Endpoint) (sinks : List Endpoint) {n : ℕ} (e : n ≡ firstDue portFacingNumber 0 (endsAt R source sinks)) where
   pub fault-facing : 0 < n → NoFacing (n - 1) ≡ faultOf R source sinks
   unfolding faultOf
-  fault-facing h = by-facing n _ h ∙ ap (λ x. faultBy x (firstDue endOutside 0 (endsAt R source sinks))) e
+  fault-facing h = by-facing n _ h ∙ ap (λ x. faultBy x (firstDue endOutsideNumber 0 (endsAt R source sinks))) e
 
-  module _ (p : n ≤ 0) {m : ℕ} (f : m ≡ firstDue endOutside 0 (endsAt R source sinks)) where
+  module _ (p : n ≤ 0) {m : ℕ} (f : m ≡ firstDue endOutsideNumber 0 (endsAt R source sinks)) where
     pub fault-outside : 0 < m → Outside (m - 1) ≡ faultOf R source sinks
     unfolding faultOf
-    fault-outside h = by-outside n m p h ∙ ap (faultBy n) f ∙ ap (λ x. faultBy x (firstDue endOutside 0 (endsAt R source sinks))) e
+    fault-outside h = by-outside n m p h ∙ ap (faultBy n) f ∙ ap (λ x. faultBy x (firstDue endOutsideNumber 0 (endsAt R source sinks))) e
 
     pub fault-none : m ≤ 0 → Good ≡ faultOf R source sinks
     unfolding faultOf
-    fault-none h = by-none n m p h ∙ ap (faultBy n) f ∙ ap (λ x. faultBy x (firstDue endOutside 0 (endsAt R source sinks))) e
+    fault-none h = by-none n m p h ∙ ap (faultBy n) f ∙ ap (λ x. faultBy x (firstDue endOutsideNumber 0 (endsAt R source sinks))) e
 
 pub ends-is : (R : Room) (e : Endpoint) (es : List Endpoint) {f : Fault} {t : ℕ} {k : Taps}
     → f ≡ faultOf R e es → t ≡ terminalIn (sourceEnd R e) → k ≡ tapsOf R es → _≡_ {A = Ends} (record { fault = f; source = t; taps = k }) (endsOf R e es)
@@ -160,21 +161,21 @@ by-good zero zero e = (refl, refl)
 by-good zero (suc m) e = never (cc)
 by-good (suc n) m e = never (cc)
 
-source-inside : (R : Room) (e : Endpoint) → Within R (e .at) → (dueFor (sourceEnd R e) ≢ withoutFacing) → (dueFor (sourceEnd R e) ≢ endOutside) → terminalIn (sourceEnd R e) < volume R
+source-inside : (R : Room) (e : Endpoint) → Within R (e .at) → (dueFor (sourceEnd R e) ≢ portFacingNumber) → (dueFor (sourceEnd R e) ≢ endOutsideNumber) → terminalIn (sourceEnd R e) < volume R
 unfolding sourceEnd
 source-inside R e w n m = go (terminalOf R (e .at) (e .port) (e .facing)) refl n m
   where
-    go : (t : Terminal) → terminalOf R (e .at) (e .port) (e .facing) ≡ t → (dueFor (withoutApproach t) ≢ withoutFacing) → (dueFor (withoutApproach t) ≢ endOutside) → terminalIn (withoutApproach t) < volume R
+    go : (t : Terminal) → terminalOf R (e .at) (e .port) (e .facing) ≡ t → (dueFor (withoutApproach t) ≢ portFacingNumber) → (dueFor (withoutApproach t) ≢ endOutsideNumber) → terminalIn (withoutApproach t) < volume R
     go (Terminal.At cell) q a b = terminal-in R (e .at) w (e .port) (e .facing) cell q
     go Terminal.NoFacing q a b = absurd (a refl)
     go Terminal.Outside q a b = absurd (b refl)
 
-tap-inside : (R : Room) (e : Endpoint) → Within R (e .at) → (dueFor (sinkEnd R e) ≢ withoutFacing) → (dueFor (sinkEnd R e) ≢ endOutside)
+tap-inside : (R : Room) (e : Endpoint) → Within R (e .at) → (dueFor (sinkEnd R e) ≢ portFacingNumber) → (dueFor (sinkEnd R e) ≢ endOutsideNumber)
     → (tapOf R e .terminal < volume R) × (tapOf R e .approach < volume R)
 unfolding tapOf sinkEnd
 tap-inside R e w n m = go (sinkEnd R e) refl n m
   where
-    go : (r : Realized) → sinkEnd R e ≡ r → (dueFor r ≢ withoutFacing) → (dueFor r ≢ endOutside)
+    go : (r : Realized) → sinkEnd R e ≡ r → (dueFor r ≢ portFacingNumber) → (dueFor r ≢ endOutsideNumber)
         → (tapFrom (eqb (e .port) wire) r .terminal < volume R) × (tapFrom (eqb (e .port) wire) r .approach < volume R)
     go (Realized.At t a) q x y = let E = sink-inside R (e .at) w (e .port) (e .facing) t a q in (E .terminal-below, E .approach-below)
     go Realized.NoFacing q x y = absurd (x refl)
@@ -213,9 +214,9 @@ module _ {R : Room} (source : Endpoint) {k : Sinks} (w : Within R (source .at)) 
       let n = sinks-long S in
       let z = by-good _ _ good in
       let inside : (i : ℕ) → i < length l → (tapOf R (getD (k .ends) i noEndpoint) .terminal < volume R) × (tapOf R (getD (k .ends) i noEndpoint) .approach < volume R) =
-      λ i h. tap-inside R _ (S .within i (omega (arith, n))) (none withoutFacing (z .0) i (omega (arith, n))) (none endOutside (z .1) i (omega (arith, n))) in
+      λ i h. tap-inside R _ (S .within i (omega (arith, n))) (none portFacingNumber (z .0) i (omega (arith, n))) (none endOutsideNumber (z .1) i (omega (arith, n))) in
       record {
-        source-in = source-inside R source w (none-due withoutFacing 0 (endsAt R source l) (z .0) 0 (omega arith) Realized.Outside) (none-due endOutside 0 (endsAt R source l) (z .1) 0 (omega arith) Realized.Outside);
+        source-in = source-inside R source w (none-due portFacingNumber 0 (endsAt R source l) (z .0) 0 (omega arith) Realized.Outside) (none-due endOutsideNumber 0 (endsAt R source l) (z .1) 0 (omega arith) Realized.Outside);
         taps-in = record {
           few = omega (arith, n, S .few);
           whole = padded-long (map (tapOf R) l) maxSinks (length l) noTap (length-map l (tapOf R)) (omega (arith, n, S .few));

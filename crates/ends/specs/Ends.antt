@@ -6,6 +6,7 @@ use mathlib.Core.List.{List, [], _∷_, _++_, map}
 use Prim.Native.Nat.{ℕ, zero, suc, _-_, _≤_, _<_}
 use lib.Dec.{eqb}
 use lib.ListN.{length, getD, take, replicate}
+use Rattle.numbers.specs.Refusals.{doneNumber, portFacingNumber, endOutsideNumber}
 use Rattle.basics.specs.Tests.{either}
 use Rattle.room.specs.declared.Room.{Room}
 use Rattle.room.specs.Room.{volume}
@@ -40,19 +41,11 @@ sourceEnd R e = withoutApproach (terminalOf R (e .at) (e .port) (e .facing))
 unfoldable pub sinkEnd : Room → Endpoint → Realized
 sinkEnd R e = realizedOf R (e .at) (e .port) (e .facing)
 
--- 8: "BlockPower without horizontal facing"
-abbrev pub withoutFacing : ℕ
-withoutFacing = 8
-
--- 9: "terminal or approach outside"
-abbrev pub endOutside : ℕ
-endOutside = 9
-
 -- the number that is due for an end, 0 for none
 abbrev pub dueFor : Realized → ℕ
-dueFor (Realized.At terminal approach) = 0
-dueFor Realized.NoFacing = withoutFacing
-dueFor Realized.Outside = endOutside
+dueFor (Realized.At terminal approach) = doneNumber
+dueFor Realized.NoFacing = portFacingNumber
+dueFor Realized.Outside = endOutsideNumber
 
 -- "0 source, k-th sink k": one more than the place of the first end for which that number is due, counted on from `place`; 0 where there is none
 unfoldable pub firstDue : ℕ → ℕ → List Realized → ℕ
@@ -99,7 +92,7 @@ faultBy zero zero = Good
 
 -- number 8 or 9 with its detail, or neither
 unfoldable pub faultOf : Room → Endpoint → List Endpoint → Fault
-faultOf R source sinks = faultBy (firstDue withoutFacing 0 (endsAt R source sinks)) (firstDue endOutside 0 (endsAt R source sinks))
+faultOf R source sinks = faultBy (firstDue portFacingNumber 0 (endsAt R source sinks)) (firstDue endOutsideNumber 0 (endsAt R source sinks))
 
 -- the ends of one net: what `realize_ends` promises
 unfoldable pub endsOf : Room → Endpoint → List Endpoint → Ends

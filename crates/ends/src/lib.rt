@@ -23,11 +23,6 @@ pub struct Taps {
     pub taps: [Tap; MAX_SINKS],
 }
 
-// The numbers that can be due for an end: BlockPower without horizontal facing, terminal or approach outside.
-pub const WITHOUT_FACING: u32 = 8;
-
-pub const END_OUTSIDE: u32 = 9;
-
 // Number 8 or 9 with its detail, 0 for the source and k for the k-th sink; or neither.
 pub enum Fault {
     Good,
@@ -74,9 +69,9 @@ fn due_for(end: Realized) -> u32
         Realized::At {
             terminal: _,
             approach: _,
-        } => 0,
-        Realized::NoFacing => WITHOUT_FACING,
-        Realized::Outside => END_OUTSIDE,
+        } => numbers::DONE_NUMBER,
+        Realized::NoFacing => numbers::PORT_FACING_NUMBER,
+        Realized::Outside => numbers::END_OUTSIDE_NUMBER,
     }
 }
 
@@ -162,11 +157,11 @@ fn fault_of(room: Room, source: Endpoint, sinks: Sinks) -> Fault
     requires { ⌜ SinkList room sinks ⌝ }
     ensures { λ r. ⌜ r ≡ faultOf room source (sinksIn sinks) ⌝ }
 {
-    let unfaced = first_due(room, source, sinks, WITHOUT_FACING);
+    let unfaced = first_due(room, source, sinks, numbers::PORT_FACING_NUMBER);
     if 0 < unfaced {
         return Fault::NoFacing(unfaced - 1);
     }
-    let outside = first_due(room, source, sinks, END_OUTSIDE);
+    let outside = first_due(room, source, sinks, numbers::END_OUTSIDE_NUMBER);
     if 0 < outside {
         return Fault::Outside(outside - 1);
     }

@@ -6,6 +6,7 @@ use mathlib.Core.List.{List, [], _∷_, _++_, map}
 use Prim.Native.Nat.{ℕ, _+_, _-_, _*_, _/_, _%_, _≤_}
 use lib.Dec.{eqb}
 use lib.ListN.{length, replicate}
+use Rattle.numbers.specs.Refusals.{doneNumber, sheetNumber, sidesNumber, configNumber, positionNumber, codeNumber}
 use Rattle.basics.specs.Tests.{either}
 use Rattle.basics.specs.Lists.{joined}
 use Rattle.room.specs.declared.Room.{Room}
@@ -184,12 +185,12 @@ judged J = firstFault (joined (faultsOf J))
 
 -- the numbers that come back
 abbrev pub numberOf : Judgement → ℕ
-numberOf Good = 0
-numberOf Sheet = 1
-numberOf Sides = 2
-numberOf Config = 3
-numberOf Position = 4
-numberOf Code = 5
+numberOf Good = doneNumber
+numberOf Sheet = sheetNumber
+numberOf Sides = sidesNumber
+numberOf Config = configNumber
+numberOf Position = positionNumber
+numberOf Code = codeNumber
 
 -- ---- what the reading answers
 

@@ -91,12 +91,12 @@ impl Judgement {
         ensures { λ r. ⌜ r ≡ numberOf self ⌝ }
     {
         match self {
-            Judgement::Good => 0,
-            Judgement::Sheet => 1,
-            Judgement::Sides => 2,
-            Judgement::Config => 3,
-            Judgement::Position => 4,
-            Judgement::Code => 5,
+            Judgement::Good => numbers::DONE_NUMBER,
+            Judgement::Sheet => numbers::SHEET_NUMBER,
+            Judgement::Sides => numbers::SIDES_NUMBER,
+            Judgement::Config => numbers::CONFIG_NUMBER,
+            Judgement::Position => numbers::POSITION_NUMBER,
+            Judgement::Code => numbers::CODE_NUMBER,
         }
     }
 

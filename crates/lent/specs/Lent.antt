@@ -6,11 +6,12 @@ use mathlib.Core.List.{List, _++_}
 use Prim.Native.Nat.{ℕ, _-_}
 use lib.Dec.{eqb, ltb}
 use lib.ListN.{length, replicate}
+use Rattle.numbers.specs.Refusals.{doneNumber, bufferNumber}
 use Rattle.basics.specs.Tests.{either}
 
--- "Numbers 1 to 6 touch nothing"; a success has number 0
+-- "Numbers 1 to 6 touch nothing": a buffer's is the last of these; a success touches
 abbrev pub touches : ℕ → Bool
-touches number = either (eqb number 0) true (ltb 6 number)
+touches number = either (eqb number doneNumber) true (ltb bufferNumber number)
 
 -- all zero, to its very end
 abbrev pub Cleared : List ℕ → List ℕ → Type 0

@@ -2,14 +2,14 @@
 ghost use mathlib.Core.Path.{_≡_};
 ghost use Rattle.lent.specs.Lent.{touches, Cleared};
 
-// "Numbers 1 to 6 touch nothing"; a success has number 0.
+// "Numbers 1 to 6 touch nothing": a buffer's is the last of these; a success touches.
 pub fn touches(number: u32) -> bool
     ensures { λ r. ⌜ r ≡ touches number ⌝ }
 {
-    if number == 0 {
+    if number == numbers::DONE_NUMBER {
         return true;
     }
-    6 < number
+    numbers::BUFFER_NUMBER < number
 }
 
 pub fn clear_bytes(s: &mut [u8])

@@ -9,6 +9,7 @@ use lib.Dec.{eqb}
 use lib.ListN.{length, getD, take, drop, set, length-set, length-append}
 use lib.Seq.{getD-set-same, getD-set-other, drop-drop}
 use borrow.Author.Tests.{le-leb, lt-leb}
+use Rattle.numbers.specs.Refusals.{queueFullNumber, noGoalNumber, branchesFullNumber}
 use Rattle.basics.specs.Tests.{ask, askSame}
 use Rattle.basics.specs.Lists.{In, joined}
 use Rattle.routing_resources.specs.Marks.{markedBy, isMarked, AllCells}
@@ -160,21 +161,21 @@ module _ {P : Plot} {outset start-buffer : List ℕ} {turn : ℕ} {joinable bloc
     unfolding growSink
     comes = rw (← e, t)
 
-    pub sink-fails : trial ≡ failed → growthOf P outset ≡ stopped 14 (tapAt P k .approach)
+    pub sink-fails : trial ≡ failed → growthOf P outset ≡ stopped noGoalNumber (tapAt P k .approach)
     unfolding afterSink
-    sink-fails f = turn-stops P outset h now-tree (G .same) 14 (tapAt P k .approach) (comes ∙ rw f)
+    sink-fails f = turn-stops P outset h now-tree (G .same) noGoalNumber (tapAt P k .approach) (comes ∙ rw f)
 
-    pub sink-full : (x : ℕ) → trial ≡ full x → growthOf P outset ≡ stopped 13 x
+    pub sink-full : (x : ℕ) → trial ≡ full x → growthOf P outset ≡ stopped queueFullNumber x
     unfolding afterSink
-    sink-full x f = turn-stops P outset h now-tree (G .same) 13 x (comes ∙ rw f)
+    sink-full x f = turn-stops P outset h now-tree (G .same) queueFullNumber x (comes ∙ rw f)
 
     module _ (path : List ℕ) (cost : ℕ) (f : trial ≡ found path cost) where
       abbrev branch : List ℕ
       branch = branchOf (tapAt P k) path
 
-      pub sink-buffer-full : P .buffer < length (joined (now-tree .branches)) + length branch → growthOf P outset ≡ stopped 15 (k + 1)
+      pub sink-buffer-full : P .buffer < length (joined (now-tree .branches)) + length branch → growthOf P outset ≡ stopped branchesFullNumber (k + 1)
       unfolding afterSink
-      sink-buffer-full n = turn-stops P outset h now-tree (G .same) 15 (k + 1) (comes ∙ rw (f, lt-leb _ _ n))
+      sink-buffer-full n = turn-stops P outset h now-tree (G .same) branchesFullNumber (k + 1) (comes ∙ rw (f, lt-leb _ _ n))
 
       module _ (w : RouteKnown (siteAt P (now-tree .joinable)) (tapAt P k .approach) path) (fits : length (joined (now-tree .branches)) + length branch ≤ P .buffer) where
         in-tree : k < length (now-tree .branches)

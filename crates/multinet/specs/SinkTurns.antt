@@ -3,6 +3,7 @@ use mathlib.Core.Path.{_≡_}
 use mathlib.Core.List.{List}
 use Prim.Native.Nat.{ℕ, _+_, _≤_, _<_}
 use lib.ListN.{length, set}
+use Rattle.numbers.specs.Refusals.{queueFullNumber, noGoalNumber, branchesFullNumber}
 use Rattle.room.specs.declared.Room.{Room}
 use Rattle.room.specs.declared.RouterConfig.{RouterConfig}
 use Rattle.room.specs.Room.{volume}
@@ -20,7 +21,7 @@ use Rattle.multinet.specs.declared.GrowthEnd.{GrowthEnd}
 use Rattle.multinet.specs.declared.GrowthEnd.the-variants.{Whole, Early}
 use Rattle.multinet.specs.declared.GrownBranches.{GrownBranches}
 use Rattle.routing_resources.specs.Marks.{Marks}
-use Rattle.multinet.specs.Tree.{Plot, Growth, stopped, queueFullNumber, noGoalNumber, bufferFullNumber, growthOf, sourceMarks}
+use Rattle.multinet.specs.Tree.{Plot, Growth, stopped, growthOf, sourceMarks}
 use Rattle.multinet.specs.Growing.{SoundPlot, Growing}
 
 -- marks that joinable and blocked cells may have, and work memory of exactly V cells, whatever it holds
@@ -58,7 +59,7 @@ pub record Turnable (P : Plot) (turn : ℕ) (L : BranchLengths) (joinable blocke
 abbrev pub stopNumber : Stop → ℕ
 stopNumber (QueueFull x) = queueFullNumber
 stopNumber (NoGoal cell) = noGoalNumber
-stopNumber (BufferFull place) = bufferFullNumber
+stopNumber (BufferFull place) = branchesFullNumber
 
 abbrev pub stopDetail : Stop → ℕ
 stopDetail (QueueFull x) = x .0

@@ -5,6 +5,7 @@ use mathlib.Core.List.{List, []}
 use Prim.Native.Nat.{ℕ, zero, suc, _+_}
 use lib.Dec.{leb, eqb}
 use lib.ListN.{length, getD, set, replicate}
+use Rattle.numbers.specs.Refusals.{queueFullNumber, noGoalNumber, branchesFullNumber}
 use Rattle.basics.specs.Tests.{either}
 use Rattle.basics.specs.Lists.{any, joined}
 use Rattle.room.specs.declared.Room.{Room}
@@ -72,18 +73,6 @@ withBranch R k branch T = record {
   branches = set (T .branches) k branch;
 }
 
--- 13: "a push is due and the waiting entries fill the queue"
-abbrev pub queueFullNumber : ℕ
-queueFullNumber = 13
-
--- 14: "no goal left for a sink"
-abbrev pub noGoalNumber : ℕ
-noGoalNumber = 14
-
--- 15: "branches so far, in the order searched, exceed the branch buffer"
-abbrev pub bufferFullNumber : ℕ
-bufferFullNumber = 15
-
 -- the branch has place in the branch buffer behind those so far
 abbrev pub fitsIn : Plot → Tree → List ℕ → Bool
 fitsIn P T branch = leb (length (joined (T .branches)) + length branch) (P .buffer)
@@ -91,7 +80,7 @@ fitsIn P T branch = leb (length (joined (T .branches)) + length branch) (P .buff
 -- "then per sink 13 or 14, then 15"
 unfoldable pub afterSink : Plot → ℕ → Tree → Trial → Growth
 afterSink P k T (found path cost) =
-    either (fitsIn P T (branchOf (tapAt P k) path)) (grown (withBranch (P .room) k (branchOf (tapAt P k) path) T)) (stopped bufferFullNumber (k + 1))
+    either (fitsIn P T (branchOf (tapAt P k) path)) (grown (withBranch (P .room) k (branchOf (tapAt P k) path) T)) (stopped branchesFullNumber (k + 1))
 afterSink P k T failed = stopped noGoalNumber (tapAt P k .approach)
 afterSink P k T (full x) = stopped queueFullNumber x
 

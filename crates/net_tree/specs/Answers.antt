@@ -6,6 +6,7 @@ use mathlib.Core.List.{List, [], _∷_}
 use Prim.Native.Nat.{ℕ}
 use lib.Dec.{leb}
 use lib.ListN.{length}
+use Rattle.numbers.specs.Refusals.{doneNumber, bufferNumber}
 use Rattle.basics.specs.Tests.{either}
 use Rattle.basics.specs.Lists.{every, joined}
 use Rattle.lent.specs.Lent.{outputAfter, workAfter}
@@ -94,7 +95,7 @@ jobOutcome J L O kinds blocked =
 -- "A tree checks 1, 2, 3, then record by record 4 before 5, then 6, 7, ..": what comes of a sheet
 pub data Comes (sheet : List ℕ) (L : Lengths) (o : TreeOutcome) : Type 0 where
   unread : (r : Reading) → Read sheet r → isGood (r .judgement) ≡ false → o ≡ no-tree (numberOf (r .judgement)) 0 → Comes sheet L o
-  unlent : (J : Contents) → Means sheet J → judged J ≡ judgement.Good → buffersGood (J .room) L ≡ false → o ≡ no-tree 6 0 → Comes sheet L o
+  unlent : (J : Contents) → Means sheet J → judged J ≡ judgement.Good → buffersGood (J .room) L ≡ false → o ≡ no-tree bufferNumber 0 → Comes sheet L o
   set-out : (J : Contents) → Means sheet J → judged J ≡ judgement.Good → buffersGood (J .room) L ≡ true
       → (O : Outset) (kinds nodes blocked : List ℕ) → OutsetOf J O kinds nodes blocked → o ≡ jobOutcome J L O kinds blocked
       → Comes sheet L o
@@ -108,7 +109,7 @@ answerOf (no-tree number detail) = record { ended = Refused number detail; lengt
 
 -- its number, 0 for a tree
 abbrev pub numberFor : TreeOutcome → ℕ
-numberFor (routed bs occupied repeaters) = 0
+numberFor (routed bs occupied repeaters) = doneNumber
 numberFor (no-tree number detail) = number
 
 -- ---- the lent buffers

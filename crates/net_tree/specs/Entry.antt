@@ -4,6 +4,7 @@ use mathlib.Core.List.{List, _++_}
 use Prim.Native.Nat.{ℕ, _<_}
 use lib.ListN.{length, drop, replicate}
 use mathlib.Core.Bool.{true}
+use Rattle.numbers.specs.Refusals.{bufferNumber}
 use Rattle.basics.specs.Lists.{joined}
 use Rattle.lent.specs.Lent.{filled}
 use Rattle.multinet.specs.declared.Stop.{Stop}
@@ -35,7 +36,7 @@ use Rattle.multinet.specs.SinkTurns.{stopNumber, stopDetail}
 abbrev pub OutputsHold : TreeOutcome → (branches branches′ occupied′ repeaters′ : List ℕ) → Type 0
 OutputsHold (routed bs occupied repeaters) branches branches′ occupied′ repeaters′ =
     (branches′ ≡ filled (joined bs) branches) × (occupied′ ≡ occupied) × (repeaters′ ≡ repeaters)
-OutputsHold (no-tree number detail) branches branches′ occupied′ repeaters′ = 6 < number
+OutputsHold (no-tree number detail) branches branches′ occupied′ repeaters′ = bufferNumber < number
 
 -- a grown tree in the buffer, cleared outputs, and work memory of exactly V cells
 pub record Harvestable (R : Room) (source : ℕ) (taps : Taps) (L : BranchLengths) (branches occupied repeaters classes known previous path : List ℕ) : Type 0 where

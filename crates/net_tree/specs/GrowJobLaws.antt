@@ -6,6 +6,7 @@ use native.Mathlib.Omega.{arith}
 use lib.Dec.{eqb}
 use lib.ListN.{length, getD, drop, replicate, length-map, take-append-drop}
 use lib.Seq.{ext-getD}
+use Rattle.numbers.specs.Refusals.{bufferNumber}
 use Rattle.basics.specs.Tests.{askLess}
 use Rattle.basics.specs.Zeros.{drop-zeros, zeros}
 use Rattle.basics.specs.Padding.{padded-long}
@@ -65,7 +66,7 @@ module _ {P : Plot} {B : Lent} (A : Growable P B) where
     best-long = A .best-long;
   }
 
-  stopped-grown : {number detail : ℕ} → growthOf P (B .blocked) ≡ stopped number detail → 6 < number → {r : Answer} → r ≡ answerOf (no-tree number detail)
+  stopped-grown : {number detail : ℕ} → growthOf P (B .blocked) ≡ stopped number detail → bufferNumber < number → {r : Answer} → r ≡ answerOf (no-tree number detail)
       → {branches occupied repeaters : List ℕ} → TreeGrown P B r branches occupied repeaters
   stopped-grown e h a = record { answer = a ∙ rw e; outputs = rw e h }
 

@@ -5,6 +5,7 @@ use mathlib.Core.List.{List}
 use Prim.Native.Nat.{ℕ, _<_}
 use native.Mathlib.Omega.{arith}
 use lib.ListN.{length, getD, length-replicate}
+use Rattle.numbers.specs.Refusals.{bufferNumber}
 use Rattle.basics.specs.Tests.{never}
 use Rattle.room.specs.Room.{volume}
 use Rattle.routing_resources.specs.Marks.{noMarks, Marks}
@@ -36,7 +37,7 @@ use Rattle.net_tree.specs.Entry.{Growable, TreeGrown, Routable, JobRoute
 use Rattle.net_tree.specs.EntryLaws.{long-enough}
 
 -- a number from setting out is above 6
-pub late : (p : Placement) (f : Fault) → readyBy p f ≡ false → 6 < numberBy p f
+pub late : (p : Placement) (f : Fault) → readyBy p f ≡ false → bufferNumber < numberBy p f
 late (Placement.RepeatAt cell) f e = omega arith
 late Placement.Placed Fault.Good e = never (cc)
 late Placement.Placed (Fault.NoFacing place) e = omega arith

@@ -6,6 +6,7 @@ use Prim.Native.Nat.{ℕ, _+_, _-_, _≤_, _<_}
 use native.Mathlib.Omega.{arith}
 use lib.ListN.{length, drop, replicate, length-append, length-drop}
 use borrow.Author.Tests.{lt-ltb, ne-eqb}
+use Rattle.numbers.specs.Refusals.{doneNumber, bufferNumber}
 use Rattle.basics.specs.Tests.{never}
 use Rattle.basics.specs.Zeros.{drop-zeros, zeros-long, cleared-to}
 use Rattle.basics.specs.Lists.{joined}
@@ -25,8 +26,8 @@ use Rattle.net_tree.specs.EntryLaws.{enough}
 
 -- ---- cleared outputs
 
-high : {number : ℕ} → 6 < number → touches number ≡ true
-high {number} h = rw (ne-eqb number 0 (omega arith), lt-ltb 6 number h)
+high : {number : ℕ} → bufferNumber < number → touches number ≡ true
+high {number} h = rw (ne-eqb number doneNumber (omega arith), lt-ltb bufferNumber number h)
 
 module _ {sheet : List ℕ} {job : Job} {B : Lent} (A : Lendable sheet job B) {branches occupied repeaters : List ℕ}
     (eb : Cleared (B .branches) branches) (eo : Cleared (B .occupied) occupied) (er : Cleared (B .repeaters) repeaters) where
@@ -88,7 +89,7 @@ module _ {sheet : List ℕ} {job : Job} {B : Lent} (A : Lendable sheet job B) {b
         a ∙ ap (λ l. marks ++ l) (ap (drop n) e ∙ drop-zeros n (length before) ∙ ap (λ x. replicate (length before - x) 0) (sym m))
 
     -- a refusal leaves zeros
-    refused-after : {number : ℕ} → 6 < number → (buffer mid : List ℕ) {zeros : List ℕ} → length mid ≡ length zeros → Cleared buffer zeros
+    refused-after : {number : ℕ} → bufferNumber < number → (buffer mid : List ℕ) {zeros : List ℕ} → length mid ≡ length zeros → Cleared buffer zeros
         → replicate (length mid) 0 ≡ outputAfter number [] buffer
     refused-after {number = number} h buffer mid k e =
         let z : length buffer - 0 ≡ length mid = omega (arith, k, zeros-long {n = length buffer} e) in
@@ -173,9 +174,9 @@ promise-unread {B = B} {reading = reading} p f a = record {
 }
 
 -- number 6
-pub promise-unlent : {sheet : List ℕ} {B : Lent} {job : Job} → Accepted sheet job → buffersGood (job .room) (lengthsOf B) ≡ false → {r : Answer} → r ≡ answerOf (no-tree 6 0) → Promise sheet B r B
+pub promise-unlent : {sheet : List ℕ} {B : Lent} {job : Job} → Accepted sheet job → buffersGood (job .room) (lengthsOf B) ≡ false → {r : Answer} → r ≡ answerOf (no-tree bufferNumber 0) → Promise sheet B r B
 promise-unlent {sheet = sheet} {B = B} {job = job} A f a = record {
-  outcome = no-tree 6 0;
+  outcome = no-tree bufferNumber 0;
   comes = unlent (A .contents) (A .means) (A .good) (ap (λ R. buffersGood R (lengthsOf B)) (sym (usable sheet job A .room-is)) ∙ f) refl;
   answer = a;
   lent-is = refl;

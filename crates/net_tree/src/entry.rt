@@ -225,7 +225,7 @@ pub fn route_net_tree(
     };
     let job = reading.job;
     if !lent_enough(job.room, lent_lengths) {
-        return refuse(6, 0);
+        return refuse(numbers::BUFFER_NUMBER, 0);
     }
     route_lent(
         sheet,

@@ -84,9 +84,9 @@ fn refusal_of(stop: Stop) -> Answer
     ensures { λ r. ⌜ r ≡ answerOf (refusedBy stop) ⌝ }
 {
     match stop {
-        Stop::QueueFull(expanded) => refuse(13, expanded.0 as usize),
-        Stop::NoGoal(approach) => refuse(14, approach),
-        Stop::BufferFull(place) => refuse(15, place),
+        Stop::QueueFull(expanded) => refuse(numbers::QUEUE_FULL_NUMBER, expanded.0 as usize),
+        Stop::NoGoal(approach) => refuse(numbers::NO_GOAL_NUMBER, approach),
+        Stop::BufferFull(place) => refuse(numbers::BRANCHES_FULL_NUMBER, place),
     }
 }
 

@@ -4,6 +4,7 @@ use mathlib.Core.Bool.{Bool, true, false}
 use mathlib.Core.List.{List}
 use Prim.Native.Nat.{ℕ}
 use lib.ListN.{length}
+use Rattle.numbers.specs.Refusals.{doneNumber, overlapNumber, portFacingNumber, endOutsideNumber}
 use Rattle.basics.specs.Tests.{either}
 use Rattle.room.specs.Room.{volume}
 use Rattle.routing_resources.specs.Marks.{noMarks}
@@ -13,7 +14,7 @@ use Rattle.job_sheet.specs.Accepted.{Accepted}
 use Rattle.blocks.specs.declared.Placement.{Placement}
 use Rattle.blocks.specs.Blocks.{kindsOf, nodesOf, BlocksLaid}
 use Rattle.ends.specs.declared.Fault.{Fault}
-use Rattle.ends.specs.Ends.{withoutFacing, endOutside, endsOf}
+use Rattle.ends.specs.Ends.{endsOf}
 use Rattle.outset.specs.declared.Outset.{Outset}
 use Rattle.outset.specs.Outset.{blockedAtOutset}
 
@@ -29,10 +30,10 @@ ready r = readyBy (r .placement) (r .ends .fault)
 
 -- "7, all of 8, all of 9", with their details; 0 where none is due
 abbrev pub numberBy : Placement → Fault → ℕ
-numberBy (Placement.RepeatAt cell) fault = 7
-numberBy Placement.Placed Fault.Good = 0
-numberBy Placement.Placed (Fault.NoFacing place) = withoutFacing
-numberBy Placement.Placed (Fault.Outside place) = endOutside
+numberBy (Placement.RepeatAt cell) fault = overlapNumber
+numberBy Placement.Placed Fault.Good = doneNumber
+numberBy Placement.Placed (Fault.NoFacing place) = portFacingNumber
+numberBy Placement.Placed (Fault.Outside place) = endOutsideNumber
 
 abbrev pub detailBy : Placement → Fault → ℕ
 detailBy (Placement.RepeatAt cell) fault = cell

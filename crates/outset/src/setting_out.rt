@@ -26,12 +26,12 @@ pub fn number_by(placement: Placement, fault: Fault) -> u32
     ensures { λ r. ⌜ r ≡ numberBy placement fault ⌝ }
 {
     if let Placement::RepeatAt(_) = placement {
-        return 7;
+        return numbers::OVERLAP_NUMBER;
     }
     match fault {
-        Fault::Good => 0,
-        Fault::NoFacing(_) => ends::WITHOUT_FACING,
-        Fault::Outside(_) => ends::END_OUTSIDE,
+        Fault::Good => numbers::DONE_NUMBER,
+        Fault::NoFacing(_) => numbers::PORT_FACING_NUMBER,
+        Fault::Outside(_) => numbers::END_OUTSIDE_NUMBER,
     }
 }
 

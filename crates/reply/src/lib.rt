@@ -13,11 +13,11 @@ pub fn refusal_number(why: Refusal) -> u32
     ensures { λ r. ⌜ r ≡ refusalNumber why ⌝ }
 {
     match why {
-        Refusal::Sides => 2,
-        Refusal::Config => 3,
-        Refusal::Position => 4,
-        Refusal::Code => 5,
-        Refusal::Buffer => 6,
+        Refusal::Sides => numbers::SIDES_NUMBER,
+        Refusal::Config => numbers::CONFIG_NUMBER,
+        Refusal::Position => numbers::POSITION_NUMBER,
+        Refusal::Code => numbers::CODE_NUMBER,
+        Refusal::Buffer => numbers::BUFFER_NUMBER,
     }
 }
 
@@ -26,12 +26,12 @@ pub fn number_of(answer: Answer) -> u32
     ensures { λ r. ⌜ r ≡ numberOf answer ⌝ }
 {
     match answer {
-        Answer::Routed(_) => 0,
+        Answer::Routed(_) => numbers::DONE_NUMBER,
         Answer::Refused(why) => refusal_number(why),
-        Answer::NotRouteable(_) => 10,
-        Answer::NoRoute(_) => 11,
-        Answer::LimitPassed(_) => 12,
-        Answer::QueueFull(_) => 13,
+        Answer::NotRouteable(_) => numbers::NOT_ROUTEABLE_NUMBER,
+        Answer::NoRoute(_) => numbers::NO_ROUTE_NUMBER,
+        Answer::LimitPassed(_) => numbers::LIMIT_PASSED_NUMBER,
+        Answer::QueueFull(_) => numbers::QUEUE_FULL_NUMBER,
     }
 }
 

@@ -5,6 +5,7 @@ use mathlib.Core.List.{List}
 use Prim.Native.Nat.{ℕ, zero, suc, _+_, _≤_, _<_}
 use native.Mathlib.Omega.{arith}
 use borrow.Author.Tests.{le-leb}
+use Rattle.numbers.specs.Refusals.{sidesNumber, bufferNumber, queueFullNumber, branchesFullNumber}
 use Rattle.basics.specs.Tests.{either, ask, never}
 use Rattle.net_tree.specs.declared.Lengths.{Lengths}
 use Rattle.outset.specs.declared.Outset.{Outset}
@@ -23,7 +24,7 @@ use Rattle.route.specs.Printed.{maxCells, programLengths, ComesHere, ove
 
 -- ---- a sheet that is refused has one of 1 to 5
 
-refused-low : (v : Judgement) → numberOf v ≡ 6 → ⊥
+refused-low : (v : Judgement) → numberOf v ≡ bufferNumber → ⊥
 refused-low Good e = omega arith
 refused-low Sheet e = omega arith
 refused-low Sides e = omega arith
@@ -39,16 +40,16 @@ lent-enough R h = rw (le-leb (volume R) maxCells h)
 
 -- ---- a job that is set out has one of 7 to 9, or of 13 to 15
 
--- a growth that stops has a number above 12
+-- a growth that stops has a number from 13 on
 abbrev StopsHigh : Growth → Type 0
 StopsHigh (grown T) = Unit {0}
-StopsHigh (stopped number detail) = 12 < number
+StopsHigh (stopped number detail) = queueFullNumber ≤ number
 
 after-high : (P : Plot) (k : ℕ) (T : Tree) (t : Trial) → StopsHigh (afterSink P k T t)
 unfolding afterSink
 after-high P k T (found path cost) = by-fit (fitsIn P T (branchOf (tapAt P k) path))
   where
-    by-fit : (b : Bool) → StopsHigh (either b (grown (withBranch (P .room) k (branchOf (tapAt P k) path) T)) (stopped 15 (k + 1)))
+    by-fit : (b : Bool) → StopsHigh (either b (grown (withBranch (P .room) k (branchOf (tapAt P k) path) T)) (stopped branchesFullNumber (k + 1)))
     by-fit true = tt
     by-fit false = omega arith
 after-high P k T failed = omega arith
@@ -69,22 +70,22 @@ growth-high (suc n) P turn T =
     let k = sinkNow P turn in
     on-high (growFrom n P (turn + 1)) (growth-high n P (turn + 1)) (growSink P k T) (sink-high P k T)
 
-outcome-high : (P : Plot) (g : Growth) → StopsHigh g → numberFor (outcomeOf P g) ≡ 6 → ⊥
+outcome-high : (P : Plot) (g : Growth) → StopsHigh g → numberFor (outcomeOf P g) ≡ bufferNumber → ⊥
 outcome-high P (grown T) s e = omega arith
 outcome-high P (stopped number detail) s e = omega arith
 
-job-high : (J : Contents) (L : Lengths) (O : Outset) (kinds blocked : List ℕ) → numberFor (jobOutcome J L O kinds blocked) ≡ 6 → ⊥
+job-high : (J : Contents) (L : Lengths) (O : Outset) (kinds blocked : List ℕ) → numberFor (jobOutcome J L O kinds blocked) ≡ bufferNumber → ⊥
 unfolding jobOutcome growthOf
 job-high J L O kinds blocked e =
     let P = plotFor J L O kinds in
     ask (ready O)
     (λ t. outcome-high P (growthOf P blocked) (growth-high (P .taps .count) P 0 (planted P blocked)) (rw t at e))
-    (λ f. let six : numberBy (O .placement) (O .ends .fault) ≡ 6 = rw f at e in omega (arith, late (O .placement) (O .ends .fault) f, six))
+    (λ f. let six : numberBy (O .placement) (O .ends .fault) ≡ bufferNumber = rw f at e in omega (arith, late (O .placement) (O .ends .fault) f, six))
 
 -- ---- so it never says 6
 
-pub no-six : {sheet : List ℕ} {o : TreeOutcome} → ComesHere sheet o → numberFor o ≡ 6 → ⊥
-no-six (over-limit J m h e) n = let k : _≡_ {A = ℕ} 2 6 = sym (ap numberFor e) ∙ n in omega (arith, k)
+pub no-six : {sheet : List ℕ} {o : TreeOutcome} → ComesHere sheet o → numberFor o ≡ bufferNumber → ⊥
+no-six (over-limit J m h e) n = let k : _≡_ {A = ℕ} sidesNumber bufferNumber = sym (ap numberFor e) ∙ n in omega (arith, k)
 no-six (within-limit small (unread r p f e)) n = refused-low (r .judgement) (sym (ap numberFor e) ∙ n)
 no-six (within-limit small (unlent J m g b e)) n = never (cc (sym b ∙ lent-enough (J .room) (small J m)))
 no-six (within-limit small (set-out J m g b O kinds nodes blocked s e)) n = job-high J programLengths O kinds blocked (sym (ap numberFor e) ∙ n)

@@ -4,6 +4,7 @@ use mathlib.Core.Bool.{Bool, true, false}
 use mathlib.Core.List.{List, _++_}
 use Prim.Native.Nat.{ℕ, _≤_, _<_}
 use lib.ListN.{length, take}
+use Rattle.numbers.specs.Refusals.{sidesNumber}
 use Rattle.room.specs.Room.{volume}
 use Rattle.job_sheet.specs.Sheet.{Contents, Means}
 use Rattle.branches.specs.Branches.{markedCount}
@@ -43,7 +44,7 @@ programLengths = record {
 
 -- what comes of a sheet in this program: the limit of its own stands at 2's place, after 1 and before 3
 pub data ComesHere (sheet : List ℕ) (o : TreeOutcome) : Type 0 where
-  over-limit : (J : Contents) → Means sheet J → maxCells < volume (J .room) → o ≡ no-tree 2 0 → ComesHere sheet o
+  over-limit : (J : Contents) → Means sheet J → maxCells < volume (J .room) → o ≡ no-tree sidesNumber 0 → ComesHere sheet o
   within-limit : ((J : Contents) → Means sheet J → volume (J .room) ≤ maxCells) → Comes sheet programLengths o → ComesHere sheet o
 
 -- the lines: `net`, "a line `branch` with its cells for each sink in sheet order", `repeaters`; or `refused`

@@ -8,6 +8,7 @@ use lib.Dec.{ltb, eqb}
 use lib.ListN.{length, take, drop, getD, replicate, length-append, length-map, length-take, length-replicate}
 use lib.Seq.{take-at}
 use borrow.Author.Tests.{ltb-true, ltb-false}
+use Rattle.numbers.specs.Refusals.{sheetNumber, sidesNumber}
 use Rattle.basics.specs.Tests.{ask, never}
 use Rattle.basics.specs.Promises.{Determines}
 use Rattle.basics.specs.Padding.{padded-long}
@@ -42,7 +43,7 @@ pub sides-stand : {sheet : List ℕ} {J : Contents} → Means sheet J
 unfolding bytesBy rest
 sides-stand {J = J} m = rw (← m .bytes) (omega arith, refl)
 
-number-is-one : (v : Judgement) → numberOf v ≡ 1 → v ≡ Sheet
+number-is-one : (v : Judgement) → numberOf v ≡ sheetNumber → v ≡ Sheet
 number-is-one Good e = never (cc)
 number-is-one Sheet e = refl
 number-is-one Sides e = never (omega arith)
@@ -51,12 +52,12 @@ number-is-one Position e = never (omega arith)
 number-is-one Code e = never (omega arith)
 
 -- number 1 is judged first: then the sheet means nothing
-pub size-unread : {sheet : List ℕ} {r : Reading} {n : ℕ} → Read sheet r → n ≡ numberOf (r .judgement) → n ≡ 1 → {large : Bool} → large ≡ false → SizeJudged sheet large
+pub size-unread : {sheet : List ℕ} {r : Reading} {n : ℕ} → Read sheet r → n ≡ numberOf (r .judgement) → n ≡ sheetNumber → {large : Bool} → large ≡ false → SizeJudged sheet large
 size-unread {sheet} {r} R e one f =
     is-not (λ J m. absurd (number-one sheet r R .0 (number-is-one (r .judgement) (sym e ∙ one)) J m)) f
 
 -- otherwise it means something
-pub has-meaning : {sheet : List ℕ} {r : Reading} {n : ℕ} → Read sheet r → n ≡ numberOf (r .judgement) → (n ≡ 1 → ⊥) → (J : Contents) × Means sheet J
+pub has-meaning : {sheet : List ℕ} {r : Reading} {n : ℕ} → Read sheet r → n ≡ numberOf (r .judgement) → (n ≡ sheetNumber → ⊥) → (J : Contents) × Means sheet J
 has-meaning (meaning J m e) d not-one = (J, m)
 has-meaning (means-nothing none e) d not-one = absurd (not-one (d ∙ ap (λ x. numberOf (x .judgement)) e))
 
@@ -185,13 +186,13 @@ module _ {sheet : List ℕ} {B : Lent} {r : Answer} {B′ : Lent} (P : Promise s
 
 -- ---- what is printed of a sheet
 
-pub over-fits : {out : List ℕ} → longestText ≤ length out → Fits out 0 (refusedLine 2 0)
-over-fits h = record { place = omega (arith, refused-length 2 0) }
+pub over-fits : {out : List ℕ} → longestText ≤ length out → Fits out 0 (refusedLine sidesNumber 0)
+over-fits h = record { place = omega (arith, refused-length sidesNumber 0) }
 
 pub printed-over : {sheet : List ℕ} {large : Bool} → SizeJudged sheet large → large ≡ true → {out out′ : List ℕ} {end : ℕ} → longestText ≤ length out
-    → Put out 0 (refusedLine 2 0) out′ end → Printed sheet out′ end
+    → Put out 0 (refusedLine sidesNumber 0) out′ end → Printed sheet out′ end
 printed-over (is-over J m h e) t long p =
-    record { outcome = no-tree 2 0; so = over-limit J m h refl; within = omega (arith, refused-length 2 0, p .ends, p .same); is = p .front }
+    record { outcome = no-tree sidesNumber 0; so = over-limit J m h refl; within = omega (arith, refused-length sidesNumber 0, p .ends, p .same); is = p .front }
 printed-over (is-not none e) t long p = never (cc)
 
 pub printed-not-over : {sheet : List ℕ} {large : Bool} → SizeJudged sheet large → large ≡ false → {out : List ℕ} {end : ℕ}

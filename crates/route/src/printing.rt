@@ -36,7 +36,7 @@ fn too_large(sheet: &[u8]) -> bool
 {
     let reading = sheet_reader::read_sheet(sheet);
     let judgement = reading.judgement;
-    if judgement.number() == 1 {
+    if judgement.number() == numbers::SHEET_NUMBER {
         return false;
     }
     MAX_CELLS < cells_in(sheet)
@@ -84,7 +84,7 @@ pub fn put_sheet(sheet: &[u8], out: &mut [u8]) -> usize
     ensures { λ r. ⌜ Printed (now (sheet .entry)) (now (out .exit)) r ⌝ }
 {
     if too_large(sheet) {
-        return put_refused(out, 0, 2, 0);
+        return put_refused(out, 0, numbers::SIDES_NUMBER, 0);
     }
     put_routed(sheet, out)
 }

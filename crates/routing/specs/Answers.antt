@@ -6,6 +6,7 @@ use mathlib.Core.List.{List, []}
 use Prim.Native.Nat.{ℕ}
 use lib.Dec.{leb, ltb, eqb}
 use lib.ListN.{length}
+use Rattle.numbers.specs.Refusals.{doneNumber, sidesNumber, configNumber, positionNumber, codeNumber, bufferNumber, notRouteableNumber, noRouteNumber, limitPassedNumber, queueFullNumber}
 use Rattle.basics.specs.Tests.{either}
 use Rattle.basics.specs.Lists.{every}
 use Rattle.lent.specs.Lent.{outputAfter, workAfter}
@@ -84,19 +85,19 @@ answerOf I = answerFor (judged I) I
 
 -- the number of each answer, 0 for a route, and its detail
 abbrev pub refusalNumber : Refusal → ℕ
-refusalNumber Sides = 2
-refusalNumber Config = 3
-refusalNumber Position = 4
-refusalNumber Code = 5
-refusalNumber Buffer = 6
+refusalNumber Sides = sidesNumber
+refusalNumber Config = configNumber
+refusalNumber Position = positionNumber
+refusalNumber Code = codeNumber
+refusalNumber Buffer = bufferNumber
 
 abbrev pub numberOf : Answer → ℕ
-numberOf (Routed r) = 0
+numberOf (Routed r) = doneNumber
 numberOf (Refused why) = refusalNumber why
-numberOf (NotRouteable cell) = 10
-numberOf (NoRoute x) = 11
-numberOf (LimitPassed x) = 12
-numberOf (QueueFull x) = 13
+numberOf (NotRouteable cell) = notRouteableNumber
+numberOf (NoRoute x) = noRouteNumber
+numberOf (LimitPassed x) = limitPassedNumber
+numberOf (QueueFull x) = queueFullNumber
 
 abbrev pub detailOf : Answer → ℕ
 detailOf (Routed r) = 0
