@@ -10,6 +10,7 @@ ghost use Rattle.room_search.specs.TriedMoves.{maxKnown, HeapReady, Offe
 use crate::Line;
 use crate::MovesTried;
 use crate::Spot;
+use room::Cost;
 use room::Move;
 use room::Pos;
 use room::Room;
@@ -36,20 +37,20 @@ fn offer(
     line: Line,
     from: usize,
     cell: usize,
-    cost: u32,
+    cost: Cost,
     at: Pos,
     goal: Pos,
 ) -> MovesTried
     requires { ⌜ (cell < length (now known)) × (length (now previous) ≡ length (now known)) × (length (now known) ≤ maxVolume) ⌝ }
-    requires { ⌜ (from < maxVolume) × (cost ≤ maxKnown + 2 * maxCost) × (line .serial + 1 < 2 ^ 32) ⌝ }
+    requires { ⌜ (from < maxVolume) × (cost .0 ≤ maxKnown + 2 * maxCost) × (line .serial + 1 < 2 ^ 32) ⌝ }
     requires { ⌜ HeapReady (now queue) line ⌝ }
     requires { ⌜ SmallPos at ⌝ }
     requires { ⌜ SmallPos goal ⌝ }
-    ensures { λ r. ⌜ Offered from cell cost (estimateOf (distanceAt at goal)) (now (known .entry)) (now (previous .entry)) (now (queue .entry)) line r (now (known .exit)) (now (previous .exit)) (now (queue .exit)) ⌝ }
+    ensures { λ r. ⌜ Offered from cell (cost .0) (estimateOf (distanceAt at goal)) (now (known .entry)) (now (previous .entry)) (now (queue .entry)) line r (now (known .exit)) (now (previous .exit)) (now (queue .exit)) ⌝ }
 {
     let old = known[cell];
     if old != 0 {
-        if old <= cost + 1 {
+        if old <= cost.0 + 1 {
             return MovesTried::On(line);
         }
     }
@@ -58,8 +59,8 @@ fn offer(
         return MovesTried::Full;
     }
     let serial = line.serial + 1;
-    let key = as_long(cost) + estimate(at, goal);
-    known[cell] = cost + 1;
+    let key = as_long(cost.0) + estimate(at, goal);
+    known[cell] = cost.0 + 1;
     previous[cell] = (from + 1) as u32;
     queue::push(queue, waiting, key * KEY_UNIT + serial, cell as u64);
     MovesTried::On(Line {
@@ -69,24 +70,24 @@ fn offer(
 }
 
 // What the step of a move costs: flat, or a stair.
-fn step_cost(config: RouterConfig, m: Move) -> u32
-    ensures { λ r. ⌜ r ≡ priceOf config m 0 .step ⌝ }
+fn step_cost(config: RouterConfig, m: Move) -> Cost
+    ensures { λ r. ⌜ r .0 ≡ priceOf config m 0 .step ⌝ }
 {
     if m.y == 1 {
-        config.horizontal.0
+        config.horizontal
     } else {
-        config.stair.0
+        config.stair
     }
 }
 
 // What entering a cell of that class costs: the step, and a new support where there is none.
-fn price(config: RouterConfig, m: Move, class: u8) -> u32
+fn price(config: RouterConfig, m: Move, class: u8) -> Cost
     requires { ⌜ GoodConfig config ⌝ }
-    ensures { λ r. ⌜ r ≡ total (priceOf config m class) ⌝ }
+    ensures { λ r. ⌜ r .0 ≡ total (priceOf config m class) ⌝ }
 {
     let step = step_cost(config, m);
     if class == 2 {
-        step + config.support.0
+        Cost(step.0 + config.support.0)
     } else {
         step
     }
@@ -102,15 +103,15 @@ fn try_move(
     queue: &mut [u64],
     line: Line,
     from: Spot,
-    cost: u32,
+    cost: Cost,
     beside: Spot,
     goal: Spot,
     m: Move,
 ) -> MovesTried
-    requires { ⌜ Able 1 room config (now classes) goal from cost (now known) (now previous) (now queue) line ⌝ }
+    requires { ⌜ Able 1 room config (now classes) goal from (cost .0) (now known) (now previous) (now queue) line ⌝ }
     requires { ⌜ Aside room from beside m ⌝ }
     requires { ⌜ m .y ≤ 2 ⌝ }
-    ensures { λ r. ⌜ MovesCame (setting room config (now (classes .entry)) goal (now (queue .entry)) from cost) (m ∷ []) (now (known .entry)) (now (previous .entry)) (now (queue .entry)) line r (now (known .exit)) (now (previous .exit)) (now (queue .exit)) ⌝ }
+    ensures { λ r. ⌜ MovesCame (setting room config (now (classes .entry)) goal (now (queue .entry)) from (cost .0)) (m ∷ []) (now (known .entry)) (now (previous .entry)) (now (queue .entry)) line r (now (known .exit)) (now (previous .exit)) (now (queue .exit)) ⌝ }
 {
     let y = beside.at.y + m.y;
     if y < 1 {
@@ -129,6 +130,7 @@ fn try_move(
         y: y - 1,
         z: beside.at.z,
     };
+    let step = price(config, m, class);
     offer(
         known,
         previous,
@@ -136,7 +138,7 @@ fn try_move(
         line,
         from.cell,
         cell,
-        cost + price(config, m, class),
+        Cost(cost.0 + step.0),
         at,
         goal.at,
     )
@@ -152,14 +154,14 @@ fn try_beside(
     queue: &mut [u64],
     line: Line,
     from: Spot,
-    cost: u32,
+    cost: Cost,
     beside: Spot,
     goal: Spot,
     m: Move,
 ) -> MovesTried
-    requires { ⌜ Able 3 room config (now classes) goal from cost (now known) (now previous) (now queue) line ⌝ }
+    requires { ⌜ Able 3 room config (now classes) goal from (cost .0) (now known) (now previous) (now queue) line ⌝ }
     requires { ⌜ Aside room from beside m ⌝ }
-    ensures { λ r. ⌜ MovesCame (setting room config (now (classes .entry)) goal (now (queue .entry)) from cost) (column m) (now (known .entry)) (now (previous .entry)) (now (queue .entry)) line r (now (known .exit)) (now (previous .exit)) (now (queue .exit)) ⌝ }
+    ensures { λ r. ⌜ MovesCame (setting room config (now (classes .entry)) goal (now (queue .entry)) from (cost .0)) (column m) (now (known .entry)) (now (previous .entry)) (now (queue .entry)) line r (now (known .exit)) (now (previous .exit)) (now (queue .exit)) ⌝ }
 {
     let mut now_at = line;
     let mut y: usize = 0;
@@ -201,13 +203,13 @@ fn try_column(
     queue: &mut [u64],
     line: Line,
     from: Spot,
-    cost: u32,
+    cost: Cost,
     goal: Spot,
     m: Move,
 ) -> MovesTried
-    requires { ⌜ Able 3 room config (now classes) goal from cost (now known) (now previous) (now queue) line ⌝ }
+    requires { ⌜ Able 3 room config (now classes) goal from (cost .0) (now known) (now previous) (now queue) line ⌝ }
     requires { ⌜ (m .x ≤ 2) × (m .z ≤ 2) ⌝ }
-    ensures { λ r. ⌜ MovesCame (setting room config (now (classes .entry)) goal (now (queue .entry)) from cost) (column m) (now (known .entry)) (now (previous .entry)) (now (queue .entry)) line r (now (known .exit)) (now (previous .exit)) (now (queue .exit)) ⌝ }
+    ensures { λ r. ⌜ MovesCame (setting room config (now (classes .entry)) goal (now (queue .entry)) from (cost .0)) (column m) (now (known .entry)) (now (previous .entry)) (now (queue .entry)) line r (now (known .exit)) (now (previous .exit)) (now (queue .exit)) ⌝ }
 {
     let x = from.at.x + m.x;
     if x < 1 {
@@ -258,11 +260,11 @@ pub fn expand(
     queue: &mut [u64],
     line: Line,
     from: Spot,
-    cost: u32,
+    cost: Cost,
     goal: Spot,
 ) -> MovesTried
-    requires { ⌜ Able 12 room config (now classes) goal from cost (now known) (now previous) (now queue) line ⌝ }
-    ensures { λ r. ⌜ MovesCame (setting room config (now (classes .entry)) goal (now (queue .entry)) from cost) moves (now (known .entry)) (now (previous .entry)) (now (queue .entry)) line r (now (known .exit)) (now (previous .exit)) (now (queue .exit)) ⌝ }
+    requires { ⌜ Able 12 room config (now classes) goal from (cost .0) (now known) (now previous) (now queue) line ⌝ }
+    ensures { λ r. ⌜ MovesCame (setting room config (now (classes .entry)) goal (now (queue .entry)) from (cost .0)) moves (now (known .entry)) (now (previous .entry)) (now (queue .entry)) line r (now (known .exit)) (now (previous .exit)) (now (queue .exit)) ⌝ }
 {
     let mut now_at = line;
     let mut side: usize = 0;

@@ -9,6 +9,7 @@ use crate::Spot;
 use crate::expand::KEY_UNIT;
 use crate::expand::estimate;
 use crate::expand::expand;
+use room::Cost;
 use room::Nodes;
 use room::Room;
 use room::RouterConfig;
@@ -22,20 +23,20 @@ fn take_one(
     previous: &mut [u32],
     queue: &mut [u64],
     line: Line,
-    expanded: u32,
+    expanded: Nodes,
     goal: Spot,
 ) -> AfterTaking
     requires { ⌜ Takeable room config (now classes) (now known) (now previous) (now queue) line goal ⌝ }
-    requires { ⌜ expanded ≤ config .limit .0 ⌝ }
-    ensures { λ r. ⌜ TakingCame room config (now (classes .entry)) (now (known .entry)) (now (previous .entry)) (now (queue .entry)) line expanded goal r (now (known .exit)) (now (previous .exit)) (now (queue .exit)) ⌝ }
+    requires { ⌜ expanded .0 ≤ config .limit .0 ⌝ }
+    ensures { λ r. ⌜ TakingCame room config (now (classes .entry)) (now (known .entry)) (now (previous .entry)) (now (queue .entry)) line (expanded .0) goal r (now (known .exit)) (now (previous .exit)) (now (queue .exit)) ⌝ }
 {
     let waiting = line.waiting;
     let cell = queue::take(queue, waiting) as usize;
     if cell == goal.cell {
-        return AfterTaking::Ended(Outcome::Arrived(Nodes(expanded)));
+        return AfterTaking::Ended(Outcome::Arrived(expanded));
     }
-    if config.limit.0 <= expanded {
-        return AfterTaking::Ended(Outcome::LimitPassed(Nodes(expanded + 1)));
+    if config.limit.0 <= expanded.0 {
+        return AfterTaking::Ended(Outcome::LimitPassed(Nodes(expanded.0 + 1)));
     }
     let rest = Line {
         waiting: waiting - 1,
@@ -45,7 +46,7 @@ fn take_one(
         cell: cell,
         at: room.pos(cell),
     };
-    let cost = known[cell] - 1;
+    let cost = Cost(known[cell] - 1);
     let MovesTried::On(next) = expand(
         room,
         config,
@@ -58,7 +59,7 @@ fn take_one(
         cost,
         goal,
     ) else {
-        return AfterTaking::Ended(Outcome::QueueFull(Nodes(expanded + 1)));
+        return AfterTaking::Ended(Outcome::QueueFull(Nodes(expanded.0 + 1)));
     };
     AfterTaking::GoesOn(next)
 }
@@ -89,7 +90,7 @@ fn take_all(
         waiting: 1,
         serial: 0,
     };
-    let mut expanded: u32 = 0;
+    let mut expanded = Nodes(0);
     while 0 < line.waiting {
         let after = take_one(
             room,
@@ -105,14 +106,14 @@ fn take_all(
         match after {
             AfterTaking::GoesOn(next) => {
                 line = next;
-                expanded += 1;
+                expanded = Nodes(expanded.0 + 1);
             }
             AfterTaking::Ended(outcome) => {
                 return outcome;
             }
         }
     }
-    Outcome::NoRoute(Nodes(expanded))
+    Outcome::NoRoute(expanded)
 }
 
 // Searches over the class bytes, from cleared memory on.

@@ -16,10 +16,10 @@ add-if2 : tie.Need-add-if2
 add-if2 c = search needs
 
 returns : tie.Need-returns
-returns c = let s = c .before .before .before .before .before .before in let a = s .args in offer-kept (a .from) (a .cell) (a .cost) _ (a .known .now) (a .previous .now) (a .queue .now) (a .line) (s .pre .1 .1 .0) (c .before .if1 .taken) (c .if2 .taken)
+returns c = let s = c .before .before .before .before .before .before .before in let a = s .args in offer-kept (a .from) (a .cell) (a .cost .0) _ (a .known .now) (a .previous .now) (a .queue .now) (a .line) (s .pre .1 .1 .0) (c .before .before .if1 .taken) (c .if2 .taken)
 
 returns-2 : tie.Need-returns-2
-returns-2 c = let s = c .before .before .before .before .before .before in let a = s .args in offered-full (a .from) (a .cell) (a .cost) _ (a .known .now) (a .previous .now) (a .queue .now) (a .line) (s .pre .1 .1 .0) (⊎-elim (λ w. inr (w .1 .left)) (λ w. inl (w .left)) (c .before .if1 .came)) (c .if3 .taken)
+returns-2 c = let s = c .before .before .before .before .before .before in let a = s .args in offered-full (a .from) (a .cell) (a .cost .0) _ (a .known .now) (a .previous .now) (a .queue .now) (a .line) (s .pre .1 .1 .0) (⊎-elim (λ w. inr (w .2 .left)) (λ w. inl (w .left)) (c .before .if1 .came)) (c .if3 .taken)
 
 add-serial : tie.Need-add-serial
 add-serial c = search needs
@@ -76,7 +76,7 @@ same-length-3 : tie.Need-same-length-3
 same-length-3 c = search needs
 
 returns-3 : tie.Need-returns-3
-returns-3 c = let s = c .before .before .before .before .before .before .before .before .before .before .before .before .before in let a = s .args in offer-pushed (a .from) (a .cell) (a .cost) _ (a .known .now) (a .previous .now) (a .queue .now) (a .line) (s .pre .1 .1 .0) (⊎-elim (λ w. inr (w .1 .left)) (λ w. inl (w .left)) (c .before .before .before .before .before .before .before .before .if1 .came)) _ (c .before .before .before .before .before .before .before .if3 .left) (s .pre .1 .0 .2) (omega arith) (c .before .before .push .kept .0) (rw (c .before .before .before .before .before .as-long .ensures, c .before .before .before .before .estimate .ensures) at (c .before .before .push .ensures))
+returns-3 c = let s = c .before .before .before .before .before .before .before .before .before .before .before .before .before .before in let a = s .args in offer-pushed (a .from) (a .cell) (a .cost .0) _ (a .known .now) (a .previous .now) (a .queue .now) (a .line) (s .pre .1 .1 .0) (⊎-elim (λ w. inr (w .2 .left)) (λ w. inl (w .left)) (c .before .before .before .before .before .before .before .before .before .if1 .came)) _ (c .before .before .before .before .before .before .before .before .if3 .left) (s .pre .1 .0 .2) (omega arith) (c .before .before .push .kept .0) (rw (c .before .before .before .before .before .before .as-long .ensures, c .before .before .before .before .before .estimate .ensures) at (c .before .before .push .ensures))
 
 pub offer-spec : {M : Type 1} → statement M
 offer-spec =

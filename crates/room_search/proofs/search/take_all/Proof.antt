@@ -13,10 +13,10 @@ use Rattle.room_search.proofs.search.take_all.Tie as tie
 
 abbrev Inv-loop : tie.InvT-loop
 Inv-loop room config classes known₀ previous₀ queue₀ goal first line₀ expanded₀ known previous queue line expanded =
-    (length known ≡ length known₀) × (length previous ≡ length previous₀) × Running room config classes queue₀ first goal known previous queue line expanded
+    (length known ≡ length known₀) × (length previous ≡ length previous₀) × Running room config classes queue₀ first goal known previous queue line (expanded .0)
 
 abbrev μ-loop : tie.MeasureT-loop
-μ-loop room config classes known₀ previous₀ queue₀ goal first line₀ expanded₀ known previous queue line expanded = config .limit .0 - expanded
+μ-loop room config classes known₀ previous₀ queue₀ goal first line₀ expanded₀ known previous queue line expanded = config .limit .0 - expanded .0
 
 mul-known : tie.Need-mul-known Inv-loop μ-loop
 mul-known c = let s = c .before .before .before .before in let F = s .pre in record { fits = omega (arith, F .start-placed .inside, F .good .few) }
@@ -42,14 +42,14 @@ take-one-requires c κs = let s = c .before .before .before .before .before .bef
 enum-known-after : tie.Need-enum-known-after Inv-loop μ-loop
 enum-known-after c = search needs
 
-add-expanded : tie.Need-add-expanded Inv-loop μ-loop
-add-expanded c = let s = c .before .before .before .before .before .before .before .before .before .before .before .before .before .before .before .before .before .before .before .before .before .before .before .before .before in let F = s .pre in let A = arena F in let I = c .before .before .before .before .before .before .before .before .before .before .before .before .before .before .before .loop .inv .2 in record { fits = omega (arith, running-within A I, F .config-good .limit-most) }
+add-t30 : tie.Need-add-t30 Inv-loop μ-loop
+add-t30 c = let s = c .before .before .before .before .before .before .before .before .before .before .before .before .before .before .before .before .before .before .before .before .before .before .before .before .before .before in let F = s .pre in let A = arena F in let I = c .before .before .before .before .before .before .before .before .before .before .before .before .before .before .before .before .loop .inv .2 in record { fits = omega (arith, running-within A I, F .config-good .limit-most) }
 
 loop-less : tie.Need-loop-less Inv-loop μ-loop
-loop-less c = let s = c .before .before .before .before .before .before .before .before .before .before .before .before .before .before .before .before .before .before .before .before .before .before .before .before .before in let F = s .pre in let A = arena F in let I = c .before .before .before .before .before .before .before .before .before .before .before .before .before .before .before .loop .inv .2 in omega (arith, running-within A (running-on A I (c .before .before .before .before .before .before .before .before .before .take-one .kept .1 .1 .1 .1 .1 .0) (rw (c .before .after .given .1) at (c .before .before .before .before .before .before .before .before .before .take-one .ensures))))
+loop-less c = let s = c .before .before .before .before .before .before .before .before .before .before .before .before .before .before .before .before .before .before .before .before .before .before .before .before .before .before in let F = s .pre in let A = arena F in let I = c .before .before .before .before .before .before .before .before .before .before .before .before .before .before .before .before .loop .inv .2 in omega (arith, running-within A (running-on A I (c .before .before .before .before .before .before .before .before .before .before .take-one .kept .1 .1 .1 .1 .1 .0) (rw (c .before .before .after .given .1) at (c .before .before .before .before .before .before .before .before .before .before .take-one .ensures))))
 
 loop-again : tie.Need-loop-again Inv-loop μ-loop
-loop-again c = let s = c .before .before .before .before .before .before .before .before .before .before .before .before .before .before .before .before .before .before .before .before .before .before .before .before .before in let F = s .pre in let A = arena F in let I = c .before .before .before .before .before .before .before .before .before .before .before .before .before .before .before .loop .inv .2 in (c .before .before .before .before .before .before .before .before .before .take-one .kept .1 .1 .1 .0 ∙ c .before .before .before .before .before .before .before .before .before .before .before .before .before .before .before .loop .inv .0, c .before .before .before .before .before .before .before .before .before .take-one .kept .1 .1 .1 .1 .0 ∙ c .before .before .before .before .before .before .before .before .before .before .before .before .before .before .before .loop .inv .1, running-on A I (c .before .before .before .before .before .before .before .before .before .take-one .kept .1 .1 .1 .1 .1 .0) (rw (c .before .after .given .1) at (c .before .before .before .before .before .before .before .before .before .take-one .ensures)))
+loop-again c = let s = c .before .before .before .before .before .before .before .before .before .before .before .before .before .before .before .before .before .before .before .before .before .before .before .before .before .before in let F = s .pre in let A = arena F in let I = c .before .before .before .before .before .before .before .before .before .before .before .before .before .before .before .before .loop .inv .2 in (c .before .before .before .before .before .before .before .before .before .before .take-one .kept .1 .1 .1 .0 ∙ c .before .before .before .before .before .before .before .before .before .before .before .before .before .before .before .before .loop .inv .0, c .before .before .before .before .before .before .before .before .before .before .take-one .kept .1 .1 .1 .1 .0 ∙ c .before .before .before .before .before .before .before .before .before .before .before .before .before .before .before .before .loop .inv .1, running-on A I (c .before .before .before .before .before .before .before .before .before .before .take-one .kept .1 .1 .1 .1 .1 .0) (rw (c .before .before .after .given .1) at (c .before .before .before .before .before .before .before .before .before .before .take-one .ensures)))
 
 enum-known-after-2 : tie.Need-enum-known-after-2 Inv-loop μ-loop
 enum-known-after-2 c = search needs
@@ -92,7 +92,7 @@ take-all-spec =
     loop-holds
     take-one-requires
     enum-known-after
-    add-expanded
+    add-t30
     loop-less
     loop-again
     enum-known-after-2

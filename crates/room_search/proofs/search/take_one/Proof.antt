@@ -13,34 +13,34 @@ same-length : tie.Need-same-length
 same-length c = c .before .before .before .before .take .kept .0
 
 returns : tie.Need-returns
-returns c = let s = c .before .before .before .before .before .before .before .before .before .before in let a = s .args in let p = s .pre .0 in taking-goal (a .expanded) p (omega (arith, c .before .before .before .before .take .ok)) (c .before .before .before .before .take .ensures) (c .before .before .before .before .take .kept .0) (c .if1 .taken)
+returns c = let s = c .before .before .before .before .before .before .before .before .before .before in let a = s .args in let p = s .pre .0 in taking-goal (a .expanded .0) p (omega (arith, c .before .before .before .before .take .ok)) (c .before .before .before .before .take .ensures) (c .before .before .before .before .take .kept .0) (c .if1 .taken)
 
-add-t22 : tie.Need-add-t22
-add-t22 c = search needs
+add-t21 : tie.Need-add-t21
+add-t21 c = search needs
 
 same-length-2 : tie.Need-same-length-2
-same-length-2 c = c .before .before .before .before .before .before .take .kept .0
+same-length-2 c = c .before .before .before .before .before .before .before .before .take .kept .0
 
 returns-2 : tie.Need-returns-2
-returns-2 c = let s = c .before .before .before .before .before .before .before .before .before .before .before .before in let a = s .args in let p = s .pre .0 in taking-limit (a .expanded) p (omega (arith, c .before .before .before .before .before .before .take .ok)) (c .before .before .before .before .before .before .take .ensures) (c .before .before .before .before .before .before .take .kept .0) (c .before .before .if1 .left) (c .if2 .taken)
+returns-2 c = let s = c .before .before .before .before .before .before .before .before .before .before .before .before .before .before in let a = s .args in let p = s .pre .0 in taking-limit (a .expanded .0) p (omega (arith, c .before .before .before .before .before .before .before .before .take .ok)) (c .before .before .before .before .before .before .before .before .take .ensures) (c .before .before .before .before .before .before .before .before .take .kept .0) (c .before .before .before .before .if1 .left) (c .before .if2 .taken)
 
-sub-cost : tie.Need-sub-cost
-sub-cost c = search needs
+sub-t24 : tie.Need-sub-t24
+sub-t24 c = search needs
 
 pos-requires : tie.Need-pos-requires
 pos-requires c κs = search needs
 
-mul-cost : tie.Need-mul-cost
-mul-cost c = let s = c .before .before .before .before .before .before .before .before .before .before .before .before .before in let a = s .args in let p = s .pre .0 in record { fits = omega (arith, taken-inside (a .expanded) p (omega (arith, c .before .before .before .before .before .before .before .take .ok)) (c .before .before .before .before .before .before .before .take .ensures) (c .before .before .before .before .before .before .before .take .kept .0), p .good .few) }
+mul-t24 : tie.Need-mul-t24
+mul-t24 c = let s = c .before .before .before .before .before .before .before .before .before .before .before .before .before .before in let a = s .args in let p = s .pre .0 in record { fits = omega (arith, taken-inside (a .expanded .0) p (omega (arith, c .before .before .before .before .before .before .before .before .take .ok)) (c .before .before .before .before .before .before .before .before .take .ensures) (c .before .before .before .before .before .before .before .before .take .kept .0), p .good .few) }
 
-slice-read-cost : tie.Need-slice-read-cost
-slice-read-cost c = let s = c .before .before .before .before .before .before .before .before .before .before .before .before .before .before in let a = s .args in let p = s .pre .0 in omega (arith, taken-inside (a .expanded) p (omega (arith, c .before .before .before .before .before .before .before .before .take .ok)) (c .before .before .before .before .before .before .before .before .take .ensures) (c .before .before .before .before .before .before .before .before .take .kept .0), p .known-long)
+slice-read-t27 : tie.Need-slice-read-t27
+slice-read-t27 c = let s = c .before .before .before .before .before .before .before .before .before .before .before .before .before .before .before in let a = s .args in let p = s .pre .0 in omega (arith, taken-inside (a .expanded .0) p (omega (arith, c .before .before .before .before .before .before .before .before .before .take .ok)) (c .before .before .before .before .before .before .before .before .before .take .ensures) (c .before .before .before .before .before .before .before .before .before .take .kept .0), p .known-long)
 
-sub-cost-2 : tie.Need-sub-cost-2
-sub-cost-2 c = let s = c .before .before .before .before .before .before .before .before .before .before .before .before .before .before in let a = s .args in let p = s .pre .0 in cell-known (a .expanded) p (omega (arith, c .before .before .before .before .before .before .before .before .take .ok)) (c .before .before .before .before .before .before .before .before .take .ensures) (c .before .before .before .before .before .before .before .before .take .kept .0)
+sub-t28 : tie.Need-sub-t28
+sub-t28 c = let s = c .before .before .before .before .before .before .before .before .before .before .before .before .before .before .before in let a = s .args in let p = s .pre .0 in cell-known (a .expanded .0) p (omega (arith, c .before .before .before .before .before .before .before .before .before .take .ok)) (c .before .before .before .before .before .before .before .before .before .take .ensures) (c .before .before .before .before .before .before .before .before .before .take .kept .0)
 
 expand-requires : tie.Need-expand-requires
-expand-requires c κs = let s = c .before .before .before .before .before .before .before .before .before .before .before .before .before .before .before .before .before in let a = s .args in let p = s .pre .0 in able (a .expanded) p (omega (arith, c .before .before .before .before .before .before .before .before .before .before .before .take .ok)) (c .before .before .before .before .before .before .before .before .before .before .before .take .ensures) (c .before .before .before .before .before .before .before .before .before .before .before .take .kept .0) _ refl (record { inside = taken-inside (a .expanded) p (omega (arith, c .before .before .before .before .before .before .before .before .before .before .before .take .ok)) (c .before .before .before .before .before .before .before .before .before .before .before .take .ensures) (c .before .before .before .before .before .before .before .before .before .before .before .take .kept .0); is = c .before .before .before .before .pos .ensures })
+expand-requires c κs = let s = c .before .before .before .before .before .before .before .before .before .before .before .before .before .before .before .before .before .before in let a = s .args in let p = s .pre .0 in able (a .expanded .0) p (omega (arith, c .before .before .before .before .before .before .before .before .before .before .before .before .take .ok)) (c .before .before .before .before .before .before .before .before .before .before .before .before .take .ensures) (c .before .before .before .before .before .before .before .before .before .before .before .before .take .kept .0) _ refl (record { inside = taken-inside (a .expanded .0) p (omega (arith, c .before .before .before .before .before .before .before .before .before .before .before .before .take .ok)) (c .before .before .before .before .before .before .before .before .before .before .before .before .take .ensures) (c .before .before .before .before .before .before .before .before .before .before .before .before .take .kept .0); is = c .before .before .before .before .pos .ensures })
 
 enum-known-next : tie.Need-enum-known-next
 enum-known-next c = search needs
@@ -52,16 +52,16 @@ add-t36 : tie.Need-add-t36
 add-t36 c = search needs
 
 same-length-3 : tie.Need-same-length-3
-same-length-3 c = c .before .before .before .before .before .before .before .before .expand .kept .1 .1 .1 .0
+same-length-3 c = c .before .before .before .before .before .before .before .before .before .expand .kept .1 .1 .1 .0
 
 same-length-4 : tie.Need-same-length-4
-same-length-4 c = c .before .before .before .before .before .before .before .before .expand .kept .1 .1 .1 .1 .0
+same-length-4 c = c .before .before .before .before .before .before .before .before .before .expand .kept .1 .1 .1 .1 .0
 
 same-length-5 : tie.Need-same-length-5
-same-length-5 c = c .before .before .before .before .before .before .before .before .expand .kept .1 .1 .1 .1 .1 .0 ∙ c .before .before .before .before .before .before .before .before .before .before .before .before .before .before .before .before .before .before .before .before .take .kept .0
+same-length-5 c = c .before .before .before .before .before .before .before .before .before .expand .kept .1 .1 .1 .1 .1 .0 ∙ c .before .before .before .before .before .before .before .before .before .before .before .before .before .before .before .before .before .before .before .before .before .before .take .kept .0
 
 returns-3 : tie.Need-returns-3
-returns-3 c = let s = c .before .before .before .before .before .before .before .before .before .before .before .before .before .before .before .before .before .before .before .before .before .before .before .before .before .before in let a = s .args in let p = s .pre .0 in taking-full (a .expanded) p (omega (arith, c .before .before .before .before .before .before .before .before .before .before .before .before .before .before .before .before .before .before .before .before .take .ok)) (c .before .before .before .before .before .before .before .before .before .before .before .before .before .before .before .before .before .before .before .before .take .ensures) (c .before .before .before .before .before .before .before .before .before .before .before .before .before .before .before .before .before .before .before .before .take .kept .0) (c .before .before .before .before .before .before .before .before .before .before .before .before .before .before .before .before .if1 .left) (c .before .before .before .before .before .before .before .before .before .before .before .before .before .before .if2 .left) (record { cell = c .before .before .before .before .before .before .before .before .before .before .before .before .before .before .before .before .before .before .before .before .take .result; at = c .before .before .before .before .before .before .before .before .before .before .before .before .before .pos .result }) refl (rw (c .enum-told .given .1) at (c .before .before .before .before .before .before .before .before .expand .ensures))
+returns-3 c = let s = c .before .before .before .before .before .before .before .before .before .before .before .before .before .before .before .before .before .before .before .before .before .before .before .before .before .before .before .before in let a = s .args in let p = s .pre .0 in taking-full (a .expanded .0) p (omega (arith, c .before .before .before .before .before .before .before .before .before .before .before .before .before .before .before .before .before .before .before .before .before .before .take .ok)) (c .before .before .before .before .before .before .before .before .before .before .before .before .before .before .before .before .before .before .before .before .before .before .take .ensures) (c .before .before .before .before .before .before .before .before .before .before .before .before .before .before .before .before .before .before .before .before .before .before .take .kept .0) (c .before .before .before .before .before .before .before .before .before .before .before .before .before .before .before .before .before .before .if1 .left) (c .before .before .before .before .before .before .before .before .before .before .before .before .before .before .before .if2 .left) (record { cell = c .before .before .before .before .before .before .before .before .before .before .before .before .before .before .before .before .before .before .before .before .before .before .take .result; at = c .before .before .before .before .before .before .before .before .before .before .before .before .before .before .pos .result }) refl (rw (c .before .enum-told .given .1) at (c .before .before .before .before .before .before .before .before .before .expand .ensures))
 
 same-length-6 : tie.Need-same-length-6
 same-length-6 c = c .before .before .before .before .before .before .before .before .before .expand .kept .1 .1 .1 .0
@@ -70,10 +70,10 @@ same-length-7 : tie.Need-same-length-7
 same-length-7 c = c .before .before .before .before .before .before .before .before .before .expand .kept .1 .1 .1 .1 .0
 
 same-length-8 : tie.Need-same-length-8
-same-length-8 c = c .before .before .before .before .before .before .before .before .before .expand .kept .1 .1 .1 .1 .1 .0 ∙ c .before .before .before .before .before .before .before .before .before .before .before .before .before .before .before .before .before .before .before .before .before .take .kept .0
+same-length-8 c = c .before .before .before .before .before .before .before .before .before .expand .kept .1 .1 .1 .1 .1 .0 ∙ c .before .before .before .before .before .before .before .before .before .before .before .before .before .before .before .before .before .before .before .before .before .before .take .kept .0
 
 returns-4 : tie.Need-returns-4
-returns-4 c = let s = c .before .before .before .before .before .before .before .before .before .before .before .before .before .before .before .before .before .before .before .before .before .before .before .before .before .before .before in let a = s .args in let p = s .pre .0 in taking-on (a .expanded) p (omega (arith, c .before .before .before .before .before .before .before .before .before .before .before .before .before .before .before .before .before .before .before .before .before .take .ok)) (c .before .before .before .before .before .before .before .before .before .before .before .before .before .before .before .before .before .before .before .before .before .take .ensures) (c .before .before .before .before .before .before .before .before .before .before .before .before .before .before .before .before .before .before .before .before .before .take .kept .0) (c .before .before .before .before .before .before .before .before .before .before .before .before .before .before .before .before .before .if1 .left) (c .before .before .before .before .before .before .before .before .before .before .before .before .before .before .before .if2 .left) (record { cell = c .before .before .before .before .before .before .before .before .before .before .before .before .before .before .before .before .before .before .before .before .before .take .result; at = c .before .before .before .before .before .before .before .before .before .before .before .before .before .before .pos .result }) refl _ (rw (c .before .next .given .1) at (c .before .before .before .before .before .before .before .before .before .expand .ensures))
+returns-4 c = let s = c .before .before .before .before .before .before .before .before .before .before .before .before .before .before .before .before .before .before .before .before .before .before .before .before .before .before .before .before in let a = s .args in let p = s .pre .0 in taking-on (a .expanded .0) p (omega (arith, c .before .before .before .before .before .before .before .before .before .before .before .before .before .before .before .before .before .before .before .before .before .before .take .ok)) (c .before .before .before .before .before .before .before .before .before .before .before .before .before .before .before .before .before .before .before .before .before .before .take .ensures) (c .before .before .before .before .before .before .before .before .before .before .before .before .before .before .before .before .before .before .before .before .before .before .take .kept .0) (c .before .before .before .before .before .before .before .before .before .before .before .before .before .before .before .before .before .before .if1 .left) (c .before .before .before .before .before .before .before .before .before .before .before .before .before .before .before .if2 .left) (record { cell = c .before .before .before .before .before .before .before .before .before .before .before .before .before .before .before .before .before .before .before .before .before .before .take .result; at = c .before .before .before .before .before .before .before .before .before .before .before .before .before .before .pos .result }) refl _ (rw (c .before .next .given .1) at (c .before .before .before .before .before .before .before .before .before .expand .ensures))
 
 pub take-one-spec : {M : Type 1} → statement M
 take-one-spec =
@@ -82,14 +82,14 @@ take-one-spec =
     take-requires
     same-length
     returns
-    add-t22
+    add-t21
     same-length-2
     returns-2
-    sub-cost
+    sub-t24
     pos-requires
-    mul-cost
-    slice-read-cost
-    sub-cost-2
+    mul-t24
+    slice-read-t27
+    sub-t28
     expand-requires
     enum-known-next
     enum-told
