@@ -20,6 +20,17 @@ Inv-loop room config kinds joinable₀ blocked₀ classes₀ known₀ previous�
 abbrev μ-loop : tie.MeasureT-loop
 μ-loop room config kinds joinable₀ blocked₀ classes₀ known₀ previous₀ path₀ best₀ queue₀ start cells from kept₀ next₀ joinable blocked classes known previous path best queue kept next = noBid - next .bid
 
+-- where the loop is entered: the function's start
+abbrev start-of : tie.After-next-bid Inv-loop μ-loop → tie.Start Inv-loop μ-loop
+start-of c = c .before .before .before .before .before .before .before .before .before .before .before .before
+
+-- behind a goal that was passed: the call, and the test that let it in
+abbrev passing : tie.After-next-bid-arg2 Inv-loop μ-loop → tie.After-pass-goal Inv-loop μ-loop
+passing c = c .before .before .before .before .before .before .before .before .before .before .before .before .before .before .before .before .before
+
+abbrev test-of : tie.After-pass-goal Inv-loop μ-loop → tie.Then1 Inv-loop μ-loop
+test-of c = c .before .before .before .before .before .before .before .before .before
+
 pos-requires : tie.Need-pos-requires Inv-loop μ-loop
 pos-requires c κs = search needs
 
@@ -30,7 +41,7 @@ next-bid-requires c κs =
 
 loop-holds : tie.Need-loop-holds Inv-loop μ-loop
 loop-holds c =
-    let start = c .before .before .before .before .before .before .before .before .before .before .before .before in
+    let start = start-of c in
     let grounds = start .pre .0 .grounds in
     passed-first (start .args .room) (start .args .config) (start .args .kinds .now) (start .args .start) (grounds .good) (grounds .config-good) (grounds .start-in) _ _ _ _ _ _ _ _ (c .before .before .pos .ensures) (c .next-bid .ensures)
 
@@ -38,40 +49,43 @@ pass-goal-requires : tie.Need-pass-goal-requires Inv-loop μ-loop
 pass-goal-requires c κs =
     let test = c .before .before .before .before .before .before .before .before in
     let loop = test .before .before .loop in
-    let start = test .before .before .before .before .before .before .before .before .before .before .before .before .before .before .before in
+    let start = start-of (test .before .before .before) in
     let pre = start .pre in
     let grounds = pre .0 .grounds in
     let h = rw (grounds .kinds-long) at (test .if1 .taken) in
     (memory-able (start .args .room) (start .args .config) (start .args .kinds .now) (loop .inv .same) (pre .0), passed-able (start .args .room) (start .args .config) (start .args .kinds .now) (start .args .start) (grounds .good) (grounds .config-good) (grounds .start-in) (loop .inv) (pre .1 .0) (pre .1 .1) h)
 
 bid-to-beat-requires : tie.Need-bid-to-beat-requires Inv-loop μ-loop
-bid-to-beat-requires c κs = kept-small _ _ _ (c .before .before .before .before .before .before .before .before .before .before .before .before .before .before .before .before .before .before .before .before .before .before .before .before .before .before .before .before .before .before .before .before .before .before .before .before .before .before .before .before .before .pre .0 .grounds .good) (c .before .before .before .before .before .before .before .before .before .before .before .before .before .before .before .before .before .pass-goal .ensures .0 .held)
+bid-to-beat-requires c κs = kept-small _ _ _ (start-of (test-of (passing c) .before .before .before) .pre .0 .grounds .good) (passing c .pass-goal .ensures .0 .held)
 
 next-bid-requires-2 : tie.Need-next-bid-requires-2 Inv-loop μ-loop
 next-bid-requires-2 c κs =
-    let test = c .before .before .before .before .before .before .before .before .before .before .before .before .before .before .before .before .before .before .before .before .before .before .before .before .before .before .before in
+    let passed = passing (c .before) in
+    let test = test-of passed in
     let loop = test .before .before .loop in
-    let start = test .before .before .before .before .before .before .before .before .before .before .before .before .before .before .before in
+    let start = start-of (test .before .before .before) in
     let grounds = start .pre .0 .grounds in
-    let long = ap length (c .before .before .before .before .before .before .before .before .before .before .before .before .before .before .before .before .before .before .pass-goal .ensures .1 .0) ∙ ap length (loop .inv .same .joinable-is) ∙ grounds .joinable-long in
+    let long = ap length (passed .pass-goal .ensures .1 .0) ∙ ap length (loop .inv .same .joinable-is) ∙ grounds .joinable-long in
     (grounds .good, (grounds .config-good, (long, small-pos _ (grounds .good) _ (grounds .start-in) _ (test .before .before .before .before .before .pos .ensures))))
 
 loop-less : tie.Need-loop-less Inv-loop μ-loop
 loop-less c =
-    let test = c .before .before .before .before .before .before .before .before .before .before .before .before .before .before .before .before .before .before .before .before .before .before .before .before .before .before .before .before in
+    let passed = passing (c .before .before) in
+    let test = test-of passed in
     let loop = test .before .before .loop in
-    let start = test .before .before .before .before .before .before .before .before .before .before .before .before .before .before .before in
+    let start = start-of (test .before .before .before) in
     let grounds = start .pre .0 .grounds in
     let h = rw (grounds .kinds-long) at (test .if1 .taken) in
     bid-rises (start .args .room) (start .args .config) (start .args .kinds .now) (start .args .start) (grounds .good) (grounds .config-good) (grounds .start-in) (loop .inv) h (c .next-bid2 .ensures)
 
 loop-again : tie.Need-loop-again Inv-loop μ-loop
 loop-again c =
-    let test = c .before .before .before .before .before .before .before .before .before .before .before .before .before .before .before .before .before .before .before .before .before .before .before .before .before .before .before .before in
+    let passed = passing (c .before .before) in
+    let test = test-of passed in
     let loop = test .before .before .loop in
-    let start = test .before .before .before .before .before .before .before .before .before .before .before .before .before .before .before in
+    let start = start-of (test .before .before .before) in
     let grounds = start .pre .0 .grounds in
-    let pass-goal = c .before .before .before .before .before .before .before .before .before .before .before .before .before .before .before .before .before .before .before .pass-goal in
+    let pass-goal = passed .pass-goal in
     let h = rw (grounds .kinds-long) at (test .if1 .taken) in
     passed-next (start .args .room) (start .args .config) (start .args .kinds .now) (start .args .start) (grounds .good) (grounds .config-good) (grounds .start-in) (loop .inv) h (pass-goal .ensures .0) (pass-goal .ensures .1) (pass-goal .kept .1 .1 .1 .1 .1 .1 .0) (pass-goal .kept .1 .1 .1 .1 .1 .1 .1 .0) (pass-goal .kept .1 .1 .1 .1 .1 .1 .1 .1 .0) (pass-goal .kept .1 .1 .1 .1 .1 .1 .1 .1 .1 .0) (pass-goal .kept .1 .1 .1 .1 .1 .1 .1 .1 .1 .1 .0) (test .before .before .before .before .before .pos .ensures) (c .before .bid-to-beat .ensures) (c .next-bid2 .ensures)
 
@@ -101,9 +115,10 @@ same-length-8 c = c .before .before .loop .inv .same .queue-long
 
 returns : tie.Need-returns Inv-loop μ-loop
 returns c =
-    let pre = c .before .before .before .before .before .before .before .before .before .before .before .before .before .before .before .pre in
+    let start = start-of (c .before .before .before) in
+    let pre = start .pre in
     let grounds = pre .0 .grounds in
-    let args = c .before .before .before .before .before .before .before .before .before .before .before .before .before .before .before .args in
+    let args = start .args in
     let loop = c .before .before .loop in
     let h = rw (grounds .kinds-long) at (c .if1 .left) in (
       passed-all (args .room) (args .config) (args .kinds .now) (args .start) (grounds .good) (grounds .config-good) (grounds .start-in) (loop .inv) (pre .1 .1) h,
