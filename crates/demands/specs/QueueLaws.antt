@@ -6,6 +6,7 @@ use mathlib.Core.Bool.{true}
 use mathlib.Core.List.{List}
 use Prim.Native.Nat.{ℕ, zero, suc, _+_, _-_, _*_, _≤_, _<_}
 use native.Mathlib.Omega.{arith}
+use Rattle.numbers.specs.Refusals.{queueFullNumber}
 use Rattle.basics.specs.Tests.{ask, never}
 use Rattle.room.specs.declared.RouterConfig.{RouterConfig}
 use Rattle.room.specs.Room.{Good, volume}
@@ -33,11 +34,11 @@ wide-enough D wide = record { flat-least = D .flat-least; stair-least = D .stair
 -- ---- the tree
 
 module _ (P : Plot) (G : Good (P .room)) (N : NetInside (P .room) (P .source) (P .taps)) (D : Priced (P .config)) (wide : 5 * (volume (P .room) - 1) ≤ P .places) where
-  sink-not-full : (k : ℕ) → k < P .taps .count → (T : Tree) (x : ℕ) → growSink P k T ≢ stopped 13 x
+  sink-not-full : (k : ℕ) → k < P .taps .count → (T : Tree) (x : ℕ) → growSink P k T ≢ stopped queueFullNumber x
   unfolding growSink afterSink
   sink-not-full k h T x e = go _ refl e
     where
-      go : (trial : Trial) → routeToTree (siteAt P (T .joinable)) (tapAt P k .approach) (T .blocked) ≡ trial → afterSink P k T trial ≡ stopped 13 x → ⊥
+      go : (trial : Trial) → routeToTree (siteAt P (T .joinable)) (tapAt P k .approach) (T .blocked) ≡ trial → afterSink P k T trial ≡ stopped queueFullNumber x → ⊥
       go (found path cost) w q = ask (fitsIn P T (branchOf (tapAt P k) path)) (λ t. never (cc (rw t at q))) (λ f. never (cc (rw f at q)))
       go failed w q = never (cc)
       go (full y) w q =
@@ -45,17 +46,17 @@ module _ (P : Plot) (G : Good (P .room)) (N : NetInside (P .room) (P .source) (P
           let start = tapAt P k .approach in
           route-not-full S start (T .blocked) (cells-never S start (T .blocked) (N .taps-in .approach-in k h) (wide-enough D wide)) y w
 
-  turns-not-full : (n turn : ℕ) → turn + n ≤ P .taps .count → (T : Tree) (x : ℕ) → growFrom n P turn T ≢ stopped 13 x
+  turns-not-full : (n turn : ℕ) → turn + n ≤ P .taps .count → (T : Tree) (x : ℕ) → growFrom n P turn T ≢ stopped queueFullNumber x
   unfolding growFrom
   turns-not-full zero turn h T x e = never (cc)
   turns-not-full (suc n) turn h T x e = go (growSink P (sinkNow P turn) T) refl e (turns-not-full n (turn + 1) (omega arith))
     where
-      go : (g : Growth) → growSink P (sinkNow P turn) T ≡ g → growOn (growFrom n P (turn + 1)) g ≡ stopped 13 x
-          → ((T′ : Tree) (y : ℕ) → growFrom n P (turn + 1) T′ ≢ stopped 13 y) → ⊥
+      go : (g : Growth) → growSink P (sinkNow P turn) T ≡ g → growOn (growFrom n P (turn + 1)) g ≡ stopped queueFullNumber x
+          → ((T′ : Tree) (y : ℕ) → growFrom n P (turn + 1) T′ ≢ stopped queueFullNumber y) → ⊥
       go (grown T′) w q later = later T′ x q
       go (stopped number detail) w q later = sink-not-full (sinkNow P turn) (sink-now P turn _ refl (omega arith) .0) T x (rw w q)
 
   -- number 13 never comes of such a tree
-  pub tree-not-full : (blocked : List ℕ) (x : ℕ) → growthOf P blocked ≢ stopped 13 x
+  pub tree-not-full : (blocked : List ℕ) (x : ℕ) → growthOf P blocked ≢ stopped queueFullNumber x
   unfolding growthOf
   tree-not-full blocked x e = turns-not-full (P .taps .count) 0 (omega arith) _ x e

@@ -6,6 +6,7 @@ use mathlib.Core.Bool.{true}
 use mathlib.Core.List.{List, _∷_, _++_}
 use Prim.Native.Nat.{ℕ, _+_, _-_, _*_, _≤_, _<_}
 use lib.ListN.{length, replicate}
+use Rattle.numbers.specs.Refusals.{doneNumber, noRouteNumber, limitPassedNumber, queueFullNumber}
 use Rattle.room.specs.declared.Room.{Room}
 use Rattle.room.specs.declared.RouterConfig.{RouterConfig}
 use Rattle.room.specs.Room.{Good, volume}
@@ -89,9 +90,9 @@ pub record RouteHeld (I : Input) (path : List ℕ) (route : Route) (path′ : Li
 -- whatever its number; and at any costs 11 places for each node of the limit, and one more, never give 13
 pub record Meaning (I : Input) (path : List ℕ) (r : Answer) (path′ : List ℕ) : Type 0 where
   pub route-held : (route : Route) → r ≡ Routed route → RouteHeld I path route path′
-  pub no-route-true : numberOf r ≡ 11 → NoLawfulWay (taskOf I)
-  pub no-route-exactly : Unrefused I → Priced (I .config) → Enough (I .room) (I .config) (taskOf I .places) → (numberOf r ≡ 11) ↔ NoLawfulWay (taskOf I)
-  pub settled : Unrefused I → Priced (I .config) → Enough (I .room) (I .config) (taskOf I .places) → (numberOf r ≡ 0) ⊎ (numberOf r ≡ 11)
-  pub no-limit : Priced (I .config) → Enough (I .room) (I .config) (taskOf I .places) → (numberOf r ≢ 12) × (numberOf r ≢ 13)
+  pub no-route-true : numberOf r ≡ noRouteNumber → NoLawfulWay (taskOf I)
+  pub no-route-exactly : Unrefused I → Priced (I .config) → Enough (I .room) (I .config) (taskOf I .places) → (numberOf r ≡ noRouteNumber) ↔ NoLawfulWay (taskOf I)
+  pub settled : Unrefused I → Priced (I .config) → Enough (I .room) (I .config) (taskOf I .places) → (numberOf r ≡ doneNumber) ⊎ (numberOf r ≡ noRouteNumber)
+  pub no-limit : Priced (I .config) → Enough (I .room) (I .config) (taskOf I .places) → (numberOf r ≢ limitPassedNumber) × (numberOf r ≢ queueFullNumber)
   pub expands-few : Priced (I .config) → expandedFor r ≤ 12 * volume (I .room)
-  pub never-full : 11 * I .config .limit .0 < taskOf I .places → numberOf r ≢ 13
+  pub never-full : 11 * I .config .limit .0 < taskOf I .places → numberOf r ≢ queueFullNumber

@@ -6,6 +6,7 @@ use mathlib.Core.List.{List}
 use Prim.Native.Nat.{ℕ, suc, _+_, _-_, _*_, _≤_, _<_, max, zero-le}
 use native.Mathlib.Omega.{arith}
 use lib.Dec.{eqb}
+use Rattle.numbers.specs.Refusals.{doneNumber, noRouteNumber, limitPassedNumber, queueFullNumber}
 use Rattle.basics.specs.Tests.{ask, never}
 use Rattle.room.specs.Room.{volume}
 use Rattle.basics.specs.Counts.{times}
@@ -219,19 +220,19 @@ module _ (I : Input) where
         go (limit-passed x) e q = never (cc)
         go (queue-full x) e q = never (cc)
 
-    no-route-so : numberOf r ≡ 11 → Unrefused I ⊎ Unsearched (answerOf I) → NoLawfulWay (taskOf I)
+    no-route-so : numberOf r ≡ noRouteNumber → Unrefused I ⊎ Unsearched (answerOf I) → NoLawfulWay (taskOf I)
     no-route-so z (inr n) = absurd (omega (arith, n .small, ap numberOf (sym (K .answer)), z))
     no-route-so z (inl U) = no-route-true (ready U) (number-no-route (searched (taskOf I)) (ap numberOf (sym (said U) ∙ sym (K .answer)) ∙ z) .1)
 
     no-limit-so : Priced (I .config) → Enough (I .room) (I .config) (taskOf I .places) → Unrefused I ⊎ Unsearched (answerOf I)
-        → (numberOf r ≢ 12) × (numberOf r ≢ 13)
+        → (numberOf r ≢ limitPassedNumber) × (numberOf r ≢ queueFullNumber)
     no-limit-so D E (inr n) = ((λ z. omega (arith, n .small, ap numberOf (K .answer), z)), (λ z. omega (arith, n .small, ap numberOf (K .answer), z)))
     no-limit-so D E (inl U) = go (number-settled (settled (ready U) D E))
       where
         is : numberOf r ≡ numberOf (answered (searched (taskOf I)))
         is = ap numberOf (K .answer ∙ said U)
 
-        go : (numberOf (answered (searched (taskOf I))) ≡ 0) ⊎ (numberOf (answered (searched (taskOf I))) ≡ 11) → (numberOf r ≢ 12) × (numberOf r ≢ 13)
+        go : (numberOf (answered (searched (taskOf I))) ≡ doneNumber) ⊎ (numberOf (answered (searched (taskOf I))) ≡ noRouteNumber) → (numberOf r ≢ limitPassedNumber) × (numberOf r ≢ queueFullNumber)
         go (inl e) = ((λ z. omega (arith, is, e, z)), (λ z. omega (arith, is, e, z)))
         go (inr e) = ((λ z. omega (arith, is, e, z)), (λ z. omega (arith, is, e, z)))
 
@@ -239,7 +240,7 @@ module _ (I : Input) where
     few-so D (inr n) = rw (K .answer, n .none-expanded) zero-le
     few-so D (inl U) = rw (K .answer, said U, same-expanded (searched (taskOf I))) (expanded-twelve (ready U) D)
 
-    not-full-so : 11 * I .config .limit .0 < taskOf I .places → numberOf r ≡ 13 → Unrefused I ⊎ Unsearched (answerOf I) → ⊥
+    not-full-so : 11 * I .config .limit .0 < taskOf I .places → numberOf r ≡ queueFullNumber → Unrefused I ⊎ Unsearched (answerOf I) → ⊥
     not-full-so wide z (inr n) = omega (arith, n .small, ap numberOf (K .answer), z)
     not-full-so wide z (inl U) =
         let f = number-full (searched (taskOf I)) (ap numberOf (sym (said U) ∙ sym (K .answer)) ∙ z) in
