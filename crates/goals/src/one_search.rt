@@ -40,7 +40,7 @@ fn write_route(goal: usize, known: &[u32], previous: &[u32], path: &mut [u32]) -
     }
 }
 
-// "A failed search, the node limit included, ends that goal."
+// "A failed search, the node limit included, ends that goal": only a route goes on. A full queue ends the tree.
 fn tried_of(
     outcome: Outcome,
     goal: usize,
@@ -52,12 +52,13 @@ fn tried_of(
     requires { ⌜ Showable outcome goal (now known) (now previous) ⌝ }
     ensures { λ r. ⌜ TriedOf outcome goal (now (known .entry)) (now (previous .entry)) r (now (path .exit)) ⌝ }
 {
-    match outcome {
-        Outcome::Arrived(_) => write_route(goal, known, previous, path),
-        Outcome::NoRoute(_) => Tried::Failed,
-        Outcome::LimitPassed(_) => Tried::Failed,
-        Outcome::QueueFull(expanded) => Tried::Full(expanded),
-    }
+    let Outcome::Arrived(_) = outcome else {
+        let Outcome::QueueFull(expanded) = outcome else {
+            return Tried::Failed;
+        };
+        return Tried::Full(expanded);
+    };
+    write_route(goal, known, previous, path)
 }
 
 // The search from the start to one goal. The path goes to the front of `path`.
