@@ -1,7 +1,7 @@
 -- The reader's methods: what each promises, and each as one step of a walk by hand. Such a walk has at the head of its context the lifetime's token and what the reader owns.
 -- A method that reads gives a value with its facts; one that moves gives the reader that it makes, with its machine value spelled out.
 use mathlib.Core.Path.{_≡_, refl, sym, ap, subst}
-use Prim.Native.Nat.{ℕ, _*_, _≤_, _<_, _^_}
+use Prim.Native.Nat.{ℕ, _+_, _*_, _<_, _^_}
 use mathlib.Core.List.{List, [], _∷_}
 use lib.Dec.{eqb}
 use lib.ListN.{length, getD, drop}
@@ -34,10 +34,13 @@ use Rattle.job_sheet.proofs.Part as Part′
 use Rattle.job_sheet.proofs.Part.Laws as PartLaws
 use Rattle.job_sheet.proofs.Sinks as Sinks′
 use Rattle.job_sheet.proofs.Sinks.Laws as SinksLaws
-use Rattle.job_sheet.specs.Sheet.{blockSize}
+use Rattle.job_sheet.specs.Sheet.{listsPlace}
 use Rattle.job_sheet.specs.Places.{fourIn, positionIn, endpointIn, Listed, SinksListed}
-use Rattle.sheet_reader.specs.Reader.{Stands, onward, sinksFound}
+use Rattle.sheet_reader.specs.Reader.{Stands, onward, sinksFound, PartsFound}
+use Rattle.sheet_reader.specs.ReaderLaws.{onward-stands}
 use Rattle.sheet_reader.specs.declared.Reader.{Reader}
+use Rattle.sheet_reader.proofs.Body as Body′
+use Rattle.sheet_reader.proofs.Body.Laws as BodyLaws
 use Rattle.sheet_reader.proofs.Calling.{Require, no-fact, this, Wants, FactContract, ContractOf, Sought, promises, Token, type-at, laws-at, reader, Held, gone, LawfulReader, bytes, BytesHeld, twice}
 use Rattle.sheet_reader.proofs.Reader.Laws as ReaderLaws
 
@@ -103,6 +106,22 @@ sinks = record {
 abbrev pub at-end : ReadingMethod
 at-end = record { type = bool; mir = tyBool; typed = λ 𝓤 H A W. bool-lawful 𝓤 H A W .typed; requires = λ _. no-fact; Tells = λ h r. r ≡ eqb (h .place) (length (now (h .sheet))) }
 
+-- `read_body` takes a reader that has come to the lists, and reads as a method does
+abbrev pub AtLists : Reader → Type 0
+AtLists h = h .place ≡ onward (now (h .sheet)) 0 listsPlace
+
+pub at-lists-stands : (h : Reader) → AtLists h → Stands (now (h .sheet)) (h .place)
+at-lists-stands h e = subst (Stands (now (h .sheet))) (sym e) (onward-stands _ _ _)
+
+abbrev pub body : ReadingMethod
+body = record {
+  type = Body′.the-row;
+  mir = BodyLaws.mir;
+  typed = λ 𝓤 H A W. LL.lawful Body′.the-type BodyLaws.the-laws 𝓤 H A W .typed;
+  requires = λ h. this (AtLists h);
+  Tells = λ h r. PartsFound (now (h .sheet)) r;
+}
+
 -- ---- those that make a reader
 
 -- where the reader stands then
@@ -112,8 +131,8 @@ new-at s = record { sheet = s; place = 0 }
 abbrev pub past-at : Reader → ℕ → Reader
 past-at h n = gone h (onward (now (h .sheet)) (h .place) n)
 
-abbrev pub behind-at : Reader → ℕ → Part → Reader
-behind-at h n b = gone h (onward (now (h .sheet)) (b .from) (n * b .count))
+abbrev pub behind-at : Reader → ℕ → ℕ → Part → Reader
+behind-at h m n b = gone h (onward (now (h .sheet)) (h .place) (m + n * b .count))
 
 -- what one requires, and the reader that it makes
 pub record Making (ps : List (Slot 1)) : Type 2 where
@@ -136,10 +155,10 @@ abbrev pub past : Making past-params
 past = record { requires = λ _ _. no-fact; made = λ _ a. past-at (a .0) (a .1 .0) }
 
 abbrev pub behind-params : List (Slot 1)
-behind-params = reader ∷ plain (λ _. usize) ∷ plain (λ _. Part′.the-row) ∷ []
+behind-params = reader ∷ plain (λ _. usize) ∷ plain (λ _. usize) ∷ plain (λ _. Part′.the-row) ∷ []
 
 abbrev pub behind : Making behind-params
-behind = record { requires = λ _ a. this ((a .1 .0 ≤ blockSize) × (a .1 .1 .0 .count < 2 ^ 16)); made = λ _ a. behind-at (a .0) (a .1 .0) (a .1 .1 .0) }
+behind = record { requires = λ _ a. this (a .1 .0 + a .1 .1 .0 * a .1 .1 .1 .0 .count < 2 ^ 64); made = λ _ a. behind-at (a .0) (a .1 .0) (a .1 .1 .0) (a .1 .1 .1 .0) }
 
 -- ---- the steps
 
@@ -183,9 +202,9 @@ module _ {M : Type 1} {𝓤 : URA M} {H : Heap 𝓤} {A : Atoms 𝓤} {K : Type 
       → Seq K W (Token 𝓤 A κ q ∷ ‵ (Held κ h) ∷ Γ) (runs C Λ E (seq (call f xs d) rest) p)
   past-call t fm known κ q h n ok os k = makes-reader t fm past known κ q h (ReaderLaws.lowered h ∷ []) (uint-makes 𝓤 H A W w64, tt) (n, tt) (vint w64 n ∷ [], tt) ((refl, ok), tt) tt os k
 
-  pub behind-call : K → FmC 𝓤 H (W .laws) C → Triple 𝓤 (C f) (ContractOf 𝓤 H A (making behind)) → (κ : Lft) (q : Share) (h : Reader) (n : ℕ) → n < 2 ^ 64 → (b : Part) (u : Val) → Is Part′.the-row b (u ∷ []) → (n ≤ blockSize) × (b .count < 2 ^ 16)
-      → Opds K W (Sought 𝓤 H A (making behind) (κ, tt) (q, tt) (h, (n, (b, tt))) (ReaderLaws.lowered h ∷ [], (vint w64 n ∷ [], (u ∷ [], tt))) ∷ Γ) E xs (ReaderLaws.lowered h ∷ vint w64 n ∷ u ∷ [])
-      → (LawfulReader κ (behind-at h n b) → Seq K W (Token 𝓤 A κ q ∷ ‵ (Held κ (behind-at h n b)) ∷ Γ) (lands C Λ E d (ReaderLaws.lowered (behind-at h n b)) rest p))
+  pub behind-call : K → FmC 𝓤 H (W .laws) C → Triple 𝓤 (C f) (ContractOf 𝓤 H A (making behind)) → (κ : Lft) (q : Share) (h : Reader) (m : ℕ) → m < 2 ^ 64 → (n : ℕ) → n < 2 ^ 64 → (b : Part) (u : Val) → Is Part′.the-row b (u ∷ []) → m + n * b .count < 2 ^ 64
+      → Opds K W (Sought 𝓤 H A (making behind) (κ, tt) (q, tt) (h, (m, (n, (b, tt)))) (ReaderLaws.lowered h ∷ [], (vint w64 m ∷ [], (vint w64 n ∷ [], (u ∷ [], tt)))) ∷ Γ) E xs (ReaderLaws.lowered h ∷ vint w64 m ∷ vint w64 n ∷ u ∷ [])
+      → (LawfulReader κ (behind-at h m n b) → Seq K W (Token 𝓤 A κ q ∷ ‵ (Held κ (behind-at h m n b)) ∷ Γ) (lands C Λ E d (ReaderLaws.lowered (behind-at h m n b)) rest p))
       → Seq K W (Token 𝓤 A κ q ∷ ‵ (Held κ h) ∷ Γ) (runs C Λ E (seq (call f xs d) rest) p)
-  behind-call t fm known κ q h n ok b u is small os k =
-      makes-reader t fm behind known κ q h (ReaderLaws.lowered h ∷ []) (uint-makes 𝓤 H A W w64, (LL.makes Part′.the-type PartLaws.the-plain 𝓤 H A, tt)) (n, (b, tt)) (vint w64 n ∷ [], (u ∷ [], tt)) ((refl, ok), (is, tt)) small os k
+  behind-call t fm known κ q h m ok-m n ok-n b u is small os k =
+      makes-reader t fm behind known κ q h (ReaderLaws.lowered h ∷ []) (uint-makes 𝓤 H A W w64, (uint-makes 𝓤 H A W w64, (LL.makes Part′.the-type PartLaws.the-plain 𝓤 H A, tt))) (m, (n, (b, tt))) (vint w64 m ∷ [], (vint w64 n ∷ [], (u ∷ [], tt))) ((refl, ok-m), ((refl, ok-n), (is, tt))) small os k

@@ -17,6 +17,7 @@ use Rattle.job_sheet.specs.Sheet.{maxSinks, endpointSize, behind, noPart, sinks
 use Rattle.job_sheet.specs.Places.{fourIn, roomIn, configIn, endpointIn, endpointsIn, sinksAt, layoutIn}
 use Rattle.sheet_reader.specs.declared.Head.{Head}
 use Rattle.sheet_reader.specs.declared.Body.{Body}
+use Rattle.sheet_reader.specs.declared.Found.{Found}
 
 -- Where a reader can stand: on the sheet, at its end, or just off it.
 abbrev pub Stands : List ℕ → ℕ → Type 0
@@ -25,6 +26,13 @@ Stands s place = place ≤ length s + 1
 -- Behind n more bytes or, where the sheet has too few, off it; from there no place on the sheet is reached again.
 unfoldable pub onward : List ℕ → ℕ → ℕ → ℕ
 onward s place n = either (leb (place + n) (length s)) (place + n) (length s + 1)
+
+-- the bytes of a list's count, and of the sinks'
+abbrev pub listCountSize : ℕ
+listCountSize = 2
+
+abbrev pub sinksCountSize : ℕ
+sinksCountSize = 1
 
 -- at most sixteen endpoints that the sheet has whole, or none
 unfoldable pub wholeSinks : List ℕ → Part → Part
@@ -68,16 +76,24 @@ pub record PartsFound (s : List ℕ) (b : Body) : Type 0 where
   pub source-is : b .whole ≡ true → b .source ≡ endpointIn (drop (layoutIn s .source .from) s)
   pub sinks-are : b .whole ≡ true → layoutIn s .sinks .count ≤ maxSinks → b .sinks ≡ sinksOf (endpointsIn s (layoutIn s .sinks))
 
+-- all of it: what stands before the lists, and the parts
+abbrev pub foundOf : Head → Body → Found
+foundOf head body = record { head = head; body = body }
+
+pub record AllFound (s : List ℕ) (f : Found) : Type 0 where
+  pub head-is : f .head ≡ headIn s
+  pub parts : PartsFound s (f .body)
+
 -- the job that was found
-abbrev pub jobFound : Head → Body → Job
-jobFound h b = record {
-  room = h .room;
-  config = h .config;
-  blocks = b .layout .blocks;
-  conductors = b .layout .conductors;
-  clearances = b .layout .clearances;
-  terminals = b .layout .terminals;
-  reserved = b .layout .reserved;
-  source = b .source;
-  sinks = b .sinks;
+abbrev pub jobFound : Found → Job
+jobFound f = record {
+  room = f .head .room;
+  config = f .head .config;
+  blocks = f .body .layout .blocks;
+  conductors = f .body .layout .conductors;
+  clearances = f .body .layout .clearances;
+  terminals = f .body .layout .terminals;
+  reserved = f .body .layout .reserved;
+  source = f .body .source;
+  sinks = f .body .sinks;
 }

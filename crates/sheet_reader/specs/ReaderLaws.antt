@@ -20,7 +20,8 @@ use Rattle.job_sheet.specs.RecordLaws.{Bytes}
 use Rattle.job_sheet.specs.ReadLaws.{job-forth}
 use Rattle.sheet_reader.specs.declared.Head.{Head}
 use Rattle.sheet_reader.specs.declared.Body.{Body}
-use Rattle.sheet_reader.specs.Reader.{Stands, onward, wholeSinks, sinksFound, headOf, headIn, layoutFound, bodyOf, PartsFound, jobFound}
+use Rattle.sheet_reader.specs.declared.Found.{Found}
+use Rattle.sheet_reader.specs.Reader.{Stands, onward, listCountSize, sinksCountSize, wholeSinks, sinksFound, headOf, headIn, layoutFound, bodyOf, PartsFound, foundOf, AllFound, jobFound}
 
 -- ---- where a reader stands
 
@@ -36,6 +37,22 @@ module _ (s : List ℕ) (place n : ℕ) where
   pub onward-stands : Stands s (onward s place n)
   onward-stands =
       askLess (length s) (place + n) (λ h. rw (onward-off h) (omega arith)) (λ h. rw (onward-on h) (omega (arith, h)))
+
+-- two steps are one of both their lengths
+pub onward-twice : (s : List ℕ) (place m n : ℕ) → onward s (onward s place m) n ≡ onward s place (m + n)
+onward-twice s place m n =
+    askLess (length s) (place + m)
+    (λ h. ap (λ x. onward s x n) (onward-off s place m h) ∙ onward-off s (length s + 1) n (omega arith) ∙ sym (onward-off s place (m + n) (omega (arith, h))))
+    (λ h. ap (λ x. onward s x n) (onward-on s place m h) ∙ rest)
+  where
+    rest : onward s (place + m) n ≡ onward s place (m + n)
+    rest =
+        askLess (length s) (place + m + n)
+        (λ k. onward-off s (place + m) n k ∙ sym (onward-off s place (m + n) (omega (arith, k))))
+        (λ k. onward-on s (place + m) n k ∙ assoc ∙ sym (onward-on s place (m + n) (omega (arith, k))))
+      where
+        assoc : place + m + n ≡ place + (m + n)
+        assoc = omega arith
 
 -- ---- the sinks that can be read
 
@@ -90,11 +107,6 @@ module _ (s : List ℕ) where
   along-from p n =
       askLess (length s) (p + n) (λ h. read-off (rw (onward-off s p n h) (omega arith)) h) (λ h. read-same (onward-on s p n h) h)
 
-  -- k bytes on, then n more
-  along-on : (k n : ℕ) (a p : ℕ) → ReadAlong s a p → ReadAlong s (onward s (a + k) n) (p + k + n)
-  along-on k n a p (read-same e h) = rw e (along-from (p + k) n)
-  along-on k n a p (read-off h l) = read-off (rw (onward-off s (a + k) n (omega arith)) (omega arith)) (omega arith)
-
   along-past : (n a p : ℕ) → ReadAlong s a p → ReadAlong s (onward s a n) (p + n)
   along-past n a p (read-same e h) = rw e (along-from p n)
   along-past n a p (read-off h l) = read-off (rw (onward-off s a n (omega arith)) (omega arith)) (omega arith)
@@ -126,6 +138,13 @@ stairAt s = onward s (horizontalAt s) 4
 abbrev supportAt : List ℕ → ℕ
 supportAt s = onward s (stairAt s) 4
 
+abbrev listsAt : List ℕ → ℕ
+listsAt s = onward s (supportAt s) 4
+
+-- the steps through the head are one step to the lists
+pub lists-reached : (s : List ℕ) → listsAt s ≡ onward s 0 listsPlace
+lists-reached s = rw (onward-twice s 0 1 4, onward-twice s 0 5 positionSize, onward-twice s 0 8 4, onward-twice s 0 12 4, onward-twice s 0 16 4, onward-twice s 0 20 4)
+
 pub head-read : (s : List ℕ) (version rest : ℕ) (sides : Pos) (limit horizontal stair support : ℕ)
     → version ≡ getD (drop 0 s) 0 0
     → rest ≡ fourIn (drop (restAt s) s) 0
@@ -152,22 +171,26 @@ head-read s version rest sides limit horizontal stair support e₀ e₁ e₂ e�
 
 -- ---- from the lists to the end
 
--- the place that a reader reaches behind a part
-abbrev after : List ℕ → ℕ → Part → ℕ
-after s size x = onward s (x .from) (size * x .count)
+-- the place that a reader at a place reaches behind the part that stands there
+abbrev after : List ℕ → ℕ → ℕ → ℕ → Part → ℕ
+after s width size a x = onward s a (width + size * x .count)
 
 module _ (s : List ℕ) where
-  list-along : (size : ℕ) (x : Part) (a p : ℕ) → x ≡ listAt s a → ReadAlong s a p → ReadAlong s (after s size x) (behind size (listAt s p))
+  -- the places of the definitions begin behind the count
+  along-behind : (width n a p : ℕ) → ReadAlong s a p → ReadAlong s (onward s a (width + n)) (p + width + n)
+  along-behind width n a p A = let assoc : p + width + n ≡ p + (width + n) = omega arith in rw assoc (along-past s (width + n) a p A)
+
+  list-along : (size : ℕ) (x : Part) (a p : ℕ) → x ≡ listAt s a → ReadAlong s a p → ReadAlong s (after s listCountSize size a x) (behind size (listAt s p))
   unfolding listAt
-  list-along size x a p e A = rw (e, along-drop s a p A) (along-on s 2 (size * twoIn (drop p s) 0) a p A)
+  list-along size x a p e A = rw (e, along-drop s a p A) (along-behind listCountSize (size * twoIn (drop p s) 0) a p A)
 
   behind-on : (size p : ℕ) → p ≤ behind size (listAt s p)
   unfolding listAt
   behind-on size p = omega arith
 
-  sinks-along : (a p : ℕ) → ReadAlong s a p → ReadAlong s (after s endpointSize (sinksAt s a)) (behind endpointSize (sinksAt s p))
+  sinks-along : (a p : ℕ) → ReadAlong s a p → ReadAlong s (after s sinksCountSize endpointSize a (sinksAt s a)) (behind endpointSize (sinksAt s p))
   unfolding sinksAt
-  sinks-along a p A = rw (along-drop s a p A) (along-on s 1 (endpointSize * getD (drop p s) 0 0) a p A)
+  sinks-along a p A = rw (along-drop s a p A) (along-behind sinksCountSize (endpointSize * getD (drop p s) 0 0) a p A)
 
   sinks-count : (a p : ℕ) → ReadAlong s a p → sinksAt s a .count ≡ sinksAt s p .count
   unfolding sinksAt
@@ -177,19 +200,33 @@ module _ (s : List ℕ) where
   unfolding sinksAt
   sinks-on p = omega arith
 
-  pub body-read : (b c l t r k : Part) (e : Endpoint) (n : Sinks) (w : Bool)
-      → b ≡ listAt s (onward s 0 listsPlace)
-      → c ≡ listAt s (after s blockSize b)
-      → l ≡ listAt s (after s positionSize c)
-      → t ≡ listAt s (after s positionSize l)
-      → r ≡ listAt s (after s positionSize t)
-      → e ≡ endpointIn (drop (after s positionSize r) s)
-      → k ≡ sinksAt s (onward s (after s positionSize r) endpointSize)
-      → n ≡ sinksFound s (onward s (after s positionSize r) endpointSize)
-      → w ≡ eqb (after s endpointSize k) (length s)
-      → PartsFound s (bodyOf (layoutFound b c l t r (after s positionSize r) k) e n w)
+  -- a₁ to a₇ are the places of the reader, q₁ to q₈ those of the definitions
+  pub body-read : (a₁ : ℕ) (b c l t r k : Part) (e : Endpoint) (n : Sinks) (w : Bool)
+      → let a₂ = after s listCountSize blockSize a₁ b in
+      let a₃ = after s listCountSize positionSize a₂ c in
+      let a₄ = after s listCountSize positionSize a₃ l in
+      let a₅ = after s listCountSize positionSize a₄ t in
+      let a₆ = after s listCountSize positionSize a₅ r in
+      let a₇ = onward s a₆ endpointSize in
+      a₁ ≡ onward s 0 listsPlace
+      → b ≡ listAt s a₁
+      → c ≡ listAt s a₂
+      → l ≡ listAt s a₃
+      → t ≡ listAt s a₄
+      → r ≡ listAt s a₅
+      → e ≡ endpointIn (drop a₆ s)
+      → k ≡ sinksAt s a₇
+      → n ≡ sinksFound s a₇
+      → w ≡ eqb (after s sinksCountSize endpointSize a₇ k) (length s)
+      → PartsFound s (bodyOf (layoutFound b c l t r a₆ k) e n w)
   unfolding layoutIn
-  body-read b c l t r k e n w eb ec el et er ee ek en ew =
+  body-read a₁ b c l t r k e n w ea eb ec el et er ee ek en ew =
+      let a₂ : ℕ = after s listCountSize blockSize a₁ b in
+      let a₃ : ℕ = after s listCountSize positionSize a₂ c in
+      let a₄ : ℕ = after s listCountSize positionSize a₃ l in
+      let a₅ : ℕ = after s listCountSize positionSize a₄ t in
+      let a₆ : ℕ = after s listCountSize positionSize a₅ r in
+      let a₇ : ℕ = onward s a₆ endpointSize in
       let q₁ : ℕ = listsPlace in
       let q₂ : ℕ = behind blockSize (listAt s q₁) in
       let q₃ : ℕ = behind positionSize (listAt s q₂) in
@@ -198,15 +235,14 @@ module _ (s : List ℕ) where
       let q₆ : ℕ = behind positionSize (listAt s q₅) in
       let q₇ : ℕ = q₆ + endpointSize in
       let q₈ : ℕ = behind endpointSize (sinksAt s q₇) in
-      let a₇ : ℕ = onward s (after s positionSize r) endpointSize in
-      let A₁ : ReadAlong s (onward s 0 listsPlace) q₁ = along-past s listsPlace 0 0 (along-start s) in
-      let A₂ : ReadAlong s (after s blockSize b) q₂ = list-along blockSize b _ q₁ eb A₁ in
-      let A₃ : ReadAlong s (after s positionSize c) q₃ = list-along positionSize c _ q₂ ec A₂ in
-      let A₄ : ReadAlong s (after s positionSize l) q₄ = list-along positionSize l _ q₃ el A₃ in
-      let A₅ : ReadAlong s (after s positionSize t) q₅ = list-along positionSize t _ q₄ et A₄ in
-      let A₆ : ReadAlong s (after s positionSize r) q₆ = list-along positionSize r _ q₅ er A₅ in
-      let A₇ : ReadAlong s a₇ q₇ = along-past s endpointSize _ q₆ A₆ in
-      let A₈ : ReadAlong s (after s endpointSize k) q₈ = rw ek (sinks-along a₇ q₇ A₇) in
+      let A₁ : ReadAlong s a₁ q₁ = rw ea (along-past s listsPlace 0 0 (along-start s)) in
+      let A₂ : ReadAlong s a₂ q₂ = list-along blockSize b a₁ q₁ eb A₁ in
+      let A₃ : ReadAlong s a₃ q₃ = list-along positionSize c a₂ q₂ ec A₂ in
+      let A₄ : ReadAlong s a₄ q₄ = list-along positionSize l a₃ q₃ el A₃ in
+      let A₅ : ReadAlong s a₅ q₅ = list-along positionSize t a₄ q₄ et A₄ in
+      let A₆ : ReadAlong s a₆ q₆ = list-along positionSize r a₅ q₅ er A₅ in
+      let A₇ : ReadAlong s a₇ q₇ = along-past s endpointSize a₆ q₆ A₆ in
+      let A₈ : ReadAlong s (after s sinksCountSize endpointSize a₇ k) q₈ = rw ek (sinks-along a₇ q₇ A₇) in
       let whole : w ≡ eqb q₈ (length s) = ew ∙ along-end s _ q₈ A₈ in
       let ends : w ≡ true → q₈ ≡ length s = λ z. eqb-true _ _ (sym whole ∙ z) in
       let on₂ = behind-on blockSize q₁ in
@@ -215,12 +251,12 @@ module _ (s : List ℕ) where
       let on₅ = behind-on positionSize q₄ in
       let on₆ = behind-on positionSize q₅ in
       let on₈ = sinks-on q₇ in
-      let p₁ : w ≡ true → onward s 0 listsPlace ≡ q₁ = λ z. along-near s _ q₁ A₁ (omega (arith, ends z, on₂, on₃, on₄, on₅, on₆, on₈)) in
-      let p₂ : w ≡ true → after s blockSize b ≡ q₂ = λ z. along-near s _ q₂ A₂ (omega (arith, ends z, on₃, on₄, on₅, on₆, on₈)) in
-      let p₃ : w ≡ true → after s positionSize c ≡ q₃ = λ z. along-near s _ q₃ A₃ (omega (arith, ends z, on₄, on₅, on₆, on₈)) in
-      let p₄ : w ≡ true → after s positionSize l ≡ q₄ = λ z. along-near s _ q₄ A₄ (omega (arith, ends z, on₅, on₆, on₈)) in
-      let p₅ : w ≡ true → after s positionSize t ≡ q₅ = λ z. along-near s _ q₅ A₅ (omega (arith, ends z, on₆, on₈)) in
-      let p₆ : w ≡ true → after s positionSize r ≡ q₆ = λ z. along-near s _ q₆ A₆ (omega (arith, ends z, on₈)) in
+      let p₁ : w ≡ true → a₁ ≡ q₁ = λ z. along-near s _ q₁ A₁ (omega (arith, ends z, on₂, on₃, on₄, on₅, on₆, on₈)) in
+      let p₂ : w ≡ true → a₂ ≡ q₂ = λ z. along-near s _ q₂ A₂ (omega (arith, ends z, on₃, on₄, on₅, on₆, on₈)) in
+      let p₃ : w ≡ true → a₃ ≡ q₃ = λ z. along-near s _ q₃ A₃ (omega (arith, ends z, on₄, on₅, on₆, on₈)) in
+      let p₄ : w ≡ true → a₄ ≡ q₄ = λ z. along-near s _ q₄ A₄ (omega (arith, ends z, on₅, on₆, on₈)) in
+      let p₅ : w ≡ true → a₅ ≡ q₅ = λ z. along-near s _ q₅ A₅ (omega (arith, ends z, on₆, on₈)) in
+      let p₆ : w ≡ true → a₆ ≡ q₆ = λ z. along-near s _ q₆ A₆ (omega (arith, ends z, on₈)) in
       let p₇ : w ≡ true → a₇ ≡ q₇ = λ z. along-near s _ q₇ A₇ (omega (arith, ends z, on₈)) in
       let k-is : w ≡ true → k ≡ sinksAt s q₇ = λ z. ek ∙ ap (sinksAt s) (p₇ z) in
       record {
@@ -235,17 +271,20 @@ module _ (s : List ℕ) where
   pub found-as : (x y : Body) → x ≡ y → PartsFound s y → PartsFound s x
   found-as x y e F = rw e F
 
+  pub all-read : (f : Found) (h : Head) (b : Body) → f ≡ foundOf h b → h ≡ headIn s → PartsFound s b → AllFound s f
+  all-read f h b e head F = rw e (record { head-is = head; parts = F })
+
 -- ---- what was found is the job of the sheet's contents
 
-module _ (s : List ℕ) (b : Body) (F : PartsFound s b) (S : Shaped s) where
-  found-whole : b .whole ≡ true
-  found-whole = F .whole-is ∙ eq-eqb _ _ (S .whole)
+module _ (s : List ℕ) (f : Found) (F : AllFound s f) (S : Shaped s) where
+  found-whole : f .body .whole ≡ true
+  found-whole = F .parts .whole-is ∙ eq-eqb _ _ (S .whole)
 
-  pub found-layout : b .layout ≡ layoutIn s
-  found-layout = F .layout-is found-whole
+  pub found-layout : f .body .layout ≡ layoutIn s
+  found-layout = F .parts .layout-is found-whole
 
-  pub found-job : Bytes s → (h : Head) → h ≡ headIn s → jobFound h b ≡ jobOf (contentsIn s)
-  found-job bytes h e =
-      job-forth s bytes S (h .room) (h .config) (b .layout) (b .source) (b .sinks) (ap (λ x. x .room) e) (ap (λ x. x .config) e) found-layout
-      (F .source-is found-whole ∙ ap (λ L. endpointIn (drop (L .source .from) s)) (sym found-layout))
-      (F .sinks-are found-whole (S .few-sinks) ∙ ap (λ L. sinksOf (endpointsIn s (L .sinks))) (sym found-layout))
+  pub found-job : Bytes s → jobFound f ≡ jobOf (contentsIn s)
+  found-job bytes =
+      job-forth s bytes S (f .head .room) (f .head .config) (f .body .layout) (f .body .source) (f .body .sinks) (ap (λ h. h .room) (F .head-is)) (ap (λ h. h .config) (F .head-is)) found-layout
+      (F .parts .source-is found-whole ∙ ap (λ L. endpointIn (drop (L .source .from) s)) (sym found-layout))
+      (F .parts .sinks-are found-whole (S .few-sinks) ∙ ap (λ L. sinksOf (endpointsIn s (L .sinks))) (sym found-layout))

@@ -1,15 +1,16 @@
 // The job sheet through "a reader that holds the sheet's bytes and its place": a thin struct whose methods call functions
-// over the bytes and the place, which the borrow checker covers. One reader goes from the front of a sheet to its lists, one
-// from there to its end. The records of the lists stay in the sheet's bytes, where they are judged.
+// over the bytes and the place, which the borrow checker covers. One reader goes from the front of a sheet to its end:
+// `read_through` makes it, reads the head and hands it on to `read_body`. The records of the lists stay in the sheet's bytes,
+// where they are judged.
 mod steps; // steps.rt: the reader's work over bytes and a place
 
 ghost use mathlib.Core.Path.{_≡_};
-ghost use Prim.Native.Nat.{_*_, _≤_, _<_, _^_};
+ghost use Prim.Native.Nat.{_+_, _*_, _<_, _^_};
 ghost use lib.Dec.{eqb};
 ghost use lib.ListN.{length, getD, drop};
-ghost use Rattle.job_sheet.specs.Sheet.{blockSize, Read};
+ghost use Rattle.job_sheet.specs.Sheet.{listsPlace, Read};
 ghost use Rattle.job_sheet.specs.Places.{fourIn, positionIn, endpointIn, Listed, SinksListed, shaped};
-ghost use Rattle.sheet_reader.specs.Reader.{Stands, onward, sinksFound, headOf, headIn, layoutFound, bodyOf, PartsFound, jobFound};
+ghost use Rattle.sheet_reader.specs.Reader.{Stands, onward, sinksFound, headOf, layoutFound, bodyOf, PartsFound, foundOf, AllFound, jobFound};
 use job_sheet::Endpoint;
 use job_sheet::Job;
 use job_sheet::Judgement;
@@ -24,6 +25,12 @@ use room::Nodes;
 use room::Pos;
 use room::Room;
 use room::RouterConfig;
+
+// The bytes of a list's count.
+const LIST_COUNT_SIZE: usize = 2;
+
+// The bytes of the sinks' count.
+const SINKS_COUNT_SIZE: usize = 1;
 
 // It stands on the sheet, at its end, or just off it. What is too short for a step leads it off, from where no step leads
 // back: so it is not at the end, which refuses the sheet. What it reads past the end is 0, and is not used.
@@ -47,6 +54,12 @@ struct Body {
     source: Endpoint,
     sinks: Sinks,
     whole: bool,
+}
+
+// All that a reader finds on its way through a sheet.
+struct Found {
+    head: Head,
+    body: Body,
 }
 
 impl<'a> Reader<'a> {
@@ -123,14 +136,15 @@ impl<'a> Reader<'a> {
         }
     }
 
-    // Moved behind a part's records, of `size` bytes each; off the sheet where it has too few.
-    pub fn behind(self, size: usize, part: Part) -> Reader<'a>
-        requires { ⌜ (size ≤ blockSize) × (part .count < 2 ^ 16) ⌝ }
-        ensures { λ r. ⌜ (r .sheet ≡ self .entry .sheet) × (r .place ≡ onward (now (self .entry .sheet)) (part .from) (size * part .count)) ⌝ }
+    // Moved on behind the part that stands here: its count, of `width` bytes, and its records, of `size` bytes each; off the
+    // sheet where it has too few.
+    pub fn behind(self, width: usize, size: usize, part: Part) -> Reader<'a>
+        requires { ⌜ width + size * part .count < 2 ^ 64 ⌝ }
+        ensures { λ r. ⌜ (r .sheet ≡ self .entry .sheet) × (r .place ≡ onward (now (self .entry .sheet)) (self .entry .place) (width + size * part .count)) ⌝ }
     {
         Reader {
             sheet: self.sheet,
-            place: steps::behind(self.sheet, size, part),
+            place: steps::behind(self.sheet, self.place, width, size, part),
         }
     }
 
@@ -142,7 +156,7 @@ impl<'a> Reader<'a> {
     }
 }
 
-// What was read, put together: apart from `read_head`, whose proof by hand needs to know of it no more than its contract.
+// What was read, put together: apart from `read_through`, whose proof by hand needs to know of it no more than its contract.
 fn head_of(
     version: u8,
     rest: u32,
@@ -171,27 +185,6 @@ fn head_of(
     }
 }
 
-// From the front of a sheet to its lists.
-fn read_head(sheet: &[u8]) -> Head
-    ensures { λ r. ⌜ r ≡ headIn (now (sheet .entry)) ⌝ }
-{
-    let reader = Reader::new(sheet);
-    let version = reader.byte();
-    let reader = reader.past(1);
-    let rest = reader.four();
-    let reader = reader.past(4);
-    let sides = reader.position();
-    let reader = reader.past(job_sheet::POSITION_SIZE);
-    let limit = reader.four();
-    let reader = reader.past(4);
-    let horizontal = reader.four();
-    let reader = reader.past(4);
-    let stair = reader.four();
-    let reader = reader.past(4);
-    let support = reader.four();
-    head_of(version, rest, sides, limit, horizontal, stair, support)
-}
-
 // Where the parts were found. The source is one record.
 fn layout_found(
     blocks: Part,
@@ -218,7 +211,7 @@ fn layout_found(
     }
 }
 
-// What was read, put together: apart from `read_body`, as `head_of` is from `read_head`.
+// What was read, put together: apart from `read_body`, as `head_of` is from `read_through`.
 fn body_of(layout: Layout, source: Endpoint, sinks: Sinks, whole: bool) -> Body
     ensures { λ r. ⌜ r ≡ bodyOf layout source sinks whole ⌝ }
 {
@@ -230,28 +223,27 @@ fn body_of(layout: Layout, source: Endpoint, sinks: Sinks, whole: bool) -> Body
     }
 }
 
-// From a sheet's lists to its end.
-fn read_body(sheet: &[u8]) -> Body
-    ensures { λ r. ⌜ PartsFound (now (sheet .entry)) r ⌝ }
+// From a sheet's lists to its end, with the reader that has come to them.
+fn read_body<'a>(reader: Reader<'a>) -> Body
+    requires { ⌜ reader .place ≡ onward (now (reader .sheet)) 0 listsPlace ⌝ }
+    ensures { λ r. ⌜ PartsFound (now (reader .entry .sheet)) r ⌝ }
 {
-    let reader = Reader::new(sheet);
-    let reader = reader.past(places::LISTS);
     let blocks = reader.list();
-    let reader = reader.behind(job_sheet::BLOCK_SIZE, blocks);
+    let reader = reader.behind(LIST_COUNT_SIZE, job_sheet::BLOCK_SIZE, blocks);
     let conductors = reader.list();
-    let reader = reader.behind(job_sheet::POSITION_SIZE, conductors);
+    let reader = reader.behind(LIST_COUNT_SIZE, job_sheet::POSITION_SIZE, conductors);
     let clearances = reader.list();
-    let reader = reader.behind(job_sheet::POSITION_SIZE, clearances);
+    let reader = reader.behind(LIST_COUNT_SIZE, job_sheet::POSITION_SIZE, clearances);
     let terminals = reader.list();
-    let reader = reader.behind(job_sheet::POSITION_SIZE, terminals);
+    let reader = reader.behind(LIST_COUNT_SIZE, job_sheet::POSITION_SIZE, terminals);
     let reserved = reader.list();
-    let reader = reader.behind(job_sheet::POSITION_SIZE, reserved);
+    let reader = reader.behind(LIST_COUNT_SIZE, job_sheet::POSITION_SIZE, reserved);
     let from = reader.place;
     let source = reader.endpoint();
     let reader = reader.past(job_sheet::ENDPOINT_SIZE);
     let listed = reader.sinks_list();
     let sinks = reader.sinks();
-    let reader = reader.behind(job_sheet::ENDPOINT_SIZE, listed);
+    let reader = reader.behind(SINKS_COUNT_SIZE, job_sheet::ENDPOINT_SIZE, listed);
     let whole = reader.at_end();
     let layout = layout_found(
         blocks,
@@ -265,34 +257,65 @@ fn read_body(sheet: &[u8]) -> Body
     body_of(layout, source, sinks, whole)
 }
 
+// Head and body, put together: apart from `read_through`, as `head_of` is.
+fn found_of(head: Head, body: Body) -> Found
+    ensures { λ r. ⌜ r ≡ foundOf head body ⌝ }
+{
+    Found { head, body }
+}
+
+// One reader from the front of a sheet to its end: it reads the head, and is handed on at the lists.
+fn read_through(sheet: &[u8]) -> Found
+    ensures { λ r. ⌜ AllFound (now (sheet .entry)) r ⌝ }
+{
+    let reader = Reader::new(sheet);
+    let version = reader.byte();
+    let reader = reader.past(1);
+    let rest = reader.four();
+    let reader = reader.past(4);
+    let sides = reader.position();
+    let reader = reader.past(job_sheet::POSITION_SIZE);
+    let limit = reader.four();
+    let reader = reader.past(4);
+    let horizontal = reader.four();
+    let reader = reader.past(4);
+    let stair = reader.four();
+    let reader = reader.past(4);
+    let support = reader.four();
+    let reader = reader.past(4);
+    let body = read_body(reader);
+    let head = head_of(version, rest, sides, limit, horizontal, stair, support);
+    found_of(head, body)
+}
+
 // Number 1, over the whole sheet. A count past the end has led the reader off the sheet, so that it is not at the end.
-fn shaped(sheet: &[u8], head: Head, body: Body) -> bool
-    requires { ⌜ (head ≡ headIn (now sheet)) × PartsFound (now sheet) body ⌝ }
+fn shaped(sheet: &[u8], found: Found) -> bool
+    requires { ⌜ AllFound (now sheet) found ⌝ }
     ensures { λ r. ⌜ r ≡ shaped (now (sheet .entry)) ⌝ }
 {
     places::shape_holds(
         sheet.len(),
-        head.version,
-        head.rest,
-        body.layout.sinks.count,
-        body.whole,
+        found.head.version,
+        found.head.rest,
+        found.body.layout.sinks.count,
+        found.body.whole,
     )
 }
 
 // The job that was read.
-fn job_found(head: Head, body: Body) -> Job
-    ensures { λ r. ⌜ r ≡ jobFound head body ⌝ }
+fn job_found(found: Found) -> Job
+    ensures { λ r. ⌜ r ≡ jobFound found ⌝ }
 {
-    let room = head.room;
-    let config = head.config;
-    let layout = body.layout;
+    let room = found.head.room;
+    let config = found.head.config;
+    let layout = found.body.layout;
     let blocks = layout.blocks;
     let conductors = layout.conductors;
     let clearances = layout.clearances;
     let terminals = layout.terminals;
     let reserved = layout.reserved;
-    let source = body.source;
-    let sinks = body.sinks;
+    let source = found.body.source;
+    let sinks = found.body.sinks;
     Job {
         room,
         config,
@@ -311,17 +334,16 @@ fn job_found(head: Head, body: Body) -> Job
 pub fn read_sheet(sheet: &[u8]) -> Reading
     ensures { λ r. ⌜ Read (now (sheet .entry)) r ⌝ }
 {
-    let head = read_head(sheet);
-    let body = read_body(sheet);
-    if !shaped(sheet, head, body) {
+    let found = read_through(sheet);
+    if !shaped(sheet, found) {
         return job_sheet::refusal(Judgement::Sheet);
     }
-    let judgement = faults::judge(sheet, body.layout);
+    let judgement = faults::judge(sheet, found.body.layout);
     if !judgement.is_good() {
         return job_sheet::refusal(judgement);
     }
     Reading {
         judgement,
-        job: job_found(head, body),
+        job: job_found(found),
     }
 }

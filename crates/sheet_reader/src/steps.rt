@@ -3,7 +3,6 @@ ghost use mathlib.Core.Path.{_≡_};
 ghost use Prim.Native.Nat.{_+_, _*_, _≤_, _<_, _^_};
 ghost use lib.Dec.{eqb};
 ghost use lib.ListN.{length};
-ghost use Rattle.job_sheet.specs.Sheet.{blockSize};
 ghost use Rattle.sheet_reader.specs.Reader.{Stands, onward, wholeSinks, sinksFound};
 use job_sheet::Part;
 use job_sheet::Sinks;
@@ -24,12 +23,13 @@ pub fn onward(sheet: &[u8], place: usize, size: usize) -> usize
     }
 }
 
-// The place behind a part's records.
-pub fn behind(sheet: &[u8], size: usize, part: Part) -> usize
-    requires { ⌜ (size ≤ blockSize) × (part .count < 2 ^ 16) ⌝ }
-    ensures { λ r. ⌜ r ≡ onward (now (sheet .entry)) (part .from) (size * part .count) ⌝ }
+// The place behind a part's count, of `width` bytes, and its records, of `size` bytes each. It goes on from the reader's own
+// place, which may be off the sheet, and not from where the part's records would begin.
+pub fn behind(sheet: &[u8], place: usize, width: usize, size: usize, part: Part) -> usize
+    requires { ⌜ width + size * part .count < 2 ^ 64 ⌝ }
+    ensures { λ r. ⌜ r ≡ onward (now (sheet .entry)) place (width + size * part .count) ⌝ }
 {
-    onward(sheet, part.from, size * part.count)
+    onward(sheet, place, width + size * part.count)
 }
 
 // Whether nothing is left over and nothing was too short.

@@ -10,11 +10,8 @@ use borrow.Author.Needs.{needs}
 use Rattle.sheet_reader.proofs.read_sheet.Statement.{statement}
 use Rattle.sheet_reader.proofs.read_sheet.Tie as tie
 
-read-head-requires : tie.Need-read-head-requires
-read-head-requires c κs = search needs
-
-read-body-requires : tie.Need-read-body-requires
-read-body-requires c κs = search needs
+read-through-requires : tie.Need-read-through-requires
+read-through-requires c κs = search needs
 
 shaped-requires : tie.Need-shaped-requires
 shaped-requires c κs = search needs
@@ -28,7 +25,7 @@ returns c = read-nothing _ (test-fails (c .before .before .shaped .ensures) (c .
 judge-requires : tie.Need-judge-requires
 judge-requires c κs =
     let S = shaped-is _ (test-passes (c .before .shaped .ensures) (c .if1 .left)) in
-    (found-layout _ _ (c .before .before .read-body .ensures) S, S)
+    (found-layout _ _ (c .before .before .read-through .ensures) S, S)
 
 is-good-requires : tie.Need-is-good-requires
 is-good-requires c κs = search needs
@@ -39,7 +36,7 @@ refusal-requires-2 c κs = search needs
 returns-2 : tie.Need-returns-2
 returns-2 c =
     let S = shaped-is _ (test-passes (c .before .before .before .before .before .shaped .ensures) (c .before .before .before .before .if1 .left)) in
-    read-refused _ (λ i. omega (arith, c .before .before .before .before .before .before .before .before .shared-slice-known .given i)) S _ (c .before .before .before .judge .ensures) (test-fails (c .before .before .is-good .ensures) (c .before .if2 .taken)) _ (c .refusal2 .ensures)
+    read-refused _ (λ i. omega (arith, c .before .before .before .before .before .before .before .shared-slice-known .given i)) S _ (c .before .before .before .judge .ensures) (test-fails (c .before .before .is-good .ensures) (c .before .if2 .taken)) _ (c .refusal2 .ensures)
 
 job-found-requires : tie.Need-job-found-requires
 job-found-requires c κs = search needs
@@ -47,16 +44,15 @@ job-found-requires c κs = search needs
 returns-3 : tie.Need-returns-3
 returns-3 c =
     let S = shaped-is _ (test-passes (c .before .before .before .before .before .shaped .ensures) (c .before .before .before .before .if1 .left)) in
-    let bytes : Bytes (now (c .before .before .before .before .before .before .before .before .before .args .sheet)) = λ i. omega (arith, c .before .before .before .before .before .before .before .before .shared-slice-known .given i) in
+    let bytes : Bytes (now (c .before .before .before .before .before .before .before .before .args .sheet)) = λ i. omega (arith, c .before .before .before .before .before .before .before .shared-slice-known .given i) in
     read-accepted _ bytes S _ (c .before .before .before .judge .ensures) (test-passes (c .before .before .is-good .ensures) (c .before .if2 .left)) _
-    (c .job-found .ensures ∙ found-job _ _ (c .before .before .before .before .before .before .read-body .ensures) S bytes _ (c .before .before .before .before .before .before .before .read-head .ensures))
+    (c .job-found .ensures ∙ found-job _ _ (c .before .before .before .before .before .before .read-through .ensures) S bytes)
 
 pub read-sheet-spec : {M : Type 1} → statement M
 read-sheet-spec =
     tie.close
     (tie.spec
-    read-head-requires
-    read-body-requires
+    read-through-requires
     shaped-requires
     refusal-requires
     returns

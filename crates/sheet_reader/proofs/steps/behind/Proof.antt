@@ -1,12 +1,14 @@
--- `behind` meets its contract: sizes and counts are small, so their product fits.
-use native.Mathlib.Nat.{le-of-lt, mul-le-mul}
+-- `behind` meets its contract: the bytes of count and records together fit, so those of the records do.
 use native.Mathlib.Omega.{arith}
 use borrow.Author.Needs.{needs}
 use Rattle.sheet_reader.proofs.steps.behind.Statement.{statement}
 use Rattle.sheet_reader.proofs.steps.behind.Tie as tie
 
 mul-onward : tie.Need-mul-onward
-mul-onward c = record { fits = omega (arith, mul-le-mul (c .before .before .pre .0) (le-of-lt (c .before .before .pre .1))) }
+mul-onward c = record { fits = omega (arith, c .before .before .pre) }
+
+add-onward : tie.Need-add-onward
+add-onward c = record { fits = c .before .before .pre }
 
 onward-requires : tie.Need-onward-requires
 onward-requires c κs = search needs
@@ -15,4 +17,4 @@ returns : tie.Need-returns
 returns c = search needs
 
 pub behind-spec : {M : Type 1} → statement M
-behind-spec = tie.close (tie.spec mul-onward onward-requires returns)
+behind-spec = tie.close (tie.spec mul-onward add-onward onward-requires returns)
