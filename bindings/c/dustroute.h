@@ -124,6 +124,77 @@ uint32_t dustroute_tree(
     uint64_t *queue, size_t queue_length,
     uint64_t *values, size_t values_length);
 
+/* ONE LENT ARENA FOR A TREE, instead of thirteen buffers: ask dustroute_arena_size for the bytes that suffice, lend so many, and call
+ * dustroute_tree_in_arena. The answer's pointers go into the arena. Any arena is lawful, NULL of size 0 too: in one that is too short a
+ * sheet that would need more is refused with 6. */
+struct dustroute_tree_answer {
+    size_t cells;                                /* V; 0 for a sheet without a room that could be routed */
+    const uint32_t *branches;                    /* one behind another; lengths[k] cells for the k-th */
+    const uint64_t *lengths;                     /* sixteen */
+    const uint8_t *occupied, *repeaters;         /* V marks each */
+    size_t branch_count, occupied_count, repeater_count;
+    uint64_t detail;                             /* of a refusal */
+};
+
+static inline uint32_t dustroute_sheet_number(const uint8_t *sheet, size_t place) {
+    return (uint32_t)sheet[place] << 24 | (uint32_t)sheet[place + 1] << 16 | (uint32_t)sheet[place + 2] << 8 | sheet[place + 3];
+}
+
+/* How many cells and queue numbers a sheet's tree needs; both 0 where the sheet is refused before memory counts. */
+static inline size_t dustroute_sheet_cells(const uint8_t *sheet, size_t sheet_length, size_t *queue_length) {
+    size_t cells = 1;
+    *queue_length = 0;
+    if (sheet_length < 24)
+        return 0;
+    for (int side = 5; side < 8; side++) {
+        if (sheet[side] < 1 || sheet[side] > DUSTROUTE_MAX_SIDE)
+            return 0;
+        cells *= sheet[side];
+    }
+    uint32_t limit = dustroute_sheet_number(sheet, 8), flat = dustroute_sheet_number(sheet, 12), stair = dustroute_sheet_number(sheet, 16);
+    if (cells > DUSTROUTE_MAX_CELLS || limit > 200000)
+        return 0;
+    *queue_length = flat >= 10 && stair >= 20 ? DUSTROUTE_QUEUE_LENGTH(cells) : DUSTROUTE_QUEUE_LENGTH_AT_ANY_COST(limit);
+    return cells;
+}
+
+static inline size_t dustroute_arena_bytes(size_t cells, size_t queue_length) {
+    return 8 * (queue_length + DUSTROUTE_TREE_VALUES) + 4 * (DUSTROUTE_BRANCHES_LENGTH(cells) + 4 * cells) + 6 * cells;
+}
+
+/* The bytes that suffice for a sheet's tree, wherever they begin: then neither 6 nor 13 nor 15 comes back. */
+static inline size_t dustroute_arena_size(const uint8_t *sheet, size_t sheet_length) {
+    size_t queue_length, cells = dustroute_sheet_cells(sheet, sheet_length, &queue_length);
+    return dustroute_arena_bytes(cells, queue_length) + 7;
+}
+
+/* dustroute_tree over an arena: the same number, and the answer. */
+static inline uint32_t dustroute_tree_in_arena(
+    const uint8_t *sheet, size_t sheet_length, void *arena, size_t arena_size, struct dustroute_tree_answer *answer) {
+    size_t queue_length, cells = dustroute_sheet_cells(sheet, sheet_length, &queue_length), skipped = (8 - (uintptr_t)arena % 8) % 8;
+    struct dustroute_tree_answer none = {0, 0, 0, 0, 0, 0, 0, 0, 0};
+    *answer = none;
+    if (arena_size < skipped || arena_size - skipped < dustroute_arena_bytes(cells, queue_length))
+        return dustroute_tree(sheet, sheet_length, 0, 0, 0, 0, 0, 0, 0, 0, 0, 0, 0, 0, 0, 0, 0, 0, 0, 0, 0, 0, 0, 0, 0, 0, 0, 0);
+    /* the widest elements first: then each buffer is aligned */
+    uint64_t *queue = (uint64_t *)((uint8_t *)arena + skipped), *values = queue + queue_length;
+    uint32_t *branches = (uint32_t *)(values + DUSTROUTE_TREE_VALUES), *known = branches + DUSTROUTE_BRANCHES_LENGTH(cells);
+    uint8_t *occupied = (uint8_t *)(known + 4 * cells);
+    uint32_t number = dustroute_tree(
+        sheet, sheet_length, branches, DUSTROUTE_BRANCHES_LENGTH(cells), occupied, cells, occupied + cells, cells,
+        occupied + 2 * cells, cells, occupied + 3 * cells, cells, occupied + 4 * cells, cells, occupied + 5 * cells, cells,
+        known, cells, known + cells, cells, known + 2 * cells, cells, known + 3 * cells, cells, queue, queue_length,
+        values, DUSTROUTE_TREE_VALUES);
+    answer->cells = cells;
+    answer->detail = number > DUSTROUTE_BUFFER ? values[0] : 0;
+    if (number == DUSTROUTE_DONE) {
+        answer->branches = branches, answer->lengths = values + 4;
+        answer->occupied = occupied, answer->repeaters = occupied + cells;
+        answer->branch_count = (size_t)values[1], answer->occupied_count = (size_t)values[2], answer->repeater_count = (size_t)values[3];
+    }
+    return number;
+}
+
 #ifdef __cplusplus
 }
 #endif

@@ -314,13 +314,71 @@ static void check_damaged(void) {
         }
 }
 
+/* ---- one arena */
+
+/* An arena of so many bytes that ends at a barred page: wherever it begins, and however short it is, nothing outside is touched. */
+static uint32_t tree_in(const uint8_t *sheet, size_t length, struct buffer arena, struct dustroute_tree_answer *answer) {
+    struct buffer copy = lend_copy(sheet, length);
+    uint32_t number = dustroute_tree_in_arena(at(copy), length, at(arena), arena.length, answer);
+    expect_kept(copy, sheet, &arena, 1);
+    return number;
+}
+
+static void check_arena(void) {
+    struct dustroute_tree_answer answer;
+    size_t enough = dustroute_arena_size(ROW, sizeof ROW);
+    for (size_t more = 0; more < 9; more++) {
+        struct buffer arena = lend(enough + more, 1);
+        EXPECT(tree_in(ROW, sizeof ROW, arena, &answer) == DUSTROUTE_DONE);
+        EXPECT(answer.cells == 10 && answer.branch_count == 1 && answer.occupied_count == 10 && answer.repeater_count == 1);
+        EXPECT(answer.lengths[0] == 10 && answer.detail == 0);
+        for (size_t i = 0; i < 10; i++)
+            EXPECT(answer.branches[i] == i && answer.occupied[i] == 1 && answer.repeaters[i] == (i == 1));
+        give_back(arena);
+    }
+    for (size_t length = 0; length < enough - 7; length += length < enough - 20 ? 97 : 1) {
+        struct buffer arena = lend(length, 1);
+        EXPECT(tree_in(ROW, sizeof ROW, arena, &answer) == DUSTROUTE_BUFFER);
+        EXPECT(untouched(arena) && answer.cells == 0 && answer.branches == NULL);
+        EXPECT(tree_in(ROW, sizeof ROW - 1, arena, &answer) == DUSTROUTE_SHEET);
+        EXPECT(untouched(arena));
+        give_back(arena);
+    }
+    uint8_t sheet[sizeof ROW];
+    memcpy(sheet, ROW, sizeof sheet);
+    sheet[SINK_PORT] = 1;
+    struct buffer arena = lend(dustroute_arena_size(sheet, sizeof sheet), 1);
+    EXPECT(tree_in(sheet, sizeof sheet, arena, &answer) == DUSTROUTE_PORT_FACING);
+    EXPECT(answer.detail == 1 && answer.branch_count == 0);
+    give_back(arena);
+}
+
+/* Every byte of the sheet at many values, in the arena that it asks for: no buffer is too short. */
+static void check_damaged_in_arena(void) {
+    for (size_t place = 0; place < sizeof ROW; place++)
+        for (int byte = 0; byte < 256; byte += byte < 16 ? 1 : 15) {
+            struct dustroute_tree_answer answer;
+            uint8_t sheet[sizeof ROW];
+            memcpy(sheet, ROW, sizeof sheet);
+            sheet[place] = (uint8_t)byte;
+            struct buffer arena = lend(dustroute_arena_size(sheet, sizeof sheet), 1);
+            uint32_t number = tree_in(sheet, sizeof sheet, arena, &answer);
+            EXPECT(number != DUSTROUTE_BUFFER && number != DUSTROUTE_QUEUE_FULL && number != DUSTROUTE_BRANCHES_FULL);
+            give_back(arena);
+        }
+    for (size_t length = 0; length < sizeof ROW; length++)
+        EXPECT(dustroute_arena_size(ROW, length) >= 7);
+}
+
 int main(void) {
     for (int null = 0; null < 2; null++) {
         empty_is_null = null;
         check_search();
         check_tree();
+        check_arena();
     }
     check_damaged();
+    check_damaged_in_arena();
     if (failures == 0)
         printf("check.c: all as promised\n");
     return failures != 0;

@@ -30,8 +30,11 @@ class Pictures(unittest.TestCase):
             with self.subTest(name=name):
                 job, answer, tree = drawn(name)
                 self.assertEqual(len(list(tree.iter(SVG + "circle"))), 1 + len(job.sinks))
-                thick = [line for line in tree.iter(SVG + "polyline") if line.get("stroke-width") == "4"]
-                self.assertEqual(len(thick), sum(len(branch) - 1 for branch in answer.branches))
+                wires = [line for line in tree.iter(SVG + "polyline") if line.get("data-wire")]
+                self.assertEqual([line.get("data-wire") for line in wires], [str(place + 1) for place in range(len(answer.branches))])
+                for line, branch in zip(wires, answer.branches):
+                    stairs = sum(one[1] != other[1] for one, other in zip(branch, branch[1:]))
+                    self.assertEqual(len(line.get("points").split()), len(branch) + 2 * stairs)
 
     def test_what_can_not_be_drawn(self):
         lane, lamp = os.path.join(EXAMPLES, "lane.sheet"), os.path.join(EXAMPLES, "lamp.out")

@@ -1,10 +1,14 @@
 """The maker: round trips, its judgement beside the stored answers, its messages."""
 import os
 import random
+import signal
+import subprocess
+import sys
 import tempfile
+import time
 import unittest
 
-from common import HEX_SHEET, random_job, remade, run, stored, wild_job
+from common import HEX_SHEET, TOOLS, random_job, remade, run, stored, wild_job
 from dustsheet import text as texts
 from dustsheet.job import Refused, first_fault, from_bytes, size, to_bytes
 
@@ -200,3 +204,51 @@ class Messages(unittest.TestCase):
         status, sheet, message = run("sheet", "make", "-", given=b"room 64 2 64\nsource 0 0 0\n")
         self.assertEqual((status, verdict(sheet)), (0, 0))
         self.assertIn("program route refuses more than 4096", message)
+
+
+class Hurts(unittest.TestCase):
+    """What hurt people who tried it."""
+
+    def test_long_words_are_quoted_short(self):
+        began = time.monotonic()
+        for given in (bytes(30_000_000), b"x" * 30_000_000, b"room 3 1 1\nsource 0 0 0\nblock " + b"y" * 3_000_000 + b" 1 0 0",
+                      b"room 3 1 1\nsource 0 0 0\nblock solid " + b"7" * 3_000_000 + b" 0 0", b"room 3 1 1\nsource 0 0 0 none " + b"z" * 3_000_000):
+            status, made, message = run("sheet", "make", "-", given=given)
+            self.assertEqual((status, made), (2, b""))
+            self.assertLess(len(message), 1_000)
+            self.assertIn(".. (", message)
+        self.assertLess(time.monotonic() - began, 60)
+        self.assertLess(len(run("view", "--hex", "-", "-", given=b"x" * 1_000_000)[2]), 1_000)
+
+    def test_control_characters_are_not_printed(self):
+        message = run("sheet", "make", "-", given=b"\x1b[2Jroom 3 1 1")[2]
+        self.assertIn("unknown word '?[2Jroom'", message)
+
+    def test_ctrl_c_leaves_no_traceback(self):
+        process = subprocess.Popen([sys.executable, os.path.join(TOOLS, "sheet"), "make", "-"], stdin=subprocess.PIPE, stdout=subprocess.PIPE,
+                                   stderr=subprocess.PIPE)
+        process.stdin.write(b"room 3 1 1\n")
+        process.stdin.flush()
+        for _ in range(100):  # until it waits for more: its start is over
+            time.sleep(0.1)
+            with open("/proc/%d/wchan" % process.pid, encoding="utf-8") as file:
+                if "pipe" in file.read():
+                    break
+        process.send_signal(signal.SIGINT)
+        made, message = process.communicate(timeout=20)
+        self.assertEqual((process.returncode, made, message), (130, b"", b""))
+
+    def test_names_that_people_type(self):
+        for typed, kind in (("lamp", "redstone-lamp"), ("Stone", "solid"), ("wall", "solid"), ("glass", "transparent"), ("torch", "redstone-torch"),
+                            ("dust", "redstone-wire"), ("plate", "pressure-plate")):
+            made = [texts.job_of(texts.read("room 3 1 1\nsource 0 0 0\nblock %s 1 0 0" % name, "t")).blocks for name in (typed, kind)]
+            self.assertEqual(made[0], made[1])
+        for line, words in (("lamp 1 0 0", "unknown word 'lamp'; did you mean 'block redstone-lamp'?"), ("wall 0 0 0 to 1 0 0", "did you mean 'block solid'?"),
+                            ("block lmap 1 0 0", "unknown kind 'lmap'; did you mean 'redstone-lamp'?"), ("block stoen 1 0 0", "did you mean 'solid'?")):
+            self.assertIn(words, texts.read("room 3 1 1\nsource 0 0 0\n" + line, "t").problems[0].words)
+
+    def test_native_archive_tells_how_it_is_used(self):
+        for words, status, said in ((["--help"], 0, "usage: native-archive NAME"), ([], 2, "no crate was named"), (["--unknown"], 2, "no option --unknown")):
+            done = subprocess.run([os.path.join(TOOLS, "native-archive"), *words], stdout=subprocess.PIPE, stderr=subprocess.STDOUT, text=True, check=False)
+            self.assertEqual(done.returncode, status)
+            self.assertIn(said, done.stdout)

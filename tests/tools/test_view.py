@@ -5,8 +5,9 @@ import random
 import tempfile
 import unittest
 import xml.etree.ElementTree as ElementTree
+from pathlib import Path
 
-from common import HEX_ANSWER, HEX_SHEET, TOOLS, random_job, run, stored
+from common import HEX_ANSWER, HEX_SHEET, ROOT, TOOLS, random_job, run, stored
 from dustsheet import answer as answers, text as texts
 from dustsheet.drawing import Drawing
 from dustsheet.job import first_fault, from_bytes
@@ -63,22 +64,23 @@ class Pages(unittest.TestCase):
             job = random_job(rng)
             tree = parsed(page("random", job, None))
             drawing = Drawing(job, None)
-            floors = [figure.get("id") for figure in tree.iter(HTML + "figure")]
+            room, *floors = [figure.get("id") for figure in tree.iter(HTML + "figure")]
+            self.assertEqual(room, "room")
             self.assertEqual(floors, ["floor-%d" % level for level in range(job.sides[1]) if drawing.plain_floor(level) is None])
 
     def test_cell_titles_and_repeater(self):
         tree = parsed(page("hex", job_of("room 10 1 1\nsource 0 0 0\nsink 9 0 0"), answers.read(HEX_ANSWER, from_bytes(bytes.fromhex(HEX_SHEET)))))
         titles = [title.text for title in tree.iter(SVG + "title")]
         self.assertEqual(len(titles), 10)
-        self.assertEqual(titles[1], "cell 1 (1, 0, 0): branch to sink 1; repeater pointing east")
-        self.assertEqual(titles[9], "cell 9 (9, 0, 0): branch to sink 1; sink 1, wire")
+        self.assertEqual(titles[1], "cell 1 (1, 0, 0): branch to sink 1; signal 15; repeater pointing east")
+        self.assertEqual(titles[9], "cell 9 (9, 0, 0): branch to sink 1; signal 8; sink 1, wire; warning 2")
 
     def test_stairs_point_up_below_and_down_above(self):
         job = job_of("room 3 2 1\nblock solid 1 0 0\nsource 0 0 0\nsink 1 1 0")
         content = page("stair", job, answers.read("net 1 2\nbranch 0 3\nrepeaters\n", job))
         lower, upper = content.split('id="floor-1"')
         self.assertEqual((lower.split('id="floor-0"')[1].count("#stair-up"), lower.count("#stair-down")), (1, 0))
-        self.assertEqual(upper.split("<section>")[0].count("#stair-down"), 1)
+        self.assertEqual(upper.split("<h2>Legend")[0].count("#stair-down"), 1)
 
     def test_what_is_blocked(self):
         live = {(1, y, 2) for y in (0, 1, 2)} | {(3, y, 2) for y in (0, 1, 2)} | {(2, y, z) for y in (0, 1, 2) for z in (1, 3)}
@@ -94,15 +96,15 @@ class Pages(unittest.TestCase):
         room = "room 5 2 5\nsource 0 0 0\n"
         for text, answer, words in ((room + "block solid 1 1 1\n" * 2, "refused 7 16", "Two blocks stand in one cell: (1, 1, 1), number 16."),
                                     (room + "sink block-power 1 1 1", "refused 8 1", "Sink 1 is block-power and must face"),
-                                    (room + "sink 1 1 0 north", "refused 9 1", "The wire of sink 1 would lie outside the room."),
-                                    (room + "sink 1 1 1", "refused 14 16", "No way was found to sink 1, looked for from cell (1, 1, 1), number 16."),
+                                    (room + "sink 1 1 0 north", "refused 9 1", "The wire of sink 1 would lie outside the room: its approach (1, 1, -1)"),
+                                    (room + "sink 1 1 1", "refused 14 16", "No way was found to sink 1 at (1, 1, 1)."),
                                     (room + "sink 1 1 1", "refused 15 1", "The branches up to sink 1 have more cells than")):
             with self.subTest(answer=answer):
                 job = job_of(text)
                 content = page("refused", job, answers.read(answer, job))
                 parsed(content)
                 self.assertIn(words, content)
-                self.assertEqual(content.split("<section>")[0].count('href="#marked"'), 1)
+                self.assertEqual(content.split("<h2>Legend")[0].count('href="#marked"'), 1)
                 self.assertIn("the refusal speaks of this cell</title>", content)
 
     def test_full_queue_has_no_cell(self):
@@ -209,8 +211,9 @@ class Answers(unittest.TestCase):
 
 class Language(unittest.TestCase):
     def test_python_3_9_reads_the_tools(self):
-        files = [os.path.join(TOOLS, name) for name in ("sheet", "view", "picture")]
-        files += [os.path.join(TOOLS, "dustsheet", name) for name in os.listdir(os.path.join(TOOLS, "dustsheet")) if name.endswith(".py")]
-        for name in files:
-            with open(name, encoding="utf-8") as file:
-                ast.parse(file.read(), name, feature_version=(3, 9))
+        root = Path(ROOT)
+        files = [root / "dustroute", *(Path(TOOLS) / name for name in ("sheet", "view", "picture"))]
+        files += [*Path(TOOLS).glob("dustsheet/**/*.py"), *root.glob("bindings/python/**/*.py")]
+        self.assertGreater(len(files), 20)
+        for file in files:
+            ast.parse(file.read_text(encoding="utf-8"), str(file), feature_version=(3, 9))

@@ -6,8 +6,10 @@ from collections import deque
 from dataclasses import dataclass, field
 from typing import Dict, List, Optional, Set, Tuple
 
-from .job import AHEAD, ROUTE_CELLS, End, Job, Pos, first_fault, record_name, spell
-from .rules import approach, end_name, late_faults, step, terminal
+from .job import AHEAD, ROUTE_CELLS, End, Job, Pos, first_fault, spell
+from .rules import approach, late_faults, step, terminal
+from .text import quoted
+from .words import of_job, sentence
 
 # the numbers that a net's answer can carry; 6 and 10 to 12 belong to buffers and single searches
 NUMBERS = (1, 2, 3, 4, 5, 7, 8, 9, 13, 14, 15)
@@ -32,14 +34,14 @@ def read(text: str, job: Job) -> Answer:
     if lines[0][0] == "refused":
         return _read_refusal(lines, job)
     if lines[0][0] != "net":
-        raise BadAnswer("line 1 begins with '%s'; expected 'net' or 'refused'" % lines[0][0])
+        raise BadAnswer("line 1 begins with %s; expected 'net' or 'refused'" % quoted(lines[0][0]))
     return _read_net(lines, job)
 
 
 def numbers(words: List[str], line: str) -> List[int]:
     for word in words:
         if not re.fullmatch(r"[0-9]{1,10}", word):
-            raise BadAnswer("'%s' in the line '%s' is no number" % (word, line))
+            raise BadAnswer("%s in the line '%s' is no number" % (quoted(word), line))
     return [int(word) for word in words]
 
 
@@ -85,20 +87,7 @@ def _sound_sinks(job: Job) -> List[End]:
 
 
 def refusal_words(number: int, detail: int, job: Job) -> str:
-    if number == 2:
-        return "The room has %d cells; program route takes at most %d." % (job.cells(), ROUTE_CELLS)
-    if number == 7:
-        return "Two blocks stand in one cell: %s, number %d." % (spell(job.place(detail)), detail)
-    if number == 8:
-        return "%s is block-power and must face north, east, south or west." % end_name(detail).capitalize()
-    if number == 9:
-        return "The wire of %s would lie outside the room." % end_name(detail)
-    if number == 13:
-        return "The search ran out of memory: its queue was full after %d cells." % detail
-    if number == 14:
-        names = [end_name(place) for place, sink in enumerate(job.sinks, 1) if job.number(approach(sink)) == detail]
-        return "No way was found to %s, looked for from cell %s, number %d." % (" or ".join(names), spell(job.place(detail)), detail)
-    return "The branches up to %s have more cells than the branch buffer holds." % end_name(detail)
+    return sentence(of_job(number, detail, job))
 
 
 def marked_cells(answer: Answer, job: Job) -> List[Pos]:
@@ -165,24 +154,36 @@ def occupied(answer: Answer, job: Job) -> Set[Pos]:
     return {terminal(job.source)}.union(*answer.branches)
 
 
-def directions(answer: Answer, job: Job) -> Dict[Pos, int]:
-    """For each cell that the source reaches, the facing in which the signal comes in (0 at the source and on stairs): breadth first
-    from the source over all branches, neighbours in number order."""
+def neighbours(answer: Answer) -> Dict[Pos, List[Pos]]:
+    """For each cell of the branches those that a step of a branch joins it to, in number order."""
     beside: Dict[Pos, set] = {}
     for branch in answer.branches:
         for one, other in zip(branch, branch[1:]):
             beside.setdefault(one, set()).add(other)
             beside.setdefault(other, set()).add(one)
+    return {at: sorted(cells) for at, cells in beside.items()}
+
+
+def parents(answer: Answer, job: Job) -> Dict[Pos, Optional[Pos]]:
+    """For each cell that the source reaches, the cell that the signal comes from (None at the source): breadth first from the source
+    over all branches, neighbours in number order."""
+    beside = neighbours(answer)
     source = terminal(job.source)
-    found = {source: 0}
+    found: Dict[Pos, Optional[Pos]] = {source: None}
     waiting = deque([source])
     while waiting:
         at = waiting.popleft()
-        for following in sorted(beside.get(at, ())):
+        for following in beside.get(at, ()):
             if following not in found:
-                found[following] = next((facing for facing, by in AHEAD.items() if step(at, by) == following), 0)
+                found[following] = at
                 waiting.append(following)
     return found
+
+
+def directions(answer: Answer, job: Job) -> Dict[Pos, int]:
+    """For each cell that the source reaches, the facing in which the signal comes in: 0 at the source and on stairs."""
+    return {at: next((facing for facing, by in AHEAD.items() if before is not None and step(before, by) == at), 0)
+            for at, before in parents(answer, job).items()}
 
 
 # ---- a sheet that is refused as it is read
@@ -193,11 +194,12 @@ def check_damaged(text: str, number: int) -> None:
         raise BadAnswer("this sheet is answered by 'refused %d 0' and by nothing else" % number)
 
 
-def damage(job: Job) -> Optional[Tuple[int, str]]:
-    """The number 1 to 5 by which program route refuses the job, and why; rooms over its size come before numbers 3 to 5."""
+def damage(job: Job, said: Optional[str]) -> Optional[Tuple[int, str]]:
+    """The number 1 to 5 by which the job is refused, and why. Program route judges the size of a room that is too large for it before
+    numbers 3 to 5: where its number 2 is what was said, that is due."""
     fault = first_fault(job)
     if fault is None:
         return None
-    if fault.number > 2 and job.cells() > ROUTE_CELLS:
-        return 2, refusal_words(2, 0, job)
-    return fault.number, "%s: %s." % (record_name(fault.part, fault.index).capitalize(), fault.words)
+    by_size = fault.number > 2 and job.cells() > ROUTE_CELLS and (said or "").split()[:2] == ["refused", "2"]
+    number = 2 if by_size else fault.number
+    return number, refusal_words(number, 0, job)

@@ -1,13 +1,16 @@
-"""The floors of a room as SVG: one grid for each y, x to the right, z downward."""
+"""The floors of a room as SVG: one grid for each y, x to the right, z downward, cropped to what is used."""
 from __future__ import annotations
 
 from html import escape
 from typing import Dict, List, Optional, Set, Tuple
 
 from .answer import Answer, directions, marked_cells
+from .check import remarks
 from .job import AIR, BLOCK_POWER, FACINGS, KINDS, PORTS, Job, Pos, spell
+from .net import signals, supports
 from .rules import approach, blocked, end_name, late_faults, step, terminal
 from .symbols import CELL, COLOURS, KIND_NAMES, line_style, use
+from .window import window
 
 HALF = CELL // 2
 LEFT, TOP, EDGE = 44, 32, 6  # room for the numbers at the sides of a grid
@@ -30,7 +33,11 @@ class Drawing:
     def __init__(self, job: Job, answer: Optional[Answer]) -> None:
         self.job = job
         self.answer = answer or Answer()
-        self.scale = min(0.8, max(0.4, 26 / max(job.sides[0], job.sides[2])))  # large rooms are drawn smaller
+        self.remarks = remarks(job, answer)
+        self.window = window(job, answer, [remark.at for remark in self.remarks])
+        (x0, _, z0), (x1, _, z1) = self.window
+        self.wide, self.deep = range(x0, x1 + 1), range(z0, z1 + 1)
+        self.scale = min(0.8, max(0.4, 26 / max(len(self.wide), len(self.deep))))  # large rooms are drawn smaller
         self.sound = next(late_faults(job), None) is None  # else an end may have no terminal in the room
         self.signs: Dict[Pos, List[str]] = {}
         self.notes: Dict[Pos, List[str]] = {}
@@ -39,6 +46,10 @@ class Drawing:
         self._put_others()
         self._put_net()
         self._put_ends()
+        self.warned: Dict[Pos, List[int]] = {}
+        for place, remark in enumerate(self.remarks, 1):
+            self._put(remark.at, "warning %d" % place)
+            self.warned.setdefault(remark.at, []).append(place)
         self.marked = marked_cells(self.answer, job)
         for at in self.marked:
             self._put(at, "the refusal speaks of this cell")
@@ -75,14 +86,14 @@ class Drawing:
             self._put(at, "reserved", "reserved")
 
     def _put_net(self) -> None:
-        wires = sorted({at for branch in self.answer.branches for at in branch})
-        for at in wires:
-            under = step(at, (0, -1, 0))
-            if self.kinds.get(under, AIR) == AIR and under not in wires:
-                self._put(under, "air under a wire, which needs a support", "support")
+        for at in sorted(set().union(*supports(self.answer, self.job))):
+            self._put(at, "air under a wire, which needs a support", "support")
         for place, branch in enumerate(self.answer.branches, 1):
             for at in dict.fromkeys(branch):
                 self._put(at, "branch to sink %d" % place)
+        self.signal = signals(self.answer, self.job) if self.answer.branches else {}
+        for at, strength in self.signal.items():
+            self._put(at, "signal %d" % strength)
         self.facing = directions(self.answer, self.job) if self.answer.branches else {}
         for at in self.answer.repeaters:
             self._put(at, "repeater pointing " + FACINGS[self.facing[at]])
@@ -111,34 +122,35 @@ class Drawing:
         return KIND_NAMES[KINDS[kind]] + " in every cell" if alike and kind != AIR and wide * deep > 1 else None
 
     def floor(self, level: int) -> str:
-        wide, _, deep = self.job.sides
-        width, height = LEFT + CELL * wide + EDGE, TOP + CELL * deep + EDGE
+        width, height = LEFT + CELL * len(self.wide) + EDGE, TOP + CELL * len(self.deep) + EDGE
         # --zoom is less on paper than on a screen
-        parts = ['<svg xmlns="http://www.w3.org/2000/svg" viewBox="0 0 %d %d" width="%d" style="width:calc(var(--zoom)*%dpx)" role="img" '
-                 'aria-label="floor %d">' % (width, height, width * self.scale, width * self.scale, level), self._grid(), *self._cells(level)]
-        parts.append('<g class="over">')
+        parts = ['<svg xmlns="http://www.w3.org/2000/svg" class="large" viewBox="%d %d %d %d" width="%d" '
+                 'style="width:calc(var(--zoom)*%dpx)" role="img" aria-label="floor %d">'
+                 % (CELL * self.wide[0], CELL * self.deep[0], width, height, width * self.scale, width * self.scale, level)]
+        parts += [self._grid(), *self._cells(level), '<g class="over">']
         parts += self._branches(level) + self._powers(level) + self._repeaters(level) + self._stairs(level) + self._ends(level)
+        parts += self._signals(level)
         parts += [use("marked", *corner(at)) for at in self.marked if at[1] == level]
+        parts += self._warnings(level)
         return "".join(parts) + "</g></svg>"
 
     def _grid(self) -> str:
-        wide, _, deep = self.job.sides
-        right, bottom = LEFT + CELL * wide, TOP + CELL * deep
-        lines = ["M%d %dV%d" % (LEFT + CELL * x, TOP, bottom) for x in range(1, wide)]
-        lines += ["M%d %dH%d" % (LEFT, TOP + CELL * z, right) for z in range(1, deep)]
-        every = 1 if max(wide, deep) <= 26 else 4
-        labels = ['<text x="%d" y="%d" text-anchor="middle">%d</text>' % (LEFT + CELL * x + HALF, TOP - 8, x) for x in range(0, wide, every)]
-        labels += ['<text x="%d" y="%d" text-anchor="end">%d</text>' % (LEFT - 8, TOP + CELL * z + HALF + 6, z) for z in range(0, deep, every)]
-        ground = '<rect class="ground" x="%d" y="%d" width="%d" height="%d"/>' % (LEFT, TOP, CELL * wide, CELL * deep)
+        left, top = corner((self.wide[0], 0, self.deep[0]))
+        width, height = CELL * len(self.wide), CELL * len(self.deep)
+        lines = ["M%d %dv%d" % (LEFT + CELL * x, top, height) for x in self.wide[1:]]
+        lines += ["M%d %dh%d" % (left, TOP + CELL * z, width) for z in self.deep[1:]]
+        every = 1 if max(len(self.wide), len(self.deep)) <= 26 else 4
+        labels = ['<text x="%d" y="%d" text-anchor="middle">%d</text>' % (LEFT + CELL * x + HALF, top - 8, x) for x in self.wide if x % every == 0]
+        labels += ['<text x="%d" y="%d" text-anchor="end">%d</text>' % (left - 8, TOP + CELL * z + HALF + 6, z) for z in self.deep if z % every == 0]
+        ground = '<rect class="ground" x="%d" y="%d" width="%d" height="%d"/>' % (left, top, width, height)
         return ground + ('<path class="grid" d="%s"/>' % "".join(lines) if lines else "") \
             + '<g class="axis" font-size="%g">%s</g>' % (11 / self.scale, "".join(labels))
 
     def _cells(self, level: int) -> List[str]:
         """The signs of the cells, each with a title that browsers show when the pointer rests there."""
-        wide, _, deep = self.job.sides
         every = self.job.cells() <= HOVER_CELLS
         parts = []
-        for at in ((x, level, z) for x in range(wide) for z in range(deep)):
+        for at in ((x, level, z) for x in self.wide for z in self.deep):
             if every or at in self.notes:
                 says = "; ".join(self.notes.get(at, ["Air"]))
                 x, y = corner(at)
@@ -179,6 +191,26 @@ class Drawing:
     def _repeaters(self, level: int) -> List[str]:
         found = [at for at in self.answer.repeaters if at[1] == level]
         return ['<g class="repeater">%s</g>' % use("repeater-set", *centre(at), TURNS[self.facing[at]]) for at in found]
+
+    def _signals(self, level: int) -> List[str]:
+        """The signal at each wire, in the corner of its cell; where it is dark the number is framed."""
+        parts = []
+        for at, strength in sorted(self.signal.items()):
+            if at[1] == level:
+                x, y = corner(at)
+                frame = "" if strength else '<rect class="dark" x="%d" y="%d" width="12" height="13"/>' % (x + 27, y + 26)
+                parts.append(frame + '<text class="signal" x="%d" y="%d">%d</text>' % (x + 38, y + 37, strength))
+        return parts
+
+    def _warnings(self, level: int) -> List[str]:
+        """A flag with its number for each remark."""
+        parts = []
+        for at, places in sorted(self.warned.items()):
+            if at[1] == level:
+                x, y = corner(at)
+                parts.append(use("warned", x, y) + '<text class="tiny" x="%d" y="%d">%s</text>' % (x + 8, y + 13, " ".join(map(str, places))))
+                self.used.add("warned")
+        return parts
 
     def _powers(self, level: int) -> List[str]:
         """From a block-power source to its wire, from the wire to a block-power sink."""

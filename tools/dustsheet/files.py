@@ -1,15 +1,25 @@
 """Reading and writing files for the tools; every trouble becomes one clear message and status 2."""
 from __future__ import annotations
 
+import argparse
 import os
 import sys
 from typing import Callable, Optional
 
 from .job import Job, Refused, bytes_of_hex, from_bytes
+from .text import NoText, decoded
+
+
+BAD_INPUT = 2
+ENDED = 130  # by Ctrl-C
 
 
 class Stop(Exception):
-    """The message for a person; the tool ends with status 2."""
+    """The message for a person, and the status that the tool ends with."""
+
+    def __init__(self, words: str, status: int = BAD_INPUT) -> None:
+        super().__init__(words)
+        self.status = status
 
 
 def shown(path: str) -> str:
@@ -28,12 +38,20 @@ def read_bytes(path: str) -> bytes:
         return file.read()
 
 
+def title(path: str) -> str:
+    """A job's name on a page."""
+    return "job sheet" if path == "-" else printable(os.path.basename(path))
+
+
 def read_text(path: str) -> str:
+    return text_of(read_bytes(path), path)
+
+
+def text_of(content: bytes, path: str) -> str:
     try:
-        return read_bytes(path).decode("utf-8")
-    except UnicodeDecodeError as error:
-        line = error.object[:error.start].count(b"\n") + 1
-        raise Stop("%s:%d: this is no text (UTF-8 was expected)" % (shown(path), line)) from None
+        return decoded(content)
+    except NoText as bad:
+        raise Stop("%s:%d: %s" % (shown(path), bad.line, bad)) from None
 
 
 def read_sheet(path: str, is_hex: bool) -> bytes:
@@ -64,16 +82,26 @@ def write(path: Optional[str], content: bytes, is_text: bool) -> None:
         sys.stdout.buffer.flush()
 
 
-def guarded(tool: str, run: Callable[[], None]) -> int:
-    """Runs the tool: status 0, or 2 with a message."""
+def guarded(tool: str, run: Callable[[], Optional[int]]) -> int:
+    """Runs the tool: the status that it gives, 0 if none; with a message, what Stop says; 130 after Ctrl-C."""
     try:
-        run()
-        return 0
+        return run() or 0
     except Stop as stop:
         print(stop, file=sys.stderr)
+        return stop.status
+    except KeyboardInterrupt:
+        return ENDED
     except BrokenPipeError:
         # the reader has seen enough; nothing more is to be flushed at the end
         os.dup2(os.open(os.devnull, os.O_WRONLY), sys.stdout.fileno())
     except OSError as error:
         print("%s: %s: %s" % (tool, error.filename or "standard output", error.strerror), file=sys.stderr)
-    return 2
+    return BAD_INPUT
+
+
+def main(tool: str, about: str, configure: Callable[[argparse.ArgumentParser], None]) -> int:
+    """A tool that is one word of the command line by itself."""
+    parser = argparse.ArgumentParser(prog=tool, description=about[:1].upper() + about[1:] + ".")
+    configure(parser)
+    args = parser.parse_args()
+    return guarded(tool, lambda: args.run(args))

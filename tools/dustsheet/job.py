@@ -1,10 +1,12 @@
 """A job, its bytes, and numbers 1 to 5: docs/RULES.md, The job sheet."""
 from __future__ import annotations
 
+import re
 from dataclasses import dataclass, field
 from typing import Dict, Iterator, List, NamedTuple, Optional, Tuple
 
 Pos = Tuple[int, int, int]
+Head = Tuple[Pos, int, Tuple[int, int, int]]  # the sides, the node limit and the costs
 
 VERSION = 1
 MAX_BYTES = 60_000
@@ -20,7 +22,7 @@ KINDS = ["air", "solid", "transparent", "redstone-wire", "redstone-torch", "repe
          "pressure-plate", "redstone-lamp", "redstone-block", "piston"]
 FACINGS = ["none", "north", "east", "south", "west", "up", "down"]
 PORTS = ["wire", "block-power"]
-AIR, SOLID, TORCH, REPEATER, LEVER, REDSTONE_BLOCK = 0, 1, 4, 5, 7, 11
+(AIR, SOLID, TRANSPARENT, WIRE, TORCH, REPEATER, COMPARATOR, LEVER, BUTTON, PLATE, LAMP, REDSTONE_BLOCK, PISTON) = range(13)
 BLOCK_POWER = 1
 # the flat steps of the horizontal facings
 AHEAD = {1: (0, 0, -1), 2: (1, 0, 0), 3: (0, 0, 1), 4: (-1, 0, 0)}
@@ -66,9 +68,14 @@ class Job:
         return (at[0] * self.sides[1] + at[1]) * self.sides[2] + at[2]
 
     def place(self, number: int) -> Pos:
-        rest, z = divmod(number, self.sides[2])
-        x, y = divmod(rest, self.sides[1])
-        return (x, y, z)
+        return place_of(number, self.sides)
+
+
+def place_of(number: int, sides: Pos) -> Pos:
+    """Where the cell with a number is, in a room of these sides."""
+    rest, z = divmod(number, sides[2])
+    x, y = divmod(rest, sides[1])
+    return (x, y, z)
 
 
 def spell(at: Pos) -> str:
@@ -146,6 +153,24 @@ class _Bytes:
         high, low, x, y, z, kind, facing = self.take(7, what)
         return Block(256 * high + low, (x, y, z), kind, facing)
 
+    def head(self) -> Head:
+        sides = self.pos("the sides")
+        limit, flat, stair, support = [self.value(4, "the limit and the costs") for _ in range(4)]
+        return sides, limit, (flat, stair, support)
+
+
+def head(sheet: bytes) -> Head:
+    """What a sheet names first, good or not; Refused where its bytes don't go so far."""
+    read = _Bytes(sheet)
+    read.take(5, "the version and the length")
+    return read.head()
+
+
+def is_sheet(content: bytes) -> bool:
+    """Whether these bytes are to be read as a sheet and not as a text: by the first one, which is a sheet's version. A text begins with a
+    letter or a sign, a blank or an end of line, or a byte order mark. Bytes that are neither, or none at all, are a bad sheet."""
+    return not re.match(rb"[\t\n\r -~\xef]", content)
+
 
 def from_bytes(sheet: bytes) -> Job:
     """The job that the bytes spell, good or not; Refused where they spell none. Sheets that are too long or have too many
@@ -157,9 +182,7 @@ def from_bytes(sheet: bytes) -> Job:
     length = read.value(4, "the length")
     if length != len(sheet) - read.at:
         raise Refused("the length says that %d bytes follow, but %d do" % (length, len(sheet) - read.at))
-    sides = read.pos("the sides")
-    limit, flat, stair, support = [read.value(4, "the limit and the costs") for _ in range(4)]
-    job = Job(sides, limit, (flat, stair, support), End((0, 0, 0), 0, 0))
+    job = Job(*read.head(), End((0, 0, 0), 0, 0))
     job.blocks = [read.block("the blocks") for _ in range(read.value(2, "the count of blocks"))]
     for name in PLACE_LISTS:
         setattr(job, name, [read.pos("the " + name) for _ in range(read.value(2, "the count of " + name))])

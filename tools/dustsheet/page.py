@@ -1,4 +1,5 @@
-"""The page: heading, answer in words, floors, table of branches, legend. One HTML file without scripts; it is well-formed XML too."""
+"""The page: heading, answer in words, warnings, the whole room, floors, table of branches, legend; for the projector each is a screen.
+One HTML file without scripts; it is well-formed XML too."""
 from __future__ import annotations
 
 from html import escape
@@ -6,23 +7,30 @@ from itertools import groupby
 from typing import List, Optional, Tuple
 
 from .answer import Answer, occupied, refusal_words
+from .check import NOT_KNOWN
 from .drawing import HOVER_CELLS, Drawing
 from .job import BLOCK_POWER, KINDS, PORTS, Job, spell
+from .net import branches, supports
+from .solid import Picture
 from .symbols import CELL, COLOURS, KIND_NAMES, STYLE, definitions, line_style, use
+from .words import sentence
 
+COLUMNS = ["Sink", "Line", "Port", "Branch from", "Steps", "Stairs", "Supports to fetch", "Repeaters", "Signal"]
+ISO_SCALE = 1.4  # how large the whole room is drawn where the page is wide enough
 SIGN_WORDS = [
     ("conductor", "another net's conductor"), ("clearance", "another net's clearance"), ("terminal", "another net's terminal"),
     ("reserved", "reserved cell"), ("blocked", "blocked at the outset: too near to something live"),
-    ("support", "air under a wire: it needs a support"),
+    ("support", "air under a wire: it needs a support"), ("warned", "a warning, with its number"),
 ]
 
 
-def page(name: str, job: Job, answer: Optional[Answer]) -> str:
+def page(name: str, job: Job, answer: Optional[Answer], reason: Optional[str] = None) -> str:
+    """The page of a job that no number 1 to 5 refuses. Where more is known of a refusal than its number tells, that is the reason."""
     drawing = Drawing(job, answer)
     floors = floor_figures(drawing)
-    body = [heading(name, job), answer_words(job, answer), '<h2>Floors</h2>', reading_help(job), *floors, branch_table(job, answer),
-            legend(job, drawing)]
-    return document(name, "".join(body))
+    body = [MODES, heading(name, job), answer_words(job, answer, reason), warnings(drawing, answer), room_picture(drawing, answer), '<h2>Floors</h2>',
+            reading_help(drawing), *floors, branch_table(job, answer), legend(job, drawing)]
+    return document(name, '<main id="projector">%s</main>' % "".join(body))
 
 
 def damaged_page(name: str, number: int, words: str) -> str:
@@ -36,6 +44,11 @@ def document(name: str, body: str) -> str:
             % (escape(name), STYLE, definitions(), body))
 
 
+# the page's own mode for the projector, without a script: the link's target is styled
+MODES = ('<p class="modes screen"><a href="#projector">For the projector: one floor a screen</a></p>'
+         '<p class="back screen"><a href="#">Back to the page</a></p>')
+
+
 def heading(name: str, job: Job) -> str:
     return ('<h1>%s</h1><p>Room of %d x %d x %d cells. Costs in tenths: flat step %d, stair %d, new support %d. Node limit %d.</p>'
             % (escape(name), *job.sides, *job.costs, job.limit))
@@ -46,26 +59,53 @@ def count(number: int, word: str) -> str:
     return "%d %s" % (number, word if number == 1 else plural)
 
 
-def answer_words(job: Job, answer: Optional[Answer]) -> str:
+def answer_words(job: Job, answer: Optional[Answer], reason: Optional[str]) -> str:
     if answer is None:
         return "<p>The room alone, with %s; no answer was given.</p>" % count(len(job.sinks), "sink")
     if answer.refused:
-        return refused_box(*answer.refused, refusal_words(*answer.refused, job))
-    return "<p>The net: %s, %s occupied, %s.</p>" % (count(len(answer.branches), "branch"), count(len(occupied(answer, job)), "cell"),
-                                                   count(len(answer.repeaters), "repeater"))
+        return refused_box(*answer.refused, sentence(reason) if reason else refusal_words(*answer.refused, job))
+    fetch = count(sum(map(len, supports(answer, job))), "support")
+    return "<p>The net: %s, %s occupied, %s, %s to fetch.</p>" % (
+        count(len(answer.branches), "branch"), count(len(occupied(answer, job)), "cell"), count(len(answer.repeaters), "repeater"), fetch)
 
 
 def refused_box(number: int, detail: int, words: str) -> str:
-    return '<p class="refused"><b>Refused.</b> %s (Number %d, detail %d.)</p>' % (escape(words), number, detail)
+    return '<p class="refused slide"><b>Refused.</b> %s (Number %d, detail %d.)</p>' % (escape(words), number, detail)
+
+
+def warnings(drawing: Drawing, answer: Optional[Answer]) -> str:
+    """What the check remarks, numbered as it is drawn, and what it doesn't know."""
+    if not drawing.remarks:
+        return '<p class="note">%s</p>' % escape("The check found nothing to warn of. " + NOT_KNOWN) if answer and not answer.refused else ""
+    listed = "".join("<li>%s</li>" % escape(sentence(remark.words)) for remark in drawing.remarks)
+    return '<section class="warnings slide"><h2>Warnings</h2><ol>%s</ol><p class="note">%s</p></section>' % (listed, escape(NOT_KNOWN))
+
+
+# ---- the whole room
+
+def room_picture(drawing: Drawing, answer: Optional[Answer]) -> str:
+    picture = Picture(drawing.job, answer, drawing.remarks)
+    return ('<figure class="iso slide" id="room"><figcaption>The room, seen from the south-east%s</figcaption>'
+            '<svg xmlns="http://www.w3.org/2000/svg" class="large" viewBox="0 0 %g %g" width="%g" role="img" aria-label="the room">%s</svg></figure>'
+            % (cropped(drawing), picture.width, picture.height, ISO_SCALE * picture.width, picture.body()))
+
+
+def cropped(drawing: Drawing) -> str:
+    if drawing.window.is_whole(drawing.job):
+        return ""
+    (x0, y0, z0), (x1, y1, z1) = drawing.window
+    return '<span class="note">; what is drawn, here and below: x = %d to %d, y = %d to %d, z = %d to %d</span>' % (x0, x1, y0, y1, z0, z1)
 
 
 # ---- floors
 
-def reading_help(job: Job) -> str:
+def reading_help(drawing: Drawing) -> str:
+    job = drawing.job
     hover = ("Rest the pointer on a cell to see its number." if job.cells() <= HOVER_CELLS
              else "Rest the pointer on a cell that holds something to see its number.")
     return ('<div class="help">%s<p>The bottom floor, y = 0, comes first; each next one lies on top of it. x counts to the right, '
-            'z downward.<br/>Cell (x, y, z) has number (x &#215; %d + y) &#215; %d + z. <span class="screen">%s</span></p></div>'
+            'z downward. The small number at a wire is its signal.<br/>Cell (x, y, z) has number (x &#215; %d + y) &#215; %d + z. '
+            '<span class="screen">%s</span></p></div>'
             % (compass(), job.sides[1], job.sides[2], hover))
 
 
@@ -83,7 +123,7 @@ def floor_figures(drawing: Drawing) -> List[str]:
     parts: List[str] = []
     for says, levels in groupby(range(high), drawing.plain_floor):
         if says is None:
-            parts += ['<figure class="floor" id="floor-%d"><figcaption>%s</figcaption>%s</figure>'
+            parts += ['<figure class="floor slide" id="floor-%d"><figcaption>%s</figcaption>%s</figure>'
                       % (level, floor_name(level, high), drawing.floor(level)) for level in levels]
         else:
             run = list(levels)
@@ -113,13 +153,13 @@ def branch_table(job: Job, answer: Optional[Answer]) -> str:
     if not answer or not answer.branches:
         return ""
     rows = []
-    for place, (sink, branch) in enumerate(zip(job.sinks, answer.branches)):
-        stairs = sum(one[1] != other[1] for one, other in zip(branch, branch[1:]))
-        repeaters = len(set(branch).intersection(answer.repeaters))
-        rows.append("<tr><td>%d</td><td>%s</td><td>%s at %s</td><td>%s</td><td>%d</td><td>%d</td><td>%d</td></tr>"
-                    % (place + 1, sample_line(place), PORTS[sink.port], spell(sink.at), spell(branch[0]), len(branch) - 1, stairs, repeaters))
-    head = "<tr><th>Sink</th><th>Line</th><th>Port</th><th>Branch from</th><th>Steps</th><th>Stairs</th><th>Repeaters</th></tr>"
-    return '<section><h2>Branches</h2><table><thead>%s</thead><tbody>%s</tbody></table></section>' % (head, "".join(rows))
+    for place, branch in enumerate(branches(answer, job)):
+        numbers = (branch.steps, branch.stairs, len(branch.supports), len(branch.repeaters), branch.signal)
+        rows.append("<tr><td>%d</td><td>%s</td><td>%s at %s</td><td>%s</td>%s</tr>" % (
+            place + 1, sample_line(place), PORTS[branch.sink.port], spell(branch.sink.at), spell(branch.cells[0]),
+            "".join("<td>%d</td>" % number for number in numbers)))
+    head = "".join("<th>%s</th>" % word for word in COLUMNS)
+    return '<section class="slide"><h2>Branches</h2><table><thead><tr>%s</tr></thead><tbody>%s</tbody></table></section>' % (head, "".join(rows))
 
 
 def legend(job: Job, drawing: Drawing) -> str:
@@ -134,7 +174,7 @@ def legend(job: Job, drawing: Drawing) -> str:
     items += [(sign(use(name, 0, 0)), words) for name, words in SIGN_WORDS if name in drawing.used]
     items += net_items(drawing)
     spans = "".join("<span>%s%s</span>" % (picture, escape(words)) for picture, words in items)
-    return '<section><h2>Legend</h2><div class="legend">%s</div></section>' % spans
+    return '<section class="slide"><h2>Legend</h2><div class="legend">%s</div></section>' % spans
 
 
 def net_items(drawing: Drawing) -> List[Tuple[str, str]]:

@@ -21,6 +21,13 @@ def approach(sink: End) -> Pos:
     return step(terminal(sink), AHEAD[sink.facing]) if sink.facing in AHEAD else terminal(sink)
 
 
+def ample_limit(job: Job) -> Optional[int]:
+    """A node limit that no search of this job passes: twelve for each cell, at a flat step of at least 10 and a stair of at least 20. At lower
+    costs none is known."""
+    flat, stair, _ = job.costs
+    return 12 * job.cells() if flat >= 10 and stair >= 20 else None
+
+
 def end_name(place: int) -> str:
     """An end by its number in a refusal's detail: 0 the source, k the k-th sink."""
     return "sink %d" % place if place else "the source"

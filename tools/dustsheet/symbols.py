@@ -30,6 +30,7 @@ _OTHER = {
     "support": '<rect class="support" x="8" y="8" width="24" height="24"/><text class="tiny" x="20" y="23">sup</text>',
     "marked": '<rect class="marked" x="0" y="0" width="40" height="40"/><circle class="flag" cx="39" cy="1" r="9"/>'
               '<text class="bang" x="39" y="7">!</text>',
+    "warned": '<path class="warned" d="M8 -4L18 15L-2 15z"/>',
     "source": '<rect class="source" x="6" y="6" width="28" height="28" rx="3"/>',
     "stair-up": '<circle class="stair" r="8.5"/><path class="tip" d="M0 -6L5.5 3.5L-5.5 3.5z"/>',
     "stair-down": '<circle class="stair-dark" r="8.5"/><path class="tip-light" d="M0 6L5.5 -3.5L-5.5 -3.5z"/>',
@@ -102,6 +103,9 @@ th, td { text-align: left; padding: .15em .8em .15em 0; border-bottom: 1px solid
 .support { fill: #fbf6dc; stroke: #9b8a3a; stroke-width: 1.5; stroke-dasharray: 5 3; }
 .marked { fill: none; stroke: #a8201a; stroke-width: 4; }
 .flag { fill: #a8201a; }
+.warned { fill: #ffd43b; stroke: #a8201a; stroke-width: 1.6; }
+.signal { font-size: 11px; text-anchor: end; fill: #333; paint-order: stroke; stroke: #fff; stroke-width: 2.5px; }
+.dark { fill: #111; fill-opacity: .12; stroke: #a8201a; }
 .bang { font-size: 16px; font-weight: bold; fill: #fff; text-anchor: middle; }
 .source { fill: #111; }
 .sink { fill: #fff; stroke-width: 3; }
@@ -117,10 +121,28 @@ th, td { text-align: left; padding: .15em .8em .15em 0; border-bottom: 1px solid
 .power { stroke: #111; stroke-width: 2.5; stroke-dasharray: 3 3; }
 .joint { fill: #111; stroke: #fff; stroke-width: 1.5; }
 .over { pointer-events: none; }
+.warnings { border: 2px solid #b8860b; padding: .2em .9em .5em; margin: .8em 0; break-inside: avoid; page-break-inside: avoid; }
+.warnings ol { margin: .3em 0; padding-left: 2em; }
+figcaption .note { font-weight: normal; }
+.iso { display: block; margin: .6em 0; }
+.iso svg { width: auto; max-height: 620px; }
+.modes { float: right; }
+.back { display: none; }
+/* for the projector, by the page's own link: what is shown stands on a screen by itself, as large as it goes */
+main:target { position: fixed; inset: 0; overflow-y: scroll; scroll-snap-type: y mandatory; background: #fff; font-size: 24px; }
+main:target > * { display: none; }
+main:target > .slide { display: block; box-sizing: border-box; min-height: 100vh; margin: 0; padding: 2vh 2vw; max-width: none;
+  scroll-snap-align: start; }
+main:target .slide svg.large { width: auto !important; height: 82vh; max-width: 96vw; max-height: none; margin: 0 auto; }
+main:target figcaption, main:target h2 { font-size: 1.6em; margin: 0 0 .3em; }
+main:target figcaption .note { display: none; }
+main:target .back { display: block; position: fixed; right: 1em; top: .6em; font-size: 16px; }
 @page { size: A4; margin: 12mm; }
 @media print {
   body { margin: 0; padding: 0; font-size: 11px; orphans: 1; widows: 1; --zoom: .61; }
   figure { margin-right: 6px; }
   .screen { display: none; }
+  .iso svg { max-height: 110mm; }
+  main:target { position: static; overflow: visible; font-size: 11px; }
 }
 """

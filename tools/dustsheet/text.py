@@ -11,6 +11,7 @@ from .rules import late_faults
 
 DEFAULT_COSTS = (10, 25, 15)
 DEFAULT_LIMIT = 30_000
+MOST_QUOTED = 40  # characters of a word that a message quotes
 MOST_RECORDS = 65_535  # what a list's two-byte count can say
 PLACE_WORDS = {"conductor": "conductors", "clearance": "clearances", "terminal": "terminals", "reserved": "reserved"}
 FORMS = {
@@ -56,7 +57,7 @@ class Words:
     def number(self, what: str, most: int) -> int:
         word = self.next(what)
         if not (word.isascii() and word.isdigit() and len(word) <= 12):
-            raise BadLine("'%s' is no number; %s was expected: %s" % (word, what, self.form))
+            raise BadLine("%s is no number; %s was expected: %s" % (quoted(word), what, self.form))
         if int(word) > most:
             raise BadLine("%s is %s; a sheet has room for 0 to %d there" % (what, word, most))
         return int(word)
@@ -87,7 +88,13 @@ class Words:
 
     def end(self) -> None:
         if self.left:
-            raise BadLine("'%s' is too much; expected: %s" % (" ".join(self.left), self.form))
+            raise BadLine("%s is too much; expected: %s" % (quoted(" ".join(self.left)), self.form))
+
+
+def quoted(word: str) -> str:
+    """A word for a message: its start, if it is long, and a question mark for what can't be printed."""
+    start = "".join(letter if letter.isprintable() else "?" for letter in word[:MOST_QUOTED])
+    return "'%s'%s" % (start, "" if len(word) <= MOST_QUOTED else ".. (%d characters)" % len(word))
 
 
 def plain(word: str) -> str:
@@ -96,23 +103,47 @@ def plain(word: str) -> str:
 
 
 NAMES = {"kind": KINDS, "facing": FACINGS, "port": PORTS}
+# what people call a kind, too
+ALSO = {"stone": "solid", "wall": "solid", "floor": "solid", "brick": "solid", "glass": "transparent", "dust": "redstone-wire",
+        "wire": "redstone-wire", "torch": "redstone-torch", "plate": "pressure-plate", "lamp": "redstone-lamp", "light": "redstone-lamp",
+        "switch": "lever"}
 CODES = {what: {plain(name): place for place, name in enumerate(names)} for what, names in NAMES.items()}
+CODES["kind"].update((name, KINDS.index(kind)) for name, kind in ALSO.items())
 
 
 def code(word: str, what: str) -> int:
     """The code of a name. 'code-N' stands for any code, for sheets that are meant to be refused."""
     known, names = CODES[what], NAMES[what]
-    if plain(word) in known:
-        return known[plain(word)]
-    bare = re.fullmatch(r"code([0-9]{1,3})", plain(word))
+    asked = plain(word[:2 * MOST_QUOTED])
+    if asked in known:
+        return known[asked]
+    bare = re.fullmatch(r"code([0-9]{1,3})", asked)
     if bare and int(bare.group(1)) <= 255:
         return int(bare.group(1))
-    close = difflib.get_close_matches(plain(word), known, 1, 0.7)
+    close = difflib.get_close_matches(asked, known, 1, 0.7)
     hint = "; did you mean '%s'?" % names[known[close[0]]] if close else ""
-    raise BadLine("unknown %s '%s'%s (%ss: %s)" % (what, word, hint, what, ", ".join(names)))
+    raise BadLine("unknown %s %s%s (%ss: %s)" % (what, quoted(word), hint, what, ", ".join(names)))
 
 
 # ---- reading
+
+NO_TEXT = "this is no text (UTF-8 was expected)"
+
+
+class NoText(Exception):
+    """The bytes are no text, from this line on."""
+
+    def __init__(self, line: int) -> None:
+        super().__init__(NO_TEXT)
+        self.line = line
+
+
+def decoded(content: bytes) -> str:
+    try:
+        return content.decode("utf-8")
+    except UnicodeDecodeError as error:
+        raise NoText(content[:error.start].count(b"\n") + 1) from None
+
 
 @dataclass
 class Draft:
@@ -173,11 +204,10 @@ def read(text: str, path: str) -> Draft:
 
 
 def _read_line(draft: Draft, line: int, words: Words) -> None:
-    word = plain(words.next("the first word"))
+    first = words.next("the first word")
+    word = plain(first[:2 * MOST_QUOTED])
     if word not in FORMS:
-        close = difflib.get_close_matches(word, FORMS, 1, 0.6)
-        hint = "did you mean '%s'?" % close[0] if close else "a line begins with one of: " + ", ".join(FORMS)
-        raise BadLine("unknown word '%s'; %s" % (word, hint))
+        raise BadLine("unknown word %s; %s" % (quoted(first), _hint(word)))
     words.form = FORMS[word]
     draft.tried.add(word)
     if word == "block":
@@ -192,6 +222,14 @@ def _read_line(draft: Draft, line: int, words: Words) -> None:
         _read_end(draft, line, word, words)
     else:
         _read_head(draft, line, word, words)
+
+
+def _hint(word: str) -> str:
+    """What a line's first word may have been meant to be."""
+    if word in CODES["kind"]:
+        return "did you mean 'block %s'? expected: %s" % (KINDS[CODES["kind"][word]], FORMS["block"])
+    close = difflib.get_close_matches(word, FORMS, 1, 0.6)
+    return "did you mean '%s'?" % close[0] if close else "a line begins with one of: " + ", ".join(FORMS)
 
 
 def _read_head(draft: Draft, line: int, word: str, words: Words) -> None:

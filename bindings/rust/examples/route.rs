@@ -26,7 +26,7 @@ fn main() -> ExitCode {
     };
     match route_tree(&Sheet::from_bytes(bytes)) {
         Ok(tree) => print!("{tree}"),
-        Err(refusal) => print!("{refusal}"),
+        Err(refusal) => println!("{}", refusal.line()),
     }
     ExitCode::SUCCESS
 }

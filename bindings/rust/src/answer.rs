@@ -114,6 +114,11 @@ impl Refusal {
         }
     }
 
+    /// Program `route`'s line, without a newline.
+    pub fn line(self) -> String {
+        format!("refused {} {}", self.number(), self.detail())
+    }
+
     pub fn number(self) -> u32 {
         match self {
             Self::Sheet => 1,
@@ -162,10 +167,38 @@ impl End {
     }
 }
 
-/// Program `route`'s line.
+impl fmt::Display for End {
+    fn fmt(&self, out: &mut fmt::Formatter) -> fmt::Result {
+        match self {
+            Self::Source => write!(out, "the source"),
+            Self::Sink(place) => write!(out, "sink {place}"),
+        }
+    }
+}
+
+/// In words, without a newline; cells are numbers, and [`crate::Room::position`] tells where one is.
 impl fmt::Display for Refusal {
     fn fmt(&self, out: &mut fmt::Formatter) -> fmt::Result {
-        writeln!(out, "refused {} {}", self.number(), self.detail())
+        match self {
+            Self::Sheet => write!(out, "the bytes are no job sheet"),
+            Self::Sides => write!(out, "a side is not 1 to 64, or the room has over 16,384 cells"),
+            Self::Config => write!(out, "a cost is over 100,000 or the node limit over 200,000"),
+            Self::Position => write!(out, "something stands outside the room"),
+            Self::Code => write!(out, "an unknown kind, facing or port"),
+            Self::Buffer => write!(out, "a lent buffer is too short, or kinds are not one for each cell"),
+            Self::Overlap { cell } => write!(out, "two blocks stand in cell {cell}"),
+            Self::PortFacing(end) => write!(out, "{end} is block-power and must face north, east, south or west"),
+            Self::EndOutside(end) => write!(out, "the wire of {end} would lie outside the room"),
+            Self::NotRouteable { cell } => write!(
+                out,
+                "cell {cell} holds neither air nor redstone wire: no wire can begin or end there"
+            ),
+            Self::NoRoute(nodes) => write!(out, "there is no way: {} cells were expanded", nodes.0),
+            Self::LimitPassed(nodes) => write!(out, "the node limit was passed: {} cells were expanded", nodes.0),
+            Self::QueueFull(nodes) => write!(out, "the queue was full after {} cells", nodes.0),
+            Self::NoGoal { approach } => write!(out, "no way was found to the sink that is approached from cell {approach}"),
+            Self::BranchesFull { sink } => write!(out, "the branches up to sink {sink} have more cells than the branch buffer holds"),
+        }
     }
 }
 

@@ -27,6 +27,18 @@ impl Room {
         let [x, y, z] = [at.x, at.y, at.z].map(usize::from);
         (x * usize::from(self.high) + y) * usize::from(self.deep) + z
     }
+
+    /// The position of a cell, or none for a number that no cell of the room has.
+    pub fn position(self, cell: usize) -> Option<Position> {
+        let (high, deep) = (usize::from(self.high), usize::from(self.deep));
+        let place = |number: usize| u8::try_from(number).ok();
+        (cell < self.cells()?).then_some(())?;
+        Some(Position {
+            x: place(cell / deep / high)?,
+            y: place(cell / deep % high)?,
+            z: place(cell % deep)?,
+        })
+    }
 }
 
 #[derive(Clone, Copy, Debug, Eq, PartialEq)]
@@ -74,6 +86,24 @@ pub enum Kind {
     RedstoneLamp,
     RedstoneBlock,
     Piston,
+}
+
+mod sealed {
+    pub trait OneByte {}
+    impl OneByte for u8 {}
+    impl OneByte for super::Kind {}
+}
+
+/// What a search may be given for each cell: a [`Kind`], or a byte, which may be no kind's and is refused then.
+pub trait Code: sealed::OneByte + Copy {}
+impl Code for u8 {}
+impl Code for Kind {}
+
+/// The bytes of codes.
+pub(crate) fn bytes_of<C: Code>(codes: &[C]) -> &[u8] {
+    const { assert!(size_of::<C>() == 1) };
+    // SAFETY: only u8 and Kind are codes; each is one byte, and every byte of them is initialized.
+    unsafe { std::slice::from_raw_parts(codes.as_ptr().cast(), codes.len()) }
 }
 
 #[derive(Clone, Copy, Debug, Eq, PartialEq)]

@@ -3,7 +3,7 @@
 
 use crate::answer::{Cost, Nodes, Refusal, Route, Tree};
 use crate::ffi::{dustroute_search, dustroute_tree};
-use crate::job::{Config, Room, Sheet};
+use crate::job::{Code, Config, Room, Sheet, bytes_of};
 
 /// How many values a search and a tree come to.
 pub const SEARCH_VALUES: usize = 4;
@@ -62,8 +62,8 @@ impl SearchMemory {
     }
 
     /// One search from cell `start` to cell `goal`. A refusal by 1 to 6 leaves the memory as it was, `values` included.
-    pub fn search(&mut self, room: Room, config: Config, kinds: &[u8], start: usize, goal: usize) -> Result<Route, Refusal> {
-        let number = self.call(room, config, kinds, start, goal);
+    pub fn search<C: Code>(&mut self, room: Room, config: Config, kinds: &[C], start: usize, goal: usize) -> Result<Route, Refusal> {
+        let number = self.call(room, config, bytes_of(kinds), start, goal);
         match number {
             0 => Ok(Route {
                 path: self.path[..self.values[1] as usize].to_vec(),

@@ -12,12 +12,13 @@ mod job;
 pub mod lent;
 
 pub use answer::{Cost, End, Nodes, Refusal, Route, Tree};
-pub use job::{Block, Config, Endpoint, Facing, Job, JobTooLong, Kind, Port, Position, Room, Sheet};
+pub use job::{Block, Code, Config, Endpoint, Facing, Job, JobTooLong, Kind, Port, Position, Room, Sheet};
 
 use lent::{SearchMemory, TreeMemory};
 
-/// One search from cell `start` to cell `goal` in a room whose cells hold `kinds`, a byte for each cell in number order.
-pub fn search(room: Room, config: Config, kinds: &[u8], start: usize, goal: usize) -> Result<Route, Refusal> {
+/// One search from cell `start` to cell `goal` in a room whose cells hold `kinds`, one for each cell in number order: a slice of
+/// [`Kind`] or of bytes.
+pub fn search<C: Code>(room: Room, config: Config, kinds: &[C], start: usize, goal: usize) -> Result<Route, Refusal> {
     SearchMemory::for_search(room, config).search(room, config, kinds, start, goal)
 }
 

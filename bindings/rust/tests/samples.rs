@@ -3,7 +3,9 @@
 use cases::samples::{HEX_SHEET, HEX_SHEET_LINES};
 use cases::text::parse_hex;
 use dustroute::lent::{SearchMemory, places_that_suffice};
-use dustroute::{Block, Config, Cost, Endpoint, Facing, Job, Kind, Nodes, Port, Position, Refusal, Room, Route, Sheet, route_tree, search};
+use dustroute::{
+    Block, Config, Cost, End, Endpoint, Facing, Job, Kind, Nodes, Port, Position, Refusal, Room, Route, Sheet, route_tree, search,
+};
 
 fn room(wide: u8, high: u8, deep: u8) -> Room {
     Room { wide, high, deep }
@@ -32,7 +34,40 @@ fn route(path: &[u32], cost: u32, expanded: u32) -> Result<Route, Refusal> {
 fn cells_are_numbered_by_x_then_y_then_z() {
     let room = room(2, 3, 4);
     let positions = (0..2).flat_map(|x| (0..3).flat_map(move |y| (0..4).map(move |z| Position { x, y, z })));
-    assert!(positions.map(|at| room.cell(at)).eq(0..24));
+    assert!(positions.clone().map(|at| room.cell(at)).eq(0..24));
+    assert!((0..24).map(|cell| room.position(cell)).eq(positions.map(Some)));
+    assert_eq!(room.position(24), None);
+    let refused = Room {
+        wide: 65,
+        high: 1,
+        deep: 1,
+    };
+    assert_eq!(refused.position(0), None);
+}
+
+#[test]
+fn a_search_takes_kinds_and_bytes() {
+    let row = room(3, 1, 1);
+    let kinds = vec![Kind::Air, Kind::Solid, Kind::Air];
+    let bytes = [0u8, 1, 0];
+    let config = Config::default();
+    assert_eq!(search(row, config, &kinds, 0, 2), search(row, config, &bytes, 0, 2));
+    assert_eq!(search(row, config, &[Kind::Air; 3], 0, 2), route(&[0, 1, 2], 20, 2));
+}
+
+#[test]
+fn refusals_are_words_without_a_newline() {
+    let refused = search(room(3, 1, 1), Config::default(), &[Kind::Air, Kind::Solid, Kind::Air], 0, 2).unwrap_err();
+    assert_eq!(refused.to_string(), "there is no way: 1 cells were expanded");
+    assert_eq!(refused.line(), "refused 11 1");
+    assert_eq!(
+        Refusal::PortFacing(End::Source).to_string(),
+        "the source is block-power and must face north, east, south or west"
+    );
+    assert_eq!(
+        Refusal::EndOutside(End::Sink(2)).to_string(),
+        "the wire of sink 2 would lie outside the room"
+    );
 }
 
 #[test]
@@ -149,7 +184,7 @@ fn a_net_without_sinks_is_its_source() {
 #[test]
 fn a_refusal_prints_as_program_route() {
     let unreachable = Refusal::NoGoal { approach: 202 };
-    assert_eq!(unreachable.to_string(), "refused 14 202\n");
+    assert_eq!(unreachable.line(), "refused 14 202");
 }
 
 #[test]

@@ -1,0 +1,23 @@
+"""The proved router for one net of redstone wire, from Python; it needs the standard library alone.
+
+    import dustroute
+
+    tree = dustroute.route(open("examples/lane.txt").read())     # a text, or a sheet's bytes
+    print(tree.branches, tree.repeaters)                         # cells by number; tree.room.position(cell) is where one is
+
+    room = dustroute.Room(3, 1, 1)
+    dustroute.search(room, [dustroute.Kind.AIR] * 3, start=0, goal=2)      # Route(path=(0, 1, 2), cost=20, expanded=2)
+
+A refusal is raised: `Refusal` has its number, detail and words. The first call proves and builds the router, which takes minutes and
+needs the Rattle toolchain; `library(say)` does just that, and tells `say` of its progress. The memory that the router is lent is kept
+from one call to the next, for each thread its own; a `Memory` can be given instead. bindings/README.md has more."""
+from .answers import Config, Kind, Refusal, Room, Route, Tree
+from .built import NotBuilt
+from .calls import BadText, route, search, sheet_of
+from .library import Library, library
+from .memory import Memory
+
+__version__ = "0.1.0"
+
+__all__ = ["BadText", "Config", "Kind", "Library", "Memory", "NotBuilt", "Refusal", "Room", "Route", "Tree", "library", "route",
+           "search", "sheet_of"]

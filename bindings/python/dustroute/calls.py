@@ -1,0 +1,122 @@
+"""The library's functions as Python has them: typed answers come back, refusals are raised.
+
+Each is a few lines over `call`, which lends all memory that is not given: as many elements as the room has cells, unless another
+length is said."""
+from __future__ import annotations
+
+import ctypes
+from typing import Dict, NamedTuple, Optional, Sequence, Tuple, Union
+
+from . import memory as memories
+from .answers import Config, Refusal, Room, Route, Tree
+from .library import library
+from .memory import Memory
+from dustsheet import job as jobs, text as texts, words
+from dustsheet.job import MAX_NODES, MAX_SINKS, Job
+
+
+class Called(NamedTuple):
+    """What a call left: its number, the number's detail, and the lent buffers by their names."""
+    number: int
+    detail: int
+    lent: Dict[str, ctypes.Array]
+
+
+def queue_length(cells: int, config: Config) -> int:
+    """A queue so long is never full (bindings/README.md says why); a place of it takes two numbers."""
+    places = 5 * cells if config.horizontal >= 10 and config.stair >= 20 else 11 * min(config.limit, MAX_NODES) + 1
+    return 2 * places
+
+
+def call(name: str, room: Room, config: Config, memory: Optional[Memory], lengths: Dict[str, int], **given: object) -> Called:
+    """Calls the function `dustroute_NAME`. Room and config are handed on where it takes them."""
+    function = library()["dustroute_" + name]
+    lengths = {"queue": queue_length(room.cells(), config), **lengths}
+    known = {**room._asdict(), **config._asdict(), **given}
+    kept = memory or memories.own()
+    lent = {one.name: kept.lend(one.name, one.type, lengths.get(one.name, room.cells()))
+            for one in function.parameters if one.is_slice and one.name not in given}
+    numbers = {one.name: known[one.name] for one in function.parameters if one.name not in lent}
+    number = function(**numbers, **lent)
+    # numbers 1 to 6 touch nothing: no detail is to be read
+    return Called(number, lent["values"][0] if number > 6 else 0, lent)
+
+
+# ---- one search
+
+def search(room: Room, kinds: Sequence[int], start: int, goal: int, config: Config = Config(), memory: Optional[Memory] = None) -> Route:
+    """The route from cell `start` to cell `goal` in a room whose cells hold `kinds`, one for each cell in number order.
+
+    Raises Refusal with number 2 to 6, 10, 11 (there is no way) or 12 (the node limit was passed)."""
+    room, config = Room(*room), Config(*config)
+    called = call("search", room, config, memory, {"values": library().constants["DUSTROUTE_SEARCH_VALUES"]}, kinds=bytes(kinds),
+                  start=start, goal=goal)
+    if called.number:
+        raise Refusal(called.number, called.detail, words.of_search(called.number, called.detail, room, config.limit))
+    _, length, cost, expanded = called.lent["values"][:4]
+    return Route(tuple(called.lent["path"][:length]), cost, expanded)
+
+
+# ---- the tree of a job
+
+class BadText(ValueError):
+    """The text is none of a job: all that is wrong, each with its line."""
+
+    def __init__(self, problems: Sequence[texts.Problem]) -> None:
+        super().__init__("\n".join("line %d: %s" % (problem.line, problem.words) for problem in problems))
+        self.problems = list(problems)
+
+
+def sheet_of(sheet_or_text: Union[bytes, str, Job]) -> bytes:
+    """The sheet of a job: the bytes themselves, or those of the text that tools/README.md describes, or of a job.
+
+    Bytes are told apart by the first one. A text that can't be read raises BadText; one that the router refuses is made."""
+    if isinstance(sheet_or_text, Job):
+        return jobs.to_bytes(sheet_or_text)
+    if isinstance(sheet_or_text, (bytes, bytearray, memoryview)):
+        content = bytes(sheet_or_text)
+        if jobs.is_sheet(content):
+            return content
+        try:
+            sheet_or_text = texts.decoded(content)
+        except texts.NoText as bad:
+            raise BadText([texts.Problem(bad.line, str(bad))]) from None
+    draft = texts.read(sheet_or_text, "text")
+    if draft.problems:
+        raise BadText(draft.problems)
+    return jobs.to_bytes(texts.job_of(draft))
+
+
+def route(sheet_or_text: Union[bytes, str, Job], memory: Optional[Memory] = None) -> Tree:
+    """The tree of the net that a job sheet, or the text of one, describes.
+
+    Raises Refusal with number 1 to 5, 7 to 9, or 14 (no way was found to a sink); BadText for a text that can't be read."""
+    sheet = sheet_of(sheet_or_text)
+    room, config = _head(sheet)
+    lengths = {"branches": MAX_SINKS * (room.cells() + 1), "values": library().constants["DUSTROUTE_TREE_VALUES"]}
+    called = call("tree", room, config, memory, lengths, sheet=sheet)
+    if called.number:
+        raise Refusal(called.number, called.detail, words.of_sheet(called.number, called.detail, sheet))
+    return _tree(room, called.lent)
+
+
+def _head(sheet: bytes) -> Tuple[Room, Config]:
+    """Of a sheet that ends too early nothing is needed: it is refused."""
+    try:
+        sides, limit, costs = jobs.head(sheet)
+    except jobs.Refused:
+        return Room(0, 0, 0), Config()
+    return Room(*sides), Config(limit, *costs)
+
+
+def _tree(room: Room, lent: Dict[str, ctypes.Array]) -> Tree:
+    _, count, _, _, *lengths = lent["values"][:]
+    branches, place = [], 0
+    for length in lengths[:count]:
+        branches.append(tuple(lent["branches"][place:place + length]))
+        place += length
+    return Tree(room, tuple(branches), _marked(lent["occupied"]), _marked(lent["repeaters"]))
+
+
+def _marked(marks: ctypes.Array) -> Tuple[int, ...]:
+    return tuple(cell for cell, mark in enumerate(marks) if mark)

@@ -1,0 +1,129 @@
+"""`route FILE` routes a job through the proved library: docs/RULES.md has the rules, README.md what is printed."""
+from __future__ import annotations
+
+import argparse
+import dataclasses
+import sys
+from typing import List, Optional, Union
+
+import dustroute
+
+from .. import answer as answers, files, job as jobs, report, text as texts
+from ..check import Remark, remarks
+from ..progress import Progress
+from ..rules import ample_limit
+from . import sheet as sheets, view as views
+from .given import Given, read
+
+ABOUT = "route a job: a text or a sheet"
+NOT_BUILT, REFUSED = 1, 3
+NAME = "dustroute"
+
+
+def configure(parser: argparse.ArgumentParser) -> None:
+    parser.add_argument("file", metavar="FILE", help="the text of a job, or a job sheet, or - for standard input")
+    parser.add_argument("--view", metavar="PAGE.html", help="also draw it as a page for a browser")
+    parser.add_argument("--json", action="store_true", help="print coordinates and numbers as JSON instead")
+    parser.add_argument("-q", "--quiet", action="store_true", help="tell nothing of progress")
+    parser.set_defaults(run=route)
+
+
+Answered = Union[dustroute.Tree, dustroute.Refusal]
+
+
+def route(args: argparse.Namespace) -> int:
+    given = read(args.file)
+    progress = Progress(NAME, args.quiet)
+    load(progress)
+    answered = progress.watch("routing", lambda: attempt(given.sheet))
+    reason = progress.watch("looking for the reason", lambda: refusal_lines(given, answered))
+    said = printed(answered)
+    job = given.job()
+    answer = answers.read(said, job) if job else None
+    found = remarks(job, answer) if job else []
+    if args.view:
+        page = views.page_of(files.title(args.file), given.sheet, said, files.shown(args.file), "; ".join(reason))
+        files.write(args.view, page.encode(), is_text=True)
+    if not args.json:
+        print_out(said)
+    elif isinstance(answered, dustroute.Refusal):
+        print_out(report.of_refusal(job, answered.number, answered.detail, reason, found))
+    elif job and answer:
+        print_out(report.of_net(job, answer, found))
+    tell(reason, found)
+    return REFUSED if isinstance(answered, dustroute.Refusal) else 0
+
+
+def printed(answered: Answered) -> str:
+    """What program route prints."""
+    return answered.line() if isinstance(answered, dustroute.Refusal) else str(answered)
+
+
+def load(progress: Progress) -> None:
+    """The library, proved and built the first time."""
+    try:
+        dustroute.library(progress.say)
+    except dustroute.NotBuilt as why:
+        progress.done()
+        raise files.Stop("%s: %s" % (NAME, why), NOT_BUILT) from None
+    progress.done()
+
+
+def attempt(sheet: bytes) -> Answered:
+    try:
+        return dustroute.route(sheet)
+    except dustroute.Refusal as refusal:
+        return refusal
+
+
+# ---- why it was refused
+
+def refusal_lines(given: Given, answered: Answered) -> List[str]:
+    """The reason of a refusal in plain words: for a text at its lines, if a line is to blame."""
+    if isinstance(answered, dustroute.Tree):
+        return []
+    if given.draft is not None and answered.number < 13:
+        problems = texts.problems_of(given.draft, texts.job_of(given.draft))
+        if problems:
+            return sheets.listed(given.draft, problems).split("\n")
+    more = limit_words(given, answered) if answered.number == 14 else None
+    return [answered.words + (": " + more if more else "")]
+
+
+def limit_words(given: Given, refusal: dustroute.Refusal) -> Optional[str]:
+    """Whether the node limit is to blame: that is so just if another limit, which suffices, changes the answer."""
+    job = given.job()
+    if job is None:
+        return None
+    ample = ample_limit(job)
+    if ample is not None and job.limit >= ample:
+        return "the node limit %d is ample and not to blame" % job.limit
+    enough = ample or jobs.MAX_NODES
+    if job.limit >= enough:
+        return "the node limit %d is the highest there is" % job.limit
+    again = attempt(jobs.to_bytes(dataclasses.replace(job, limit=enough)))
+    passed = "the node limit %d was passed; a limit of %d suffices" % (job.limit, enough)
+    if isinstance(again, dustroute.Tree):
+        return passed
+    if (again.number, again.detail) != (refusal.number, refusal.detail):
+        return "%s for it, and then %s" % (passed, again.words)
+    return "a node limit of %d doesn't help" % enough
+
+
+# ---- what is printed
+
+def print_out(text: str) -> None:
+    try:
+        sys.stdout.write(text)
+        sys.stdout.flush()
+    except BrokenPipeError:
+        raise
+    except OSError as error:
+        raise files.Stop("%s: the answer could not be written: %s" % (NAME, error.strerror), NOT_BUILT) from None
+
+
+def tell(reason: List[str], found: List[Remark]) -> None:
+    for line in reason:
+        print("%s: %s" % (NAME, line), file=sys.stderr)
+    for remark in found:
+        print("%s: warning: %s" % (NAME, remark.words), file=sys.stderr)

@@ -1,0 +1,50 @@
+"""`view FILE [ANSWER]` draws a job, and the net that the router answered, as a page for a browser: tools/README.md."""
+from __future__ import annotations
+
+import argparse
+from typing import Optional, Tuple
+
+from .. import answer as answers, files, job as jobs, page as pages
+from .given import read
+
+ABOUT = "draw a job, with the router's answer if there is one, as a page for a browser"
+
+
+def configure(parser: argparse.ArgumentParser) -> None:
+    parser.add_argument("file", metavar="FILE", help="a job sheet, or the text of one, or - for standard input")
+    parser.add_argument("answer", metavar="ANSWER", nargs="?", help="what the router printed for it, or - for standard input")
+    parser.add_argument("-o", dest="out", metavar="PAGE.html", help="where to write the page; standard output if left out")
+    parser.add_argument("--hex", action="store_true", help="the sheet is written as hex digits")
+    parser.set_defaults(run=draw)
+
+
+def draw(args: argparse.Namespace) -> None:
+    if args.file == "-" and args.answer == "-":
+        raise files.Stop("view: sheet and answer can't both come from standard input")
+    said = None if args.answer is None else files.read_text(args.answer)
+    try:
+        content = page_of(files.title(args.file), read(args.file, args.hex).sheet, said, files.shown(args.file))
+    except answers.BadAnswer as bad:
+        raise files.Stop("%s: %s" % (files.shown(args.answer), bad)) from None
+    files.write(args.out, content.encode(), is_text=True)
+
+
+def page_of(name: str, sheet: bytes, said: Optional[str], shown: str, reason: Optional[str] = None) -> str:
+    """The page of a sheet with what was answered, and why it was refused, if more is known of that. BadAnswer where it can't be."""
+    try:
+        job = jobs.from_bytes(sheet)
+    except jobs.Refused as refused:
+        return damaged(name, said, (refused.number, "%s." % refused), shown)
+    damage = answers.damage(job, said)
+    if damage:
+        return damaged(name, said, damage, shown)
+    return pages.page(name, job, None if said is None else answers.read(said, job), reason)
+
+
+def damaged(name: str, said: Optional[str], damage: Tuple[int, str], shown: str) -> str:
+    """A sheet that is refused as it is read has no floors; with its refusal as the answer, the page says why."""
+    number, words = damage
+    if said is None:
+        raise files.Stop("%s: %s (number %d)" % (shown, words, number))
+    answers.check_damaged(said, number)
+    return pages.damaged_page(name, number, words)

@@ -1,0 +1,90 @@
+"""Refusals in plain words, without a capital and a full stop: docs/RULES.md, Numbers that come back."""
+from __future__ import annotations
+
+from typing import Optional, Tuple
+
+from .job import (KINDS, MAX_CELLS, MAX_COST, MAX_NODES, MAX_SIDE, ROUTE_CELLS, Fault, Job, Pos, Refused, first_fault, from_bytes,
+                  place_of, record_name, spell)
+from .rules import approach, end_name, late_faults
+
+# for a number whose cause can't be named more closely
+GENERAL = {
+    1: "the bytes are no job sheet",
+    2: "a side is not 1 to %d, or the room has over %d cells" % (MAX_SIDE, MAX_CELLS),
+    3: "a cost is over %d or the node limit over %d" % (MAX_COST, MAX_NODES),
+    4: "something stands outside the room",
+    5: "an unknown kind, facing or port",
+    6: "a lent buffer is too short",
+}
+
+
+def sentence(words: str) -> str:
+    return words[:1].upper() + words[1:] + "."
+
+
+# ---- a tree
+
+def of_sheet(number: int, detail: int, sheet: bytes) -> str:
+    """Why the library refuses a sheet."""
+    try:
+        job = from_bytes(sheet)
+    except Refused as refused:
+        return str(refused) if number == refused.number else GENERAL.get(number, "refused with number %d" % number)
+    return of_job(number, detail, job)
+
+
+def of_job(number: int, detail: int, job: Job) -> str:
+    """Why the library, or program route, refuses a job."""
+    if number <= 6:
+        return _fault_words(number, first_fault(job), job)
+    if number == 7:
+        return "two blocks stand in one cell: %s, number %d" % (spell(job.place(detail)), detail)
+    if number == 8:
+        return "%s is block-power and must face north, east, south or west" % end_name(detail)
+    if number == 9:
+        fault = next(late_faults(job), None)
+        return "the wire of %s would lie outside the room%s" % (end_name(detail), ": " + fault.words if fault else "")
+    if number == 13:
+        return "the search ran out of memory: its queue was full after %d cells" % detail
+    if number == 14:
+        return _no_way(detail, job)
+    return "the branches up to %s have more cells than the branch buffer holds" % end_name(detail)
+
+
+def _fault_words(number: int, fault: Optional[Fault], job: Job) -> str:
+    if fault is not None and fault.number == number:
+        return "%s: %s" % (record_name(fault.part, fault.index), fault.words)
+    if number == 2 and ROUTE_CELLS < job.cells() <= MAX_CELLS:
+        return "the room has %d cells; program route takes at most %d" % (job.cells(), ROUTE_CELLS)
+    return GENERAL[number]
+
+
+def _no_way(cell: int, job: Job) -> str:
+    """Not that there is none: a tree's searches can miss one."""
+    place, at = sink_of(cell, job)
+    words = "no way was found to %s at %s" % (end_name(place), spell(at))
+    return words if job.number(at) == cell else words + ", looked for from cell %s, number %d" % (spell(job.place(cell)), cell)
+
+
+def sink_of(cell: int, job: Job) -> Tuple[int, Pos]:
+    """The first sink that is approached from a cell: its place from 1, and where it is."""
+    for place, sink in enumerate(job.sinks, 1):
+        if job.number(approach(sink)) == cell:
+            return place, sink.at
+    raise ValueError("no sink is approached from cell %d" % cell)
+
+
+# ---- a search
+
+def of_search(number: int, detail: int, sides: Pos, limit: int) -> str:
+    """Why the library refuses a search in a room of these sides."""
+    place = "(%d, %d, %d)" % place_of(detail, sides) if all(sides) else ""
+    return {
+        4: "the start or the goal is outside the room",
+        5: "an unknown kind; kinds are 0 to %d" % (len(KINDS) - 1),
+        6: "there are not as many kinds as the room has cells, or a lent buffer is too short",
+        10: "cell %s, number %d, holds neither air nor redstone wire: no wire can begin or end there" % (place, detail),
+        11: "there is no way: none of the %d cells that can be reached leads on" % detail,
+        12: "the node limit %d was passed" % limit,
+        13: "the search ran out of memory: its queue was full after %d cells" % detail,
+    }.get(number) or GENERAL.get(number, "refused with number %d" % number)
