@@ -2,3 +2,5 @@ pub mod Export
 pub mod ExportLaws
 pub mod TreeExport
 pub mod TreeExportLaws
+pub mod WhyExport
+pub mod WhyExportLaws

@@ -1,8 +1,10 @@
 // One net's router, exported for other languages: numbers pass as themselves, a slice as a pointer and then a length. Here is
-// the search; the tree is in tree_export.rt.
+// the search; the tree is in tree_export.rt, and why a search found no route in why_export.rt.
 mod tree_export;
+mod why_export;
 
 pub use tree_export::dustroute_tree;
+pub use why_export::dustroute_why;
 ghost use mathlib.Core.Path.{_≡_};
 ghost use mathlib.Core.List.{[], _∷_, _++_};
 ghost use Prim.Native.Nat.{_-_, _≤_};

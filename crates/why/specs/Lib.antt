@@ -1,0 +1,4 @@
+pub mod Why
+pub mod Telling
+pub mod ObstacleLaws
+pub mod WhyLaws

@@ -1,0 +1,5 @@
+pub mod Statements
+pub mod StepLaws
+pub mod Theorems
+pub mod ExportTheorems
+pub mod Samples
