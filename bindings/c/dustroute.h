@@ -1,7 +1,8 @@
-/* DustRoute's router for one net, proved: one search over a room of kinds, and the tree of one job sheet.
+/* DustRoute's router for one net, proved: one search over a room of kinds, why such a search finds no route, and the tree of one
+ * job sheet.
  *
  * Link with libdustroute.a, which `tools/native-archive dustroute` makes; it needs memset and memcpy of the C library and
- * nothing else. Both functions allocate nothing, keep nothing between calls and may be called from several threads at once,
+ * nothing else. The functions allocate nothing, keep nothing between calls and may be called from several threads at once,
  * each with memory of its own. Every input gets an answer: no length, no content and no number is forbidden, and nothing
  * outside the buffers is read or written.
  *
@@ -17,7 +18,8 @@
  *
  * WHAT COMES BACK: a number, 0 for a route or a tree, else one of 1 to 15 below.
  *   Numbers 1 to 6 leave every buffer as it was, `values` included: read nothing from it. Their detail is 0.
- *   A number from 7 on has its detail in values[0] and leaves zeros in all else that can be written, to its very end.
+ *   A number from 7 on has its detail in values[0] and leaves zeros in all else that can be written, to its very end; but 11 of
+ *   dustroute_why has its reason in `reached` and `walls`.
  *   0 leaves the answer at the front of the outputs, zeros behind it, and zeros in the work memory. */
 #ifndef DUSTROUTE_H
 #define DUSTROUTE_H
@@ -55,7 +57,16 @@ enum {
     DUSTROUTE_MAX_SINKS = 16,
     DUSTROUTE_MAX_SHEET = 60000,
     DUSTROUTE_SEARCH_VALUES = 4,
-    DUSTROUTE_TREE_VALUES = 20
+    DUSTROUTE_TREE_VALUES = 20,
+    DUSTROUTE_MOVES = 12
+};
+
+/* What dustroute_why tells of a move; where several hold, the least. */
+enum dustroute_reason {
+    DUSTROUTE_ALLOWED = 0,    /* a lawful step */
+    DUSTROUTE_OUTSIDE = 1,    /* out of the room */
+    DUSTROUTE_TAKEN = 2,      /* the cell holds a block; RedstoneWire at the start or the goal doesn't count */
+    DUSTROUTE_BAD_SUPPORT = 3 /* what is right beneath the cell is none of Air, Solid, Transparent and RedstoneBlock */
 };
 
 /* Lengths that suffice for a room of V cells.
@@ -67,6 +78,7 @@ enum {
  * A branch has at most V + 1 cells, so this branch buffer never gives 15; so many for each sink of the sheet is enough too. */
 #define DUSTROUTE_QUEUE_LENGTH(V) ((size_t)2 * 5 * (V))
 #define DUSTROUTE_QUEUE_LENGTH_AT_ANY_COST(limit) ((size_t)2 * (11 * (size_t)(limit) + 1))
+#define DUSTROUTE_WALLS_LENGTH(V) ((size_t)DUSTROUTE_MOVES * (V))
 #define DUSTROUTE_BRANCHES_LENGTH(V) ((size_t)DUSTROUTE_MAX_SINKS * ((V) + 1))
 
 /* One search from `start` to `goal` in a room whose cells hold these kinds. May return 0, 2 to 6 and 10 to 13, and
@@ -88,6 +100,30 @@ uint32_t dustroute_search(
     const uint8_t *kinds, size_t kinds_length,
     size_t start, size_t goal,
     uint32_t *path, size_t path_length,
+    uint32_t *known, size_t known_length,
+    uint32_t *previous, size_t previous_length,
+    uint8_t *classes, size_t classes_length,
+    uint64_t *queue, size_t queue_length,
+    uint64_t *values, size_t values_length);
+
+/* One search, and why it finds no route. Number, detail, `path` and `values` are those of dustroute_search, and 6 is also
+ * for either of the two outputs being too short. On 11 the reason is told: `reached` holds the start and lacks the goal, and no
+ * lawful step leaves it, so there is no way at any costs, node limit or queue. On 12 and 13 the search was cut short, and
+ * nothing is told: both outputs are zero, as they are on 0 and 10.
+ *
+ * reached        V at least. Output: on 11 a 1 for each cell that lawful steps lead to from the start, else 0
+ * walls          DUSTROUTE_WALLS_LENGTH(V) at least. Output: on 11, of each cell v that is reached, in walls[DUSTROUTE_MOVES * v + i]
+ *                an enum dustroute_reason of its move i, else 0. The moves are to x + 1, x - 1, z + 1 and z - 1, each one down,
+ *                level and one up, in this order
+ * all others     as of dustroute_search */
+uint32_t dustroute_why(
+    size_t wide, size_t high, size_t deep,
+    uint32_t limit, uint32_t horizontal, uint32_t stair, uint32_t support,
+    const uint8_t *kinds, size_t kinds_length,
+    size_t start, size_t goal,
+    uint32_t *path, size_t path_length,
+    uint8_t *reached, size_t reached_length,
+    uint8_t *walls, size_t walls_length,
     uint32_t *known, size_t known_length,
     uint32_t *previous, size_t previous_length,
     uint8_t *classes, size_t classes_length,

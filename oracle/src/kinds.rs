@@ -1,12 +1,14 @@
-//! Searches and sheets under one roof, so that each command is written once.
+//! Searches, sheets and searches with their reason under one roof, so that each command is written once.
 
-use cases::examples::{search_cases, sheet_cases};
+use cases::examples::{search_cases, sheet_cases, why_cases};
 use cases::files::Case;
-use cases::stats::{Tally, count_search, count_sheet};
-use cases::text::{search_answer_lines, search_lines, sheet_lines, tree_answer_lines};
+use cases::stats::{Tally, count_search, count_sheet, count_why};
+use cases::text::{
+    search_answer_lines, search_lines, sheet_lines, tree_answer_lines, why_answer_lines, why_lines,
+};
 use oracle::{
-    Disagreement, Profile, Rng, Search, SearchAnswer, Sheet, TreeAnswer, check_search, check_sheet,
-    random_search, random_sheet,
+    Disagreement, Profile, Rng, Search, SearchAnswer, Sheet, TreeAnswer, Why, WhyAnswer,
+    check_search, check_sheet, check_why, random_search, random_sheet, random_why,
 };
 
 pub trait Asked: Case<Answer: Eq> {
@@ -68,5 +70,31 @@ impl Asked for Sheet {
 
     fn answer_lines(answer: &TreeAnswer) -> String {
         tree_answer_lines(answer)
+    }
+}
+
+impl Asked for Why {
+    fn random(rng: &mut Rng, profile: Profile) -> Self {
+        random_why(rng, profile)
+    }
+
+    fn examples() -> Vec<Self> {
+        why_cases()
+    }
+
+    fn check(&self) -> Result<WhyAnswer, Disagreement> {
+        check_why(self)
+    }
+
+    fn count(&self, answer: &WhyAnswer, tally: &mut Tally) {
+        count_why(tally, self, answer);
+    }
+
+    fn lines(&self) -> String {
+        why_lines(self)
+    }
+
+    fn answer_lines(answer: &WhyAnswer) -> String {
+        why_answer_lines(answer)
     }
 }

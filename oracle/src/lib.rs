@@ -3,18 +3,21 @@
 
 mod compare_search;
 mod compare_tree;
+mod compare_why;
 mod published_side;
 
 use std::fmt::{Display, Formatter};
 
 pub use cases::Refusal;
-pub use cases::generate::{Profile, random_search, random_sheet};
+pub use cases::generate::{Profile, random_search, random_sheet, random_why};
 pub use cases::rng::Rng;
 pub use cases::search::{Search, SearchAnswer};
 pub use cases::sheet::{Sheet, TreeAnswer};
+pub use cases::why::{Why, WhyAnswer};
 
 pub use compare_search::check_search;
 pub use compare_tree::{check_route, check_sheet, tree_of};
+pub use compare_why::check_why;
 pub use published_side::{PublishedJob, cell_at, pos_of, router_config, world_of};
 
 /// The published Rust and the plain router differ on a case; the text shows the case and both answers.
@@ -55,4 +58,9 @@ pub fn answer_search(case: &Search) -> SearchAnswer {
 /// plain router differ.
 pub fn answer_sheet(case: &Sheet) -> TreeAnswer {
     check_sheet(case).unwrap_or_else(|difference| panic!("{difference}"))
+}
+
+/// The answer to a search with its reason. Panics with the case if the published Rust and the plain search or flood differ.
+pub fn answer_why(case: &Why) -> WhyAnswer {
+    check_why(case).unwrap_or_else(|difference| panic!("{difference}"))
 }

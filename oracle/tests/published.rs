@@ -5,7 +5,7 @@ use cases::samples::{HEX_SHEET, HEX_SHEET_LINES, Sample, default_job, samples};
 use cases::smallest::{Input, points};
 use cases::text::{parse_hex, tree_answer_lines};
 use cases::{answers, examples, generate};
-use oracle::{Profile, answer_search, answer_sheet, check_route, check_search};
+use oracle::{Profile, answer_search, answer_sheet, answer_why, check_route, check_search};
 
 #[test]
 fn samples_of_document_01() {
@@ -60,6 +60,13 @@ fn examples_of_sheets() {
 }
 
 #[test]
+fn examples_of_whys() {
+    for (name, case, answer) in examples::whys() {
+        assert_eq!(answer_why(&case), answer, "{name}");
+    }
+}
+
+#[test]
 fn random_searches_agree() {
     for (profile, count) in [
         (Profile::Tiny, 4_000),
@@ -78,6 +85,17 @@ fn random_sheets_agree() {
         (Profile::Large, 5),
     ] {
         answered(generate::sheets(22, count, profile), answer_sheet);
+    }
+}
+
+#[test]
+fn random_whys_agree() {
+    for (profile, count) in [
+        (Profile::Tiny, 4_000),
+        (Profile::Small, 2_000),
+        (Profile::Large, 5),
+    ] {
+        answered(generate::whys(23, count, profile), answer_why);
     }
 }
 
@@ -101,4 +119,10 @@ fn stored_searches_are_made_again() {
 fn stored_sheets_are_made_again() {
     let made = answered(answers::sheets(), answer_sheet);
     assert!(write_answered(&made) == answers::SHEETS.bytes());
+}
+
+#[test]
+fn stored_whys_are_made_again() {
+    let made = answered(answers::whys(), answer_why);
+    assert!(write_answered(&made) == answers::WHYS.bytes());
 }

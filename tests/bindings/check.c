@@ -1,4 +1,4 @@
-/* Calls both functions of the archive with exact, longer and too short buffers and rubbish inside. The archive is not compiled with a
+/* Calls the functions of the archive with exact, longer and too short buffers and rubbish inside. The archive is not compiled with a
  * sanitizer, so each buffer ends at a page that may be neither read nor written, and has guard bytes before it. */
 #define _DEFAULT_SOURCE
 #include <stdbool.h>
@@ -159,6 +159,108 @@ static void check_search(void) {
             for (int j = 0; j < SEARCH_BUFFERS; j++)
                 EXPECT(untouched(asked.lent[j]));
             free_search(asked);
+        }
+}
+
+/* ---- why there is no route */
+
+enum { WHY_PATH, REACHED, WALLS, WHY_KNOWN, WHY_PREVIOUS, WHY_CLASSES, WHY_QUEUE, WHY_VALUES, WHY_BUFFERS };
+
+struct why {
+    struct buffer lent[WHY_BUFFERS];
+    uint32_t number;
+};
+
+/* A search from cell 1 to cell 5 of a room of 3 by 2 by 1, at the usual costs. */
+static struct why why_of(const uint8_t kinds[6], uint32_t limit, const size_t n[WHY_BUFFERS]) {
+    static const size_t sizes[WHY_BUFFERS] = {4, 1, 1, 4, 4, 1, 8, 8};
+    struct why asked;
+    struct buffer copy = lend_copy(kinds, 6);
+    for (int i = 0; i < WHY_BUFFERS; i++)
+        asked.lent[i] = lend(n[i], sizes[i]);
+    struct buffer *b = asked.lent;
+    asked.number = dustroute_why(
+        3, 2, 1, limit, 10, 25, 15, at(copy), 6, 1, 5, at(b[WHY_PATH]), n[WHY_PATH], at(b[REACHED]), n[REACHED],
+        at(b[WALLS]), n[WALLS], at(b[WHY_KNOWN]), n[WHY_KNOWN], at(b[WHY_PREVIOUS]), n[WHY_PREVIOUS],
+        at(b[WHY_CLASSES]), n[WHY_CLASSES], at(b[WHY_QUEUE]), n[WHY_QUEUE], at(b[WHY_VALUES]), n[WHY_VALUES]);
+    expect_kept(copy, kinds, b, WHY_BUFFERS);
+    return asked;
+}
+
+static void free_why(struct why asked) {
+    for (int i = 0; i < WHY_BUFFERS; i++)
+        give_back(asked.lent[i]);
+}
+
+/* After any number from 10 on: the detail, and zeros but for the reason. */
+static void expect_why_cleared(struct why asked, uint64_t detail) {
+    const uint64_t *values = at(asked.lent[WHY_VALUES]);
+    EXPECT(values[0] == detail);
+    for (size_t i = 1; i < asked.lent[WHY_VALUES].length; i++)
+        EXPECT(values[i] == 0);
+    EXPECT(cleared(asked.lent[WHY_PATH]));
+    for (int i = WHY_KNOWN; i <= WHY_QUEUE; i++)
+        EXPECT(cleared(asked.lent[i]));
+}
+
+static const uint8_t TWO_LEVERS[6] = {7, 0, 0, 0, 7, 0};
+
+/* Cells 1, 2 and 3 are reached, and every reason is met. */
+static void expect_reason(const size_t n[WHY_BUFFERS]) {
+    enum { A = DUSTROUTE_ALLOWED, O = DUSTROUTE_OUTSIDE, T = DUSTROUTE_TAKEN, B = DUSTROUTE_BAD_SUPPORT };
+    static const uint8_t due[6 * DUSTROUTE_MOVES] = {
+        0, 0, 0, 0, 0, 0, 0, 0, 0, 0, 0, 0,
+        A, A, O, O, O, O, O, O, O, O, O, O,
+        O, T, B, O, T, B, O, O, O, O, O, O,
+        T, B, O, T, B, O, O, O, O, O, O, O};
+    struct why asked = why_of(TWO_LEVERS, 30000, n);
+    const uint8_t *reached = at(asked.lent[REACHED]), *walls = at(asked.lent[WALLS]);
+    EXPECT(asked.number == DUSTROUTE_NO_ROUTE);
+    for (size_t i = 0; i < n[REACHED]; i++)
+        EXPECT(reached[i] == (i >= 1 && i <= 3));
+    EXPECT(memcmp(walls, due, sizeof due) == 0);
+    EXPECT(all(walls + sizeof due, n[WALLS] - sizeof due, 0));
+    expect_why_cleared(asked, 3);
+    free_why(asked);
+}
+
+static void check_why(void) {
+    const size_t exact[WHY_BUFFERS] = {6, 6, DUSTROUTE_WALLS_LENGTH(6), 6, 6, 6, 60, 4};
+    const size_t longer[WHY_BUFFERS] = {9, 13, DUSTROUTE_WALLS_LENGTH(6) + 7, 8, 7, 11, 61, 6};
+    static const uint8_t air[6] = {0}, lever_at_goal[6] = {0, 0, 0, 0, 0, 7};
+    expect_reason(exact);
+    expect_reason(longer);
+
+    /* a route: its path, and no reason */
+    struct why route = why_of(air, 30000, longer);
+    const uint32_t *path = at(route.lent[WHY_PATH]);
+    const uint64_t *values = at(route.lent[WHY_VALUES]);
+    EXPECT(route.number == DUSTROUTE_DONE && path[0] == 1 && path[1] == 3 && path[2] == 5 && path[3] == 0);
+    EXPECT(values[0] == 0 && values[1] == 3 && values[2] == 50 && values[3] == 4);
+    EXPECT(cleared(route.lent[REACHED]) && cleared(route.lent[WALLS]));
+    free_why(route);
+
+    /* cut short, and an end where no wire can be: no reason is told */
+    struct why limited = why_of(TWO_LEVERS, 0, longer), taken = why_of(lever_at_goal, 30000, longer);
+    EXPECT(limited.number == DUSTROUTE_LIMIT_PASSED && taken.number == DUSTROUTE_NOT_ROUTEABLE);
+    EXPECT(cleared(limited.lent[REACHED]) && cleared(limited.lent[WALLS]));
+    EXPECT(cleared(taken.lent[REACHED]) && cleared(taken.lent[WALLS]));
+    expect_why_cleared(limited, 1);
+    expect_why_cleared(taken, 5);
+    free_why(limited);
+    free_why(taken);
+
+    /* number 6: each buffer one short, then each of length 0; nothing is touched */
+    for (int i = 0; i < WHY_BUFFERS; i++)
+        for (int none = 0; none < 2; none++) {
+            size_t lengths[WHY_BUFFERS];
+            memcpy(lengths, longer, sizeof lengths);
+            lengths[i] = none ? 0 : i == WHY_QUEUE ? 1 : exact[i] - 1;
+            struct why asked = why_of(TWO_LEVERS, 30000, lengths);
+            EXPECT(asked.number == DUSTROUTE_BUFFER);
+            for (int j = 0; j < WHY_BUFFERS; j++)
+                EXPECT(untouched(asked.lent[j]));
+            free_why(asked);
         }
 }
 
@@ -374,6 +476,7 @@ int main(void) {
     for (int null = 0; null < 2; null++) {
         empty_is_null = null;
         check_search();
+        check_why();
         check_tree();
         check_arena();
     }

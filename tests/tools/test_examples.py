@@ -36,16 +36,24 @@ class Examples(unittest.TestCase):
                 tree = ElementTree.fromstring(page(name, job, answer))
                 self.assertEqual(branches_of(tree), set(range(1, len(answer.branches) + 1)))
 
+    def test_the_example_of_both_modes(self):
+        job = from_bytes(content("gap.sheet"))
+        for strict, file, line in ((False, "gap.out", "Published mode:"), (True, "gap-strict.out", "Strict mode:")):
+            drawn = ElementTree.fromstring(page("gap", job, answers.read(content(file).decode(), job, strict), strict=strict))
+            self.assertIn(line, "".join(drawn.itertext()))
+        with self.assertRaisesRegex(answers.BadAnswer, r"no answer of strict mode: the wire at \(4, 2, 0\) rests on the cell \(4, 1, 0\)"):
+            answers.read(content("gap.out").decode(), job, strict=True)
+
     @unittest.skipUnless(os.path.exists(ORACLE), "the oracle is not built")
     def test_answers_are_the_oracles(self):
         for name in examples():
             done = subprocess.run([ORACLE, "sheet", os.path.join(EXAMPLES, name + ".sheet")], stdout=subprocess.PIPE, check=True)
             self.assertEqual(done.stdout, content(name + ".out"), name)
 
-    def test_the_example_of_the_readme(self):
-        with open(os.path.join(TOOLS, "README.md"), encoding="utf-8") as file:
+    def test_the_example_of_the_words(self):
+        with open(os.path.join(TOOLS, "TEXT.md"), encoding="utf-8") as file:
             example = re.search(r"```text\n(.*?)```", file.read(), re.DOTALL).group(1)
-        draft = texts.read(example, "README.md")
+        draft = texts.read(example, "TEXT.md")
         self.assertEqual(draft.problems, [])
         self.assertEqual(texts.problems_of(draft, texts.job_of(draft)), [])
 

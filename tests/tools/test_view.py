@@ -212,7 +212,7 @@ class Answers(unittest.TestCase):
 class Language(unittest.TestCase):
     def test_python_3_9_reads_the_tools(self):
         root = Path(ROOT)
-        files = [root / "dustroute", *(Path(TOOLS) / name for name in ("sheet", "view", "picture"))]
+        files = [root / "dustroute", *(Path(TOOLS) / name for name in ("sheet", "view", "picture", "why"))]
         files += [*Path(TOOLS).glob("dustsheet/**/*.py"), *root.glob("bindings/python/**/*.py")]
         self.assertGreater(len(files), 20)
         for file in files:

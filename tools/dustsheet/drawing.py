@@ -5,12 +5,12 @@ from html import escape
 from typing import Dict, List, Optional, Set, Tuple
 
 from .answer import Answer, directions, marked_cells
-from .check import remarks
+from .check import Remark, remarks
 from .job import AIR, BLOCK_POWER, FACINGS, KINDS, PORTS, Job, Pos, spell
 from .net import signals, supports
 from .rules import approach, blocked, end_name, late_faults, step, terminal
 from .symbols import CELL, COLOURS, KIND_NAMES, line_style, use
-from .window import window
+from .window import Window, window
 
 HALF = CELL // 2
 LEFT, TOP, EDGE = 44, 32, 6  # room for the numbers at the sides of a grid
@@ -33,8 +33,7 @@ class Drawing:
     def __init__(self, job: Job, answer: Optional[Answer]) -> None:
         self.job = job
         self.answer = answer or Answer()
-        self.remarks = remarks(job, answer)
-        self.window = window(job, answer, [remark.at for remark in self.remarks])
+        self.remarks, self.window = self._survey(answer)
         (x0, _, z0), (x1, _, z1) = self.window
         self.wide, self.deep = range(x0, x1 + 1), range(z0, z1 + 1)
         self.scale = min(0.8, max(0.4, 26 / max(len(self.wide), len(self.deep))))  # large rooms are drawn smaller
@@ -53,6 +52,11 @@ class Drawing:
         self.marked = marked_cells(self.answer, job)
         for at in self.marked:
             self._put(at, "the refusal speaks of this cell")
+
+    def _survey(self, answer: Optional[Answer]) -> Tuple[List[Remark], Window]:
+        """What is to be warned of, and the part of the room that is drawn."""
+        found = remarks(self.job, answer)
+        return found, window(self.job, answer, [remark.at for remark in found])
 
     def _put(self, at: Pos, note: str, *signs: str) -> None:
         if self.job.holds(at):

@@ -90,7 +90,7 @@ class Refused(Exception):
 # ---- a job's bytes
 
 def groups(job: Job) -> List[bytes]:
-    """The bytes in the groups of the hex sheet of tools/README.md: a record each, the lists' counts by themselves."""
+    """The bytes in the groups of the hex sheet of tools/TEXT.md: a record each, the lists' counts by themselves."""
     rest = [bytes(job.sides)]
     rest += [value.to_bytes(4, "big") for value in (job.limit, *job.costs)]
     rest.append(len(job.blocks).to_bytes(2, "big"))

@@ -104,9 +104,8 @@ def reading_help(drawing: Drawing) -> str:
     hover = ("Rest the pointer on a cell to see its number." if job.cells() <= HOVER_CELLS
              else "Rest the pointer on a cell that holds something to see its number.")
     return ('<div class="help">%s<p>The bottom floor, y = 0, comes first; each next one lies on top of it. x counts to the right, '
-            'z downward. The small number at a wire is its signal.<br/>Cell (x, y, z) has number (x &#215; %d + y) &#215; %d + z. '
-            '<span class="screen">%s</span></p></div>'
-            % (compass(), job.sides[1], job.sides[2], hover))
+            'z downward.%s<br/>Cell (x, y, z) has number (x &#215; %d + y) &#215; %d + z. <span class="screen">%s</span></p></div>'
+            % (compass(), " The small number at a wire is its signal." if drawing.signal else "", job.sides[1], job.sides[2], hover))
 
 
 def compass() -> str:

@@ -1,4 +1,4 @@
-"""The text of a job: read with its line numbers, and written in one canonical form. tools/README.md has the grammar."""
+"""The text of a job: read with its line numbers, and written in one canonical form. tools/TEXT.md has the grammar."""
 from __future__ import annotations
 
 import difflib

@@ -8,6 +8,8 @@
     room = dustroute.Room(3, 1, 1)
     dustroute.search(room, [dustroute.Kind.AIR] * 3, start=0, goal=2)      # Route(path=(0, 1, 2), cost=20, expanded=2)
 
+    dustroute.why(room, [dustroute.Kind.AIR, dustroute.Kind.SOLID, dustroute.Kind.AIR], 0, 2).reached   # (0,): no way leads further
+
 A refusal is raised: `Refusal` has its number, detail and words. The first call proves and builds the router, which takes minutes and
 needs the Rattle toolchain; `library(say)` does just that, and tells `say` of its progress. The memory that the router is lent is kept
 from one call to the next, for each thread its own; a `Memory` can be given instead. bindings/README.md has more."""
@@ -16,8 +18,9 @@ from .built import NotBuilt
 from .calls import BadText, route, search, sheet_of
 from .library import Library, library
 from .memory import Memory
+from .reasons import MOVES, Reason, Wall, WalledIn, why
 
 __version__ = "0.1.0"
 
-__all__ = ["BadText", "Config", "Kind", "Library", "Memory", "NotBuilt", "Refusal", "Room", "Route", "Tree", "library", "route",
-           "search", "sheet_of"]
+__all__ = ["BadText", "Config", "Kind", "Library", "MOVES", "Memory", "NotBuilt", "Reason", "Refusal", "Room", "Route", "Tree", "Wall",
+           "WalledIn", "library", "route", "search", "sheet_of", "why"]

@@ -68,7 +68,7 @@ class BadText(ValueError):
 
 
 def sheet_of(sheet_or_text: Union[bytes, str, Job]) -> bytes:
-    """The sheet of a job: the bytes themselves, or those of the text that tools/README.md describes, or of a job.
+    """The sheet of a job: the bytes themselves, or those of the text that tools/TEXT.md describes, or of a job.
 
     Bytes are told apart by the first one. A text that can't be read raises BadText; one that the router refuses is made."""
     if isinstance(sheet_or_text, Job):

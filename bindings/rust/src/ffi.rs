@@ -1,4 +1,4 @@
-//! The archive's two functions. Nothing checks these declarations against the Rattle source (crates/dustroute/src): numbers pass as
+//! The archive's functions. Nothing checks these declarations against the Rattle source (crates/dustroute/src): numbers pass as
 //! themselves, a slice as a pointer and then a length.
 
 unsafe extern "C" {
@@ -16,6 +16,36 @@ unsafe extern "C" {
         goal: usize,
         path: *mut u32,
         path_length: usize,
+        known: *mut u32,
+        known_length: usize,
+        previous: *mut u32,
+        previous_length: usize,
+        classes: *mut u8,
+        classes_length: usize,
+        queue: *mut u64,
+        queue_length: usize,
+        values: *mut u64,
+        values_length: usize,
+    ) -> u32;
+
+    pub fn dustroute_why(
+        wide: usize,
+        high: usize,
+        deep: usize,
+        limit: u32,
+        horizontal: u32,
+        stair: u32,
+        support: u32,
+        kinds: *const u8,
+        kinds_length: usize,
+        start: usize,
+        goal: usize,
+        path: *mut u32,
+        path_length: usize,
+        reached: *mut u8,
+        reached_length: usize,
+        walls: *mut u8,
+        walls_length: usize,
         known: *mut u32,
         known_length: usize,
         previous: *mut u32,

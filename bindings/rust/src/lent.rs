@@ -1,9 +1,10 @@
-//! The memory that the router is lent. [`crate::search`] and [`crate::route_tree`] make their own; here a caller keeps it from one call to
-//! the next, or lends another length. Any length and any content is lawful: what is too short is refused.
+//! The memory that the router is lent. [`crate::search`], [`crate::why`] and [`crate::route_tree`] make their own; here a caller keeps it
+//! from one call to the next, or lends another length. Any length and any content is lawful: what is too short is refused.
 
 use crate::answer::{Cost, Nodes, Refusal, Route, Tree};
-use crate::ffi::{dustroute_search, dustroute_tree};
+use crate::ffi::{dustroute_search, dustroute_tree, dustroute_why};
 use crate::job::{Code, Config, Room, Sheet, bytes_of};
+use crate::why::{MOVES, WalledIn, Why};
 
 /// How many values a search and a tree come to.
 pub const SEARCH_VALUES: usize = 4;
@@ -64,6 +65,11 @@ impl SearchMemory {
     /// One search from cell `start` to cell `goal`. A refusal by 1 to 6 leaves the memory as it was, `values` included.
     pub fn search<C: Code>(&mut self, room: Room, config: Config, kinds: &[C], start: usize, goal: usize) -> Result<Route, Refusal> {
         let number = self.call(room, config, bytes_of(kinds), start, goal);
+        self.answer(number)
+    }
+
+    /// What a search that returned this number left here.
+    fn answer(&self, number: u32) -> Result<Route, Refusal> {
         match number {
             0 => Ok(Route {
                 path: self.path[..self.values[1] as usize].to_vec(),
@@ -103,6 +109,80 @@ impl SearchMemory {
                 self.queue.len(),
                 self.values.as_mut_ptr(),
                 self.values.len(),
+            )
+        }
+    }
+}
+
+/// What a search is lent that tells its reason: `reached` and `walls` are output, too.
+#[derive(Clone, Debug, Eq, PartialEq)]
+pub struct WhyMemory {
+    pub search: SearchMemory,
+    pub reached: Vec<u8>,
+    pub walls: Vec<u8>,
+}
+
+impl WhyMemory {
+    /// Memory for a room of so many cells, with a queue of so many places.
+    pub fn new(cells: usize, places: usize) -> Self {
+        Self {
+            search: SearchMemory::new(cells, places),
+            reached: vec![0; cells],
+            walls: vec![0; MOVES.len() * cells],
+        }
+    }
+
+    /// Memory that suffices. A room that is refused needs none.
+    pub fn for_search(room: Room, config: Config) -> Self {
+        let cells = room.cells().unwrap_or(0);
+        Self::new(cells, places_that_suffice(cells, config))
+    }
+
+    /// One search from cell `start` to cell `goal`, and the reason where there is no route. A refusal by 1 to 6 leaves the memory as it
+    /// was, `values` included.
+    pub fn why<C: Code>(&mut self, room: Room, config: Config, kinds: &[C], start: usize, goal: usize) -> Why {
+        let number = self.call(room, config, bytes_of(kinds), start, goal);
+        match self.search.answer(number) {
+            Ok(route) => Why::Route(route),
+            Err(Refusal::NoRoute(expanded)) => Why::WalledIn(WalledIn::new(room, expanded, &self.reached, &self.walls)),
+            Err(refusal) => Why::Refused(refusal),
+        }
+    }
+
+    /// The bare call: the number comes back, 0 for a route, and the memory is as the router leaves it.
+    pub fn call(&mut self, room: Room, config: Config, kinds: &[u8], start: usize, goal: usize) -> u32 {
+        let search = &mut self.search;
+        // SAFETY: each pointer and length is that of a slice that lives through the call, and no two of them overlap. The router has
+        // no requirement on what it is handed, and reads and writes within the slices alone.
+        unsafe {
+            dustroute_why(
+                room.wide.into(),
+                room.high.into(),
+                room.deep.into(),
+                config.limit,
+                config.horizontal,
+                config.stair,
+                config.support,
+                kinds.as_ptr(),
+                kinds.len(),
+                start,
+                goal,
+                search.path.as_mut_ptr(),
+                search.path.len(),
+                self.reached.as_mut_ptr(),
+                self.reached.len(),
+                self.walls.as_mut_ptr(),
+                self.walls.len(),
+                search.known.as_mut_ptr(),
+                search.known.len(),
+                search.previous.as_mut_ptr(),
+                search.previous.len(),
+                search.classes.as_mut_ptr(),
+                search.classes.len(),
+                search.queue.as_mut_ptr(),
+                search.queue.len(),
+                search.values.as_mut_ptr(),
+                search.values.len(),
             )
         }
     }

@@ -1,7 +1,7 @@
-//! DustRoute's router for one net, proved in Rattle, behind safe functions: [`search`] looks for one route in a room of kinds,
-//! [`route_tree`] makes the tree that a job sheet asks for.
+//! DustRoute's router for one net, proved in Rattle, behind safe functions: [`search`] looks for one route in a room of kinds, [`why`]
+//! tells the reason as well where there is none, [`route_tree`] makes the tree that a job sheet asks for.
 //!
-//! Every input gets an answer: a bad room, cost, position or sheet comes back as a [`Refusal`]. Both functions lend the router
+//! Every input gets an answer: a bad room, cost, position or sheet comes back as a [`Refusal`]. The functions lend the router
 //! as much memory as its answer can need, so that [`Refusal::QueueFull`] and [`Refusal::BranchesFull`] never come from them, and
 //! [`Refusal::Buffer`] only from a search whose `kinds` are not one for each cell. Who wants to keep the memory, or to lend less,
 //! calls through [`lent`].
@@ -10,16 +10,23 @@ mod answer;
 mod ffi;
 mod job;
 pub mod lent;
+mod why;
 
 pub use answer::{Cost, End, Nodes, Refusal, Route, Tree};
 pub use job::{Block, Code, Config, Endpoint, Facing, Job, JobTooLong, Kind, Port, Position, Room, Sheet};
+pub use why::{MOVES, Reason, Wall, WalledIn, Why};
 
-use lent::{SearchMemory, TreeMemory};
+use lent::{SearchMemory, TreeMemory, WhyMemory};
 
 /// One search from cell `start` to cell `goal` in a room whose cells hold `kinds`, one for each cell in number order: a slice of
 /// [`Kind`] or of bytes.
 pub fn search<C: Code>(room: Room, config: Config, kinds: &[C], start: usize, goal: usize) -> Result<Route, Refusal> {
     SearchMemory::for_search(room, config).search(room, config, kinds, start, goal)
+}
+
+/// The same search, and where there is no route the reason: which cells wire gets to, and what stands round them.
+pub fn why<C: Code>(room: Room, config: Config, kinds: &[C], start: usize, goal: usize) -> Why {
+    WhyMemory::for_search(room, config).why(room, config, kinds, start, goal)
 }
 
 /// The tree of the one net that a sheet describes.

@@ -2,13 +2,14 @@
 
 use std::path::PathBuf;
 
-use crate::examples::{search_cases, sheet_cases};
+use crate::examples::{search_cases, sheet_cases, why_cases};
 use crate::generate::{self, Profile};
 use crate::search::Search;
 use crate::sheet::Sheet;
+use crate::why::Why;
 
-/// A file of the samples and examples, followed by random cases of the mixed profile. It lies below the repository's `crates`,
-/// beside the proved program that replays it.
+/// A file of the samples and examples, followed by random cases of the mixed profile. It lies in the repository beside the proved
+/// program, or the tests, that replay it.
 pub struct Stored {
     pub file: &'static str,
     pub seed: u64,
@@ -16,22 +17,28 @@ pub struct Stored {
 }
 
 pub const SEARCHES: Stored = Stored {
-    file: "replay/data/searches.bin",
+    file: "crates/replay/data/searches.bin",
     seed: 1,
     count: 1_950,
 };
 
 pub const SHEETS: Stored = Stored {
-    file: "replay_sheets/data/sheets.bin",
+    file: "crates/replay_sheets/data/sheets.bin",
     seed: 100,
     count: 990,
+};
+
+pub const WHYS: Stored = Stored {
+    file: "tests/bindings/whys.bin",
+    seed: 1,
+    count: 400,
 };
 
 impl Stored {
     /// The file's bytes. Only tests ask: the path is that of the sources.
     pub fn bytes(&self) -> Vec<u8> {
-        let folder = PathBuf::from(env!("CARGO_MANIFEST_DIR")).join("../../crates");
-        let file = folder.join(self.file);
+        let repository = PathBuf::from(env!("CARGO_MANIFEST_DIR")).join("../..");
+        let file = repository.join(self.file);
         std::fs::read(&file).unwrap_or_else(|error| panic!("{}: {error}", file.display()))
     }
 }
@@ -46,4 +53,10 @@ pub fn searches() -> Vec<Search> {
 pub fn sheets() -> Vec<Sheet> {
     let random = generate::sheets(SHEETS.seed, SHEETS.count, Profile::Mixed);
     sheet_cases().into_iter().chain(random).collect()
+}
+
+/// The cases of `whys.bin`, made anew.
+pub fn whys() -> Vec<Why> {
+    let random = generate::whys(WHYS.seed, WHYS.count, Profile::Mixed);
+    why_cases().into_iter().chain(random).collect()
 }

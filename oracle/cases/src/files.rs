@@ -1,10 +1,11 @@
-//! Files of cases, big-endian throughout. `DRS1` and `DRT1` hold searches and sheets with their answers; `DRS0` and
-//! `DRT0` the same records without answers.
+//! Files of cases, big-endian throughout. `DRS1`, `DRT1` and `DRW1` hold searches, sheets and searches with their reason, each with
+//! its answer; `DRS0`, `DRT0` and `DRW0` the same records without answers.
 
 use crate::Refusal;
 use crate::room::Config;
 use crate::search::{Search, SearchAnswer};
 use crate::sheet::{Sheet, TreeAnswer};
+use crate::why::{Told, Why, WhyAnswer};
 
 /// A kind of case that can be kept in a file.
 pub trait Case: Sized {
@@ -288,5 +289,52 @@ impl Case for Sheet {
             }) => Ok(TreeAnswer::Refused(refusal)),
             refusal => Err(format!("no answer of a tree: {refusal:?}")),
         }
+    }
+}
+
+impl Case for Why {
+    type Answer = WhyAnswer;
+    const BARE: [u8; 4] = *b"DRW0";
+    const ANSWERED: [u8; 4] = *b"DRW1";
+
+    fn write(&self, out: &mut Vec<u8>) {
+        self.search.write(out);
+        put32(out, self.reached);
+        put32(out, self.walls);
+    }
+
+    fn read(input: &mut Input) -> Result<Self, String> {
+        Ok(Self {
+            search: Search::read(input)?,
+            reached: input.number()?,
+            walls: input.number()?,
+        })
+    }
+
+    fn write_answer(answer: &WhyAnswer, out: &mut Vec<u8>) {
+        Search::write_answer(&answer.search, out);
+        put(out, answer.reached.len());
+        for told in &answer.reached {
+            out.extend(told.cell.to_be_bytes());
+            out.extend(told.moves);
+        }
+    }
+
+    fn read_answer(input: &mut Input) -> Result<WhyAnswer, String> {
+        let search = Search::read_answer(input)?;
+        let count = input.number()?;
+        if count > 0 && search.number() != 11 {
+            return Err(format!("{count} cells reached, but it is not number 11"));
+        }
+        let told = |_| {
+            Ok(Told {
+                cell: u16::from_be_bytes(input.take()?),
+                moves: input.take()?,
+            })
+        };
+        Ok(WhyAnswer {
+            search,
+            reached: (0..count).map(told).collect::<Result<_, String>>()?,
+        })
     }
 }

@@ -20,6 +20,7 @@ pub mod smallest;
 pub mod stats;
 pub mod text;
 pub mod tree;
+pub mod why;
 
 /// A refusal: its number and detail in docs/RULES.md, Numbers that come back.
 #[derive(Clone, Copy, Debug, Eq, PartialEq)]

@@ -7,6 +7,7 @@ use crate::conflict::stairs;
 use crate::room::{MOST_CELLS, Room, kind, port, sideways};
 use crate::search::{Search, SearchAnswer};
 use crate::sheet::{Job, Port, Sheet, TreeAnswer};
+use crate::why::{MOVES, Why, WhyAnswer, reason};
 
 /// Counts under names, printed in the order of the names.
 #[derive(Default)]
@@ -42,6 +43,35 @@ fn size(room: &Room) -> &'static str {
 fn has_stairs(room: &Room, path: &[u16]) -> bool {
     let path: Vec<_> = path.iter().map(|cell| usize::from(*cell)).collect();
     !stairs(room, &path).is_empty()
+}
+
+/// Counts a search of which the reason is asked.
+pub fn count_why(tally: &mut Tally, case: &Why, answer: &WhyAnswer) {
+    tally.add("whys");
+    match answer.number() {
+        0 => tally.add("number  0: a route"),
+        number => tally.add(format!("number {number:>2}")),
+    }
+    let Ok(room) = case.judge() else { return };
+    tally.add(size(&room));
+    if answer.number() != 11 {
+        return;
+    }
+    tally.add_if("11: V up to 64", room.cells() <= 64);
+    tally.add(match answer.reached.len() {
+        1 => "11: 1 cell reached",
+        2..=9 => "11: 2 to 9 cells reached",
+        10..=99 => "11: 10 to 99 cells reached",
+        _ => "11: 100 or more cells reached",
+    });
+    for (given, words) in [
+        (reason::OUTSIDE, "11: a move outside"),
+        (reason::TAKEN, "11: a move to a cell that is taken"),
+        (reason::BAD_SUPPORT, "11: a move to a cell without support"),
+    ] {
+        let holds = |moves: &[u8; MOVES]| moves.contains(&given);
+        tally.add_if(words, answer.reached.iter().any(|told| holds(&told.moves)));
+    }
 }
 
 pub fn count_search(tally: &mut Tally, case: &Search, answer: &SearchAnswer) {

@@ -6,6 +6,7 @@ use crate::Refusal;
 use crate::room::{Config, kind};
 use crate::search::{Search, SearchAnswer};
 use crate::sheet::{Job, Port, Sheet, TreeAnswer};
+use crate::why::{Why, WhyAnswer};
 
 /// What is written for a list: a blank before each.
 fn listed<T: ToString>(items: impl IntoIterator<Item = T>) -> String {
@@ -29,6 +30,19 @@ pub fn search_answer_lines(answer: &SearchAnswer) -> String {
             expanded,
         } => format!("route {cost} {expanded}\npath{}\n", listed(path)),
     }
+}
+
+/// A search in the form that `parse_search` reads, with the lengths of the reason's two outputs as a comment.
+pub fn why_lines(case: &Why) -> String {
+    let search = search_lines(&case.search);
+    format!("{search}# reached {} walls {}\n", case.reached, case.walls)
+}
+
+/// The search's lines, then `reached` with a cell and its twelve moves for each cell reached.
+pub fn why_answer_lines(answer: &WhyAnswer) -> String {
+    let told = answer.reached.iter();
+    let told = told.map(|told| format!("reached {}:{}\n", told.cell, listed(told.moves)));
+    search_answer_lines(&answer.search) + &told.collect::<String>()
 }
 
 /// The lines that program `route` prints.

@@ -3,11 +3,12 @@
 use std::collections::BTreeMap;
 use std::fmt::Debug;
 
-use cases::answers::{SEARCHES, SHEETS, Stored, searches, sheets};
+use cases::answers::{SEARCHES, SHEETS, Stored, WHYS, searches, sheets, whys};
 use cases::files::{Case, read};
 use cases::room::MOST_CELLS;
 use cases::search::Search;
 use cases::sheet::{MOST_BYTES, Sheet, TreeAnswer};
+use cases::why::Why;
 
 /// The cases of a file with their answers: they are those that are made, and the plain router agrees.
 fn agreed<C>(file: &Stored, made: Vec<C>, plain: fn(&C) -> C::Answer) -> Vec<(C, C::Answer)>
@@ -60,4 +61,12 @@ fn stored_sheets() {
     let well_formed = stored.iter().filter(|(case, _)| well_formed(case)).count();
     let several = stored.iter().filter(|(_, answer)| several(answer)).count();
     assert!(3 * several >= well_formed, "{several} of {well_formed}");
+}
+
+#[test]
+fn stored_whys() {
+    let stored = agreed(&WHYS, whys(), Why::plain_answer);
+    let numbers = stored.iter().map(|(_, answer)| answer.number());
+    is_common(&[0, 2, 3, 4, 5, 6, 10, 12, 13], 5, numbers.clone());
+    is_common(&[11], 100, numbers);
 }

@@ -1,12 +1,13 @@
 //! Files, text and sheets: what is written is read back, and what is damaged is refused.
 
 use cases::files::{Case, read, write_answered, write_bare};
-use cases::generate::{Profile, searches, sheets};
+use cases::generate::{Profile, searches, sheets, whys};
 use cases::room::Config;
 use cases::samples::HEX_SHEET;
 use cases::search::Search;
 use cases::sheet::{Block, Job, Port, Sheet};
 use cases::text::{parse_hex, parse_search, search_lines, sheet_lines};
+use cases::why::Why;
 
 fn some_searches() -> Vec<Search> {
     searches(7, 300, Profile::Small)
@@ -14,6 +15,10 @@ fn some_searches() -> Vec<Search> {
 
 fn some_sheets() -> Vec<Sheet> {
     sheets(7, 200, Profile::Tiny)
+}
+
+fn some_whys() -> Vec<Why> {
+    whys(7, 300, Profile::Tiny)
 }
 
 fn bare_round_trip<C: Case + Clone + PartialEq>(cases: &[C]) {
@@ -27,6 +32,7 @@ fn bare_round_trip<C: Case + Clone + PartialEq>(cases: &[C]) {
 fn bare_files_are_read_back() {
     bare_round_trip(&some_searches());
     bare_round_trip(&some_sheets());
+    bare_round_trip(&some_whys());
 }
 
 fn answered_round_trip<C>(cases: &[C], answer: fn(&C) -> C::Answer)
@@ -48,6 +54,7 @@ where
 fn answered_files_are_read_back() {
     answered_round_trip(&some_searches(), Search::plain_answer);
     answered_round_trip(&some_sheets(), Sheet::plain_answer);
+    answered_round_trip(&some_whys(), Why::plain_answer);
 }
 
 #[test]

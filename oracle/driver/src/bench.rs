@@ -85,7 +85,7 @@ fn maze() -> Load {
 }
 
 /// A room with so many cells of a hundred Solid, both ends Air.
-fn random_room(rng: &mut Rng, side: u8, solid: usize, ends: [usize; 2]) -> Search {
+pub fn random_room(rng: &mut Rng, side: u8, solid: usize, ends: [usize; 2]) -> Search {
     let mut kinds: Vec<u8> = (0..usize::from(side).pow(3))
         .map(|_| {
             if rng.percent(solid) {

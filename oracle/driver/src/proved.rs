@@ -1,7 +1,7 @@
 //! The proved search and the proved tree, through the wrapper of bindings/rust, and memory of any lengths for them.
 
-use checks::{config_of, dirty_search, dirty_tree, room_of};
-use dustroute::lent::{SearchMemory, TreeMemory};
+use checks::{config_of, dirty_search, dirty_tree, dirty_why, room_of};
+use dustroute::lent::{SearchMemory, TreeMemory, WhyMemory};
 use oracle::Search;
 
 /// Memory of a search of such lengths, with `byte` in every byte. A place of the queue takes two numbers.
@@ -12,6 +12,16 @@ pub fn search_memory(cells: usize, queue: usize, values: usize, byte: u8) -> Sea
         ..SearchMemory::new(cells, 0)
     };
     dirty_search(memory, byte)
+}
+
+/// The memory of a search, and two outputs of such lengths for its reason, with `byte` in every byte.
+pub fn why_memory(search: SearchMemory, reached: usize, walls: usize, byte: u8) -> WhyMemory {
+    let memory = WhyMemory {
+        search,
+        reached: vec![0; reached],
+        walls: vec![0; walls],
+    };
+    dirty_why(memory, byte)
 }
 
 /// Memory of a tree of such lengths, with `byte` in every byte.
@@ -31,6 +41,16 @@ pub fn tree_memory(
 }
 
 pub fn search(case: &Search, memory: &mut SearchMemory) -> u32 {
+    memory.call(
+        room_of(case.sides),
+        config_of(&case.config),
+        &case.kinds,
+        case.start as usize,
+        case.goal as usize,
+    )
+}
+
+pub fn why(case: &Search, memory: &mut WhyMemory) -> u32 {
     memory.call(
         room_of(case.sides),
         config_of(&case.config),

@@ -1,13 +1,14 @@
 //! The oracle's cases as the wrapper takes them, memory full of rubbish for them, and what their answers leave in it: "Numbers 1 to 6
 //! touch nothing; 7 to 15 leave every lent writable buffer zero. A success writes the answer, zeros behind it, and zeroes work memory."
-//! The wrapper's tests and the oracle's driver share this.
+//! On 11 the two outputs of `why` hold the reason. The wrapper's tests and the oracle's driver share this.
 
 use cases::Refusal;
 use cases::room::MOST_CELLS;
 use cases::search::SearchAnswer;
 use cases::sheet::{Sheet, TreeAnswer};
 use cases::tree::realize;
-use dustroute::lent::{SearchMemory, TreeMemory};
+use cases::why::WhyAnswer;
+use dustroute::lent::{SearchMemory, TreeMemory, WhyMemory};
 use dustroute::{Config, Room};
 
 pub fn room_of([wide, high, deep]: [u8; 3]) -> Room {
@@ -38,6 +39,22 @@ pub fn dirty_search(mut memory: SearchMemory, byte: u8) -> SearchMemory {
         buffer.fill(long);
     }
     memory
+}
+
+/// The memory with this in every byte.
+pub fn dirty_why(memory: WhyMemory, byte: u8) -> WhyMemory {
+    let WhyMemory {
+        search,
+        mut reached,
+        mut walls,
+    } = memory;
+    reached.fill(byte);
+    walls.fill(byte);
+    WhyMemory {
+        search: dirty_search(search, byte),
+        reached,
+        walls,
+    }
 }
 
 /// The memory with this in every byte.
@@ -92,6 +109,19 @@ pub fn search_due(before: &SearchMemory, answer: &SearchAnswer) -> SearchMemory 
             due.values[3] = u64::from(*expanded);
         }
     }
+    due
+}
+
+/// The memory as this answer leaves it, in a room of so many cells, given what it was before.
+pub fn why_due(before: &WhyMemory, cells: usize, answer: &WhyAnswer) -> WhyMemory {
+    if (1..=6).contains(&answer.number()) {
+        return before.clone();
+    }
+    let mut due = dirty_why(before.clone(), 0);
+    due.search = search_due(&before.search, &answer.search);
+    due.reached[..cells].copy_from_slice(&answer.reached_bytes(cells));
+    let walls = answer.walls_bytes(cells);
+    due.walls[..walls.len()].copy_from_slice(&walls);
     due
 }
 

@@ -5,15 +5,18 @@ mod searches;
 mod sheets;
 mod site;
 mod terrain;
+mod whys;
 
 pub use damage::count_places;
 pub use searches::random_search;
 pub use sheets::random_sheet;
+pub use whys::random_why;
 
 use crate::rng::Rng;
 use crate::room::{Config, MOST_CELLS, MOST_COST, MOST_NODES, Room};
 use crate::search::Search;
 use crate::sheet::Sheet;
+use crate::why::Why;
 
 /// How large the rooms of random cases are.
 #[derive(Clone, Copy, Debug, Eq, PartialEq)]
@@ -58,6 +61,13 @@ pub fn searches(seed: u64, count: u32, profile: Profile) -> Vec<Search> {
 pub fn sheets(seed: u64, count: u32, profile: Profile) -> Vec<Sheet> {
     (0..u64::from(count))
         .map(|index| random_sheet(&mut Rng::for_case(seed, index), profile))
+        .collect()
+}
+
+/// A list of random searches of which the reason is asked.
+pub fn whys(seed: u64, count: u32, profile: Profile) -> Vec<Why> {
+    (0..u64::from(count))
+        .map(|index| random_why(&mut Rng::for_case(seed, index), profile))
         .collect()
 }
 

@@ -12,9 +12,23 @@ const SHARES: [usize; 4] = [95, 83, 20, 2];
 
 /// A random search; about one in eight is one that numbers 2 to 6 refuse.
 pub fn random_search(rng: &mut Rng, profile: Profile) -> Search {
+    let (room, mut case) = sound_search(rng, profile, |_, _, _, _| {});
+    if rng.percent(12) {
+        damage_search(rng, &room, &mut case);
+    }
+    case
+}
+
+/// A random search that no number 2 to 6 refuses. `build` may change what stands in the room, but not at the two ends.
+pub fn sound_search(
+    rng: &mut Rng,
+    profile: Profile,
+    build: impl FnOnce(&mut Rng, &Room, &mut [u8], [usize; 2]),
+) -> (Room, Search) {
     let room = random_room(rng, profile, SHARES);
     let mut kinds = random_terrain(rng, &room);
     let [start, goal] = random_ends(rng, &mut kinds);
+    build(rng, &room, &mut kinds, [start, goal]);
     let cells = room.cells();
     let mut case = Search {
         sides: room.sides().map(|side| side as u8),
@@ -28,10 +42,7 @@ pub fn random_search(rng: &mut Rng, profile: Profile) -> Search {
     if rng.percent(50) {
         tighten(rng, &room, &mut case);
     }
-    if rng.percent(12) {
-        damage_search(rng, &room, &mut case);
-    }
-    case
+    (room, case)
 }
 
 /// Two ends: mostly Air, some RedstoneWire, some anything, some the same cell.

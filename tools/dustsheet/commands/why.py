@@ -1,0 +1,107 @@
+"""`why FILE` says why no wire can get from one cell to another, and draws it: tools/README.md."""
+from __future__ import annotations
+
+import argparse
+import re
+import sys
+from typing import Tuple
+
+import dustroute
+
+from .. import files, job as jobs, reason as reasons
+from ..job import Job, Pos, spell
+from ..page import count
+from ..progress import Progress
+from ..rules import approach, late_faults, terminal
+from ..words import sentence
+from .given import read
+
+ABOUT = "say why no wire can get from one cell of a room to another, and draw it"
+NOT_BUILT, REFUSED = 1, 3
+
+
+def configure(parser: argparse.ArgumentParser) -> None:
+    parser.add_argument("file", metavar="FILE", help="the text of a job, or a job sheet, or - for standard input; its blocks alone count")
+    parser.add_argument("--from", dest="start", type=position, metavar="X,Y,Z", help="where wire begins; where sink 1 is approached if left out")
+    parser.add_argument("--to", dest="goal", type=position, metavar="X,Y,Z", help="where it should get to; the source's wire if left out")
+    parser.add_argument("-o", dest="out", metavar="PAGE.html", help="also draw it as a page for a browser")
+    parser.add_argument("-q", "--quiet", action="store_true", help="tell nothing of progress")
+    parser.set_defaults(run=explain)
+
+
+def position(word: str) -> Pos:
+    found = re.fullmatch(r"\(?\s*([0-9]{1,3})[\s,]+([0-9]{1,3})[\s,]+([0-9]{1,3})\s*\)?", word)
+    if found is None:
+        raise argparse.ArgumentTypeError("'%s' is no position; X,Y,Z was expected, as 3,1,4" % word)
+    return (int(found[1]), int(found[2]), int(found[3]))
+
+
+def explain(args: argparse.Namespace) -> int:
+    asked = question(read_job(args.file), args.start, args.goal, files.shown(args.file))
+    load(Progress("why", args.quiet))
+    job = asked.job
+    try:
+        answer = dustroute.why(dustroute.Room(*job.sides), reasons.kinds_of(job), job.number(asked.start), job.number(asked.goal),
+                               dustroute.Config(job.limit, *job.costs))
+    except dustroute.Refusal as refusal:
+        raise files.Stop("why: %s%s" % (refusal.words, "; no wall is named" if refusal.number in (12, 13) else ""), REFUSED) from None
+    if isinstance(answer, dustroute.Route):
+        print(way_words(asked, answer))
+        if args.out:
+            print("why: there is a way, so no page was drawn", file=sys.stderr)
+        return 0
+    told = reasons.Surroundings(asked, answer.reached, ((wall.cell, dustroute.MOVES[wall.move], wall.reason) for wall in answer.walls()))
+    if args.out:
+        files.write(args.out, reasons.page(files.title(args.file), told).encode(), is_text=True)
+    print(reasons.no_way(asked))
+    print(reasons.sentence(told))
+    return 0
+
+
+def way_words(asked: reasons.Question, route: dustroute.Route) -> str:
+    cells = [asked.job.place(cell) for cell in route.path]
+    stairs = sum(one[1] != other[1] for one, other in zip(cells, cells[1:]))
+    return ("Wire can get from %s to %s past the blocks: %s, %d of them stairs. What is kept free for other nets and beside live "
+            "blocks was left aside." % (spell(asked.start), spell(asked.goal), count(len(cells) - 1, "step"), stairs))
+
+
+def read_job(path: str) -> Job:
+    """The job of a file, which no number 1 to 5, nor 7, refuses."""
+    try:
+        job = jobs.from_bytes(read(path).sheet)
+    except jobs.Refused as refused:
+        raise files.Stop("%s: %s (number %d)" % (files.shown(path), refused, refused.number)) from None
+    fault = jobs.first_fault(job) or next((late for late in late_faults(job) if late.number == 7), None)
+    if fault is not None:
+        raise files.Stop("%s: %s: %s (number %d)" % (files.shown(path), jobs.record_name(fault.part, fault.index), fault.words, fault.number))
+    return job
+
+
+def question(job: Job, start: Pos, goal: Pos, shown: str) -> reasons.Question:
+    """The search that is asked for: one of the router's own, from sink 1 to the source, where nothing else is said."""
+    if start is None or goal is None:
+        usual = usual_ends(job, shown)
+        start, goal = start or usual[0], goal or usual[1]
+    for at in (start, goal):
+        if not job.holds(at):
+            raise files.Stop("why: %s is outside the room; its last cell is (%d, %d, %d)" % ((spell(at),) + tuple(side - 1 for side in job.sides)))
+    return reasons.Question(job, start, goal)
+
+
+def usual_ends(job: Job, shown: str) -> Tuple[Pos, Pos]:
+    fault = next(late_faults(job), None)
+    if fault is not None:
+        raise files.Stop("%s: %s; name the two cells with --from and --to" % (shown, sentence(fault.words)[:-1]))
+    if not job.sinks:
+        raise files.Stop("%s: there is no sink; name the two cells with --from and --to" % shown)
+    return approach(job.sinks[0]), terminal(job.source)
+
+
+def load(progress: Progress) -> None:
+    """The library, proved and built the first time."""
+    try:
+        dustroute.library(progress.say)
+    except dustroute.NotBuilt as why:
+        raise files.Stop("why: %s" % why, NOT_BUILT) from None
+    finally:
+        progress.done()
