@@ -1,6 +1,8 @@
 // The class bytes of a room in which cells are blocked. For a search, each blocked Air cell other than its start and goal
-// counts as Solid, as a support too. The bytes are filled in once, and after a change at one cell two of them are written
-// anew.
+// counts as Solid, as a support too; in strict mode it is neither entered nor used as a support. The bytes are filled in
+// once, and after a change at one cell two of them are written anew.
+use ground::Ground;
+use ground::Mode;
 use room::Neighbour;
 use room::Room;
 ghost use mathlib.Core.Path.{_≡_};
@@ -8,7 +10,10 @@ ghost use Prim.Native.Nat.{_<_};
 ghost use lib.ListN.{length};
 ghost use Rattle.room.specs.Room.{volume, beneath};
 ghost use Rattle.room_search.specs.Routing.{kindAt, anEnd};
-ghost use Rattle.blocked_world.specs.BlockedWorld.{seenKind, seenKinds, classSeen, Says, WorldFits, renewed, refreshed};
+ghost use Rattle.blocked_world.specs.BlockedWorld.{wallOf, seenKind, seenKinds, classSeen, Says, WorldFits, renewed, refreshed};
+
+// The first code that is no kind: neither routeable nor bearing.
+const NO_KIND: u8 = 13;
 
 // Whether a cell is the start or the goal of a search.
 pub fn an_end(start: usize, goal: usize, cell: usize) -> bool
@@ -20,10 +25,20 @@ pub fn an_end(start: usize, goal: usize, cell: usize) -> bool
     cell == goal
 }
 
+// The kind that blocked Air is seen as.
+fn wall_of(mode: Mode) -> u8
+    ensures { λ r. ⌜ r ≡ wallOf mode ⌝ }
+{
+    match mode {
+        Mode::Published => room::SOLID,
+        Mode::Strict => NO_KIND,
+    }
+}
+
 // The kind that a search sees at a cell. A blocked cell that isn't Air keeps its kind.
-fn seen_kind(kinds: &[u8], blocked: &[u8], start: usize, goal: usize, cell: usize) -> u8
+fn seen_kind(mode: Mode, kinds: &[u8], blocked: &[u8], start: usize, goal: usize, cell: usize) -> u8
     requires { ⌜ (cell < length (now kinds)) × (cell < length (now blocked)) ⌝ }
-    ensures { λ r. ⌜ r ≡ seenKind (now (kinds .entry)) (now (blocked .entry)) start goal cell ⌝ }
+    ensures { λ r. ⌜ r ≡ seenKind mode (now (kinds .entry)) (now (blocked .entry)) start goal cell ⌝ }
 {
     let kind = kinds[cell];
     if kind != room::AIR {
@@ -35,11 +50,12 @@ fn seen_kind(kinds: &[u8], blocked: &[u8], start: usize, goal: usize, cell: usiz
     if an_end(start, goal, cell) {
         return kind;
     }
-    room::SOLID
+    wall_of(mode)
 }
 
 // The kind that a search sees right beneath a cell; outside is Solid.
 fn seen_beneath(
+    mode: Mode,
     room: Room,
     kinds: &[u8],
     blocked: &[u8],
@@ -49,35 +65,36 @@ fn seen_beneath(
 ) -> u8
     requires { ⌜ WorldFits room (now kinds) (now blocked) ⌝ }
     requires { ⌜ cell < volume room ⌝ }
-    ensures { λ r. ⌜ r ≡ kindAt (seenKinds (now (kinds .entry)) (now (blocked .entry)) start goal) (beneath room cell) ⌝ }
+    ensures { λ r. ⌜ r ≡ kindAt (seenKinds mode (now (kinds .entry)) (now (blocked .entry)) start goal) (beneath room cell) ⌝ }
 {
     match room.beneath(cell) {
-        Neighbour::Inside(below) => seen_kind(kinds, blocked, start, goal, below),
+        Neighbour::Inside(below) => seen_kind(mode, kinds, blocked, start, goal, below),
         Neighbour::Outside => room::SOLID,
     }
 }
 
 // What it takes a search to enter a cell.
 fn class_seen(
-    room: Room,
+    ground: Ground,
     kinds: &[u8],
     blocked: &[u8],
     start: usize,
     goal: usize,
     cell: usize,
 ) -> u8
-    requires { ⌜ WorldFits room (now kinds) (now blocked) ⌝ }
-    requires { ⌜ cell < volume room ⌝ }
-    ensures { λ r. ⌜ r ≡ classSeen room (now (kinds .entry)) (now (blocked .entry)) start goal cell ⌝ }
+    requires { ⌜ WorldFits (ground .room) (now kinds) (now blocked) ⌝ }
+    requires { ⌜ cell < volume (ground .room) ⌝ }
+    ensures { λ r. ⌜ r ≡ classSeen (ground .mode) (ground .room) (now (kinds .entry)) (now (blocked .entry)) start goal cell ⌝ }
 {
-    let below = seen_beneath(room, kinds, blocked, start, goal, cell);
-    let kind = seen_kind(kinds, blocked, start, goal, cell);
+    let mode = ground.mode;
+    let below = seen_beneath(mode, ground.room, kinds, blocked, start, goal, cell);
+    let kind = seen_kind(mode, kinds, blocked, start, goal, cell);
     room_search::class_for(an_end(start, goal, cell), kind, below)
 }
 
 // Writes one cell's class anew.
 fn renew(
-    room: Room,
+    ground: Ground,
     kinds: &[u8],
     blocked: &[u8],
     start: usize,
@@ -85,24 +102,31 @@ fn renew(
     classes: &mut [u8],
     cell: usize,
 )
-    requires { ⌜ WorldFits room (now kinds) (now blocked) ⌝ }
-    requires { ⌜ length (now classes) ≡ volume room ⌝ }
-    requires { ⌜ cell < volume room ⌝ }
-    ensures { λ _. ⌜ now (classes .exit) ≡ renewed room (now (kinds .entry)) (now (blocked .entry)) start goal cell (now (classes .entry)) ⌝ }
+    requires { ⌜ WorldFits (ground .room) (now kinds) (now blocked) ⌝ }
+    requires { ⌜ length (now classes) ≡ volume (ground .room) ⌝ }
+    requires { ⌜ cell < volume (ground .room) ⌝ }
+    ensures { λ _. ⌜ now (classes .exit) ≡ renewed (ground .mode) (ground .room) (now (kinds .entry)) (now (blocked .entry)) start goal cell (now (classes .entry)) ⌝ }
 {
-    classes[cell] = class_seen(room, kinds, blocked, start, goal, cell);
+    classes[cell] = class_seen(ground, kinds, blocked, start, goal, cell);
 }
 
 // Fills in each cell's class, whatever the bytes held.
-pub fn fill(room: Room, kinds: &[u8], blocked: &[u8], start: usize, goal: usize, classes: &mut [u8])
-    requires { ⌜ WorldFits room (now kinds) (now blocked) ⌝ }
-    requires { ⌜ length (now classes) ≡ volume room ⌝ }
-    ensures { λ _. ⌜ Says room (now (kinds .entry)) (now (blocked .entry)) start goal (now (classes .exit)) ⌝ }
+pub fn fill(
+    ground: Ground,
+    kinds: &[u8],
+    blocked: &[u8],
+    start: usize,
+    goal: usize,
+    classes: &mut [u8],
+)
+    requires { ⌜ WorldFits (ground .room) (now kinds) (now blocked) ⌝ }
+    requires { ⌜ length (now classes) ≡ volume (ground .room) ⌝ }
+    ensures { λ _. ⌜ Says (ground .mode) (ground .room) (now (kinds .entry)) (now (blocked .entry)) start goal (now (classes .exit)) ⌝ }
 {
     let n = kinds.len();
     let mut v: usize = 0;
     while v < n {
-        renew(room, kinds, blocked, start, goal, classes, v);
+        renew(ground, kinds, blocked, start, goal, classes, v);
         v += 1;
     }
 }
@@ -110,7 +134,7 @@ pub fn fill(room: Room, kinds: &[u8], blocked: &[u8], start: usize, goal: usize,
 // After a change at a cell: its class is written anew, and that of the cell above, which it bears. No other class depends
 // on what is seen at it, or on whether it is an end.
 pub fn refresh(
-    room: Room,
+    ground: Ground,
     kinds: &[u8],
     blocked: &[u8],
     start: usize,
@@ -118,13 +142,13 @@ pub fn refresh(
     classes: &mut [u8],
     cell: usize,
 )
-    requires { ⌜ WorldFits room (now kinds) (now blocked) ⌝ }
-    requires { ⌜ length (now classes) ≡ volume room ⌝ }
-    requires { ⌜ cell < volume room ⌝ }
-    ensures { λ _. ⌜ now (classes .exit) ≡ refreshed room (now (kinds .entry)) (now (blocked .entry)) start goal cell (now (classes .entry)) ⌝ }
+    requires { ⌜ WorldFits (ground .room) (now kinds) (now blocked) ⌝ }
+    requires { ⌜ length (now classes) ≡ volume (ground .room) ⌝ }
+    requires { ⌜ cell < volume (ground .room) ⌝ }
+    ensures { λ _. ⌜ now (classes .exit) ≡ refreshed (ground .mode) (ground .room) (now (kinds .entry)) (now (blocked .entry)) start goal cell (now (classes .entry)) ⌝ }
 {
-    renew(room, kinds, blocked, start, goal, classes, cell);
-    if let Neighbour::Inside(over) = room.above(cell) {
-        renew(room, kinds, blocked, start, goal, classes, over);
+    renew(ground, kinds, blocked, start, goal, classes, cell);
+    if let Neighbour::Inside(over) = ground.room.above(cell) {
+        renew(ground, kinds, blocked, start, goal, classes, over);
     }
 }

@@ -10,6 +10,7 @@ use borrow.Author.Tests.{eqb-true}
 use Rattle.basics.specs.Tests.{ask, never}
 use Rattle.basics.specs.Lists.{In}
 use Rattle.room.specs.Room.{volume}
+use Rattle.ground.specs.declared.Mode.{Mode}
 use Rattle.routing_resources.specs.Marks.{isMarked, noMarks}
 use Rattle.routing_resources.specs.MarkLaws.{marked-after}
 use Rattle.ends.specs.declared.Tap.{Tap}
@@ -102,16 +103,16 @@ module _ {P : Plot} (S : SoundPlot P) (blocked : List ℕ) (T : Tree) (e : growt
 
 -- ---- of the public tree
 
-net-connected : {sheet : List ℕ} {L : Lengths} {branches : List (List ℕ)} {occupied repeaters : List ℕ} → TreeOf sheet L branches occupied repeaters
-    → NetConnected sheet L branches occupied repeaters
+net-connected : {mode : Mode} {sheet : List ℕ} {L : Lengths} {branches : List (List ℕ)} {occupied repeaters : List ℕ} → TreeOf mode sheet L branches occupied repeaters
+    → NetConnected mode sheet L branches occupied repeaters
 net-connected T = record { tree-of = T; connected = connected (T .sound) (T .blocked) (T .tree) (T .grows) }
 
 -- from the promise alone: each tree answered hangs together
-pub answer-connected : {sheet : List ℕ} {B : Lent} {r : trees.Answer} {B′ : Lent} → Promise sheet B r B′ → {cells marks : ℕ} → r .ended ≡ Routed cells marks
-    → AnswerConnected sheet B r B′
-answer-connected {sheet} {B} {r} {B′} K {cells} {marks} e = go (K .outcome) (K .comes) (K .answer) (K .lent-is)
+pub answer-connected : {mode : Mode} {sheet : List ℕ} {B : Lent} {r : trees.Answer} {B′ : Lent} → Promise mode sheet B r B′ → {cells marks : ℕ} → r .ended ≡ Routed cells marks
+    → AnswerConnected mode sheet B r B′
+answer-connected {mode} {sheet} {B} {r} {B′} K {cells} {marks} e = go (K .outcome) (K .comes) (K .answer) (K .lent-is)
   where
-    go : (o : TreeOutcome) → Comes sheet (lengthsOf B) o → r ≡ answerOf o → B′ ≡ lentAfter o B → AnswerConnected sheet B r B′
+    go : (o : TreeOutcome) → Comes mode sheet (lengthsOf B) o → r ≡ answerOf o → B′ ≡ lentAfter o B → AnswerConnected mode sheet B r B′
     go (routed branches occupied repeaters) c a l = record {
       branches = branches;
       occupied = occupied;

@@ -10,3 +10,5 @@ pub mod TreeStatements
 pub mod QueueLaws
 pub mod TreeTheorems
 pub mod ExportTheorems
+pub mod ModeStatements
+pub mod ModeTheorems

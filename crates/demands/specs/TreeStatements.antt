@@ -1,5 +1,5 @@
--- What the theorems claim of the searches made in a tree: definitions only. Each is the defined search over the room of kinds that it sees, in which
--- blocked air counts as Solid, so what is said of one search is said of it.
+-- What the theorems claim of the searches made in a tree: definitions only. Each is the defined search over the room of kinds that it sees in its
+-- mode, so what is said of one search is said of it, in both modes at once. What its steps are by the room's own kinds is told in ModeStatements.
 use mathlib.Core.Path.{_≡_}
 use mathlib.Core.Logic.{_≢_}
 use mathlib.Core.Bool.{true}
@@ -11,6 +11,7 @@ use Rattle.basics.specs.Lists.{joined}
 use Rattle.room.specs.declared.Neighbour.the-variants.{Inside}
 use Rattle.room.specs.Room.{volume}
 use Rattle.room_search.specs.Routing.{Task}
+use Rattle.ground.specs.declared.Mode.{Mode}
 use Rattle.routing_resources.specs.Marks.{isMarked}
 use Rattle.geometry.specs.Geometry.{conflictOf}
 use Rattle.goals.specs.Goals.{Site, found, failed, full, searchedFor, siteTask, endsGoal, maxAttempts}
@@ -79,22 +80,22 @@ pub record StopsAt (P : Plot) (blocked : List ℕ) (number detail : ℕ) : Type 
 -- ---- of the public tree
 
 -- where the tree of a sheet grew: it has a branch for each sink of the sheet's contents, in their order, and each has its meaning there
-pub record TreeMeans (sheet : List ℕ) (L : Lengths) (branches : List (List ℕ)) (occupied repeaters : List ℕ) : Type 0 where
-  pub tree-of : TreeOf sheet L branches occupied repeaters
+pub record TreeMeans (mode : Mode) (sheet : List ℕ) (L : Lengths) (branches : List (List ℕ)) (occupied repeaters : List ℕ) : Type 0 where
+  pub tree-of : TreeOf mode sheet L branches occupied repeaters
   pub count-is : length branches ≡ length (tree-of .contents .sinks)
   pub each : (k : ℕ) → k < length branches
-      → BranchMeans (plotFor (tree-of .contents) L (tree-of .outset) (tree-of .kinds)) (tree-of .blocked) k (getD branches k [])
+      → BranchMeans (plotFor mode (tree-of .contents) L (tree-of .outset) (tree-of .kinds)) (tree-of .blocked) k (getD branches k [])
 
 -- the branches, the occupied cells and the repeaters that the answer tells of and the lent buffers hold
-pub record AnswerMeans (sheet : List ℕ) (B : Lent) (r : Answer) (B′ : Lent) : Type 0 where
+pub record AnswerMeans (mode : Mode) (sheet : List ℕ) (B : Lent) (r : Answer) (B′ : Lent) : Type 0 where
   pub branches : List (List ℕ)
   pub occupied : List ℕ
   pub repeaters : List ℕ
   pub answer : r ≡ answerOf (routed branches occupied repeaters)
   pub lent-is : B′ ≡ lentAfter (routed branches occupied repeaters) B
-  pub means : TreeMeans sheet (lengthsOf B) branches occupied repeaters
+  pub means : TreeMeans mode sheet (lengthsOf B) branches occupied repeaters
 
 -- where the tree of a sheet stopped growing: at the turn of a sink, for this reason
-pub record StopMeans (sheet : List ℕ) (L : Lengths) (number detail : ℕ) : Type 0 where
-  pub stop-of : StopOf sheet L number detail
-  pub stops-at : StopsAt (plotFor (stop-of .contents) L (stop-of .outset) (stop-of .kinds)) (stop-of .blocked) number detail
+pub record StopMeans (mode : Mode) (sheet : List ℕ) (L : Lengths) (number detail : ℕ) : Type 0 where
+  pub stop-of : StopOf mode sheet L number detail
+  pub stops-at : StopsAt (plotFor mode (stop-of .contents) L (stop-of .outset) (stop-of .kinds)) (stop-of .blocked) number detail

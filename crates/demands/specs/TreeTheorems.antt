@@ -19,6 +19,7 @@ use Rattle.room.specs.Room.{Good, volume}
 use Rattle.best_first.specs.Search.{Answer, route, no-route}
 use Rattle.best_first.specs.Statements.{Decided}
 use Rattle.room_search.specs.Routing.{Task, placesIn, routeable, searched}
+use Rattle.ground.specs.declared.Mode.{Mode}
 use Rattle.job_sheet.specs.Sheet.{Contents, Means}
 use Rattle.job_sheet.specs.Theorems.{one-meaning}
 use Rattle.routing_resources.specs.Marks.{isMarked, markedBy}
@@ -293,9 +294,9 @@ module _ (P : Plot) (S : SoundPlot P) (blocked : List ℕ) where
 
 -- ---- the public tree
 
-module _ {sheet : List ℕ} {L : Lengths} {branches : List (List ℕ)} {occupied repeaters : List ℕ} (T : TreeOf sheet L branches occupied repeaters) where
+module _ {mode : Mode} {sheet : List ℕ} {L : Lengths} {branches : List (List ℕ)} {occupied repeaters : List ℕ} (T : TreeOf mode sheet L branches occupied repeaters) where
   abbrev P : Plot
-  P = plotFor (T .contents) L (T .outset) (T .kinds)
+  P = plotFor mode (T .contents) L (T .outset) (T .kinds)
 
   taps-count : length branches ≡ P .taps .count
   taps-count = ap length (T .branches-are) ∙ growth-count P (T .blocked) (T .tree) (T .grows)
@@ -304,7 +305,7 @@ module _ {sheet : List ℕ} {L : Lengths} {branches : List (List ℕ)} {occupied
   unfolding endsOf
   sinks-count = ap (λ e. e .taps .count) (T .unrefused .is-set .ends-are)
 
-  tree-branches : TreeMeans sheet L branches occupied repeaters
+  tree-branches : TreeMeans mode sheet L branches occupied repeaters
   tree-branches = record {
     tree-of = T;
     count-is = taps-count ∙ sinks-count;
@@ -312,10 +313,10 @@ module _ {sheet : List ℕ} {L : Lengths} {branches : List (List ℕ)} {occupied
   }
 
 -- where `route_net_tree` promises a tree, every branch that it gives out has its meaning
-pub answer-means : {sheet : List ℕ} {B : Lent} {r : trees.Answer} {B′ : Lent} → Promise sheet B r B′ → {cells marks : ℕ} → r .ended ≡ Routed cells marks → AnswerMeans sheet B r B′
-answer-means {sheet} {B} {r} {B′} K {cells} {marks} e = go (K .outcome) (K .comes) (K .answer) (K .lent-is)
+pub answer-means : {mode : Mode} {sheet : List ℕ} {B : Lent} {r : trees.Answer} {B′ : Lent} → Promise mode sheet B r B′ → {cells marks : ℕ} → r .ended ≡ Routed cells marks → AnswerMeans mode sheet B r B′
+answer-means {mode} {sheet} {B} {r} {B′} K {cells} {marks} e = go (K .outcome) (K .comes) (K .answer) (K .lent-is)
   where
-    go : (o : TreeOutcome) → Comes sheet (lengthsOf B) o → r ≡ answerOf o → B′ ≡ lentAfter o B → AnswerMeans sheet B r B′
+    go : (o : TreeOutcome) → Comes mode sheet (lengthsOf B) o → r ≡ answerOf o → B′ ≡ lentAfter o B → AnswerMeans mode sheet B r B′
     go (routed branches occupied repeaters) c a l = record {
       branches = branches;
       occupied = occupied;
@@ -326,18 +327,18 @@ answer-means {sheet} {B} {r} {B′} K {cells} {marks} e = go (K .outcome) (K .co
     }
     go (no-tree number detail) c a l = let z : Refused number detail ≡ Routed cells marks = sym (ap (λ x. x .ended) a) ∙ e in never (cc)
 
-stop-means : {sheet : List ℕ} {L : Lengths} {number detail : ℕ} → StopOf sheet L number detail → StopMeans sheet L number detail
-stop-means {L = L} {number} {detail} K = record {
+stop-means : {mode : Mode} {sheet : List ℕ} {L : Lengths} {number detail : ℕ} → StopOf mode sheet L number detail → StopMeans mode sheet L number detail
+stop-means {mode = mode} {L = L} {number} {detail} K = record {
   stop-of = K;
-  stops-at = tree-stops (plotFor (K .contents) L (K .outset) (K .kinds)) (K .sound) (K .blocked) number detail (K .stops);
+  stops-at = tree-stops (plotFor mode (K .contents) L (K .outset) (K .kinds)) (K .sound) (K .blocked) number detail (K .stops);
 }
 
 -- where it promises a number from 10 on, a tree had grown so far, and the number has its reason
-pub stopped-means : {sheet : List ℕ} {B : Lent} {r : trees.Answer} {B′ : Lent} → Promise sheet B r B′ → {number detail : ℕ} → r .ended ≡ Refused number detail
-    → 9 < number → StopMeans sheet (lengthsOf B) number detail
-stopped-means {sheet} {B} {r} K {number} {detail} e h = go (K .outcome) (K .comes) (K .answer)
+pub stopped-means : {mode : Mode} {sheet : List ℕ} {B : Lent} {r : trees.Answer} {B′ : Lent} → Promise mode sheet B r B′ → {number detail : ℕ} → r .ended ≡ Refused number detail
+    → 9 < number → StopMeans mode sheet (lengthsOf B) number detail
+stopped-means {mode} {sheet} {B} {r} K {number} {detail} e h = go (K .outcome) (K .comes) (K .answer)
   where
-    go : (o : TreeOutcome) → Comes sheet (lengthsOf B) o → r ≡ answerOf o → StopMeans sheet (lengthsOf B) number detail
+    go : (o : TreeOutcome) → Comes mode sheet (lengthsOf B) o → r ≡ answerOf o → StopMeans mode sheet (lengthsOf B) number detail
     go (routed branches occupied repeaters) c a = let z : Routed _ _ ≡ Refused number detail = sym (ap (λ x. x .ended) a) ∙ e in never (cc)
     go (no-tree m x) c a =
         let z : Refused m x ≡ Refused number detail = sym (ap (λ y. y .ended) a) ∙ e in
@@ -351,9 +352,9 @@ full-few (queue-fills x below few) e = (below, few)
 full-few (no-goal-left each) e = absurd (omega arith)
 full-few (buffer-fills path cost means long) e = absurd (omega arith)
 
-module _ {sheet : List ℕ} {B : Lent} {r : trees.Answer} {B′ : Lent} (K : Promise sheet B r B′) (J : Contents) (m : Means sheet J) (detail : ℕ)
+module _ {mode : Mode} {sheet : List ℕ} {B : Lent} {r : trees.Answer} {B′ : Lent} (K : Promise mode sheet B r B′) (J : Contents) (m : Means sheet J) (detail : ℕ)
     (e : r .ended ≡ Refused queueFullNumber detail) where
-  full-stop : StopMeans sheet (lengthsOf B) queueFullNumber detail
+  full-stop : StopMeans mode sheet (lengthsOf B) queueFullNumber detail
   full-stop = stopped-means K e (omega arith)
 
   same-contents : J ≡ full-stop .stop-of .contents

@@ -1,12 +1,15 @@
--- What `dustroute_tree` returns, and what every lent buffer then holds: the answer of `route_net_tree` as numbers. A sheet and the lengths of the
--- lent buffers determine all of it.
+-- What `dustroute_tree` and `dustroute_tree_mode` return, and what every lent buffer then holds: the answer of `route_net_tree` as numbers. The mode, the
+-- sheet and the lengths of the lent buffers determine all of it.
 use mathlib.Core.Path.{_≡_}
 use mathlib.Core.List.{List, _∷_}
 use Prim.Native.Nat.{ℕ, _+_, _≤_, _<_}
+use lib.Dec.{eqb}
 use lib.ListN.{length}
 use Rattle.numbers.specs.Refusals.{doneNumber, bufferNumber}
 use Rattle.basics.specs.Tests.{either}
 use Rattle.lent.specs.Lent.{outputAfter}
+use Rattle.ground.specs.declared.Mode.{Mode}
+use Rattle.ground.specs.declared.Mode.the-variants.{Published, Strict}
 use Rattle.job_sheet.specs.declared.Reading.{Reading}
 use Rattle.job_sheet.specs.Sheet.{Read, isGood, numberOf, maxSinks}
 use Rattle.net_tree.specs.declared.Answer.{Answer}
@@ -18,6 +21,10 @@ use Rattle.net_tree.specs.Answers.{Lent, lengthsOf, TreeOutcome, no-tree, Comes
 -- the values: the detail, how many branches, occupied cells and repeaters there are, then sixteen lengths
 abbrev pub valueCount : ℕ
 valueCount = 4 + maxSinks
+
+-- the mode that `strict` stands for: 0 is the published router's, any other number is strict
+abbrev pub modeOf : ℕ → Mode
+modeOf strict = either (eqb strict 0) Published Strict
 
 -- ---- an answer as numbers
 
@@ -57,14 +64,14 @@ pub record ShortNumber (sheet : List ℕ) (number : ℕ) : Type 0 where
   pub number-is : number ≡ either (isGood (reading .judgement)) bufferNumber (numberOf (reading .judgement))
 
 -- what comes of a sheet, where this many values are lent
-pub data TreeComes (sheet : List ℕ) (L : Lengths) (values : ℕ) (o : TreeOutcome) : Type 0 where
-  too-few-values : values < valueCount → (number : ℕ) → ShortNumber sheet number → o ≡ no-tree number 0 → TreeComes sheet L values o
-  enough-values : valueCount ≤ values → Comes sheet L o → TreeComes sheet L values o
+pub data TreeComes (mode : Mode) (sheet : List ℕ) (L : Lengths) (values : ℕ) (o : TreeOutcome) : Type 0 where
+  too-few-values : values < valueCount → (number : ℕ) → ShortNumber sheet number → o ≡ no-tree number 0 → TreeComes mode sheet L values o
+  enough-values : valueCount ≤ values → Comes mode sheet L o → TreeComes mode sheet L values o
 
--- the promise of `dustroute_tree`
-pub record TreeExported (sheet : List ℕ) (B : Lent) (values : List ℕ) (r : ℕ) (B′ : Lent) (values′ : List ℕ) : Type 0 where
+-- the promise of `dustroute_tree`, in the published mode, and of `dustroute_tree_mode`
+pub record TreeExported (mode : Mode) (sheet : List ℕ) (B : Lent) (values : List ℕ) (r : ℕ) (B′ : Lent) (values′ : List ℕ) : Type 0 where
   pub outcome : TreeOutcome
-  pub comes : TreeComes sheet (lengthsOf B) (length values) outcome
+  pub comes : TreeComes mode sheet (lengthsOf B) (length values) outcome
   pub number : r ≡ numberTold (answerOf outcome)
   pub lent-is : B′ ≡ lentAfter outcome B
   pub values-is : values′ ≡ valuesAfter (answerOf outcome) values

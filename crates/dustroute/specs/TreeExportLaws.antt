@@ -12,6 +12,7 @@ use Rattle.basics.specs.Tests.{either, ask}
 use Rattle.basics.specs.Zeros.{drop-zeros}
 use Rattle.basics.specs.Promises.{Determines}
 use Rattle.lent.specs.Lent.{touches}
+use Rattle.ground.specs.declared.Mode.{Mode}
 use Rattle.job_sheet.specs.declared.Judgement.{Judgement}
 use Rattle.job_sheet.specs.Sheet.{isGood, numberOf}
 use Rattle.job_sheet.specs.Theorems.{coincide as one-reading}
@@ -39,9 +40,9 @@ lengths-behind a b c d n each e f =
 short-small : (v : Judgement) (number : ℕ) → number ≡ either (isGood v) bufferNumber (numberOf v) → touches number ≡ false
 short-small v number e = ask (isGood v) (λ t. rw (e, t)) (λ f. rw (e, f) (unread-touches-none v f))
 
-module _ {sheet : List ℕ} {B : Lent} {values : List ℕ} where
+module _ {mode : Mode} {sheet : List ℕ} {B : Lent} {values : List ℕ} where
   -- too few values: nothing is touched
-  pub tree-short : {r : ℕ} → length values < valueCount → ShortNumber sheet r → TreeExported sheet B values r B values
+  pub tree-short : {r : ℕ} → length values < valueCount → ShortNumber sheet r → TreeExported mode sheet B values r B values
   tree-short {r = r} h n =
       let e = short-small (n .reading .judgement) r (n .number-is) in
       record {
@@ -54,7 +55,7 @@ module _ {sheet : List ℕ} {B : Lent} {values : List ℕ} where
 
   -- the tree's answer, told
   pub tree-told : {a : Answer} {r : ℕ} {B′ : Lent} {values′ : List ℕ} → valueCount ≤ length values
-      → Promise sheet B a B′ → r ≡ numberTold a → values′ ≡ valuesAfter a values → TreeExported sheet B values r B′ values′
+      → Promise mode sheet B a B′ → r ≡ numberTold a → values′ ≡ valuesAfter a values → TreeExported mode sheet B values r B′ values′
   tree-told h P n v = record {
     outcome = P .outcome;
     comes = enough-values h (P .comes);
@@ -68,7 +69,7 @@ module _ {sheet : List ℕ} {B : Lent} {values : List ℕ} where
 short-one : {sheet : List ℕ} {m n : ℕ} → ShortNumber sheet m → ShortNumber sheet n → m ≡ n
 short-one {sheet = sheet} p q = p .number-is ∙ rw (one-reading sheet (p .reading) (q .reading) (p .read) (q .read)) (sym (q .number-is))
 
-tree-comes-one : {sheet : List ℕ} {L : Lengths} {values : ℕ} {o q : TreeOutcome} → TreeComes sheet L values o → TreeComes sheet L values q → o ≡ q
+tree-comes-one : {mode : Mode} {sheet : List ℕ} {L : Lengths} {values : ℕ} {o q : TreeOutcome} → TreeComes mode sheet L values o → TreeComes mode sheet L values q → o ≡ q
 tree-comes-one (too-few-values h m s e) (too-few-values k n t d) = e ∙ ap (λ x. no-tree x 0) (short-one s t) ∙ sym d
 tree-comes-one (too-few-values h m s e) (enough-values k c) = absurd (omega arith)
 tree-comes-one (enough-values h c) (too-few-values k n t d) = absurd (omega arith)
@@ -79,9 +80,9 @@ pub record Result : Type 0 where
   pub lent : Lent
   pub values : List ℕ
 
-module _ (sheet : List ℕ) (B : Lent) (values : List ℕ) where
+module _ (mode : Mode) (sheet : List ℕ) (B : Lent) (values : List ℕ) where
   abbrev pub Keeps : Result → Type 0
-  Keeps R = TreeExported sheet B values (R .number) (R .lent) (R .values)
+  Keeps R = TreeExported mode sheet B values (R .number) (R .lent) (R .values)
 
   pub coincide : Determines Keeps
   coincide x y P Q =

@@ -4,6 +4,7 @@ mod tree_export;
 mod why_export;
 
 pub use tree_export::dustroute_tree;
+pub use tree_export::dustroute_tree_mode;
 pub use why_export::dustroute_why;
 ghost use mathlib.Core.Path.{_≡_};
 ghost use mathlib.Core.List.{[], _∷_, _++_};

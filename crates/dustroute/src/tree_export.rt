@@ -1,6 +1,7 @@
-// The tree of one net, exported for other languages.
+// The tree of one net, exported for other languages, in the published mode and in the mode that the caller chooses.
 use crate::write_four;
 use branches::BranchLengths;
+use ground::Mode;
 use net_tree::Answer;
 use net_tree::Ended;
 ghost use mathlib.Core.Path.{_≡_};
@@ -8,9 +9,10 @@ ghost use mathlib.Core.List.{_∷_, _++_};
 ghost use Prim.Native.Nat.{_≤_};
 ghost use lib.ListN.{length, drop};
 ghost use Rattle.lent.specs.Lent.{filled};
+ghost use Rattle.ground.specs.declared.Mode.the-variants.{Published};
 ghost use Rattle.job_sheet.specs.Sheet.{maxSinks};
 ghost use Rattle.net_tree.specs.Answers.{lent};
-ghost use Rattle.dustroute.specs.TreeExport.{valueCount, numberTold, valuesAfter, ShortNumber, TreeExported};
+ghost use Rattle.dustroute.specs.TreeExport.{modeOf, valueCount, numberTold, valuesAfter, ShortNumber, TreeExported};
 
 // How many values a tree comes to: its detail and three counts, then the lengths of sixteen branches.
 const VALUES: usize = 20;
@@ -84,6 +86,59 @@ fn tell_tree(answer: Answer, values: &mut [u64]) -> u32
     }
 }
 
+// The mode that a number stands for: 0 is the published router's, any other number is strict.
+fn mode_of(strict: u32) -> Mode
+    ensures { λ r. ⌜ r ≡ modeOf strict ⌝ }
+{
+    if strict == 0 {
+        Mode::Published
+    } else {
+        Mode::Strict
+    }
+}
+
+// The tree of a sheet in a mode, told as numbers.
+fn route_and_tell(
+    mode: Mode,
+    sheet: &[u8],
+    branches: &mut [u32],
+    occupied: &mut [u8],
+    repeaters: &mut [u8],
+    kinds: &mut [u8],
+    blocked: &mut [u8],
+    classes: &mut [u8],
+    joinable: &mut [u8],
+    known: &mut [u32],
+    previous: &mut [u32],
+    path: &mut [u32],
+    best: &mut [u32],
+    queue: &mut [u64],
+    values: &mut [u64],
+) -> u32
+    ensures { λ r. ⌜ TreeExported mode (now (sheet .entry)) (lent (now (branches .entry)) (now (occupied .entry)) (now (repeaters .entry)) (now (kinds .entry)) (now (blocked .entry)) (now (classes .entry)) (now (joinable .entry)) (now (known .entry)) (now (previous .entry)) (now (path .entry)) (now (best .entry)) (now (queue .entry))) (now (values .entry)) r (lent (now (branches .exit)) (now (occupied .exit)) (now (repeaters .exit)) (now (kinds .exit)) (now (blocked .exit)) (now (classes .exit)) (now (joinable .exit)) (now (known .exit)) (now (previous .exit)) (now (path .exit)) (now (best .exit)) (now (queue .exit))) (now (values .exit)) ⌝ }
+{
+    if values.len() < VALUES {
+        return short_number(sheet);
+    }
+    let answer = net_tree::route_net_tree(
+        mode,
+        sheet,
+        branches,
+        occupied,
+        repeaters,
+        kinds,
+        blocked,
+        classes,
+        joinable,
+        known,
+        previous,
+        path,
+        best,
+        queue,
+    );
+    tell_tree(answer, values)
+}
+
 // The tree of the one net that a job sheet describes, as `net_tree::route_net_tree`. The number comes back, 0 for a tree; its
 // detail, how many branches, occupied cells and repeaters there are, and the branches' lengths in sheet order go to the
 // first twenty of `values`. A place of the queue takes two numbers. See the promise in specs/TreeExport.antt.
@@ -104,12 +159,11 @@ pub extern "C" fn dustroute_tree(
     queue: &mut [u64],
     values: &mut [u64],
 ) -> u32
-    ensures { λ r. ⌜ TreeExported (now (sheet .entry)) (lent (now (branches .entry)) (now (occupied .entry)) (now (repeaters .entry)) (now (kinds .entry)) (now (blocked .entry)) (now (classes .entry)) (now (joinable .entry)) (now (known .entry)) (now (previous .entry)) (now (path .entry)) (now (best .entry)) (now (queue .entry))) (now (values .entry)) r (lent (now (branches .exit)) (now (occupied .exit)) (now (repeaters .exit)) (now (kinds .exit)) (now (blocked .exit)) (now (classes .exit)) (now (joinable .exit)) (now (known .exit)) (now (previous .exit)) (now (path .exit)) (now (best .exit)) (now (queue .exit))) (now (values .exit)) ⌝ }
+    ensures { λ r. ⌜ TreeExported Published (now (sheet .entry)) (lent (now (branches .entry)) (now (occupied .entry)) (now (repeaters .entry)) (now (kinds .entry)) (now (blocked .entry)) (now (classes .entry)) (now (joinable .entry)) (now (known .entry)) (now (previous .entry)) (now (path .entry)) (now (best .entry)) (now (queue .entry))) (now (values .entry)) r (lent (now (branches .exit)) (now (occupied .exit)) (now (repeaters .exit)) (now (kinds .exit)) (now (blocked .exit)) (now (classes .exit)) (now (joinable .exit)) (now (known .exit)) (now (previous .exit)) (now (path .exit)) (now (best .exit)) (now (queue .exit))) (now (values .exit)) ⌝ }
 {
-    if values.len() < VALUES {
-        return short_number(sheet);
-    }
-    let answer = net_tree::route_net_tree(
+    let mode = Mode::Published;
+    route_and_tell(
+        mode,
         sheet,
         branches,
         occupied,
@@ -123,6 +177,48 @@ pub extern "C" fn dustroute_tree(
         path,
         best,
         queue,
-    );
-    tell_tree(answer, values)
+        values,
+    )
+}
+
+// The same in the mode that the caller chooses: `strict` is 0 for the published router's way with blocked air, as in
+// `dustroute_tree`, and any other number for strict mode.
+#[no_mangle]
+pub extern "C" fn dustroute_tree_mode(
+    strict: u32,
+    sheet: &[u8],
+    branches: &mut [u32],
+    occupied: &mut [u8],
+    repeaters: &mut [u8],
+    kinds: &mut [u8],
+    blocked: &mut [u8],
+    classes: &mut [u8],
+    joinable: &mut [u8],
+    known: &mut [u32],
+    previous: &mut [u32],
+    path: &mut [u32],
+    best: &mut [u32],
+    queue: &mut [u64],
+    values: &mut [u64],
+) -> u32
+    ensures { λ r. ⌜ TreeExported (modeOf strict) (now (sheet .entry)) (lent (now (branches .entry)) (now (occupied .entry)) (now (repeaters .entry)) (now (kinds .entry)) (now (blocked .entry)) (now (classes .entry)) (now (joinable .entry)) (now (known .entry)) (now (previous .entry)) (now (path .entry)) (now (best .entry)) (now (queue .entry))) (now (values .entry)) r (lent (now (branches .exit)) (now (occupied .exit)) (now (repeaters .exit)) (now (kinds .exit)) (now (blocked .exit)) (now (classes .exit)) (now (joinable .exit)) (now (known .exit)) (now (previous .exit)) (now (path .exit)) (now (best .exit)) (now (queue .exit))) (now (values .exit)) ⌝ }
+{
+    let mode = mode_of(strict);
+    route_and_tell(
+        mode,
+        sheet,
+        branches,
+        occupied,
+        repeaters,
+        kinds,
+        blocked,
+        classes,
+        joinable,
+        known,
+        previous,
+        path,
+        best,
+        queue,
+        values,
+    )
 }

@@ -12,7 +12,6 @@ use lib.Seq.{ext-getD}
 use borrow.Author.Tests.{eqb-true, eqb-false}
 use Rattle.basics.specs.Tests.{ask, never}
 use Rattle.room.specs.declared.Room.{Room}
-use Rattle.room.specs.declared.RouterConfig.{RouterConfig}
 use Rattle.room.specs.declared.Cost.{Cost}
 use Rattle.room.specs.declared.Neighbour.{Neighbour}
 use Rattle.room.specs.declared.Neighbour.the-variants.{Inside, Outside}
@@ -22,6 +21,8 @@ use Rattle.room_search.specs.TriedMoves.{placesOf}
 use Rattle.routing_resources.specs.Marks.{isMarked, withByte, markedBy, unmarkedBy, AllCells, Marks}
 use Rattle.routing_resources.specs.MarkLaws.{with-length, with-at, marks-with}
 use Rattle.geometry.specs.Geometry.{conflictOf}
+use Rattle.ground.specs.declared.Mode.{Mode}
+use Rattle.ground.specs.declared.Ground.{Ground}
 use Rattle.blocked_world.specs.BlockedWorld.{Says, WorldFits, refreshed}
 use Rattle.blocked_world.specs.SeenLaws.{says-one}
 use Rattle.blocked_world.specs.RefreshLaws.{mark-put, refreshed-says}
@@ -117,17 +118,17 @@ put-back marks v small free = ext-getD 0 _ marks (with-length 0 (eqb v) (markedB
         here : v ≡ u → u < length marks → 0 ≡ getD marks u 0
         here e l = rw (← e) (omega (arith, small .small v (rw e l), eqb-false (getD marks v 0) 1 free))
 
-pub set-says : {R : Room} {kinds blocked classes : List ℕ} {start goal cell : ℕ} (byte : ℕ) → WorldFits R kinds blocked → Says R kinds blocked start goal classes → cell < volume R
-    → {blocked′ classes′ : List ℕ} → blocked′ ≡ withByte byte (eqb cell) blocked → classes′ ≡ refreshed R kinds blocked′ start goal cell classes
-    → Says R kinds blocked′ start goal classes′
-set-says {R} {kinds} {blocked} {classes} {start} {goal} {cell} byte fit says h e f =
-    rw (f, e) (refreshed-says R (fit .good) cell kinds blocked start goal (withByte byte (eqb cell) blocked) start goal (mark-put byte cell kinds blocked start goal) (fit .kinds-long) classes says h)
+pub set-says : {mode : Mode} {R : Room} {kinds blocked classes : List ℕ} {start goal cell : ℕ} (byte : ℕ) → WorldFits R kinds blocked → Says mode R kinds blocked start goal classes → cell < volume R
+    → {blocked′ classes′ : List ℕ} → blocked′ ≡ withByte byte (eqb cell) blocked → classes′ ≡ refreshed mode R kinds blocked′ start goal cell classes
+    → Says mode R kinds blocked′ start goal classes′
+set-says {mode} {R} {kinds} {blocked} {classes} {start} {goal} {cell} byte fit says h e f =
+    rw (f, e) (refreshed-says mode R (fit .good) cell kinds blocked start goal (withByte byte (eqb cell) blocked) start goal (mark-put byte cell kinds blocked start goal) (fit .kinds-long) classes says h)
 
 -- ---- the attempts after it
 
-pub site-same : (R : Room) (C : RouterConfig) (kinds joinable joinable′ queue queue′ : List ℕ) → joinable′ ≡ joinable → length queue′ ≡ length queue
-    → siteOf R C kinds joinable′ queue′ ≡ siteOf R C kinds joinable queue
-site-same R C kinds joinable joinable′ queue queue′ j q = rw (j, q)
+pub site-same : (ground : Ground) (kinds joinable joinable′ queue queue′ : List ℕ) → joinable′ ≡ joinable → length queue′ ≡ length queue
+    → siteOf ground kinds joinable′ queue′ ≡ siteOf ground kinds joinable queue
+site-same ground kinds joinable joinable′ queue queue′ j q = rw (j, q)
 
 pub attempts-none : (S : Site) (start goal : ℕ) (blocked cells : List ℕ) (left : ℕ) → left ≡ 0 → Tells (attempts left S start goal blocked) Failed cells
 unfolding attempts
@@ -166,7 +167,7 @@ module _ {S : Site} {blocked classes known previous path : List ℕ} {start goal
       blocked-long = ap length b ∙ with-length 1 (eqb v) blocked ∙ A .grounds .blocked-long;
     }
 
-    pub able-next : {classes′ : List ℕ} → Says (S .room) (S .kinds) blocked′ start goal classes′ → Attemptable S blocked′ classes′ known previous path start goal
+    pub able-next : {classes′ : List ℕ} → Says (S .mode) (S .room) (S .kinds) blocked′ start goal classes′ → Attemptable S blocked′ classes′ known previous path start goal
     able-next says = record {
       grounds = record {
         good = A .grounds .good;
@@ -190,5 +191,5 @@ module _ {S : Site} {blocked classes known previous path : List ℕ} {start goal
     pub blocked-back : blocked′ ≡ blocked
     blocked-back = b ∙ put-back blocked v (A .grounds .blocked-marks) free
 
-    pub classes-back : {classes′ : List ℕ} → Says (S .room) (S .kinds) blocked′ start goal classes′ → classes′ ≡ classes
-    classes-back {classes′} says = says-one (S .room) (S .kinds) blocked start goal classes′ classes (rw blocked-back at says) (A .says)
+    pub classes-back : {classes′ : List ℕ} → Says (S .mode) (S .room) (S .kinds) blocked′ start goal classes′ → classes′ ≡ classes
+    classes-back {classes′} says = says-one (S .mode) (S .room) (S .kinds) blocked start goal classes′ classes (rw blocked-back at says) (A .says)

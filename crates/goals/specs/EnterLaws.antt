@@ -1,4 +1,5 @@
--- What can be entered in a sink's searches: its goal, and else only what can be entered at its turn, before any cell is blocked for one goal.
+-- What can be entered in a sink's searches: its goal, the cell right above it, and else only what can be entered at its turn, before any cell is blocked
+-- for one goal.
 use mathlib.Core.Path.{_≡_, refl, sym, ap, _∙_}
 use mathlib.Core.Logic.{_≢_}
 use mathlib.Core.Bool.{Bool, true, false, _||_, or-false, or-self}
@@ -16,16 +17,18 @@ use Rattle.room.specs.declared.Room.{Room}
 use Rattle.room.specs.declared.RouterConfig.{RouterConfig}
 use Rattle.room.specs.declared.Neighbour.{Neighbour}
 use Rattle.room.specs.declared.Neighbour.the-variants.{Inside, Outside}
-use Rattle.room.specs.Room.{volume, beneath}
+use Rattle.room.specs.Room.{Good, volume, beneath, above}
 use Rattle.room.specs.RoomLaws.{beneath-in}
-use Rattle.room.specs.Units.{air, solid}
+use Rattle.room.specs.AboveLaws.{beneath-above}
+use Rattle.room.specs.Units.{air}
+use Rattle.ground.specs.declared.Mode.{Mode}
 use Rattle.best_first.specs.Statements.{countBelow, OnlyInto}
 use Rattle.room_search.specs.Routing.{kindAt, anEnd, routeableKind, bearing, classFor, canEnter, entering, graphOf, graph}
 use Rattle.room_search.specs.GraphLaws.{sound}
 use Rattle.room_search.specs.Slackness.{into-enterable}
 use Rattle.routing_resources.specs.Marks.{withByte, markedBy, isMarked}
-use Rattle.blocked_world.specs.BlockedWorld.{countsAsSolid, seenKind, seenKinds, seenTask, classSeen, Says}
-use Rattle.blocked_world.specs.SeenLaws.{seen-at}
+use Rattle.blocked_world.specs.BlockedWorld.{blockedAir, seenKind, seenKinds, seenTask, classSeen, Says}
+use Rattle.blocked_world.specs.SeenLaws.{wall-closed, blocked-is-air, seen-at}
 use Rattle.goals.specs.NeverFull.{enterableCount}
 
 -- the same cells are blocked, and maybe more
@@ -54,58 +57,56 @@ module _ (isEnd : Bool) (kind below : ℕ) (n : classFor isEnd kind below ≢ 0)
   unfolding classFor
   is-borne e = n (rw (is-routeable, e))
 
--- what bears does so whatever is blocked, since blocked Air bears as Solid
-module _ (kinds blocked : List ℕ) (start goal v : ℕ) where
-  bears-seen : bearing (getD kinds v air) ≢ 0 → bearing (seenKind kinds blocked start goal v) ≢ 0
-  unfolding seenKind bearing
-  bears-seen n = ask (countsAsSolid kinds blocked start goal v) (λ t. rw t (λ e. omega arith)) (λ f. rw f n)
+-- Air bears
+air-bears : (kind : ℕ) → kind ≡ air → bearing kind ≢ 0
+unfolding bearing
+air-bears kind t = rw t (λ e. omega arith)
 
-  seen-bears : bearing (seenKind kinds blocked start goal v) ≢ 0 → bearing (getD kinds v air) ≢ 0
-  unfolding seenKind bearing countsAsSolid
-  seen-bears n =
-      ask (countsAsSolid kinds blocked start goal v)
-      (λ t. rw (and-left (eqb (getD kinds v air) air) _ t) (λ e. omega arith))
-      (λ f. rw f at n)
-
-solid-closed : (isEnd : Bool) → routeableKind isEnd solid ≡ true → ⊥
-unfolding routeableKind
-solid-closed true e = never (cc)
-solid-closed false e = never (cc)
-
-module _ (R : Room) (kinds blocked blocked′ : List ℕ) (start goal : ℕ) (still : StillBlocked blocked blocked′) where
+module _ (mode : Mode) (R : Room) (kinds blocked blocked′ : List ℕ) (start goal : ℕ) (still : StillBlocked blocked blocked′) where
   same-end : (v : ℕ) → v ≢ goal → anEnd start goal v ≡ anEnd start start v
   same-end v n = rw (ne-eqb v goal n, or-false (eqb v start), or-self (eqb v start))
 
-  -- a cell that counts as Solid at the turn does so in the search
-  solid-still : (v : ℕ) → v ≢ goal → countsAsSolid kinds blocked start start v ≡ true → countsAsSolid kinds blocked′ start goal v ≡ true
-  unfolding countsAsSolid
-  solid-still v n t =
+  -- a cell other than the goal that is blocked Air at the turn is so in the search
+  wall-still : (v : ℕ) → v ≢ goal → blockedAir kinds blocked start start v ≡ true → blockedAir kinds blocked′ start goal v ≡ true
+  unfolding blockedAir
+  wall-still v n t =
       let marked = and-right (eqb (getD kinds v air) air) _ t in
       and-both (and-left (eqb (getD kinds v air) air) _ t) (and-both (still v (and-left (isMarked blocked v) _ marked)) (rw (same-end v n) (and-right (isMarked blocked v) _ marked)))
 
-  still-routeable : (v : ℕ) → v ≢ goal → (isEnd : Bool) → routeableKind isEnd (seenKind kinds blocked′ start goal v) ≡ true → routeableKind isEnd (seenKind kinds blocked start start v) ≡ true
+  still-routeable : (v : ℕ) → v ≢ goal → (isEnd : Bool) → routeableKind isEnd (seenKind mode kinds blocked′ start goal v) ≡ true → routeableKind isEnd (seenKind mode kinds blocked start start v) ≡ true
   unfolding seenKind
   still-routeable v n isEnd e =
-      ask (countsAsSolid kinds blocked′ start goal v)
-      (λ t. absurd (solid-closed isEnd (rw t at e)))
-      (λ f. ask (countsAsSolid kinds blocked start start v) (λ t. never (cc (sym f ∙ solid-still v n t))) (λ g. rw g (rw f at e)))
+      ask (blockedAir kinds blocked′ start goal v)
+      (λ t. absurd (wall-closed mode isEnd (rw t at e)))
+      (λ f. ask (blockedAir kinds blocked start start v) (λ t. never (cc (sym f ∙ wall-still v n t))) (λ g. rw g (rw f at e)))
+
+  -- what bears in the search bears at the turn: it is seen alike, or it is Air that was blocked since
+  still-bears : (v : ℕ) → v ≢ goal → bearing (seenKind mode kinds blocked′ start goal v) ≢ 0 → bearing (seenKind mode kinds blocked start start v) ≢ 0
+  unfolding seenKind
+  still-bears v n b =
+      ask (blockedAir kinds blocked start start v)
+      (λ t. rw t (rw (wall-still v n t) at b))
+      (λ f. rw f (ask (blockedAir kinds blocked′ start goal v)
+      (λ t. air-bears (getD kinds v air) (blocked-is-air kinds blocked′ start goal v t))
+      (λ g. rw g at b)))
 
   module _ (long : length kinds ≡ volume R) where
-    still-borne : (place : Neighbour) → ((u : ℕ) → place ≡ Inside u → u < volume R)
-        → bearing (kindAt (seenKinds kinds blocked′ start goal) place) ≢ 0 → bearing (kindAt (seenKinds kinds blocked start start) place) ≢ 0
+    still-borne : (place : Neighbour) → ((u : ℕ) → place ≡ Inside u → (u < volume R) × (u ≢ goal))
+        → bearing (kindAt (seenKinds mode kinds blocked′ start goal) place) ≢ 0 → bearing (kindAt (seenKinds mode kinds blocked start start) place) ≢ 0
     still-borne Outside inside n = n
     still-borne (Inside u) inside n =
-        let l : u < length kinds = rw long (inside u refl) in
-        rw (seen-at kinds blocked start start u l) (bears-seen kinds blocked start start u (seen-bears kinds blocked′ start goal u (rw (seen-at kinds blocked′ start goal u l) at n)))
+        let l : u < length kinds = rw long (inside u refl .0) in
+        rw (seen-at mode kinds blocked start start u l) (still-bears u (inside u refl .1) (rw (seen-at mode kinds blocked′ start goal u l) at n))
 
-    -- a cell other than the goal that can be entered in the search can be entered at the turn
-    still-enterable : (v : ℕ) → v < volume R → v ≢ goal → classSeen R kinds blocked′ start goal v ≢ 0 → classSeen R kinds blocked start start v ≢ 0
+    -- a cell other than the goal, and not right above it, that can be entered in the search can be entered at the turn
+    still-enterable : (v : ℕ) → v < volume R → v ≢ goal → beneath R v ≢ Inside goal
+        → classSeen mode R kinds blocked′ start goal v ≢ 0 → classSeen mode R kinds blocked start start v ≢ 0
     unfolding classSeen classFor
-    still-enterable v h n c =
+    still-enterable v h n o c =
         let l : v < length kinds = rw long h in
-        let kind = still-routeable v n (anEnd start goal v) (rw (seen-at kinds blocked′ start goal v l) at (is-routeable _ _ _ c)) in
-        let below = still-borne (beneath R v) (λ u e. beneath-in R v u h e) (is-borne _ _ _ c) in
-        rw (seen-at kinds blocked start start v l, ← same-end v n, kind) below
+        let kind = still-routeable v n (anEnd start goal v) (rw (seen-at mode kinds blocked′ start goal v l) at (is-routeable _ _ _ c)) in
+        let below = still-borne (beneath R v) (λ u e. (beneath-in R v u h e, λ q. o (e ∙ ap Inside q))) (is-borne _ _ _ c) in
+        rw (seen-at mode kinds blocked start start v l, ← same-end v n, kind) below
 
 -- ---- all cells
 
@@ -118,32 +119,57 @@ sum-one-more (suc n) v f g h one =
     (λ e. omega (arith, sum-le n f g (λ x l. h x (λ q. omega arith)), rw (← e) at one))
     (λ d. omega (arith, sum-one-more n v f g h one, h n d))
 
--- by the class bytes of the turn, a search for that goal may enter a cell
-abbrev pub entersFor : List ℕ → ℕ → ℕ → Bool
-entersFor classes goal v = eqb v goal || canEnter (getD classes v 0)
+-- that cell, if there is one
+abbrev isAt : Neighbour → ℕ → Bool
+isAt (Inside u) v = eqb v u
+isAt Outside v = false
 
-pub enters-few : (n : ℕ) (classes : List ℕ) (goal : ℕ) → countBelow n (entersFor classes goal) ≤ enterableCount n classes + 1
-enters-few n classes goal =
-    sum-one-more n goal (λ v. bit (entersFor classes goal v)) (λ v. bit (canEnter (getD classes v 0)))
-    (λ v d. rw (ne-eqb v goal d) (omega arith))
-    (omega (arith, bit-small (entersFor classes goal goal)))
+-- by the class bytes of the turn, a search for that goal may enter a cell. In strict mode the goal, which is exempt, may bear the cell above it, where at the
+-- turn it is blocked Air and bears nothing
+abbrev pub entersFor : Room → List ℕ → ℕ → ℕ → Bool
+entersFor R classes goal v = eqb v goal || (isAt (above R goal) v || canEnter (getD classes v 0))
 
-pub enters-only : (R : Room) (C : RouterConfig) (kinds blocked blocked′ : List ℕ) (start goal places : ℕ) {classes : List ℕ} → start < volume R → goal < volume R
-    → length kinds ≡ volume R → Says R kinds blocked start start classes → StillBlocked blocked blocked′
-    → OnlyInto (graph (seenTask R C kinds blocked′ start goal places)) (entersFor classes goal)
+-- one cell more
+with-one : (n u : ℕ) (test : ℕ → Bool) → countBelow n (λ v. eqb v u || test v) ≤ countBelow n test + 1
+with-one n u test =
+    sum-one-more n u (λ v. bit (eqb v u || test v)) (λ v. bit (test v))
+    (λ v d. rw (ne-eqb v u d) (omega arith))
+    (omega (arith, bit-small (eqb u u || test u)))
+
+with-place : (n : ℕ) (place : Neighbour) (test : ℕ → Bool) → countBelow n (λ v. isAt place v || test v) ≤ countBelow n test + 1
+with-place n (Inside u) test = with-one n u test
+with-place n Outside test = omega arith
+
+pub enters-few : (R : Room) (n : ℕ) (classes : List ℕ) (goal : ℕ) → countBelow n (entersFor R classes goal) ≤ enterableCount n classes + 2
+enters-few R n classes goal = omega (
+  arith,
+  with-one n goal (λ v. isAt (above R goal) v || canEnter (getD classes v 0)),
+  with-place n (above R goal) (λ v. canEnter (getD classes v 0)),
+)
+
+pub enters-only : (mode : Mode) (R : Room) → Good R → (C : RouterConfig) (kinds blocked blocked′ : List ℕ) (start goal places : ℕ) {classes : List ℕ} → start < volume R → goal < volume R
+    → length kinds ≡ volume R → Says mode R kinds blocked start start classes → StillBlocked blocked blocked′
+    → OnlyInto (graph (seenTask mode R C kinds blocked′ start goal places)) (entersFor R classes goal)
 unfolding graphOf classSeen
-enters-only R C kinds blocked blocked′ start goal places {classes} start-in goal-in long says still =
-    let class = entering (seenTask R C kinds blocked′ start goal places) in
+enters-only mode R G C kinds blocked blocked′ start goal places {classes} start-in goal-in long says still =
+    let class = entering (seenTask mode R C kinds blocked′ start goal places) in
     record {
       passes = λ u m i n.
           at (m .to) (sound R C class start goal places start-in goal-in .inside u m i) (into-enterable R C class start goal places .passes u m i n);
     }
   where
-    at : (v : ℕ) → v < volume R → canEnter (entering (seenTask R C kinds blocked′ start goal places) v) ≡ true → entersFor classes goal v ≡ true
+    -- right above the goal
+    over : (v : ℕ) → above R goal ≡ Inside v → isAt (above R goal) v ≡ true
+    over v e = rw (e, eq-eqb v v refl)
+
+    at : (v : ℕ) → v < volume R → canEnter (entering (seenTask mode R C kinds blocked′ start goal places) v) ≡ true → entersFor R classes goal v ≡ true
     at v h e =
         askSame v goal
         (λ q. rw (eq-eqb v goal q))
-        (λ d. rw (ne-eqb v goal d, says .each v h) (can-enter _ (still-enterable R kinds blocked blocked′ start goal still long v h d (eqb-false _ 0 (not-true _ e)))))
+        (λ d. rw (ne-eqb v goal d) (ask (isAt (above R goal) v)
+        (λ t. rw t)
+        (λ f. rw (f, says .each v h) (can-enter _ (still-enterable mode R kinds blocked blocked′ start goal still long v h d
+        (λ b. never (cc (sym f ∙ over v (beneath-above R G v goal h b)))) (eqb-false _ 0 (not-true _ e)))))))
 
 -- ---- the loop that counts
 

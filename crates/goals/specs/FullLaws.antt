@@ -1,5 +1,5 @@
 -- NO QUEUE IS FULL, where a flat step costs at least 10 and a stair at least 20 and there are 5 places for each cell but the start, or for each cell that
--- can be entered: no goal of a sink comes to number 13.
+-- can be entered and two more: no goal of a sink comes to number 13.
 use mathlib.Core.Path.{_≡_, refl}
 use mathlib.Core.Logic.{_≢_}
 use mathlib.Core.Bool.{Bool, true, false, _||_}
@@ -13,7 +13,7 @@ use borrow.Author.Tests.{leb-true}
 use Rattle.basics.specs.Tests.{ask, never, passed}
 use Rattle.room.specs.declared.Neighbour.{Neighbour}
 use Rattle.room.specs.declared.Neighbour.the-variants.{Inside, Outside}
-use Rattle.room.specs.Room.{volume}
+use Rattle.room.specs.Room.{Good, volume}
 use Rattle.best_first.specs.Search.{Answer, route, no-route, limit-passed, queue-full}
 use Rattle.best_first.specs.Statements.{countBelow, OnlyInto}
 use Rattle.best_first.specs.Theorems as any-graph
@@ -107,16 +107,16 @@ module _ (S : Site) (start : ℕ) (blocked : List ℕ) (start-in : start < volum
   pub cells-never : FivePlaces (S .config) (volume (S .room) - 1) (S .places) → NeverFull S start blocked
   cells-never F = searches-never S start blocked (λ blocked′ still goal h. search-not-full (siteTask S blocked′ start goal) start-in h F)
 
-  -- by the cells that can be entered at the turn, and the goal
-  pub enterable-never : {classes : List ℕ} → length (S .kinds) ≡ volume (S .room) → Says (S .room) (S .kinds) blocked start start classes
-      → FivePlaces (S .config) (enterableCount (volume (S .room)) classes + 1) (S .places) → NeverFull S start blocked
-  enterable-never {classes} long says F = searches-never S start blocked (λ blocked′ still goal h.
+  -- by the cells that can be entered at the turn, the goal and the cell above it
+  pub enterable-never : Good (S .room) → {classes : List ℕ} → length (S .kinds) ≡ volume (S .room) → Says (S .mode) (S .room) (S .kinds) blocked start start classes
+      → FivePlaces (S .config) (enterableCount (volume (S .room)) classes + 2) (S .places) → NeverFull S start blocked
+  enterable-never good {classes} long says F = searches-never S start blocked (λ blocked′ still goal h.
       entered-not-full (siteTask S blocked′ start goal) start-in h
-      (enters-only (S .room) (S .config) (S .kinds) blocked blocked′ start goal (S .places) start-in h long says still)
+      (enters-only (S .mode) (S .room) good (S .config) (S .kinds) blocked blocked′ start goal (S .places) start-in h long says still)
       (record { flat-least = F .flat-least; stair-least = F .stair-least; wide = wide goal }))
     where
-      wide : (goal : ℕ) → 5 * countBelow (volume (S .room)) (entersFor classes goal) ≤ S .places
-      wide goal = omega (arith, F .wide, mul-le-mul-left 5 (enters-few (volume (S .room)) classes goal))
+      wide : (goal : ℕ) → 5 * countBelow (volume (S .room)) (entersFor (S .room) classes goal) ≤ S .places
+      wide goal = omega (arith, F .wide, mul-le-mul-left 5 (enters-few (S .room) (volume (S .room)) classes goal))
 
 -- the test is enough
 pub tested-never : {S : Site} {blocked classes known previous path : List ℕ} {start : ℕ} → Attemptable S blocked classes known previous path start start
@@ -125,15 +125,15 @@ unfolding neverFull
 tested-never {S} {blocked} {classes} {start = start} A e =
     ask (leb (5 * length classes) (S .places + 5))
     (λ t. cells-never S start blocked (A .grounds .start-in) (record { flat-least = search passed; stair-least = search passed; wide = by-cells t }))
-    (λ f. enterable-never S start blocked (A .grounds .start-in) (A .grounds .kinds-long) (A .says) (record { flat-least = search passed; stair-least = search passed; wide = by-enterable f }))
+    (λ f. enterable-never S start blocked (A .grounds .start-in) (A .grounds .good) (A .grounds .kinds-long) (A .says) (record { flat-least = search passed; stair-least = search passed; wide = by-enterable f }))
   where
     by-cells : leb (5 * length classes) (S .places + 5) ≡ true → 5 * (volume (S .room) - 1) ≤ S .places
     by-cells t = omega (arith, leb-true (5 * length classes) (S .places + 5) t, A .says .long)
 
-    by-enterable : leb (5 * length classes) (S .places + 5) ≡ false → 5 * (enterableCount (volume (S .room)) classes + 1) ≤ S .places
+    by-enterable : leb (5 * length classes) (S .places + 5) ≡ false → 5 * (enterableCount (volume (S .room)) classes + 2) ≤ S .places
     by-enterable f =
-        let wide : leb (5 * length classes) (S .places + 5) || leb (5 * (enterableCount (length classes) classes + 1)) (S .places) ≡ true = search passed in
-        rw (A .says .long) at (leb-true (5 * (enterableCount (length classes) classes + 1)) (S .places) (rw f at wide))
+        let wide : leb (5 * length classes) (S .places + 5) || leb (5 * (enterableCount (length classes) classes + 2)) (S .places) ≡ true = search passed in
+        rw (A .says .long) at (leb-true (5 * (enterableCount (length classes) classes + 2)) (S .places) (rw f at wide))
 
 neither-full : (a b : Trial) → ((x : ℕ) → a ≢ full x) → ((x : ℕ) → b ≢ full x) → (x : ℕ) → cheaperRoute a b ≢ full x
 unfolding cheaperRoute

@@ -10,10 +10,9 @@ use lib.ListN.{length, getD, take, drop, length-append}
 use lib.Seq.{take-at, length-take-le}
 use borrow.Author.Tests.{eq-eqb, ne-eqb}
 use Rattle.basics.specs.Tests.{askSame, never}
-use Rattle.room.specs.declared.Room.{Room}
-use Rattle.room.specs.declared.RouterConfig.{RouterConfig}
 use Rattle.room.specs.declared.Cost.{Cost}
 use Rattle.room.specs.Room.{volume}
+use Rattle.ground.specs.declared.Ground.{Ground}
 use Rattle.blocked_world.specs.BlockedWorld.{Says, refreshed}
 use Rattle.blocked_world.specs.SeenLaws.{says-one}
 use Rattle.blocked_world.specs.RefreshLaws.{same-back, goal-left, refreshed-says}
@@ -28,22 +27,22 @@ use Rattle.goals.specs.SearchForLaws.{tells-failed}
 
 module _ {S : Site} {blocked classes known previous path : List ℕ} {start : ℕ} (A : Attemptable S blocked classes known previous path start start) (goal : ℕ) (h : goal < volume (S .room)) where
   -- the goal becomes an end
-  pub able-towards : {classes′ : List ℕ} → classes′ ≡ refreshed (S .room) (S .kinds) blocked start goal goal classes
+  pub able-towards : {classes′ : List ℕ} → classes′ ≡ refreshed (S .mode) (S .room) (S .kinds) blocked start goal goal classes
       → Attemptable S blocked classes′ known previous path start goal
   able-towards e = record {
     grounds = A .grounds;
     memory = A .memory;
     goal-in = h;
     says = rw e
-        (refreshed-says (S .room) (A .grounds .good) goal (S .kinds) blocked start start blocked start goal (same-back (goal-left (S .kinds) blocked start goal))
+        (refreshed-says (S .mode) (S .room) (A .grounds .good) goal (S .kinds) blocked start start blocked start goal (same-back (goal-left (S .kinds) blocked start goal))
         (A .grounds .kinds-long) classes (A .says) h);
   }
 
   -- and is none any more
-  pub classes-left : {classes′ : List ℕ} → Says (S .room) (S .kinds) blocked start goal classes′ → refreshed (S .room) (S .kinds) blocked start start goal classes′ ≡ classes
+  pub classes-left : {classes′ : List ℕ} → Says (S .mode) (S .room) (S .kinds) blocked start goal classes′ → refreshed (S .mode) (S .room) (S .kinds) blocked start start goal classes′ ≡ classes
   classes-left {classes′} says =
-      says-one (S .room) (S .kinds) blocked start start _ classes
-      (refreshed-says (S .room) (A .grounds .good) goal (S .kinds) blocked start goal blocked start start (goal-left (S .kinds) blocked start goal) (A .grounds .kinds-long) classes′ says h)
+      says-one (S .mode) (S .room) (S .kinds) blocked start start _ classes
+      (refreshed-says (S .mode) (S .room) (A .grounds .good) goal (S .kinds) blocked start goal blocked start start (goal-left (S .kinds) blocked start goal) (A .grounds .kinds-long) classes′ says h)
       (A .says)
 
 -- ---- the cheaper one
@@ -146,13 +145,13 @@ memory-first joinable blocked classes known previous path best queue = record {
   queue-long = refl;
 }
 
-module _ (R : Room) (C : RouterConfig) (kinds : List ℕ) {joinable₀ joinable blocked₀ blocked classes₀ classes known₀ known previous₀ previous path₀ path best₀ best queue₀ queue : List ℕ}
+module _ (ground : Ground) (kinds : List ℕ) {joinable₀ joinable blocked₀ blocked classes₀ classes known₀ known previous₀ previous path₀ path best₀ best queue₀ queue : List ℕ}
     (M : SameMemory joinable₀ joinable blocked₀ blocked classes₀ classes known₀ known previous₀ previous path₀ path best₀ best queue₀ queue) where
-  pub memory-site : siteOf R C kinds joinable queue ≡ siteOf R C kinds joinable₀ queue₀
-  memory-site = site-same R C kinds joinable₀ joinable queue₀ queue (M .joinable-is) (M .queue-long)
+  pub memory-site : siteOf ground kinds joinable queue ≡ siteOf ground kinds joinable₀ queue₀
+  memory-site = site-same ground kinds joinable₀ joinable queue₀ queue (M .joinable-is) (M .queue-long)
 
-  pub memory-able : {start : ℕ} → Attemptable (siteOf R C kinds joinable₀ queue₀) blocked₀ classes₀ known₀ previous₀ path₀ start start
-      → Attemptable (siteOf R C kinds joinable queue) blocked classes known previous path start start
+  pub memory-able : {start : ℕ} → Attemptable (siteOf ground kinds joinable₀ queue₀) blocked₀ classes₀ known₀ previous₀ path₀ start start
+      → Attemptable (siteOf ground kinds joinable queue) blocked classes known previous path start start
   memory-able A = rw (M .blocked-is, M .classes-is) (able-kept A memory-site (M .known-long) (M .previous-long) (M .path-long))
 
 pub memory-next : {joinable₀ joinable blocked₀ blocked classes₀ classes known₀ known previous₀ previous path₀ path best₀ best queue₀ queue : List ℕ}
@@ -189,22 +188,22 @@ goals-first S start joinable blocked classes known previous path best queue = re
   same = memory-first joinable blocked classes known previous path best queue;
 }
 
-module _ (R : Room) (C : RouterConfig) (kinds : List ℕ) {start goal : ℕ} {kept : Tried}
+module _ (ground : Ground) (kinds : List ℕ) {start goal : ℕ} {kept : Tried}
     {joinable₀ joinable blocked₀ blocked classes₀ classes known₀ known previous₀ previous path₀ path best₀ best queue₀ queue : List ℕ}
-    (G : GoalsTried (siteOf R C kinds joinable₀ queue₀) start goal kept joinable₀ joinable blocked₀ blocked classes₀ classes known₀ known previous₀ previous path₀ path best₀ best queue₀ queue) where
-  pub goals-tells : Tells (bestBelow goal (siteOf R C kinds joinable queue) start blocked) kept best
-  goals-tells = rw (memory-site R C kinds (G .same), G .same .blocked-is) (G .tells)
+    (G : GoalsTried (siteOf ground kinds joinable₀ queue₀) start goal kept joinable₀ joinable blocked₀ blocked classes₀ classes known₀ known previous₀ previous path₀ path best₀ best queue₀ queue) where
+  pub goals-tells : Tells (bestBelow goal (siteOf ground kinds joinable queue) start blocked) kept best
+  goals-tells = rw (memory-site ground kinds (G .same), G .same .blocked-is) (G .tells)
 
   -- what is said of the marks as they are is said of them as they were
-  pub goals-told : (n : ℕ) {r : Tried} {best′ : List ℕ} → Tells (bestBelow n (siteOf R C kinds joinable queue) start blocked) r best′
-      → Tells (bestBelow n (siteOf R C kinds joinable₀ queue₀) start blocked₀) r best′
-  goals-told n t = rw (memory-site R C kinds (G .same), G .same .blocked-is) at t
+  pub goals-told : (n : ℕ) {r : Tried} {best′ : List ℕ} → Tells (bestBelow n (siteOf ground kinds joinable queue) start blocked) r best′
+      → Tells (bestBelow n (siteOf ground kinds joinable₀ queue₀) start blocked₀) r best′
+  goals-told n t = rw (memory-site ground kinds (G .same), G .same .blocked-is) at t
 
-  pub goals-next : goal < volume R → {kept′ : Tried} {joinable′ blocked′ classes′ known′ previous′ path′ best′ queue′ : List ℕ} → GoesOn kept′
-      → Tells (bestBelow (goal + 1) (siteOf R C kinds joinable queue) start blocked) kept′ best′
+  pub goals-next : goal < volume (ground .room) → {kept′ : Tried} {joinable′ blocked′ classes′ known′ previous′ path′ best′ queue′ : List ℕ} → GoesOn kept′
+      → Tells (bestBelow (goal + 1) (siteOf ground kinds joinable queue) start blocked) kept′ best′
       → (joinable′ ≡ joinable) × (blocked′ ≡ blocked) × (classes′ ≡ classes)
       → length known′ ≡ length known → length previous′ ≡ length previous → length path′ ≡ length path → length best′ ≡ length best → length queue′ ≡ length queue
-      → GoalsTried (siteOf R C kinds joinable₀ queue₀) start (goal + 1) kept′ joinable₀ joinable′ blocked₀ blocked′ classes₀ classes′ known₀ known′ previous₀ previous′ path₀ path′ best₀ best′ queue₀ queue′
+      → GoalsTried (siteOf ground kinds joinable₀ queue₀) start (goal + 1) kept′ joinable₀ joinable′ blocked₀ blocked′ classes₀ classes′ known₀ known′ previous₀ previous′ path₀ path′ best₀ best′ queue₀ queue′
   goals-next h on t kept k p q b u = record {
     within = omega arith;
     on = on;

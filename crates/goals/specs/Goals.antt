@@ -14,16 +14,18 @@ use Rattle.best_first.specs.Search.{Answer, route, no-route, limit-passed, queu
 use Rattle.room_search.specs.Routing.{Task, anEnd, routeable, searched}
 use Rattle.routing_resources.specs.Marks.{markedBy, isMarked}
 use Rattle.geometry.specs.Geometry.{conflictOf}
+use Rattle.ground.specs.declared.Mode.{Mode}
 use Rattle.blocked_world.specs.BlockedWorld.{seenTask}
 
 -- "at most 64 attempts a goal"
 abbrev pub maxAttempts : ℕ
 maxAttempts = 64
 
--- what stays as it is while one sink is searched for: the room, the config, the kinds, the joinable cells, and the queue's places
+-- what stays as it is while one sink is searched for: the room, the config, the mode, the kinds, the joinable cells, and the queue's places
 pub record Site : Type 0 where
   pub room : Room
   pub config : RouterConfig
+  pub mode : Mode
   pub kinds : List ℕ
   pub joinable : List ℕ
   pub places : ℕ
@@ -64,7 +66,7 @@ afterSearch S blocked start goal again (full x) = full x
 
 -- the search from start to goal, as it sees the room
 abbrev pub siteTask : Site → List ℕ → ℕ → ℕ → Task
-siteTask S blocked start goal = seenTask (S .room) (S .config) (S .kinds) blocked start goal (S .places)
+siteTask S blocked start goal = seenTask (S .mode) (S .room) (S .config) (S .kinds) blocked start goal (S .places)
 
 -- one attempt, with what the attempts after it come to
 abbrev pub attemptThen : Site → List ℕ → ℕ → ℕ → (List ℕ → Trial) → Trial

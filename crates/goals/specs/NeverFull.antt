@@ -26,9 +26,9 @@ pub record FivePlaces (C : RouterConfig) (cells places : ℕ) : Type 0 where
 abbrev pub enterableCount : ℕ → List ℕ → ℕ
 enterableCount n classes = countBelow n (λ v. canEnter (getD classes v 0))
 
--- the test, with the class bytes of a sink's turn: 5 places for each cell but the start, or for each cell that can be entered and for the goal, which is
--- an end, and so may be entered, in its own searches alone
+-- the test, with the class bytes of a sink's turn: 5 places for each cell but the start, or for each cell that can be entered, for the goal, which is an
+-- end, and so may be entered, in its own searches alone, and for the cell that it may bear in these alone
 unfoldable pub neverFull : RouterConfig → List ℕ → ℕ → Bool
 neverFull C classes places =
     leb 10 (C .horizontal .0)
-    && (leb 20 (C .stair .0) && (leb (5 * length classes) (places + 5) || leb (5 * (enterableCount (length classes) classes + 1)) places))
+    && (leb 20 (C .stair .0) && (leb (5 * length classes) (places + 5) || leb (5 * (enterableCount (length classes) classes + 2)) places))

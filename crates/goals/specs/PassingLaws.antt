@@ -18,6 +18,7 @@ use Rattle.room.specs.declared.Cost.{Cost}
 use Rattle.room.specs.Room.{Good, maxVolume, volume, posOf}
 use Rattle.room.specs.RoomLaws.{small-pos}
 use Rattle.room.specs.Units.{GoodConfig}
+use Rattle.ground.specs.declared.Ground.{Ground}
 use Rattle.routing_resources.specs.Marks.{isMarked}
 use Rattle.goals.specs.declared.Tried.{Tried}
 use Rattle.goals.specs.declared.Tried.the-variants.{Found, Failed, Full}
@@ -339,12 +340,18 @@ pub record GoalsPassed (S : Site) (start : ℕ) (t : Bid) (K : Kept) (joinable�
   pub none : volume (S .room) ≤ t .goal → t .bid ≡ noBid
   pub same : SameMemory joinable₀ joinable blocked₀ blocked classes₀ classes known₀ known previous₀ previous path₀ path best₀ best queue₀ queue
 
-module _ (R : Room) (C : RouterConfig) (kinds : List ℕ) (start : ℕ) (R-good : Good R) (C-good : GoodConfig C) (start-in : start < volume R) where
+module _ (ground : Ground) (kinds : List ℕ) (start : ℕ) (R-good : Good (ground .room)) (C-good : GoodConfig (ground .config)) (start-in : start < volume (ground .room)) where
+  abbrev R : Room
+  R = ground .room
+
+  abbrev C : RouterConfig
+  C = ground .config
+
   few : (goal : ℕ) → goal < volume R → bidOf C R (posOf R start) goal < noBid
   few = bid-few C-good R-good (posOf R start) (small-pos R R-good start start-in (posOf R start) refl)
 
   next-of : {joinable : List ℕ} (queue : List ℕ) {low end : ℕ} {t : Bid} → LowestBid C R joinable (posOf R start) low end (volume R) t → t .goal < volume R
-      → NextOf (siteOf R C kinds joinable queue) start t
+      → NextOf (siteOf ground kinds joinable queue) start t
   next-of queue L h = record {
     its-bid = (L .its-bid h .0, L .its-bid h .1);
     rises = L .below h .1;
@@ -352,11 +359,11 @@ module _ (R : Room) (C : RouterConfig) (kinds : List ℕ) (start : ℕ) (R-good 
   }
 
   pub passed-first : {kept : ℕ} {t : Bid} (joinable blocked classes known previous path best queue : List ℕ) {from : Pos} → from ≡ posOf R start → NextBid C R joinable from 0 noBid t
-      → GoalsPassed (siteOf R C kinds joinable queue) start t (record { tried = Failed; goal = kept }) joinable joinable blocked blocked classes classes known known previous previous path path best best queue queue
+      → GoalsPassed (siteOf ground kinds joinable queue) start t (record { tried = Failed; goal = kept }) joinable joinable blocked blocked classes classes known known previous previous path path best best queue queue
   passed-first {kept} {t} joinable blocked classes known previous path best queue f N₀ = go (rw f at N₀)
     where
       go : NextBid C R joinable (posOf R start) 0 noBid t
-          → GoalsPassed (siteOf R C kinds joinable queue) start t (record { tried = Failed; goal = kept }) joinable joinable blocked blocked classes classes known known previous previous path path best best queue queue
+          → GoalsPassed (siteOf ground kinds joinable queue) start t (record { tried = Failed; goal = kept }) joinable joinable blocked blocked classes classes known known previous previous path path best best queue queue
       go N = record {
         held = record { holds = tt };
         lower = λ other h m l. askLess (t .goal) (volume R)
@@ -369,10 +376,10 @@ module _ (R : Room) (C : RouterConfig) (kinds : List ℕ) (start : ℕ) (R-good 
 
   module _ {t : Bid} {K : Kept}
       {joinable₀ joinable blocked₀ blocked classes₀ classes known₀ known previous₀ previous path₀ path best₀ best queue₀ queue : List ℕ}
-      (G : GoalsPassed (siteOf R C kinds joinable₀ queue₀) start t K joinable₀ joinable blocked₀ blocked classes₀ classes known₀ known previous₀ previous path₀ path best₀ best queue₀ queue) where
-    pub passed-able : length best₀ ≡ volume R → NeverFull (siteOf R C kinds joinable₀ queue₀) start blocked₀ → t .goal < volume R
-        → Passable (siteOf R C kinds joinable queue) start blocked best (t .goal) K
-    passed-able long F h = rw (memory-site R C kinds (G .same), G .same .blocked-is) (record {
+      (G : GoalsPassed (siteOf ground kinds joinable₀ queue₀) start t K joinable₀ joinable blocked₀ blocked classes₀ classes known₀ known previous₀ previous path₀ path best₀ best queue₀ queue) where
+    pub passed-able : length best₀ ≡ volume R → NeverFull (siteOf ground kinds joinable₀ queue₀) start blocked₀ → t .goal < volume R
+        → Passable (siteOf ground kinds joinable queue) start blocked best (t .goal) K
+    passed-able long F h = rw (memory-site ground kinds (G .same), G .same .blocked-is) (record {
       goal-in = h;
       marked = G .lowest h .its-bid .1;
       best-long = G .same .best-long ∙ long;
@@ -389,11 +396,11 @@ module _ (R : Room) (C : RouterConfig) (kinds : List ℕ) (start : ℕ) (R-good 
         (λ o. omega (arith, small, N .none o))
 
     pub passed-next : t .goal < volume R → {K′ : Kept} {joinable′ blocked′ classes′ known′ previous′ path′ best′ queue′ : List ℕ}
-        → Passes (siteOf R C kinds joinable queue) start blocked (t .goal) K K′ best′
+        → Passes (siteOf ground kinds joinable queue) start blocked (t .goal) K K′ best′
         → (joinable′ ≡ joinable) × (blocked′ ≡ blocked) × (classes′ ≡ classes)
         → length known′ ≡ length known → length previous′ ≡ length previous → length path′ ≡ length path → length best′ ≡ length best → length queue′ ≡ length queue
         → {from : Pos} → from ≡ posOf R start → {end : ℕ} → end ≡ bidToBeat (K′ .tried) (K′ .goal) → {t′ : Bid} → NextBid C R joinable′ from (t .second) end t′
-        → GoalsPassed (siteOf R C kinds joinable₀ queue₀) start t′ K′ joinable₀ joinable′ blocked₀ blocked′ classes₀ classes′ known₀ known′ previous₀ previous′ path₀ path′ best₀ best′ queue₀ queue′
+        → GoalsPassed (siteOf ground kinds joinable₀ queue₀) start t′ K′ joinable₀ joinable′ blocked₀ blocked′ classes₀ classes′ known₀ known′ previous₀ previous′ path₀ path′ best₀ best′ queue₀ queue′
     passed-next h {K′} {joinable′} {best′ = best′} passes kept k p q b u {from} f {end} e {t′} N₀ = record {
       held = now-passes .held;
       lower = λ other i m l. askLess (bidOf C R (posOf R start) other) (t .bid)
@@ -404,23 +411,23 @@ module _ (R : Room) (C : RouterConfig) (kinds : List ℕ) (start : ℕ) (R-good 
       same = memory-next (G .same) kept k p q b u;
     }
       where
-        now-passes : Passes (siteOf R C kinds joinable₀ queue₀) start blocked₀ (t .goal) K K′ best′
-        now-passes = rw (memory-site R C kinds (G .same), G .same .blocked-is) at passes
+        now-passes : Passes (siteOf ground kinds joinable₀ queue₀) start blocked₀ (t .goal) K K′ best′
+        now-passes = rw (memory-site ground kinds (G .same), G .same .blocked-is) at passes
 
         N : NextBid C R joinable₀ (posOf R start) (t .second) (bidToBeat (K′ .tried) (K′ .goal)) t′
         N = rw (f, e, kept .0 ∙ G .same .joinable-is) at N₀
 
         -- what bids the second lowest or higher, and yet lower than the next, can't win
         later : (other : ℕ) → other < volume R → isMarked joinable₀ other ≡ true → bidOf C R (posOf R start) other < t′ .bid → t .second ≤ bidOf C R (posOf R start) other
-            → Yields (siteOf R C kinds joinable₀ queue₀) start blocked₀ other K′
+            → Yields (siteOf ground kinds joinable₀ queue₀) start blocked₀ other K′
         later other i m l s = askLess (t′ .goal) (volume R)
             (λ j. absurd (omega (arith, l, N .lowest j .least other i m s)))
-            (λ o. beaten-yields (siteOf R C kinds joinable₀ queue₀) start blocked₀ R-good C-good start-in K′ best′ (now-passes .held) other i (N .ended o other i m s))
+            (λ o. beaten-yields (siteOf ground kinds joinable₀ queue₀) start blocked₀ R-good C-good start-in K′ best′ (now-passes .held) other i (N .ended o other i m s))
 
-    pub passed-all : NeverFull (siteOf R C kinds joinable₀ queue₀) start blocked₀ → volume R ≤ t .goal
-        → Tells (routeToTree (siteOf R C kinds joinable₀ queue₀) start blocked₀) (K .tried) best
+    pub passed-all : NeverFull (siteOf ground kinds joinable₀ queue₀) start blocked₀ → volume R ≤ t .goal
+        → Tells (routeToTree (siteOf ground kinds joinable₀ queue₀) start blocked₀) (K .tried) best
     passed-all F h =
-        kept-is (siteOf R C kinds joinable₀ queue₀) start blocked₀ best F K (G .held)
+        kept-is (siteOf ground kinds joinable₀ queue₀) start blocked₀ best F K (G .held)
         (λ other i. ask (isMarked joinable₀ other)
         (λ m. G .lower other i m (omega (arith, G .none h, few other i)))
-        (λ n. unmarked-yields (siteOf R C kinds joinable₀ queue₀) start blocked₀ other K n))
+        (λ n. unmarked-yields (siteOf ground kinds joinable₀ queue₀) start blocked₀ other K n))

@@ -1,10 +1,9 @@
 -- Laws of one search: over class bytes that say what is seen, its answer is the defined one.
 use mathlib.Core.Path.{_≡_, refl, sym}
-use mathlib.Core.Bool.{Bool, true, false, _&&_, and-false}
+use mathlib.Core.Bool.{Bool, true, false, _&&_}
 use mathlib.Core.List.{List, [], _++_}
 use Prim.Native.Nat.{ℕ, _+_, _≤_, _<_, pred}
 use native.Mathlib.Omega.{arith}
-use lib.Dec.{eqb}
 use lib.ListN.{length, getD, drop, length-append}
 use lib.Seq.{take-at}
 use Rattle.basics.specs.Tests.{either, never, and-left, and-right}
@@ -20,8 +19,9 @@ use Rattle.room_search.specs.Routing.{Task, routeableKind, routeable, graphOf, 
 use Rattle.room_search.specs.SearchEndLaws.{start-is-end, goal-is-end}
 use Rattle.room_search.specs.TriedMoves.{placesOf}
 use Rattle.room_search.specs.Takings.{SearchRan, graphIn, spotOf}
-use Rattle.blocked_world.specs.BlockedWorld.{countsAsSolid, seenKind, seenTask}
-use Rattle.blocked_world.specs.SeenLaws.{seen-at, says-graph}
+use Rattle.ground.specs.declared.Mode.{Mode}
+use Rattle.blocked_world.specs.BlockedWorld.{seenTask}
+use Rattle.blocked_world.specs.SeenLaws.{end-open, seen-open, says-graph}
 use Rattle.goals.specs.declared.Tried.{Tried}
 use Rattle.goals.specs.declared.Tried.the-variants.{Found, Failed, Full}
 use Rattle.goals.specs.Goals.{found, failed, trialOf, searchedFor}
@@ -58,14 +58,14 @@ module _ {goal : ℕ} {known previous : List ℕ} where
 
 -- ---- the ends
 
-module _ (R : Room) (C : RouterConfig) (kinds blocked : List ℕ) (start goal places : ℕ) (long : length kinds ≡ volume R) where
+module _ (mode : Mode) (R : Room) (C : RouterConfig) (kinds blocked : List ℕ) (start goal places : ℕ) (long : length kinds ≡ volume R) where
   abbrev T : Task
-  T = seenTask R C kinds blocked start goal places
+  T = seenTask mode R C kinds blocked start goal places
 
   -- an end is seen as what it is
   end-free : (v : ℕ) → v < volume R → anEnd start goal v ≡ true → routeable T v ≡ routeableKind true (getD kinds v air)
-  unfolding routeable seenKind countsAsSolid
-  end-free v h e = rw (e, seen-at kinds blocked start goal v (rw long h), e, and-false (eqb (getD blocked v 0) 1), and-false (eqb (getD kinds v 0) 0))
+  unfolding routeable
+  end-free v h e = rw (e, seen-open kinds blocked start goal v mode (rw long h) (end-open kinds blocked start goal v e))
 
   module _ (start-in : start < volume R) (goal-in : goal < volume R) where
     start-free : routeable T start ≡ routeableKind true (getD kinds start air)
@@ -94,14 +94,14 @@ module _ {R : Room} {C : RouterConfig} {classes queue : List ℕ} {start goal : 
   module _ (kinds : List ℕ) (long : length kinds ≡ volume R) (start-in : start < volume R) (goal-in : goal < volume R) where
     pub told-failed : bothRouteable kinds start goal ≡ false → (cells : List ℕ) → SearchTold R C kinds classes queue start goal Failed cells
     told-failed e cells = record {
-      tells = λ blocked says. rw (not-routeable R C kinds blocked start goal (placesOf queue) long start-in goal-in e) (tells-failed cells);
+      tells = λ mode blocked says. rw (not-routeable mode R C kinds blocked start goal (placesOf queue) long start-in goal-in e) (tells-failed cells);
     }
 
     pub told-searched : bothRouteable kinds start goal ≡ true → {o : Outcome} {known previous : List ℕ} → SearchRan R C classes queue (spotOf R start) (spotOf R goal) o known previous
         → length previous ≡ volume R → {r : Tried} {cells : List ℕ} → TriedOf o goal known previous r cells → SearchTold R C kinds classes queue start goal r cells
     unfolding searched graphOf
     told-searched e ran n shown = record {
-      tells = λ blocked says.
-          rw (ends-routeable R C kinds blocked start goal (placesOf queue) long start-in goal-in e, ← says-graph R kinds blocked start goal says C (placesOf queue))
+      tells = λ mode blocked says.
+          rw (ends-routeable mode R C kinds blocked start goal (placesOf queue) long start-in goal-in e, ← says-graph mode R kinds blocked start goal says C (placesOf queue))
           (shown .shows (graphIn R C classes start goal queue) _ (sym n) refl (ran .told));
     }

@@ -16,6 +16,8 @@ use Rattle.room_search.specs.TriedMoves.{placesOf}
 use Rattle.room_search.specs.Takings.{OutcomeTold}
 use Rattle.routing_resources.specs.Marks.{isMarked, markedBy, Marks}
 use Rattle.geometry.specs.Geometry.{NoPair}
+use Rattle.ground.specs.declared.Mode.{Mode}
+use Rattle.ground.specs.declared.Ground.{Ground}
 use Rattle.blocked_world.specs.BlockedWorld.{seenTask, Says}
 use Rattle.goals.specs.declared.Tried.{Tried}
 use Rattle.goals.specs.declared.Tried.the-variants.{Found, Failed, Full}
@@ -49,15 +51,22 @@ bothRouteable kinds start goal = routeableKind true (getD kinds start air) && ro
 pub record TriedOf (o : Outcome) (goal : ℕ) (known previous : List ℕ) (r : Tried) (cells : List ℕ) : Type 0 where
   pub shows : (G : Graph) (answer : Answer) → G .size ≡ length previous → G .goal ≡ goal → OutcomeTold G answer known previous o → Tells (trialOf answer) r cells
 
--- whatever is blocked: where the class bytes say what is seen, it is the search over that
+-- in any mode and whatever is blocked: where the class bytes say what is seen, it is the search over that
 pub record SearchTold (R : Room) (C : RouterConfig) (kinds classes queue : List ℕ) (start goal : ℕ) (r : Tried) (cells : List ℕ) : Type 0 where
-  pub tells : (blocked : List ℕ) → Says R kinds blocked start goal classes
-      → Tells (searchedFor (seenTask R C kinds blocked start goal (placesOf queue))) r cells
+  pub tells : (mode : Mode) (blocked : List ℕ) → Says mode R kinds blocked start goal classes
+      → Tells (searchedFor (seenTask mode R C kinds blocked start goal (placesOf queue))) r cells
 
 -- ---- one attempt
 
-abbrev pub siteOf : Room → RouterConfig → List ℕ → List ℕ → List ℕ → Site
-siteOf R C kinds joinable queue = record { room = R; config = C; kinds = kinds; joinable = joinable; places = placesOf queue }
+abbrev pub siteOf : Ground → List ℕ → List ℕ → List ℕ → Site
+siteOf ground kinds joinable queue = record {
+  room = ground .room;
+  config = ground .config;
+  mode = ground .mode;
+  kinds = kinds;
+  joinable = joinable;
+  places = placesOf queue;
+}
 
 -- what a sink's goals ask of the room and the marks. Joinable cells among themselves make no pair
 pub record Grounds (S : Site) (blocked : List ℕ) (start : ℕ) : Type 0 where
@@ -83,7 +92,7 @@ pub record Attemptable (S : Site) (blocked classes known previous path : List �
   pub grounds : Grounds S blocked start
   pub memory : WorkMemory (S .room) known previous path
   pub goal-in : goal < volume (S .room)
-  pub says : Says (S .room) (S .kinds) blocked start goal classes
+  pub says : Says (S .mode) (S .room) (S .kinds) blocked start goal classes
 
 -- "any other is blocked for this goal and the search repeats"
 pub record Repeats (S : Site) (blocked : List ℕ) (start goal v : ℕ) : Type 0 where

@@ -12,9 +12,8 @@ ghost use Rattle.goals.specs.Trials.{Tells, siteOf, Attemptable, Attempt
 use crate::Attempt;
 use crate::Tried;
 use crate::one_search::search_for;
+use ground::Ground;
 use room::Neighbour;
-use room::Room;
-use room::RouterConfig;
 
 // "A conflict that is start, goal or blocked already ends the goal".
 fn ends_goal(blocked: &[u8], start: usize, goal: usize, cell: usize) -> bool
@@ -29,8 +28,7 @@ fn ends_goal(blocked: &[u8], start: usize, goal: usize, cell: usize) -> bool
 
 // One attempt. "A search that gave no route ends the goal on the spot"; the conflict is looked for in the unblocked room.
 fn attempt_once(
-    room: Room,
-    config: RouterConfig,
+    ground: Ground,
     kinds: &[u8],
     joinable: &mut [u8],
     blocked: &[u8],
@@ -42,13 +40,13 @@ fn attempt_once(
     start: usize,
     goal: usize,
 ) -> Attempt
-    requires { ⌜ Attemptable (siteOf room config (now kinds) (now joinable) (now queue)) (now blocked) (now classes) (now known) (now previous) (now path) start goal ⌝ }
-    ensures { λ r. ⌜ Attempted (siteOf room config (now (kinds .entry)) (now (joinable .entry)) (now (queue .entry))) (now (blocked .entry)) start goal (now (path .exit)) r ⌝ }
+    requires { ⌜ Attemptable (siteOf ground (now kinds) (now joinable) (now queue)) (now blocked) (now classes) (now known) (now previous) (now path) start goal ⌝ }
+    ensures { λ r. ⌜ Attempted (siteOf ground (now (kinds .entry)) (now (joinable .entry)) (now (queue .entry))) (now (blocked .entry)) start goal (now (path .exit)) r ⌝ }
     ensures { λ _. ⌜ now (joinable .exit) ≡ now (joinable .entry) ⌝ }
 {
     let tried = search_for(
-        room,
-        config,
+        ground.room,
+        ground.config,
         kinds,
         classes,
         known,
@@ -61,7 +59,7 @@ fn attempt_once(
     let Tried::Found { length, cost: _ } = tried else {
         return Attempt::Ended(tried);
     };
-    let conflict = geometry::geometry_conflict(room, kinds, joinable, &path[..length]);
+    let conflict = geometry::geometry_conflict(ground.room, kinds, joinable, &path[..length]);
     let Neighbour::Inside(cell) = conflict else {
         return Attempt::Ended(tried);
     };
@@ -73,7 +71,7 @@ fn attempt_once(
 
 // Writes a blocked mark, and the classes that depend on it anew.
 fn set_blocked(
-    room: Room,
+    ground: Ground,
     kinds: &[u8],
     blocked: &mut [u8],
     classes: &mut [u8],
@@ -82,20 +80,19 @@ fn set_blocked(
     cell: usize,
     mark: u8,
 )
-    requires { ⌜ WorldFits room (now kinds) (now blocked) ⌝ }
-    requires { ⌜ Says room (now kinds) (now blocked) start goal (now classes) ⌝ }
-    requires { ⌜ cell < volume room ⌝ }
+    requires { ⌜ WorldFits (ground .room) (now kinds) (now blocked) ⌝ }
+    requires { ⌜ Says (ground .mode) (ground .room) (now kinds) (now blocked) start goal (now classes) ⌝ }
+    requires { ⌜ cell < volume (ground .room) ⌝ }
     ensures { λ _. ⌜ now (blocked .exit) ≡ withByte mark (eqb cell) (now (blocked .entry)) ⌝ }
-    ensures { λ _. ⌜ Says room (now (kinds .entry)) (now (blocked .exit)) start goal (now (classes .exit)) ⌝ }
+    ensures { λ _. ⌜ Says (ground .mode) (ground .room) (now (kinds .entry)) (now (blocked .exit)) start goal (now (classes .exit)) ⌝ }
 {
     routing_resources::put_mark(blocked, Neighbour::Inside(cell), mark);
-    blocked_world::refresh(room, kinds, blocked, start, goal, classes, cell);
+    blocked_world::refresh(ground, kinds, blocked, start, goal, classes, cell);
 }
 
 // So many attempts for one goal. Marks and classes are as they were when this returns.
 pub fn attempt_goal(
-    room: Room,
-    config: RouterConfig,
+    ground: Ground,
     kinds: &[u8],
     joinable: &mut [u8],
     blocked: &mut [u8],
@@ -108,16 +105,15 @@ pub fn attempt_goal(
     goal: usize,
     left: usize,
 ) -> Tried
-    requires { ⌜ Attemptable (siteOf room config (now kinds) (now joinable) (now queue)) (now blocked) (now classes) (now known) (now previous) (now path) start goal ⌝ }
-    ensures { λ r. ⌜ Tells (attempts left (siteOf room config (now (kinds .entry)) (now (joinable .entry)) (now (queue .entry))) start goal (now (blocked .entry))) r (now (path .exit)) ⌝ }
+    requires { ⌜ Attemptable (siteOf ground (now kinds) (now joinable) (now queue)) (now blocked) (now classes) (now known) (now previous) (now path) start goal ⌝ }
+    ensures { λ r. ⌜ Tells (attempts left (siteOf ground (now (kinds .entry)) (now (joinable .entry)) (now (queue .entry))) start goal (now (blocked .entry))) r (now (path .exit)) ⌝ }
     ensures { λ _. ⌜ (now (joinable .exit) ≡ now (joinable .entry)) × (now (blocked .exit) ≡ now (blocked .entry)) × (now (classes .exit) ≡ now (classes .entry)) ⌝ }
 {
     if left == 0 {
         return Tried::Failed;
     }
     let once = attempt_once(
-        room,
-        config,
+        ground,
         kinds,
         joinable,
         blocked,
@@ -132,8 +128,7 @@ pub fn attempt_goal(
     match once {
         Attempt::Ended(tried) => tried,
         Attempt::Conflict(cell) => attempt_again(
-            room,
-            config,
+            ground,
             kinds,
             joinable,
             blocked,
@@ -152,8 +147,7 @@ pub fn attempt_goal(
 
 // The attempts after a conflict, so many: it is blocked for them, and not blocked any more behind them.
 fn attempt_again(
-    room: Room,
-    config: RouterConfig,
+    ground: Ground,
     kinds: &[u8],
     joinable: &mut [u8],
     blocked: &mut [u8],
@@ -167,13 +161,13 @@ fn attempt_again(
     cell: usize,
     left: usize,
 ) -> Tried
-    requires { ⌜ Attemptable (siteOf room config (now kinds) (now joinable) (now queue)) (now blocked) (now classes) (now known) (now previous) (now path) start goal ⌝ }
-    requires { ⌜ (cell < volume room) × (isMarked (now blocked) cell ≡ false) ⌝ }
-    ensures { λ r. ⌜ Tells (attempts left (siteOf room config (now (kinds .entry)) (now (joinable .entry)) (now (queue .entry))) start goal (markedBy (eqb cell) (now (blocked .entry)))) r (now (path .exit)) ⌝ }
+    requires { ⌜ Attemptable (siteOf ground (now kinds) (now joinable) (now queue)) (now blocked) (now classes) (now known) (now previous) (now path) start goal ⌝ }
+    requires { ⌜ (cell < volume (ground .room)) × (isMarked (now blocked) cell ≡ false) ⌝ }
+    ensures { λ r. ⌜ Tells (attempts left (siteOf ground (now (kinds .entry)) (now (joinable .entry)) (now (queue .entry))) start goal (markedBy (eqb cell) (now (blocked .entry)))) r (now (path .exit)) ⌝ }
     ensures { λ _. ⌜ (now (joinable .exit) ≡ now (joinable .entry)) × (now (blocked .exit) ≡ now (blocked .entry)) × (now (classes .exit) ≡ now (classes .entry)) ⌝ }
 {
     set_blocked(
-        room,
+        ground,
         kinds,
         blocked,
         classes,
@@ -183,8 +177,7 @@ fn attempt_again(
         routing_resources::MARKED,
     );
     let tried = attempt_goal(
-        room,
-        config,
+        ground,
         kinds,
         joinable,
         blocked,
@@ -198,7 +191,7 @@ fn attempt_again(
         left,
     );
     set_blocked(
-        room,
+        ground,
         kinds,
         blocked,
         classes,

@@ -8,8 +8,7 @@ ghost use Rattle.goals.specs.Trials.{Tells, siteOf, Attemptable, GoesOn}
 use crate::Tried;
 use crate::attempts::attempt_goal;
 use crate::cheapest::keep_cheaper;
-use room::Room;
-use room::RouterConfig;
+use ground::Ground;
 
 // "at most 64 attempts a goal"
 const MAX_ATTEMPTS: usize = 64;
@@ -17,8 +16,7 @@ const MAX_ATTEMPTS: usize = 64;
 // Between goals the class bytes have no goal beside the start. The goal becomes an end for its own searches, and is none
 // any more behind them.
 pub fn try_goal(
-    room: Room,
-    config: RouterConfig,
+    ground: Ground,
     kinds: &[u8],
     joinable: &mut [u8],
     blocked: &mut [u8],
@@ -30,15 +28,14 @@ pub fn try_goal(
     start: usize,
     goal: usize,
 ) -> Tried
-    requires { ⌜ Attemptable (siteOf room config (now kinds) (now joinable) (now queue)) (now blocked) (now classes) (now known) (now previous) (now path) start start ⌝ }
-    requires { ⌜ goal < volume room ⌝ }
-    ensures { λ r. ⌜ Tells (attempts maxAttempts (siteOf room config (now (kinds .entry)) (now (joinable .entry)) (now (queue .entry))) start goal (now (blocked .entry))) r (now (path .exit)) ⌝ }
+    requires { ⌜ Attemptable (siteOf ground (now kinds) (now joinable) (now queue)) (now blocked) (now classes) (now known) (now previous) (now path) start start ⌝ }
+    requires { ⌜ goal < volume (ground .room) ⌝ }
+    ensures { λ r. ⌜ Tells (attempts maxAttempts (siteOf ground (now (kinds .entry)) (now (joinable .entry)) (now (queue .entry))) start goal (now (blocked .entry))) r (now (path .exit)) ⌝ }
     ensures { λ _. ⌜ (now (joinable .exit) ≡ now (joinable .entry)) × (now (blocked .exit) ≡ now (blocked .entry)) × (now (classes .exit) ≡ now (classes .entry)) ⌝ }
 {
-    blocked_world::refresh(room, kinds, blocked, start, goal, classes, goal);
+    blocked_world::refresh(ground, kinds, blocked, start, goal, classes, goal);
     let tried = attempt_goal(
-        room,
-        config,
+        ground,
         kinds,
         joinable,
         blocked,
@@ -51,14 +48,13 @@ pub fn try_goal(
         goal,
         MAX_ATTEMPTS,
     );
-    blocked_world::refresh(room, kinds, blocked, start, start, classes, goal);
+    blocked_world::refresh(ground, kinds, blocked, start, start, classes, goal);
     tried
 }
 
 // One cell more in number order: where it is joinable it is a goal, and its route is kept where it is strictly cheaper.
 fn try_next(
-    room: Room,
-    config: RouterConfig,
+    ground: Ground,
     kinds: &[u8],
     joinable: &mut [u8],
     blocked: &mut [u8],
@@ -72,19 +68,18 @@ fn try_next(
     goal: usize,
     kept: Tried,
 ) -> Tried
-    requires { ⌜ Attemptable (siteOf room config (now kinds) (now joinable) (now queue)) (now blocked) (now classes) (now known) (now previous) (now path) start start ⌝ }
-    requires { ⌜ (goal < volume room) × (length (now best) ≡ volume room) ⌝ }
+    requires { ⌜ Attemptable (siteOf ground (now kinds) (now joinable) (now queue)) (now blocked) (now classes) (now known) (now previous) (now path) start start ⌝ }
+    requires { ⌜ (goal < volume (ground .room)) × (length (now best) ≡ volume (ground .room)) ⌝ }
     requires { ⌜ GoesOn kept ⌝ }
-    requires { ⌜ Tells (bestBelow goal (siteOf room config (now kinds) (now joinable) (now queue)) start (now blocked)) kept (now best) ⌝ }
-    ensures { λ r. ⌜ Tells (bestBelow (goal + 1) (siteOf room config (now (kinds .entry)) (now (joinable .entry)) (now (queue .entry))) start (now (blocked .entry))) r (now (best .exit)) ⌝ }
+    requires { ⌜ Tells (bestBelow goal (siteOf ground (now kinds) (now joinable) (now queue)) start (now blocked)) kept (now best) ⌝ }
+    ensures { λ r. ⌜ Tells (bestBelow (goal + 1) (siteOf ground (now (kinds .entry)) (now (joinable .entry)) (now (queue .entry))) start (now (blocked .entry))) r (now (best .exit)) ⌝ }
     ensures { λ _. ⌜ (now (joinable .exit) ≡ now (joinable .entry)) × (now (blocked .exit) ≡ now (blocked .entry)) × (now (classes .exit) ≡ now (classes .entry)) ⌝ }
 {
     if joinable[goal] != routing_resources::MARKED {
         return kept;
     }
     let tried = try_goal(
-        room,
-        config,
+        ground,
         kinds,
         joinable,
         blocked,
@@ -102,8 +97,7 @@ fn try_next(
 // "Each searches from its approach to every joinable cell in number order", and the first strictly cheapest route is kept.
 // Its path goes to the front of `best`. Marks and class bytes are as they were when this returns.
 pub fn every_goal(
-    room: Room,
-    config: RouterConfig,
+    ground: Ground,
     kinds: &[u8],
     joinable: &mut [u8],
     blocked: &mut [u8],
@@ -115,9 +109,9 @@ pub fn every_goal(
     queue: &mut [u64],
     start: usize,
 ) -> Tried
-    requires { ⌜ Attemptable (siteOf room config (now kinds) (now joinable) (now queue)) (now blocked) (now classes) (now known) (now previous) (now path) start start ⌝ }
-    requires { ⌜ length (now best) ≡ volume room ⌝ }
-    ensures { λ r. ⌜ Tells (routeToTree (siteOf room config (now (kinds .entry)) (now (joinable .entry)) (now (queue .entry))) start (now (blocked .entry))) r (now (best .exit)) ⌝ }
+    requires { ⌜ Attemptable (siteOf ground (now kinds) (now joinable) (now queue)) (now blocked) (now classes) (now known) (now previous) (now path) start start ⌝ }
+    requires { ⌜ length (now best) ≡ volume (ground .room) ⌝ }
+    ensures { λ r. ⌜ Tells (routeToTree (siteOf ground (now (kinds .entry)) (now (joinable .entry)) (now (queue .entry))) start (now (blocked .entry))) r (now (best .exit)) ⌝ }
     ensures { λ _. ⌜ (now (joinable .exit) ≡ now (joinable .entry)) × (now (blocked .exit) ≡ now (blocked .entry)) × (now (classes .exit) ≡ now (classes .entry)) ⌝ }
 {
     let cells = kinds.len();
@@ -125,8 +119,7 @@ pub fn every_goal(
     let mut goal: usize = 0;
     while goal < cells {
         kept = try_next(
-            room,
-            config,
+            ground,
             kinds,
             joinable,
             blocked,

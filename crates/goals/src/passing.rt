@@ -15,6 +15,7 @@ use crate::Kept;
 use crate::Tried;
 use crate::cheapest::copy_cells;
 use crate::goal_by_goal::try_goal;
+use ground::Ground;
 use room::Pos;
 use room::Room;
 use room::RouterConfig;
@@ -214,8 +215,7 @@ fn next_bid(room: Room, config: RouterConfig, joinable: &[u8], from: Pos, low: u
 
 // One goal is tried, and the route that comes first is kept.
 fn pass_goal(
-    room: Room,
-    config: RouterConfig,
+    ground: Ground,
     kinds: &[u8],
     joinable: &mut [u8],
     blocked: &mut [u8],
@@ -229,14 +229,13 @@ fn pass_goal(
     goal: usize,
     kept: Kept,
 ) -> Kept
-    requires { ⌜ Attemptable (siteOf room config (now kinds) (now joinable) (now queue)) (now blocked) (now classes) (now known) (now previous) (now path) start start ⌝ }
-    requires { ⌜ Passable (siteOf room config (now kinds) (now joinable) (now queue)) start (now blocked) (now best) goal kept ⌝ }
-    ensures { λ r. ⌜ Passes (siteOf room config (now (kinds .entry)) (now (joinable .entry)) (now (queue .entry))) start (now (blocked .entry)) goal kept r (now (best .exit)) ⌝ }
+    requires { ⌜ Attemptable (siteOf ground (now kinds) (now joinable) (now queue)) (now blocked) (now classes) (now known) (now previous) (now path) start start ⌝ }
+    requires { ⌜ Passable (siteOf ground (now kinds) (now joinable) (now queue)) start (now blocked) (now best) goal kept ⌝ }
+    ensures { λ r. ⌜ Passes (siteOf ground (now (kinds .entry)) (now (joinable .entry)) (now (queue .entry))) start (now (blocked .entry)) goal kept r (now (best .exit)) ⌝ }
     ensures { λ _. ⌜ (now (joinable .exit) ≡ now (joinable .entry)) × (now (blocked .exit) ≡ now (blocked .entry)) × (now (classes .exit) ≡ now (classes .entry)) ⌝ }
 {
     let tried = try_goal(
-        room,
-        config,
+        ground,
         kinds,
         joinable,
         blocked,
@@ -253,8 +252,7 @@ fn pass_goal(
 
 // Goals are tried from the lowest bid on, until none is left whose route may come before what is kept.
 pub fn by_bids(
-    room: Room,
-    config: RouterConfig,
+    ground: Ground,
     kinds: &[u8],
     joinable: &mut [u8],
     blocked: &mut [u8],
@@ -266,23 +264,22 @@ pub fn by_bids(
     queue: &mut [u64],
     start: usize,
 ) -> Tried
-    requires { ⌜ Attemptable (siteOf room config (now kinds) (now joinable) (now queue)) (now blocked) (now classes) (now known) (now previous) (now path) start start ⌝ }
-    requires { ⌜ length (now best) ≡ volume room ⌝ }
-    requires { ⌜ NeverFull (siteOf room config (now kinds) (now joinable) (now queue)) start (now blocked) ⌝ }
-    ensures { λ r. ⌜ Tells (routeToTree (siteOf room config (now (kinds .entry)) (now (joinable .entry)) (now (queue .entry))) start (now (blocked .entry))) r (now (best .exit)) ⌝ }
+    requires { ⌜ Attemptable (siteOf ground (now kinds) (now joinable) (now queue)) (now blocked) (now classes) (now known) (now previous) (now path) start start ⌝ }
+    requires { ⌜ length (now best) ≡ volume (ground .room) ⌝ }
+    requires { ⌜ NeverFull (siteOf ground (now kinds) (now joinable) (now queue)) start (now blocked) ⌝ }
+    ensures { λ r. ⌜ Tells (routeToTree (siteOf ground (now (kinds .entry)) (now (joinable .entry)) (now (queue .entry))) start (now (blocked .entry))) r (now (best .exit)) ⌝ }
     ensures { λ _. ⌜ (now (joinable .exit) ≡ now (joinable .entry)) × (now (blocked .exit) ≡ now (blocked .entry)) × (now (classes .exit) ≡ now (classes .entry)) ⌝ }
 {
     let cells = kinds.len();
-    let from = room.pos(start);
+    let from = ground.room.pos(start);
     let mut kept = Kept {
         tried: Tried::Failed,
         goal: 0,
     };
-    let mut next = next_bid(room, config, joinable, from, 0, NO_BID);
+    let mut next = next_bid(ground.room, ground.config, joinable, from, 0, NO_BID);
     while next.goal < cells {
         kept = pass_goal(
-            room,
-            config,
+            ground,
             kinds,
             joinable,
             blocked,
@@ -296,7 +293,14 @@ pub fn by_bids(
             next.goal,
             kept,
         );
-        next = next_bid(room, config, joinable, from, next.second, bid_to_beat(kept));
+        next = next_bid(
+            ground.room,
+            ground.config,
+            joinable,
+            from,
+            next.second,
+            bid_to_beat(kept),
+        );
     }
     kept.tried
 }

@@ -9,7 +9,7 @@ ghost use Rattle.goals.specs.NeverFull.{enterableCount, neverFull};
 use crate::Tried;
 use crate::goal_by_goal::every_goal;
 use crate::passing::by_bids;
-use room::Room;
+use ground::Ground;
 use room::RouterConfig;
 
 // How many cells can be entered, by their class bytes.
@@ -28,7 +28,8 @@ fn count_enterable(classes: &[u8]) -> usize
 }
 
 // Whether no search of this turn can find a queue of so many numbers full: a flat step costs at least 10 and a stair at
-// least 20, and there are 5 places for each cell but the start, or for each cell that can be entered and for the goal.
+// least 20, and there are 5 places for each cell but the start, or for each cell that can be entered, for the goal and for
+// the cell above it.
 fn never_full(config: RouterConfig, classes: &[u8], longs: usize) -> bool
     requires { ⌜ length (now classes) ≤ maxVolume ⌝ }
     ensures { λ r. ⌜ r ≡ neverFull config (now (classes .entry)) (longs / 2) ⌝ }
@@ -42,15 +43,14 @@ fn never_full(config: RouterConfig, classes: &[u8], longs: usize) -> bool
     if 5 * classes.len() <= longs / 2 + 5 {
         return true;
     }
-    5 * (count_enterable(classes) + 1) <= longs / 2
+    5 * (count_enterable(classes) + 2) <= longs / 2
 }
 
 // "Each searches from its approach to every joinable cell in number order", and the first strictly cheapest route is kept.
 // Its path goes to the front of `best`. Marks and class bytes are as they were when this returns. Where no queue is ever
 // full, goals that can't win are not searched; the answer is the same.
 pub fn route_to_tree(
-    room: Room,
-    config: RouterConfig,
+    ground: Ground,
     kinds: &[u8],
     joinable: &mut [u8],
     blocked: &mut [u8],
@@ -62,15 +62,14 @@ pub fn route_to_tree(
     queue: &mut [u64],
     start: usize,
 ) -> Tried
-    requires { ⌜ Attemptable (siteOf room config (now kinds) (now joinable) (now queue)) (now blocked) (now classes) (now known) (now previous) (now path) start start ⌝ }
-    requires { ⌜ length (now best) ≡ volume room ⌝ }
-    ensures { λ r. ⌜ Tells (routeToTree (siteOf room config (now (kinds .entry)) (now (joinable .entry)) (now (queue .entry))) start (now (blocked .entry))) r (now (best .exit)) ⌝ }
+    requires { ⌜ Attemptable (siteOf ground (now kinds) (now joinable) (now queue)) (now blocked) (now classes) (now known) (now previous) (now path) start start ⌝ }
+    requires { ⌜ length (now best) ≡ volume (ground .room) ⌝ }
+    ensures { λ r. ⌜ Tells (routeToTree (siteOf ground (now (kinds .entry)) (now (joinable .entry)) (now (queue .entry))) start (now (blocked .entry))) r (now (best .exit)) ⌝ }
     ensures { λ _. ⌜ (now (joinable .exit) ≡ now (joinable .entry)) × (now (blocked .exit) ≡ now (blocked .entry)) × (now (classes .exit) ≡ now (classes .entry)) ⌝ }
 {
-    if never_full(config, classes, queue.len()) {
+    if never_full(ground.config, classes, queue.len()) {
         return by_bids(
-            room,
-            config,
+            ground,
             kinds,
             joinable,
             blocked,
@@ -84,8 +83,7 @@ pub fn route_to_tree(
         );
     }
     every_goal(
-        room,
-        config,
+        ground,
         kinds,
         joinable,
         blocked,

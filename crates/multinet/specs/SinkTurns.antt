@@ -4,9 +4,8 @@ use mathlib.Core.List.{List}
 use Prim.Native.Nat.{ℕ, _+_, _≤_, _<_}
 use lib.ListN.{length, set}
 use Rattle.numbers.specs.Refusals.{queueFullNumber, noGoalNumber, branchesFullNumber}
-use Rattle.room.specs.declared.Room.{Room}
-use Rattle.room.specs.declared.RouterConfig.{RouterConfig}
 use Rattle.room.specs.Room.{volume}
+use Rattle.ground.specs.declared.Ground.{Ground}
 use Rattle.room_search.specs.TriedMoves.{placesOf}
 use Rattle.job_sheet.specs.Sheet.{maxSinks}
 use Rattle.ends.specs.declared.Taps.{Taps}
@@ -32,10 +31,11 @@ pub record Findable (S : Site) (blocked classes known previous path best : List 
   pub best-long : length best ≡ volume (S .room)
 
 -- the plot, as the functions are handed it
-abbrev pub plotOf : Room → RouterConfig → List ℕ → List ℕ → List ℕ → ℕ → Taps → Plot
-plotOf R C kinds queue branches source taps = record {
-  room = R;
-  config = C;
+abbrev pub plotOf : Ground → List ℕ → List ℕ → List ℕ → ℕ → Taps → Plot
+plotOf ground kinds queue branches source taps = record {
+  room = ground .room;
+  config = ground .config;
+  mode = ground .mode;
   kinds = kinds;
   places = placesOf queue;
   buffer = length branches;

@@ -11,6 +11,7 @@ use Rattle.basics.specs.Lists.{any, joined}
 use Rattle.room.specs.declared.Room.{Room}
 use Rattle.room.specs.declared.RouterConfig.{RouterConfig}
 use Rattle.room.specs.Room.{volume}
+use Rattle.ground.specs.declared.Mode.{Mode}
 use Rattle.routing_resources.specs.Marks.{markedBy, noMarks}
 use Rattle.routing_resources.specs.Resources.{isClearance}
 use Rattle.ends.specs.declared.Tap.{Tap}
@@ -22,10 +23,11 @@ use Rattle.goals.specs.Goals.{Site, Trial, found, failed, full, routeToTree}
 use Rattle.branches.specs.Branches.{branchOf, allButLast}
 use Rattle.repeaters.specs.Repeaters.{repeaterMarks}
 
--- what a tree grows over: the room and its kinds, the places of the queue, the cells of the branch buffer, and the net's ends
+-- what a tree grows over: the room, the config, the mode, the room's kinds, the places of the queue, the cells of the branch buffer, and the net's ends
 pub record Plot : Type 0 where
   pub room : Room
   pub config : RouterConfig
+  pub mode : Mode
   pub kinds : List ℕ
   pub places : ℕ
   pub buffer : ℕ
@@ -62,7 +64,7 @@ planted P blocked = record {
 
 -- what a sink is searched over, with these joinable cells
 abbrev pub siteAt : Plot → List ℕ → Site
-siteAt P joinable = record { room = P .room; config = P .config; kinds = P .kinds; joinable = joinable; places = P .places }
+siteAt P joinable = record { room = P .room; config = P .config; mode = P .mode; kinds = P .kinds; joinable = joinable; places = P .places }
 
 -- "All but the last cell become joinable; all become occupied; the branch's clearances become blocked."
 unfoldable pub withBranch : Room → ℕ → List ℕ → Tree → Tree

@@ -7,8 +7,7 @@ use crate::adding::place_branch;
 use branches::BranchLengths;
 use ends::Taps;
 use goals::Tried;
-use room::Room;
-use room::RouterConfig;
+use ground::Ground;
 ghost use mathlib.Core.Path.{_≡_};
 ghost use Prim.Native.Nat.{_<_};
 ghost use Rattle.job_sheet.specs.Sheet.{maxSinks};
@@ -18,8 +17,7 @@ ghost use Rattle.multinet.specs.SinkTurns.{Findable, plotOf, Turnable, T
 
 // The cheapest route from a sink's approach to the tree, if there is one. Its path goes to the front of `best`.
 fn find_route(
-    room: Room,
-    config: RouterConfig,
+    ground: Ground,
     kinds: &[u8],
     joinable: &mut [u8],
     blocked: &mut [u8],
@@ -31,14 +29,13 @@ fn find_route(
     queue: &mut [u64],
     start: usize,
 ) -> Tried
-    requires { ⌜ Findable (siteOf room config (now kinds) (now joinable) (now queue)) (now blocked) (now classes) (now known) (now previous) (now path) (now best) start ⌝ }
-    ensures { λ r. ⌜ Tells (routeToTree (siteOf room config (now (kinds .entry)) (now (joinable .entry)) (now (queue .entry))) start (now (blocked .entry))) r (now (best .exit)) ⌝ }
+    requires { ⌜ Findable (siteOf ground (now kinds) (now joinable) (now queue)) (now blocked) (now classes) (now known) (now previous) (now path) (now best) start ⌝ }
+    ensures { λ r. ⌜ Tells (routeToTree (siteOf ground (now (kinds .entry)) (now (joinable .entry)) (now (queue .entry))) start (now (blocked .entry))) r (now (best .exit)) ⌝ }
     ensures { λ _. ⌜ (now (joinable .exit) ≡ now (joinable .entry)) × (now (blocked .exit) ≡ now (blocked .entry)) ⌝ }
 {
-    blocked_world::fill(room, kinds, blocked, start, start, classes);
+    blocked_world::fill(ground, kinds, blocked, start, start, classes);
     goals::route_to_tree(
-        room,
-        config,
+        ground,
         kinds,
         joinable,
         blocked,
@@ -54,8 +51,7 @@ fn find_route(
 
 // One turn: the route of the sink that has it is found and becomes a branch, or number 13, 14 or 15 is due.
 fn grow_sink(
-    room: Room,
-    config: RouterConfig,
+    ground: Ground,
     source: usize,
     taps: Taps,
     lengths: BranchLengths,
@@ -71,14 +67,13 @@ fn grow_sink(
     queue: &mut [u64],
     branches: &mut [u32],
 ) -> Turned
-    requires { ⌜ Turnable (plotOf room config (now kinds) (now queue) (now branches) source taps) turn lengths (now joinable) (now blocked) (now classes) (now known) (now previous) (now path) (now best) (now branches) ⌝ }
-    ensures { λ r. ⌜ TurnCame (plotOf room config (now (kinds .entry)) (now (queue .entry)) (now (branches .entry)) source taps) turn lengths (now (joinable .entry)) (now (blocked .entry)) (now (branches .entry)) r (now (joinable .exit)) (now (blocked .exit)) (now (branches .exit)) ⌝ }
+    requires { ⌜ Turnable (plotOf ground (now kinds) (now queue) (now branches) source taps) turn lengths (now joinable) (now blocked) (now classes) (now known) (now previous) (now path) (now best) (now branches) ⌝ }
+    ensures { λ r. ⌜ TurnCame (plotOf ground (now (kinds .entry)) (now (queue .entry)) (now (branches .entry)) source taps) turn lengths (now (joinable .entry)) (now (blocked .entry)) (now (branches .entry)) r (now (joinable .exit)) (now (blocked .exit)) (now (branches .exit)) ⌝ }
 {
-    let sink = turns::sink_at(room, source, taps, turn);
+    let sink = turns::sink_at(ground.room, source, taps, turn);
     let tap = taps.taps[sink];
     let tried = find_route(
-        room,
-        config,
+        ground,
         kinds,
         joinable,
         blocked,
@@ -94,7 +89,7 @@ fn grow_sink(
         Tried::Full(expanded) => Turned::Stopped(Stop::QueueFull(expanded)),
         Tried::Failed => Turned::Stopped(Stop::NoGoal(tap.approach)),
         Tried::Found { length, cost: _ } => place_branch(
-            room,
+            ground.room,
             sink,
             lengths,
             tap,
@@ -119,8 +114,7 @@ fn with_length(lengths: BranchLengths, sink: usize, length: usize) -> BranchLeng
 
 // The tree from its outset: every sink has its turn, until a number is due.
 pub fn grow_tree(
-    room: Room,
-    config: RouterConfig,
+    ground: Ground,
     source: usize,
     taps: Taps,
     kinds: &[u8],
@@ -134,16 +128,15 @@ pub fn grow_tree(
     queue: &mut [u64],
     branches: &mut [u32],
 ) -> GrownBranches
-    requires { ⌜ Plantable (plotOf room config (now kinds) (now queue) (now branches) source taps) (now joinable) (now blocked) (now classes) (now known) (now previous) (now path) (now best) ⌝ }
-    ensures { λ r. ⌜ GrowthTold (plotOf room config (now (kinds .entry)) (now (queue .entry)) (now (branches .entry)) source taps) (now (blocked .entry)) (now (branches .entry)) r (now (joinable .exit)) (now (blocked .exit)) (now (branches .exit)) ⌝ }
+    requires { ⌜ Plantable (plotOf ground (now kinds) (now queue) (now branches) source taps) (now joinable) (now blocked) (now classes) (now known) (now previous) (now path) (now best) ⌝ }
+    ensures { λ r. ⌜ GrowthTold (plotOf ground (now (kinds .entry)) (now (queue .entry)) (now (branches .entry)) source taps) (now (blocked .entry)) (now (branches .entry)) r (now (joinable .exit)) (now (blocked .exit)) (now (branches .exit)) ⌝ }
 {
     let count = taps.count;
     let mut lengths = branches::no_lengths(count);
     let mut turn: usize = 0;
     while turn < count {
         let turned = grow_sink(
-            room,
-            config,
+            ground,
             source,
             taps,
             lengths,

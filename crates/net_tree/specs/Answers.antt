@@ -1,5 +1,5 @@
--- What `route_net_tree` answers, and what every lent buffer then holds, as docs/RULES.md, Numbers that come back, has it for a tree. A sheet and the lengths of the
--- lent buffers determine all of it. Definitions alone; their laws are in the files named Laws.
+-- What `route_net_tree` answers, and what every lent buffer then holds, as docs/RULES.md, Numbers that come back, has it for a tree. The mode, the sheet and the
+-- lengths of the lent buffers determine all of it. Definitions alone; their laws are in the files named Laws.
 use mathlib.Core.Path.{_≡_}
 use mathlib.Core.Bool.{Bool, true, false, _&&_}
 use mathlib.Core.List.{List, [], _∷_}
@@ -12,6 +12,7 @@ use Rattle.basics.specs.Lists.{every, joined}
 use Rattle.lent.specs.Lent.{outputAfter, workAfter}
 use Rattle.room.specs.declared.Room.{Room}
 use Rattle.room.specs.Room.{volume}
+use Rattle.ground.specs.declared.Mode.{Mode}
 use Rattle.job_sheet.specs.declared.Reading.{Reading}
 use Rattle.job_sheet.specs.declared.Judgement.the-variants as judgement
 use Rattle.job_sheet.specs.Sheet.{Contents, Means, Read, judged, isGood, numberOf}
@@ -68,11 +69,12 @@ pub data TreeOutcome : Type 0 where
   routed : (branches : List (List ℕ)) (occupied repeaters : List ℕ) → TreeOutcome
   no-tree : (number detail : ℕ) → TreeOutcome
 
--- what the tree of a job that is set out grows over
-abbrev pub plotFor : Contents → Lengths → Outset → List ℕ → Plot
-plotFor J L O kinds = record {
+-- what the tree of a job that is set out grows over. The caller chooses the mode
+abbrev pub plotFor : Mode → Contents → Lengths → Outset → List ℕ → Plot
+plotFor mode J L O kinds = record {
   room = J .room;
   config = J .config;
+  mode = mode;
   kinds = kinds;
   places = placesIn (L .queue);
   buffer = L .branches;
@@ -86,19 +88,19 @@ outcomeOf P (grown T) = routed (T .branches) (T .occupied) (repeatersOf P T)
 outcomeOf P (stopped number detail) = no-tree number detail
 
 -- "7, all of 8, all of 9, then per sink 13 or 14, then 15", of a job that is set out
-unfoldable pub jobOutcome : Contents → Lengths → Outset → List ℕ → List ℕ → TreeOutcome
-jobOutcome J L O kinds blocked =
+unfoldable pub jobOutcome : Mode → Contents → Lengths → Outset → List ℕ → List ℕ → TreeOutcome
+jobOutcome mode J L O kinds blocked =
     either (ready O)
-    (outcomeOf (plotFor J L O kinds) (growthOf (plotFor J L O kinds) blocked))
+    (outcomeOf (plotFor mode J L O kinds) (growthOf (plotFor mode J L O kinds) blocked))
     (no-tree (numberBy (O .placement) (O .ends .fault)) (detailBy (O .placement) (O .ends .fault)))
 
 -- "A tree checks 1, 2, 3, then record by record 4 before 5, then 6, 7, ..": what comes of a sheet
-pub data Comes (sheet : List ℕ) (L : Lengths) (o : TreeOutcome) : Type 0 where
-  unread : (r : Reading) → Read sheet r → isGood (r .judgement) ≡ false → o ≡ no-tree (numberOf (r .judgement)) 0 → Comes sheet L o
-  unlent : (J : Contents) → Means sheet J → judged J ≡ judgement.Good → buffersGood (J .room) L ≡ false → o ≡ no-tree bufferNumber 0 → Comes sheet L o
+pub data Comes (mode : Mode) (sheet : List ℕ) (L : Lengths) (o : TreeOutcome) : Type 0 where
+  unread : (r : Reading) → Read sheet r → isGood (r .judgement) ≡ false → o ≡ no-tree (numberOf (r .judgement)) 0 → Comes mode sheet L o
+  unlent : (J : Contents) → Means sheet J → judged J ≡ judgement.Good → buffersGood (J .room) L ≡ false → o ≡ no-tree bufferNumber 0 → Comes mode sheet L o
   set-out : (J : Contents) → Means sheet J → judged J ≡ judgement.Good → buffersGood (J .room) L ≡ true
-      → (O : Outset) (kinds nodes blocked : List ℕ) → OutsetOf J O kinds nodes blocked → o ≡ jobOutcome J L O kinds blocked
-      → Comes sheet L o
+      → (O : Outset) (kinds nodes blocked : List ℕ) → OutsetOf J O kinds nodes blocked → o ≡ jobOutcome mode J L O kinds blocked
+      → Comes mode sheet L o
 
 -- ---- the answer
 
@@ -145,9 +147,9 @@ lentAfter o B = record {
 }
 
 -- the promise of `route_net_tree`
-pub record Promise (sheet : List ℕ) (B : Lent) (r : Answer) (B′ : Lent) : Type 0 where
+pub record Promise (mode : Mode) (sheet : List ℕ) (B : Lent) (r : Answer) (B′ : Lent) : Type 0 where
   pub outcome : TreeOutcome
-  pub comes : Comes sheet (lengthsOf B) outcome
+  pub comes : Comes mode sheet (lengthsOf B) outcome
   pub answer : r ≡ answerOf outcome
   pub lent-is : B′ ≡ lentAfter outcome B
 

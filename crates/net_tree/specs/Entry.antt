@@ -14,6 +14,7 @@ use Rattle.room.specs.declared.Room.{Room}
 use Rattle.room.specs.Room.{volume}
 use Rattle.room_search.specs.TriedMoves.{placesOf}
 use Rattle.routing_resources.specs.Marks.{noMarks, Marks}
+use Rattle.ground.specs.declared.Mode.{Mode}
 use Rattle.job_sheet.specs.declared.Job.{Job}
 use Rattle.job_sheet.specs.Accepted.{Accepted}
 use Rattle.job_sheet.specs.Sheet.{Contents, Means}
@@ -96,14 +97,14 @@ pub record Routable (sheet : List ℕ) (job : Job) (B : Lent) : Type 0 where
   pub places-some : 0 < placesOf (B .queue)
 
 -- what comes of the job
-pub record JobRouted (sheet : List ℕ) (B : Lent) (r : Answer) (branches′ occupied′ repeaters′ : List ℕ) : Type 0 where
+pub record JobRouted (mode : Mode) (sheet : List ℕ) (B : Lent) (r : Answer) (branches′ occupied′ repeaters′ : List ℕ) : Type 0 where
   pub outset : Outset
   pub kinds : List ℕ
   pub nodes : List ℕ
   pub blocked : List ℕ
   pub outcome : TreeOutcome
   pub is-set : (J : Contents) → Means sheet J → OutsetOf J outset kinds nodes blocked
-  pub comes : (J : Contents) → Means sheet J → outcome ≡ jobOutcome J (lengthsOf B) outset kinds blocked
+  pub comes : (J : Contents) → Means sheet J → outcome ≡ jobOutcome mode J (lengthsOf B) outset kinds blocked
   pub answer : r ≡ answerOf outcome
   pub outputs : OutputsHold outcome (B .branches) branches′ occupied′ repeaters′
 
@@ -119,10 +120,10 @@ pub record OutputsClear (B : Lent) : Type 0 where
   pub repeaters-clear : B .repeaters ≡ replicate (length (B .repeaters)) 0
 
 -- what comes of the job; the marks are in front, and behind them is what was there
-pub record FrontRouted (sheet : List ℕ) (job : Job) (B : Lent) (r : Answer) (branches′ occupied′ repeaters′ : List ℕ) : Type 0 where
+pub record FrontRouted (mode : Mode) (sheet : List ℕ) (job : Job) (B : Lent) (r : Answer) (branches′ occupied′ repeaters′ : List ℕ) : Type 0 where
   pub occupied-front : List ℕ
   pub repeaters-front : List ℕ
-  pub is-routed : JobRouted sheet B r branches′ occupied-front repeaters-front
+  pub is-routed : JobRouted mode sheet B r branches′ occupied-front repeaters-front
   pub occupied-is : occupied′ ≡ occupied-front ++ drop (volume (job .room)) (B .occupied)
   pub repeaters-is : repeaters′ ≡ repeaters-front ++ drop (volume (job .room)) (B .repeaters)
 

@@ -14,6 +14,7 @@ use Rattle.basics.specs.Zeros.{take-zeros}
 use Rattle.room.specs.declared.Room.{Room}
 use Rattle.room.specs.Room.{volume}
 use Rattle.routing_resources.specs.Marks.{noMarks}
+use Rattle.ground.specs.declared.Mode.{Mode}
 use Rattle.job_sheet.specs.declared.Job.{Job}
 use Rattle.job_sheet.specs.Sheet.{Contents}
 use Rattle.outset.specs.declared.Outset.{Outset}
@@ -88,20 +89,20 @@ module _ {sheet : List ℕ} {job : Job} {B : Lent} (A : Lendable sheet job B) wh
   }
 
 -- only the branch buffer's and the queue's length count for what comes of a job
-same-outcome : (J : Contents) (L L′ : Lengths) (O : Outset) (kinds blocked : List ℕ) → L .branches ≡ L′ .branches → L .queue ≡ L′ .queue → jobOutcome J L O kinds blocked ≡ jobOutcome J L′ O kinds blocked
+same-outcome : (mode : Mode) (J : Contents) (L L′ : Lengths) (O : Outset) (kinds blocked : List ℕ) → L .branches ≡ L′ .branches → L .queue ≡ L′ .queue → jobOutcome mode J L O kinds blocked ≡ jobOutcome mode J L′ O kinds blocked
 unfolding jobOutcome
-same-outcome J L L′ O kinds blocked b q = rw (b, q) refl
+same-outcome mode J L L′ O kinds blocked b q = rw (b, q) refl
 
-pub lent-on : {sheet : List ℕ} {B B′ : Lent} → B′ .branches ≡ B .branches → B′ .queue ≡ B .queue → {r : Answer} {branches occupied repeaters : List ℕ}
-    → JobRouted sheet B r branches occupied repeaters → JobRouted sheet B′ r branches occupied repeaters
-lent-on {B = B} {B′ = B′} b q R = record {
+pub lent-on : {mode : Mode} {sheet : List ℕ} {B B′ : Lent} → B′ .branches ≡ B .branches → B′ .queue ≡ B .queue → {r : Answer} {branches occupied repeaters : List ℕ}
+    → JobRouted mode sheet B r branches occupied repeaters → JobRouted mode sheet B′ r branches occupied repeaters
+lent-on {mode = mode} {B = B} {B′ = B′} b q R = record {
   outset = R .outset;
   kinds = R .kinds;
   nodes = R .nodes;
   blocked = R .blocked;
   outcome = R .outcome;
   is-set = R .is-set;
-  comes = λ J m. R .comes J m ∙ same-outcome J (lengthsOf B) (lengthsOf B′) (R .outset) (R .kinds) (R .blocked) (ap length (sym b)) (ap length (sym q));
+  comes = λ J m. R .comes J m ∙ same-outcome mode J (lengthsOf B) (lengthsOf B′) (R .outset) (R .kinds) (R .blocked) (ap length (sym b)) (ap length (sym q));
   answer = R .answer;
   outputs = rw b (R .outputs);
 }

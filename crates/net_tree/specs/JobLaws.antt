@@ -10,6 +10,7 @@ use Rattle.basics.specs.Tests.{never}
 use Rattle.room.specs.Room.{volume}
 use Rattle.routing_resources.specs.Marks.{noMarks, Marks}
 use Rattle.routing_resources.specs.MarkLaws.{with-length, marks-none, marks-with}
+use Rattle.ground.specs.declared.Mode.{Mode}
 use Rattle.job_sheet.specs.declared.Job.{Job}
 use Rattle.job_sheet.specs.declared.Judgement.the-variants.{Good}
 use Rattle.job_sheet.specs.Sheet.{Contents, Means, judged, jobOf}
@@ -80,12 +81,13 @@ module _ {sheet : List ℕ} {job : Job} (A : Accepted sheet job) {O : Outset} {k
   unfolding blockedAtOutset
   blocked-marks = rw blocked-are (marks-with 1 (omega arith) _ _ (marks-none (volume (contents-of A .room))))
 
-  module _ (L : Lengths) where
+  module _ (mode : Mode) (L : Lengths) where
     -- the plot, as the job has it
     abbrev jobPlot : Plot
     jobPlot = record {
       room = job .room;
       config = job .config;
+      mode = mode;
       kinds = kinds;
       places = placesIn (L .queue);
       buffer = L .branches;
@@ -93,10 +95,11 @@ module _ {sheet : List ℕ} {job : Job} (A : Accepted sheet job) {O : Outset} {k
       taps = O .ends .taps;
     }
 
-    same-plot : plotFor (contents-of A) L O kinds ≡ jobPlot
+    same-plot : plotFor mode (contents-of A) L O kinds ≡ jobPlot
     same-plot = λ i. record {
       room = sym (use-of A .room-is) i;
       config = sym (use-of A .config-is) i;
+      mode = mode;
       kinds = kinds;
       places = placesIn (L .queue);
       buffer = L .branches;
@@ -107,16 +110,16 @@ module _ {sheet : List ℕ} {job : Job} (A : Accepted sheet job) {O : Outset} {k
     job-sound : 0 < placesIn (L .queue) → SoundPlot jobPlot
     job-sound h = record { good = good-room A; config-good = use-of A .config-good; kinds-long = kinds-long; places-some = h; net = good-ends A (O .placement) ends-are r; near = near }
 
-    contents-outcome : jobOutcome (contents-of A) L O kinds blocked ≡ outcomeOf jobPlot (growthOf jobPlot blocked)
+    contents-outcome : jobOutcome mode (contents-of A) L O kinds blocked ≡ outcomeOf jobPlot (growthOf jobPlot blocked)
     unfolding jobOutcome
     contents-outcome = rw r (ap (λ Q. outcomeOf Q (growthOf Q blocked)) same-plot)
 
 -- a plot over which a tree grows is sound
-pub plot-sound : {sheet : List ℕ} (J : Contents) → Means sheet J → judged J ≡ Good → (L : Lengths) → buffersGood (J .room) L ≡ true
-    → {O : Outset} {kinds nodes blocked : List ℕ} → OutsetOf J O kinds nodes blocked → ready O ≡ true → SoundPlot (plotFor J L O kinds)
-plot-sound J m g L b S r =
+pub plot-sound : (mode : Mode) {sheet : List ℕ} (J : Contents) → Means sheet J → judged J ≡ Good → (L : Lengths) → buffersGood (J .room) L ≡ true
+    → {O : Outset} {kinds nodes blocked : List ℕ} → OutsetOf J O kinds nodes blocked → ready O ≡ true → SoundPlot (plotFor mode J L O kinds)
+plot-sound mode J m g L b S r =
     let A : Accepted _ (jobOf J) = record { contents = J; means = m; good = g; is = refl } in
-    subst SoundPlot (sym (same-plot A S r L)) (job-sound A S r L (long-enough (J .room) L b .places-some))
+    subst SoundPlot (sym (same-plot A S r mode L)) (job-sound A S r mode L (long-enough (J .room) L b .places-some))
 
 -- ---- the same, over work memory of exactly V cells
 
@@ -124,13 +127,13 @@ module _ {sheet : List ℕ} {job : Job} {B : Lent} (A : Routable sheet job B) wh
   pub asked : OutsetAsked sheet job (B .kinds) (B .known) (B .blocked)
   asked = record { accepted = A .accepted; kinds-long = A .kinds-long; nodes-long = A .known-long; blocked-long = A .blocked-long }
 
-  module _ {O : Outset} {kinds nodes blocked : List ℕ} (S : SetOut sheet O kinds nodes blocked) where
+  module _ (mode : Mode) {O : Outset} {kinds nodes blocked : List ℕ} (S : SetOut sheet O kinds nodes blocked) where
     set-for : OutsetOf (A .accepted .contents) O kinds nodes blocked
     set-for = S .is (A .accepted .contents) (A .accepted .means)
 
     -- number 7, 8 or 9
     pub job-refused : readyBy (O .placement) (O .ends .fault) ≡ false → {r : Answer} → r ≡ answerOf (no-tree (numberBy (O .placement) (O .ends .fault)) (detailBy (O .placement) (O .ends .fault)))
-        → {branches occupied repeaters : List ℕ} → JobRouted sheet B r branches occupied repeaters
+        → {branches occupied repeaters : List ℕ} → JobRouted mode sheet B r branches occupied repeaters
     unfolding jobOutcome
     job-refused f a = record {
       outset = O;
@@ -146,7 +149,7 @@ module _ {sheet : List ℕ} {job : Job} {B : Lent} (A : Routable sheet job B) wh
 
     module _ (r : readyBy (O .placement) (O .ends .fault) ≡ true) where
       abbrev P : Plot
-      P = plotOf (job .room) (job .config) kinds (B .queue) (B .branches) (O .ends .source) (O .ends .taps)
+      P = plotOf (record { room = job .room; config = job .config; mode = mode }) kinds (B .queue) (B .branches) (O .ends .source) (O .ends .taps)
 
       -- the memory as it is lent on: kinds and what is blocked are set out, and the nodes stand where the known costs will
       abbrev laid-out : Lent
@@ -154,7 +157,7 @@ module _ {sheet : List ℕ} {job : Job} {B : Lent} (A : Routable sheet job B) wh
 
       pub growable : Growable P laid-out
       growable = record {
-        sound = job-sound (A .accepted) set-for r (lengthsOf B) (A .places-some);
+        sound = job-sound (A .accepted) set-for r mode (lengthsOf B) (A .places-some);
         branches-clear = A .branches-clear;
         occupied-clear = A .occupied-clear;
         repeaters-clear = A .repeaters-clear;
@@ -167,7 +170,7 @@ module _ {sheet : List ℕ} {job : Job} {B : Lent} (A : Routable sheet job B) wh
       }
 
       pub job-grown : {answer : Answer} {branches occupied repeaters : List ℕ} → TreeGrown P laid-out answer branches occupied repeaters
-          → JobRouted sheet B answer branches occupied repeaters
+          → JobRouted mode sheet B answer branches occupied repeaters
       job-grown T = record {
         outset = O;
         kinds = kinds;
@@ -175,8 +178,8 @@ module _ {sheet : List ℕ} {job : Job} {B : Lent} (A : Routable sheet job B) wh
         blocked = blocked;
         outcome = outcomeOf P (growthOf P blocked);
         is-set = S .is;
-        comes = λ J m. sym (ap (λ K. jobOutcome K (lengthsOf B) O kinds blocked) (one-meaning sheet J (A .accepted .contents) m (A .accepted .means))
-            ∙ contents-outcome (A .accepted) set-for r (lengthsOf B));
+        comes = λ J m. sym (ap (λ K. jobOutcome mode K (lengthsOf B) O kinds blocked) (one-meaning sheet J (A .accepted .contents) m (A .accepted .means))
+            ∙ contents-outcome (A .accepted) set-for r mode (lengthsOf B));
         answer = T .answer;
         outputs = T .outputs;
       }

@@ -12,6 +12,7 @@ use Rattle.basics.specs.Zeros.{drop-zeros, zeros-long, cleared-to}
 use Rattle.basics.specs.Lists.{joined}
 use Rattle.lent.specs.Lent.{touches, filled, outputAfter, workAfter, Cleared}
 use Rattle.room.specs.Room.{volume}
+use Rattle.ground.specs.declared.Mode.{Mode}
 use Rattle.job_sheet.specs.declared.Job.{Job}
 use Rattle.job_sheet.specs.declared.Reading.{Reading}
 use Rattle.job_sheet.specs.declared.Judgement.{Judgement}
@@ -62,18 +63,18 @@ module _ {sheet : List ℕ} {job : Job} {B : Lent} (A : Lendable sheet job B) {b
 
   -- ---- what comes of the job
 
-  module _ {r : Answer} {branches′ occupied′ repeaters′ : List ℕ} (F : FrontRouted sheet job clean r branches′ occupied′ repeaters′)
+  module _ {mode : Mode} {r : Answer} {branches′ occupied′ repeaters′ : List ℕ} (F : FrontRouted mode sheet job clean r branches′ occupied′ repeaters′)
       (kb : length branches′ ≡ length branches) (ko : length occupied′ ≡ length occupied) (kr : length repeaters′ ≡ length repeaters) where
     abbrev job-outcome : TreeOutcome
     job-outcome = F .is-routed .outcome
 
-    comes : Comes sheet (lengthsOf B) job-outcome
+    comes : Comes mode sheet (lengthsOf B) job-outcome
     comes =
         let told = A .accepted .contents in
         let J = F .is-routed in
         set-out told (A .accepted .means) (A .accepted .good) (ap (λ R. buffersGood R (lengthsOf B)) (sym (usable sheet job (A .accepted) .room-is)) ∙ A .buffers)
         (J .outset) (J .kinds) (J .nodes) (J .blocked) (J .is-set told (A .accepted .means))
-        (J .comes told (A .accepted .means) ∙ ap (λ L. jobOutcome told L (J .outset) (J .kinds) (J .blocked)) same-lengths)
+        (J .comes told (A .accepted .means) ∙ ap (λ L. jobOutcome mode told L (J .outset) (J .kinds) (J .blocked)) same-lengths)
 
     touched : (o : TreeOutcome) → OutputsHold o branches branches′ (F .occupied-front) (F .repeaters-front) → touches (numberFor o) ≡ true
     touched (routed bs marks repeating) w = refl
@@ -141,7 +142,7 @@ module _ {sheet : List ℕ} {job : Job} {B : Lent} (A : Lendable sheet job B) {b
           → Cleared path path′
           → Cleared best best′
           → Cleared queue queue′
-          → Promise sheet B r (lent branches″ occupied″ repeaters″ kinds′ blocked′ classes′ joinable′ known′ previous′ path′ best′ queue′)
+          → Promise mode sheet B r (lent branches″ occupied″ repeaters″ kinds′ blocked′ classes′ joinable′ known′ previous′ path′ best′ queue′)
       promised kinds blocked classes joinable known previous path best queue lki lbl lcl ljo lkn lpr lpa lbe lqu eki ebl ecl ejo ekn epr epa ebe equ =
           let O = outputs job-outcome (F .is-routed .answer) (F .is-routed .outputs) in
           record {
@@ -165,7 +166,7 @@ unread-touches-none judgement.Position e = refl
 unread-touches-none judgement.Code e = refl
 
 -- numbers 1 to 5
-pub promise-unread : {sheet : List ℕ} {B : Lent} {reading : Reading} → Read sheet reading → isGood (reading .judgement) ≡ false → {r : Answer} → r ≡ answerOf (no-tree (numberOf (reading .judgement)) 0) → Promise sheet B r B
+pub promise-unread : {mode : Mode} {sheet : List ℕ} {B : Lent} {reading : Reading} → Read sheet reading → isGood (reading .judgement) ≡ false → {r : Answer} → r ≡ answerOf (no-tree (numberOf (reading .judgement)) 0) → Promise mode sheet B r B
 promise-unread {B = B} {reading = reading} p f a = record {
   outcome = no-tree (numberOf (reading .judgement)) 0;
   comes = unread reading p f refl;
@@ -174,7 +175,7 @@ promise-unread {B = B} {reading = reading} p f a = record {
 }
 
 -- number 6
-pub promise-unlent : {sheet : List ℕ} {B : Lent} {job : Job} → Accepted sheet job → buffersGood (job .room) (lengthsOf B) ≡ false → {r : Answer} → r ≡ answerOf (no-tree bufferNumber 0) → Promise sheet B r B
+pub promise-unlent : {mode : Mode} {sheet : List ℕ} {B : Lent} {job : Job} → Accepted sheet job → buffersGood (job .room) (lengthsOf B) ≡ false → {r : Answer} → r ≡ answerOf (no-tree bufferNumber 0) → Promise mode sheet B r B
 promise-unlent {sheet = sheet} {B = B} {job = job} A f a = record {
   outcome = no-tree bufferNumber 0;
   comes = unlent (A .contents) (A .means) (A .good) (ap (λ R. buffersGood R (lengthsOf B)) (sym (usable sheet job A .room-is)) ∙ f) refl;

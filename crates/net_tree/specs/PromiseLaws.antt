@@ -5,6 +5,7 @@ use mathlib.Core.List.{List}
 use Prim.Native.Nat.{ℕ}
 use Rattle.basics.specs.Tests.{never}
 use Rattle.basics.specs.Promises.{Determines}
+use Rattle.ground.specs.declared.Mode.{Mode}
 use Rattle.job_sheet.specs.declared.Reading.{Reading}
 use Rattle.job_sheet.specs.declared.Judgement.the-variants as judgement
 use Rattle.job_sheet.specs.Sheet.{Contents, Means, Read, judged, isGood}
@@ -20,17 +21,17 @@ use Rattle.net_tree.specs.Answers.{Lent, TreeOutcome, jobOutcome, Comes,
 pub read-good : {sheet : List ℕ} {r : Reading} {J : Contents} → Read sheet r → Means sheet J → judged J ≡ judgement.Good → isGood (r .judgement) ≡ true
 read-good {sheet = sheet} {r = r} {J = J} p m g = rw (answers-meaning sheet J r m p, g)
 
-module _ {sheet : List ℕ} (L : Lengths) where
+module _ (mode : Mode) {sheet : List ℕ} (L : Lengths) where
   same-job : {J K : Contents} → Means sheet J → Means sheet K → {O Q : Outset} {kinds nodes blocked kinds′ nodes′ blocked′ : List ℕ}
-      → OutsetOf J O kinds nodes blocked → OutsetOf K Q kinds′ nodes′ blocked′ → jobOutcome J L O kinds blocked ≡ jobOutcome K L Q kinds′ blocked′
+      → OutsetOf J O kinds nodes blocked → OutsetOf K Q kinds′ nodes′ blocked′ → jobOutcome mode J L O kinds blocked ≡ jobOutcome mode K L Q kinds′ blocked′
   same-job {J = J} {K = K} m n O Q =
       let e = one-meaning sheet J K m n in
       let one = outset-one (rw e at O) Q in
       rw (e, one .0, one .1, one .3) refl
 
 -- one outcome comes of a sheet
-module _ {sheet : List ℕ} {L : Lengths} where
-  pub comes-one : {o q : TreeOutcome} → Comes sheet L o → Comes sheet L q → o ≡ q
+module _ {mode : Mode} {sheet : List ℕ} {L : Lengths} where
+  pub comes-one : {o q : TreeOutcome} → Comes mode sheet L o → Comes mode sheet L q → o ≡ q
   comes-one (unread r p f e) (unread s q g d) = e ∙ rw (one-reading sheet r s p q) (sym d)
   comes-one (unread r p f e) (unlent J m g b d) = never (cc (sym f ∙ read-good p m g))
   comes-one (unread r p f e) (set-out J m g b O kinds nodes blocked s d) = never (cc (sym f ∙ read-good p m g))
@@ -39,7 +40,7 @@ module _ {sheet : List ℕ} {L : Lengths} where
   comes-one (unlent J m g b e) (set-out K n h c O kinds nodes blocked s d) = never (cc (sym (rw (one-meaning sheet J K m n) at b) ∙ c))
   comes-one (set-out J m g b O kinds nodes blocked s e) (unread r p f d) = never (cc (sym f ∙ read-good p m g))
   comes-one (set-out J m g b O kinds nodes blocked s e) (unlent K n h c d) = never (cc (sym c ∙ (rw (one-meaning sheet J K m n) at b)))
-  comes-one (set-out J m g b O kinds nodes blocked s e) (set-out K n h c Q kinds′ nodes′ blocked′ t d) = e ∙ same-job L m n s t ∙ sym d
+  comes-one (set-out J m g b O kinds nodes blocked s e) (set-out K n h c Q kinds′ nodes′ blocked′ t d) = e ∙ same-job mode L m n s t ∙ sym d
 
 -- ---- two results that keep the promise coincide: the answer, and every byte of lent memory
 
@@ -47,9 +48,9 @@ pub record Result : Type 0 where
   pub answer : Answer
   pub lent : Lent
 
-module _ (sheet : List ℕ) (B : Lent) where
+module _ (mode : Mode) (sheet : List ℕ) (B : Lent) where
   abbrev pub Keeps : Result → Type 0
-  Keeps R = Promise sheet B (R .answer) (R .lent)
+  Keeps R = Promise mode sheet B (R .answer) (R .lent)
 
   pub coincide : Determines Keeps
   coincide x y p q =

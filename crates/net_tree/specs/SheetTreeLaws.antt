@@ -5,6 +5,7 @@ use mathlib.Core.List.{List}
 use Prim.Native.Nat.{ℕ, _≤_, _<_}
 use native.Mathlib.Omega.{arith}
 use Rattle.basics.specs.Tests.{ask, never}
+use Rattle.ground.specs.declared.Mode.{Mode}
 use Rattle.job_sheet.specs.declared.Judgement.{Judgement}
 use Rattle.job_sheet.specs.declared.Judgement.the-variants as judgement
 use Rattle.job_sheet.specs.Sheet.{numberOf}
@@ -17,16 +18,16 @@ use Rattle.net_tree.specs.Answers.{routed, no-tree, numberFor, plotFor, 
 use Rattle.net_tree.specs.JobLaws.{plot-sound}
 use Rattle.net_tree.specs.SheetTrees.{TreeOf, StopOf}
 
-pub tree-of : {sheet : List ℕ} {L : Lengths} {branches : List (List ℕ)} {occupied repeaters : List ℕ} → Comes sheet L (routed branches occupied repeaters)
-    → TreeOf sheet L branches occupied repeaters
+pub tree-of : {mode : Mode} {sheet : List ℕ} {L : Lengths} {branches : List (List ℕ)} {occupied repeaters : List ℕ} → Comes mode sheet L (routed branches occupied repeaters)
+    → TreeOf mode sheet L branches occupied repeaters
 unfolding jobOutcome
 tree-of (unread r p f e) = never (cc)
 tree-of (unlent J m g b e) = never (cc)
-tree-of {sheet} {L} {branches} {occupied} {repeaters} (set-out J m g b O kinds nodes blocked s e) =
-    ask (ready O) (λ t. go t (growthOf (plotFor J L O kinds) blocked) refl (rw t at e)) (λ f. never (cc (rw f at e)))
+tree-of {mode} {sheet} {L} {branches} {occupied} {repeaters} (set-out J m g b O kinds nodes blocked s e) =
+    ask (ready O) (λ t. go t (growthOf (plotFor mode J L O kinds) blocked) refl (rw t at e)) (λ f. never (cc (rw f at e)))
   where
-    go : ready O ≡ true → (growth : Growth) → growthOf (plotFor J L O kinds) blocked ≡ growth
-        → routed branches occupied repeaters ≡ outcomeOf (plotFor J L O kinds) growth → TreeOf sheet L branches occupied repeaters
+    go : ready O ≡ true → (growth : Growth) → growthOf (plotFor mode J L O kinds) blocked ≡ growth
+        → routed branches occupied repeaters ≡ outcomeOf (plotFor mode J L O kinds) growth → TreeOf mode sheet L branches occupied repeaters
     go t (grown T) d q = record {
       contents = J;
       outset = O;
@@ -34,7 +35,7 @@ tree-of {sheet} {L} {branches} {occupied} {repeaters} (set-out J m g b O kinds n
       nodes = nodes;
       blocked = blocked;
       unrefused = record { means = m; contents-good = g; lengths-good = b; is-set = s; is-ready = t };
-      sound = plot-sound J m g L b s t;
+      sound = plot-sound mode J m g L b s t;
       tree = T;
       grows = d;
       branches-are = cc;
@@ -59,17 +60,17 @@ set-small Placement.Placed Fault.Good = omega arith
 set-small Placement.Placed (Fault.NoFacing place) = omega arith
 set-small Placement.Placed (Fault.Outside place) = omega arith
 
-pub stop-of : {sheet : List ℕ} {L : Lengths} {number detail : ℕ} → Comes sheet L (no-tree number detail) → 9 < number → StopOf sheet L number detail
+pub stop-of : {mode : Mode} {sheet : List ℕ} {L : Lengths} {number detail : ℕ} → Comes mode sheet L (no-tree number detail) → 9 < number → StopOf mode sheet L number detail
 unfolding jobOutcome
 stop-of (unread r p f e) h = absurd (omega (arith, h, ap numberFor e, read-small (r .judgement)))
 stop-of (unlent J m g b e) h = absurd (omega (arith, h, ap numberFor e))
-stop-of {sheet} {L} {number} {detail} (set-out J m g b O kinds nodes blocked s e) h =
+stop-of {mode} {sheet} {L} {number} {detail} (set-out J m g b O kinds nodes blocked s e) h =
     ask (ready O)
-    (λ t. go t (growthOf (plotFor J L O kinds) blocked) refl (rw t at e))
+    (λ t. go t (growthOf (plotFor mode J L O kinds) blocked) refl (rw t at e))
     (λ f. let q : number ≡ numberBy (O .placement) (O .ends .fault) = ap numberFor (rw f at e) in absurd (omega (arith, h, q, set-small (O .placement) (O .ends .fault))))
   where
-    go : ready O ≡ true → (growth : Growth) → growthOf (plotFor J L O kinds) blocked ≡ growth
-        → no-tree number detail ≡ outcomeOf (plotFor J L O kinds) growth → StopOf sheet L number detail
+    go : ready O ≡ true → (growth : Growth) → growthOf (plotFor mode J L O kinds) blocked ≡ growth
+        → no-tree number detail ≡ outcomeOf (plotFor mode J L O kinds) growth → StopOf mode sheet L number detail
     go t (grown T) d q = never (cc)
     go t (stopped n x) d q = record {
       contents = J;
@@ -78,6 +79,6 @@ stop-of {sheet} {L} {number} {detail} (set-out J m g b O kinds nodes blocked s e
       nodes = nodes;
       blocked = blocked;
       unrefused = record { means = m; contents-good = g; lengths-good = b; is-set = s; is-ready = t };
-      sound = plot-sound J m g L b s t;
+      sound = plot-sound mode J m g L b s t;
       stops = let a : number ≡ n = ap numberFor q in let c : detail ≡ x = cc in rw (a, c) d;
     }

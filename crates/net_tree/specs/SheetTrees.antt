@@ -4,6 +4,7 @@ use mathlib.Core.Path.{_≡_}
 use mathlib.Core.Bool.{true}
 use mathlib.Core.List.{List}
 use Prim.Native.Nat.{ℕ}
+use Rattle.ground.specs.declared.Mode.{Mode}
 use Rattle.job_sheet.specs.declared.Judgement.the-variants.{Good}
 use Rattle.job_sheet.specs.Sheet.{Contents, Means, judged}
 use Rattle.outset.specs.declared.Outset.{Outset}
@@ -22,27 +23,27 @@ pub record TreeUnrefused (sheet : List ℕ) (L : Lengths) (J : Contents) (O : Ou
   pub is-ready : ready O ≡ true
 
 -- the tree that grew has these branches in sheet order, these occupied cells and these repeaters
-pub record TreeOf (sheet : List ℕ) (L : Lengths) (branches : List (List ℕ)) (occupied repeaters : List ℕ) : Type 0 where
+pub record TreeOf (mode : Mode) (sheet : List ℕ) (L : Lengths) (branches : List (List ℕ)) (occupied repeaters : List ℕ) : Type 0 where
   pub contents : Contents
   pub outset : Outset
   pub kinds : List ℕ
   pub nodes : List ℕ
   pub blocked : List ℕ
   pub unrefused : TreeUnrefused sheet L contents outset kinds nodes blocked
-  pub sound : SoundPlot (plotFor contents L outset kinds)
+  pub sound : SoundPlot (plotFor mode contents L outset kinds)
   pub tree : Tree
-  pub grows : growthOf (plotFor contents L outset kinds) blocked ≡ grown tree
+  pub grows : growthOf (plotFor mode contents L outset kinds) blocked ≡ grown tree
   pub branches-are : branches ≡ tree .branches
   pub occupied-are : occupied ≡ tree .occupied
-  pub repeaters-are : repeaters ≡ repeatersOf (plotFor contents L outset kinds) tree
+  pub repeaters-are : repeaters ≡ repeatersOf (plotFor mode contents L outset kinds) tree
 
 -- the growth stopped with this number and detail
-pub record StopOf (sheet : List ℕ) (L : Lengths) (number detail : ℕ) : Type 0 where
+pub record StopOf (mode : Mode) (sheet : List ℕ) (L : Lengths) (number detail : ℕ) : Type 0 where
   pub contents : Contents
   pub outset : Outset
   pub kinds : List ℕ
   pub nodes : List ℕ
   pub blocked : List ℕ
   pub unrefused : TreeUnrefused sheet L contents outset kinds nodes blocked
-  pub sound : SoundPlot (plotFor contents L outset kinds)
-  pub stops : growthOf (plotFor contents L outset kinds) blocked ≡ stopped number detail
+  pub sound : SoundPlot (plotFor mode contents L outset kinds)
+  pub stops : growthOf (plotFor mode contents L outset kinds) blocked ≡ stopped number detail

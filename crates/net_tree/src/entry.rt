@@ -4,6 +4,7 @@ use crate::Ended;
 use crate::Lengths;
 use crate::job::refuse;
 use crate::job::route_job;
+use ground::Mode;
 use job_sheet::Job;
 use room::Room;
 ghost use mathlib.Core.Path.{_≡_};
@@ -93,6 +94,7 @@ fn settle(ended: Ended, branches: &mut [u32], occupied: &mut [u8], repeaters: &m
 // The tree of an accepted job: the first V numbers of each buffer are lent on, the branch buffer and the
 // queue whole.
 fn route_front(
+    mode: Mode,
     sheet: &[u8],
     job: Job,
     branches: &mut [u32],
@@ -110,10 +112,11 @@ fn route_front(
 ) -> Answer
     requires { ⌜ Lendable (now sheet) job (lent (now branches) (now occupied) (now repeaters) (now kinds) (now blocked) (now classes) (now joinable) (now known) (now previous) (now path) (now best) (now queue)) ⌝ }
     requires { ⌜ OutputsClear (lent (now branches) (now occupied) (now repeaters) (now kinds) (now blocked) (now classes) (now joinable) (now known) (now previous) (now path) (now best) (now queue)) ⌝ }
-    ensures { λ r. ⌜ FrontRouted (now (sheet .entry)) job (lent (now (branches .entry)) (now (occupied .entry)) (now (repeaters .entry)) (now (kinds .entry)) (now (blocked .entry)) (now (classes .entry)) (now (joinable .entry)) (now (known .entry)) (now (previous .entry)) (now (path .entry)) (now (best .entry)) (now (queue .entry))) r (now (branches .exit)) (now (occupied .exit)) (now (repeaters .exit)) ⌝ }
+    ensures { λ r. ⌜ FrontRouted mode (now (sheet .entry)) job (lent (now (branches .entry)) (now (occupied .entry)) (now (repeaters .entry)) (now (kinds .entry)) (now (blocked .entry)) (now (classes .entry)) (now (joinable .entry)) (now (known .entry)) (now (previous .entry)) (now (path .entry)) (now (best .entry)) (now (queue .entry))) r (now (branches .exit)) (now (occupied .exit)) (now (repeaters .exit)) ⌝ }
 {
     let cells = job.room.volume();
     route_job(
+        mode,
         sheet,
         job,
         branches,
@@ -133,6 +136,7 @@ fn route_front(
 
 // The tree of an accepted job, over lent memory that suffices, whatever it holds.
 fn route_lent(
+    mode: Mode,
     sheet: &[u8],
     job: Job,
     branches: &mut [u32],
@@ -149,10 +153,11 @@ fn route_lent(
     queue: &mut [u64],
 ) -> Answer
     requires { ⌜ Lendable (now sheet) job (lent (now branches) (now occupied) (now repeaters) (now kinds) (now blocked) (now classes) (now joinable) (now known) (now previous) (now path) (now best) (now queue)) ⌝ }
-    ensures { λ r. ⌜ Promise (now (sheet .entry)) (lent (now (branches .entry)) (now (occupied .entry)) (now (repeaters .entry)) (now (kinds .entry)) (now (blocked .entry)) (now (classes .entry)) (now (joinable .entry)) (now (known .entry)) (now (previous .entry)) (now (path .entry)) (now (best .entry)) (now (queue .entry))) r (lent (now (branches .exit)) (now (occupied .exit)) (now (repeaters .exit)) (now (kinds .exit)) (now (blocked .exit)) (now (classes .exit)) (now (joinable .exit)) (now (known .exit)) (now (previous .exit)) (now (path .exit)) (now (best .exit)) (now (queue .exit))) ⌝ }
+    ensures { λ r. ⌜ Promise mode (now (sheet .entry)) (lent (now (branches .entry)) (now (occupied .entry)) (now (repeaters .entry)) (now (kinds .entry)) (now (blocked .entry)) (now (classes .entry)) (now (joinable .entry)) (now (known .entry)) (now (previous .entry)) (now (path .entry)) (now (best .entry)) (now (queue .entry))) r (lent (now (branches .exit)) (now (occupied .exit)) (now (repeaters .exit)) (now (kinds .exit)) (now (blocked .exit)) (now (classes .exit)) (now (joinable .exit)) (now (known .exit)) (now (previous .exit)) (now (path .exit)) (now (best .exit)) (now (queue .exit))) ⌝ }
 {
     clear_outputs(branches, occupied, repeaters);
     let answer = route_front(
+        mode,
         sheet,
         job,
         branches,
@@ -184,10 +189,11 @@ fn route_lent(
     answer
 }
 
-// The tree of the one net that a job sheet describes. The branches go to the front of `branches` in sheet order, the cells
+// The tree of the one net that a job sheet describes, in the mode that the caller chooses. The branches go to the front of `branches` in sheet order, the cells
 // that they occupy and the repeaters are marked in `occupied` and `repeaters`; the others are work memory. See the
 // promise in specs/Answers.antt.
 pub fn route_net_tree(
+    mode: Mode,
     sheet: &[u8],
     branches: &mut [u32],
     occupied: &mut [u8],
@@ -202,7 +208,7 @@ pub fn route_net_tree(
     best: &mut [u32],
     queue: &mut [u64],
 ) -> Answer
-    ensures { λ r. ⌜ Promise (now (sheet .entry)) (lent (now (branches .entry)) (now (occupied .entry)) (now (repeaters .entry)) (now (kinds .entry)) (now (blocked .entry)) (now (classes .entry)) (now (joinable .entry)) (now (known .entry)) (now (previous .entry)) (now (path .entry)) (now (best .entry)) (now (queue .entry))) r (lent (now (branches .exit)) (now (occupied .exit)) (now (repeaters .exit)) (now (kinds .exit)) (now (blocked .exit)) (now (classes .exit)) (now (joinable .exit)) (now (known .exit)) (now (previous .exit)) (now (path .exit)) (now (best .exit)) (now (queue .exit))) ⌝ }
+    ensures { λ r. ⌜ Promise mode (now (sheet .entry)) (lent (now (branches .entry)) (now (occupied .entry)) (now (repeaters .entry)) (now (kinds .entry)) (now (blocked .entry)) (now (classes .entry)) (now (joinable .entry)) (now (known .entry)) (now (previous .entry)) (now (path .entry)) (now (best .entry)) (now (queue .entry))) r (lent (now (branches .exit)) (now (occupied .exit)) (now (repeaters .exit)) (now (kinds .exit)) (now (blocked .exit)) (now (classes .exit)) (now (joinable .exit)) (now (known .exit)) (now (previous .exit)) (now (path .exit)) (now (best .exit)) (now (queue .exit))) ⌝ }
 {
     let reading = sheet_reader::read_sheet(sheet);
     let judgement = reading.judgement;
@@ -228,6 +234,7 @@ pub fn route_net_tree(
         return refuse(numbers::BUFFER_NUMBER, 0);
     }
     route_lent(
+        mode,
         sheet,
         job,
         branches,

@@ -3,12 +3,13 @@ use crate::Answer;
 use crate::Ended;
 use branches::BranchLengths;
 use ends::Taps;
+use ground::Ground;
+use ground::Mode;
 use job_sheet::Job;
 use multinet::GrownBranches;
 use multinet::GrowthEnd;
 use multinet::Stop;
 use room::Room;
-use room::RouterConfig;
 ghost use mathlib.Core.Path.{_≡_};
 ghost use Prim.Native.Nat.{_<_};
 ghost use lib.Dec.{eqb};
@@ -129,8 +130,7 @@ fn gather(
 
 // Grows and harvests the tree of a plot in which these cells are blocked; or number 13, 14 or 15 is due.
 fn grow_job(
-    room: Room,
-    config: RouterConfig,
+    ground: Ground,
     source: usize,
     taps: Taps,
     branches: &mut [u32],
@@ -146,13 +146,12 @@ fn grow_job(
     best: &mut [u32],
     queue: &mut [u64],
 ) -> Answer
-    requires { ⌜ Growable (plotOf room config (now kinds) (now queue) (now branches) source taps) (lent (now branches) (now occupied) (now repeaters) (now kinds) (now blocked) (now classes) (now joinable) (now known) (now previous) (now path) (now best) (now queue)) ⌝ }
-    ensures { λ r. ⌜ TreeGrown (plotOf room config (now (kinds .entry)) (now (queue .entry)) (now (branches .entry)) source taps) (lent (now (branches .entry)) (now (occupied .entry)) (now (repeaters .entry)) (now (kinds .entry)) (now (blocked .entry)) (now (classes .entry)) (now (joinable .entry)) (now (known .entry)) (now (previous .entry)) (now (path .entry)) (now (best .entry)) (now (queue .entry))) r (now (branches .exit)) (now (occupied .exit)) (now (repeaters .exit)) ⌝ }
+    requires { ⌜ Growable (plotOf ground (now kinds) (now queue) (now branches) source taps) (lent (now branches) (now occupied) (now repeaters) (now kinds) (now blocked) (now classes) (now joinable) (now known) (now previous) (now path) (now best) (now queue)) ⌝ }
+    ensures { λ r. ⌜ TreeGrown (plotOf ground (now (kinds .entry)) (now (queue .entry)) (now (branches .entry)) source taps) (lent (now (branches .entry)) (now (occupied .entry)) (now (repeaters .entry)) (now (kinds .entry)) (now (blocked .entry)) (now (classes .entry)) (now (joinable .entry)) (now (known .entry)) (now (previous .entry)) (now (path .entry)) (now (best .entry)) (now (queue .entry))) r (now (branches .exit)) (now (occupied .exit)) (now (repeaters .exit)) ⌝ }
 {
     plant(source, joinable);
     let growth = multinet::grow_tree(
-        room,
-        config,
+        ground,
         source,
         taps,
         kinds,
@@ -167,7 +166,7 @@ fn grow_job(
         branches,
     );
     gather(
-        room,
+        ground.room,
         source,
         taps,
         growth,
@@ -183,6 +182,7 @@ fn grow_job(
 
 // The tree of an accepted job: set out, grown and harvested; or the first number from 7 on that is due.
 pub fn route_job(
+    mode: Mode,
     sheet: &[u8],
     job: Job,
     branches: &mut [u32],
@@ -199,7 +199,7 @@ pub fn route_job(
     queue: &mut [u64],
 ) -> Answer
     requires { ⌜ Routable (now sheet) job (lent (now branches) (now occupied) (now repeaters) (now kinds) (now blocked) (now classes) (now joinable) (now known) (now previous) (now path) (now best) (now queue)) ⌝ }
-    ensures { λ r. ⌜ JobRouted (now (sheet .entry)) (lent (now (branches .entry)) (now (occupied .entry)) (now (repeaters .entry)) (now (kinds .entry)) (now (blocked .entry)) (now (classes .entry)) (now (joinable .entry)) (now (known .entry)) (now (previous .entry)) (now (path .entry)) (now (best .entry)) (now (queue .entry))) r (now (branches .exit)) (now (occupied .exit)) (now (repeaters .exit)) ⌝ }
+    ensures { λ r. ⌜ JobRouted mode (now (sheet .entry)) (lent (now (branches .entry)) (now (occupied .entry)) (now (repeaters .entry)) (now (kinds .entry)) (now (blocked .entry)) (now (classes .entry)) (now (joinable .entry)) (now (known .entry)) (now (previous .entry)) (now (path .entry)) (now (best .entry)) (now (queue .entry))) r (now (branches .exit)) (now (occupied .exit)) (now (repeaters .exit)) ⌝ }
 {
     let outset = outset::set_out(sheet, job, kinds, known, blocked);
     let placement = outset.placement;
@@ -211,9 +211,11 @@ pub fn route_job(
             outset::detail_by(placement, fault),
         );
     }
+    let room = job.room;
+    let config = job.config;
+    let ground = Ground { room, config, mode };
     grow_job(
-        job.room,
-        job.config,
+        ground,
         ends.source,
         ends.taps,
         branches,

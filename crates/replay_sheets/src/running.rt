@@ -2,6 +2,7 @@
 use crate::judging::Shortage;
 use crate::judging::verdict_of;
 use crate::sheets::Told;
+use ground::Mode;
 use stored::memory::OWN_LENGTH;
 use stored::memory::spoil_bytes;
 use stored::memory::spoil_longs;
@@ -57,7 +58,9 @@ fn run_judged(
     best: &mut [u32],
     queue: &mut [u64],
 ) -> Verdict {
+    let mode = Mode::Published;
     let answer = net_tree::route_net_tree(
+        mode,
         sheet,
         branches,
         occupied,

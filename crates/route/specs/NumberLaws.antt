@@ -12,6 +12,8 @@ use Rattle.outset.specs.declared.Outset.{Outset}
 use Rattle.branches.specs.Branches.{branchOf}
 use Rattle.room.specs.declared.Room.{Room}
 use Rattle.room.specs.Room.{volume}
+use Rattle.ground.specs.declared.Mode.{Mode}
+use Rattle.ground.specs.declared.Mode.the-variants.{Published}
 use Rattle.job_sheet.specs.declared.Judgement.{Judgement}
 use Rattle.job_sheet.specs.declared.Judgement.the-variants.{Good, Sheet, Sides, Config, Position, Code}
 use Rattle.job_sheet.specs.Sheet.{numberOf, Contents}
@@ -74,10 +76,10 @@ outcome-high : (P : Plot) (g : Growth) → StopsHigh g → numberFor (outcomeOf 
 outcome-high P (grown T) s e = omega arith
 outcome-high P (stopped number detail) s e = omega arith
 
-job-high : (J : Contents) (L : Lengths) (O : Outset) (kinds blocked : List ℕ) → numberFor (jobOutcome J L O kinds blocked) ≡ bufferNumber → ⊥
+job-high : (mode : Mode) (J : Contents) (L : Lengths) (O : Outset) (kinds blocked : List ℕ) → numberFor (jobOutcome mode J L O kinds blocked) ≡ bufferNumber → ⊥
 unfolding jobOutcome growthOf
-job-high J L O kinds blocked e =
-    let P = plotFor J L O kinds in
+job-high mode J L O kinds blocked e =
+    let P = plotFor mode J L O kinds in
     ask (ready O)
     (λ t. outcome-high P (growthOf P blocked) (growth-high (P .taps .count) P 0 (planted P blocked)) (rw t at e))
     (λ f. let six : numberBy (O .placement) (O .ends .fault) ≡ bufferNumber = rw f at e in omega (arith, late (O .placement) (O .ends .fault) f, six))
@@ -88,4 +90,4 @@ pub no-six : {sheet : List ℕ} {o : TreeOutcome} → ComesHere sheet o → numb
 no-six (over-limit J m h e) n = let k : _≡_ {A = ℕ} sidesNumber bufferNumber = sym (ap numberFor e) ∙ n in omega (arith, k)
 no-six (within-limit small (unread r p f e)) n = refused-low (r .judgement) (sym (ap numberFor e) ∙ n)
 no-six (within-limit small (unlent J m g b e)) n = never (cc (sym b ∙ lent-enough (J .room) (small J m)))
-no-six (within-limit small (set-out J m g b O kinds nodes blocked s e)) n = job-high J programLengths O kinds blocked (sym (ap numberFor e) ∙ n)
+no-six (within-limit small (set-out J m g b O kinds nodes blocked s e)) n = job-high Published J programLengths O kinds blocked (sym (ap numberFor e) ∙ n)

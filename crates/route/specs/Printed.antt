@@ -6,6 +6,7 @@ use Prim.Native.Nat.{ℕ, _≤_, _<_}
 use lib.ListN.{length, take}
 use Rattle.numbers.specs.Refusals.{sidesNumber}
 use Rattle.room.specs.Room.{volume}
+use Rattle.ground.specs.declared.Mode.the-variants.{Published}
 use Rattle.job_sheet.specs.Sheet.{Contents, Means}
 use Rattle.branches.specs.Branches.{markedCount}
 use Rattle.net_tree.specs.declared.Lengths.{Lengths}
@@ -42,10 +43,10 @@ programLengths = record {
   queue = queueNumbers;
 }
 
--- what comes of a sheet in this program: the limit of its own stands at 2's place, after 1 and before 3
+-- what comes of a sheet in this program, in the published mode: the limit of its own stands at 2's place, after 1 and before 3
 pub data ComesHere (sheet : List ℕ) (o : TreeOutcome) : Type 0 where
   over-limit : (J : Contents) → Means sheet J → maxCells < volume (J .room) → o ≡ no-tree sidesNumber 0 → ComesHere sheet o
-  within-limit : ((J : Contents) → Means sheet J → volume (J .room) ≤ maxCells) → Comes sheet programLengths o → ComesHere sheet o
+  within-limit : ((J : Contents) → Means sheet J → volume (J .room) ≤ maxCells) → Comes Published sheet programLengths o → ComesHere sheet o
 
 -- the lines: `net`, "a line `branch` with its cells for each sink in sheet order", `repeaters`; or `refused`
 abbrev pub printed : TreeOutcome → List ℕ

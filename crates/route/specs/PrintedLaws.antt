@@ -15,6 +15,8 @@ use Rattle.basics.specs.Padding.{padded-long}
 use Rattle.basics.specs.Lists.{joined}
 use Rattle.lent.specs.Lent.{filled}
 use Rattle.room.specs.Room.{volume}
+use Rattle.ground.specs.declared.Mode.{Mode}
+use Rattle.ground.specs.declared.Mode.the-variants.{Published}
 use Rattle.job_sheet.specs.declared.Reading.{Reading}
 use Rattle.job_sheet.specs.declared.Judgement.{Judgement}
 use Rattle.job_sheet.specs.declared.Judgement.the-variants.{Good, Sheet, Sides, Config, Position, Code}
@@ -152,7 +154,7 @@ answer-length A {cells} B marks = ended-length (A .ended)
 
 -- ---- from the promise of `route_net_tree` to the lines
 
-outcome-branched : (o : TreeOutcome) {sheet : List ℕ} {L : Lengths} → Comes sheet L o → (B : Lent) → Branched (answerOf o .lengths) (lentAfter o B .branches)
+outcome-branched : (o : TreeOutcome) {mode : Mode} {sheet : List ℕ} {L : Lengths} → Comes mode sheet L o → (B : Lent) → Branched (answerOf o .lengths) (lentAfter o B .branches)
 unfolding sum
 outcome-branched (routed bs occupied repeaters) c B =
     let few = few-branches c in
@@ -167,7 +169,7 @@ outcome-branched (routed bs occupied repeaters) c B =
     }
 outcome-branched (no-tree code detail) c B = record { whole = refl; few = omega arith; within = omega arith }
 
-module _ {sheet : List ℕ} {B : Lent} {r : Answer} {B′ : Lent} (P : Promise sheet B r B′) where
+module _ {mode : Mode} {sheet : List ℕ} {B : Lent} {r : Answer} {B′ : Lent} (P : Promise mode sheet B r B′) where
   pub promise-branched : Branched (r .lengths) (B′ .branches)
   promise-branched = rw (P .lent-is, P .answer) (outcome-branched (P .outcome) (P .comes) B)
 
@@ -176,7 +178,7 @@ module _ {sheet : List ℕ} {B : Lent} {r : Answer} {B′ : Lent} (P : Promise s
   promise-fits b m h = record { place = omega (arith, answer-length r promise-branched (B′ .repeaters)) }
 
   pub promise-shown : lengthsOf B ≡ programLengths → {out out′ : List ℕ} {end : ℕ} → Fits out 0 (answerText r (B′ .branches) (B′ .repeaters))
-      → Put out 0 (answerText r (B′ .branches) (B′ .repeaters)) out′ end → Shown (Comes sheet programLengths) out′ end
+      → Put out 0 (answerText r (B′ .branches) (B′ .repeaters)) out′ end → Shown (Comes mode sheet programLengths) out′ end
   promise-shown e f p = record {
     outcome = P .outcome;
     so = rw e at (P .comes);
@@ -196,7 +198,7 @@ printed-over (is-over J m h e) t long p =
 printed-over (is-not none e) t long p = never (cc)
 
 pub printed-not-over : {sheet : List ℕ} {large : Bool} → SizeJudged sheet large → large ≡ false → {out : List ℕ} {end : ℕ}
-    → Shown (Comes sheet programLengths) out end → Printed sheet out end
+    → Shown (Comes Published sheet programLengths) out end → Printed sheet out end
 printed-not-over (is-over J m h e) f s = never (cc)
 printed-not-over (is-not small e) f s = record { outcome = s .outcome; so = within-limit small (s .so); within = s .within; is = s .is }
 

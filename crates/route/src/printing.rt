@@ -1,9 +1,11 @@
 // From the bytes of a sheet to the lines that are printed.
 use crate::lines::put_answer;
 use crate::lines::put_refused;
+use ground::Mode;
 ghost use mathlib.Core.Path.{_≡_};
 ghost use Prim.Native.Nat.{_*_, _≤_};
 ghost use lib.ListN.{length, getD};
+ghost use Rattle.ground.specs.declared.Mode.the-variants.{Published};
 ghost use Rattle.route.specs.Printed.{programLengths, SizeJudged, Shown, Printed, longestText};
 ghost use Rattle.net_tree.specs.Answers.{Comes};
 
@@ -45,7 +47,7 @@ fn too_large(sheet: &[u8]) -> bool
 // Routes in memory of this program's own, and puts the answer's lines.
 fn put_routed(sheet: &[u8], out: &mut [u8]) -> usize
     requires { ⌜ longestText ≤ length (now out) ⌝ }
-    ensures { λ r. ⌜ Shown (Comes (now (sheet .entry)) programLengths) (now (out .exit)) r ⌝ }
+    ensures { λ r. ⌜ Shown (Comes Published (now (sheet .entry)) programLengths) (now (out .exit)) r ⌝ }
 {
     let mut branches = [0u32; MAX_BRANCH_CELLS];
     let mut occupied = [0u8; MAX_CELLS];
@@ -59,7 +61,9 @@ fn put_routed(sheet: &[u8], out: &mut [u8]) -> usize
     let mut path = [0u32; MAX_CELLS];
     let mut best = [0u32; MAX_CELLS];
     let mut queue = [0u64; QUEUE_NUMBERS];
+    let mode = Mode::Published;
     let answer = net_tree::route_net_tree(
+        mode,
         sheet,
         &mut branches,
         &mut occupied,

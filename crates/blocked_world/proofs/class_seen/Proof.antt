@@ -20,7 +20,7 @@ returns : tie.Need-returns
 returns c =
     let a = c .before .before .before .before .before .before .args in
     let pre = c .before .before .before .before .before .before .pre in
-    class-by (a .room) (a .kinds .now) (a .blocked .now) (a .start) (a .goal) (pre .0 .kinds-long) (a .cell) (pre .1) _ _ _ _ (c .before .an-end .ensures) (c .before .before .seen-kind .ensures) (c .before .before .before .seen-beneath .ensures) (c .class-for .ensures)
+    class-by (a .ground .mode) (a .ground .room) (a .kinds .now) (a .blocked .now) (a .start) (a .goal) (pre .0 .kinds-long) (a .cell) (pre .1) _ _ _ _ (c .before .an-end .ensures) (c .before .before .seen-kind .ensures) (c .before .before .before .seen-beneath .ensures) (c .class-for .ensures)
 
 pub class-seen-spec : {M : Type 1} → statement M
 class-seen-spec =

@@ -27,7 +27,7 @@ returns c =
     let a = c .before .before .before .before .before .before .before .args in
     let pre = c .before .before .before .before .before .before .before .pre in
     let place = sym (c .before .before .before .before .beneath .ensures) ∙ c .before .before .below .given .1 in
-    rw place (c .seen-kind .ensures ∙ sym (seen-at (a .kinds .now) (a .blocked .now) (a .start) (a .goal) _ (rw (pre .0 .kinds-long) (beneath-in _ _ _ (pre .1) place))))
+    rw place (c .seen-kind .ensures ∙ sym (seen-at (a .mode) (a .kinds .now) (a .blocked .now) (a .start) (a .goal) _ (rw (pre .0 .kinds-long) (beneath-in _ _ _ (pre .1) place))))
 
 returns-2 : tie.Need-returns-2
 returns-2 c = rw (sym (c .before .before .beneath .ensures) ∙ c .enum-told .given .1)

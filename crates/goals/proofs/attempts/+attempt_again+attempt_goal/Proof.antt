@@ -21,10 +21,10 @@ use Rattle.goals.proofs.attempts.+attempt_again+attempt_goal.{statement
 use Rattle.goals.proofs.attempts.+attempt_again+attempt_goal.Tie.{close}
 
 abbrev μ-attempt-again : Measures 8 attempt-again-kinds.ps ℕ
-μ-attempt-again κs a = suc (2 * a .1 .1 .1 .1 .1 .1 .1 .1 .1 .1 .1 .1 .1 .0)
+μ-attempt-again κs a = suc (2 * a .1 .1 .1 .1 .1 .1 .1 .1 .1 .1 .1 .1 .0)
 
 abbrev μ-attempt-goal : Measures 8 attempt-goal-kinds.ps ℕ
-μ-attempt-goal κs a = 2 * a .1 .1 .1 .1 .1 .1 .1 .1 .1 .1 .1 .1 .0
+μ-attempt-goal κs a = 2 * a .1 .1 .1 .1 .1 .1 .1 .1 .1 .1 .1 .0
 
 abbrev attempt-again-at : ℕ → In 8 attempt-again-kinds.ps
 attempt-again-at t =
@@ -81,41 +81,41 @@ attempt-again-set-blocked-requires-2 t c κs =
 attempt-again-same-length : (t : ℕ) → attempt-again-lts.Need-same-length (attempt-again-claims t) (attempt-again-at t) attempt-again.Post
 attempt-again-same-length t c =
     let attempt-goal = c .before .before .before .before .before .before .before .before .before .before .before .before .before .before .before .before .before .before .before .before .before .attempt-goal in
-    attempt-goal .kept .1 .1 .1 .0
+    attempt-goal .kept .1 .1 .0
 
 attempt-again-same-length-2 : (t : ℕ) → attempt-again-lts.Need-same-length-2 (attempt-again-claims t) (attempt-again-at t) attempt-again.Post
 attempt-again-same-length-2 t c =
     let set-blocked2 = c .before .before .before .before .set-blocked2 in
     let attempt-goal = c .before .before .before .before .before .before .before .before .before .before .before .before .before .before .before .before .before .before .before .before .before .attempt-goal in
     let set-blocked = c .before .before .before .before .before .before .before .before .before .before .before .before .before .before .before .before .before .before .before .before .before .before .before .before .before .before .before .before .before .before .before .before .before .set-blocked in
-    set-blocked2 .kept .1 .1 .0 ∙ attempt-goal .kept .1 .1 .1 .1 .0 ∙ set-blocked .kept .1 .1 .0
+    set-blocked2 .kept .1 .1 .0 ∙ attempt-goal .kept .1 .1 .1 .0 ∙ set-blocked .kept .1 .1 .0
 
 attempt-again-same-length-3 : (t : ℕ) → attempt-again-lts.Need-same-length-3 (attempt-again-claims t) (attempt-again-at t) attempt-again.Post
 attempt-again-same-length-3 t c =
     let set-blocked2 = c .before .before .before .before .set-blocked2 in
     let attempt-goal = c .before .before .before .before .before .before .before .before .before .before .before .before .before .before .before .before .before .before .before .before .before .attempt-goal in
     let set-blocked = c .before .before .before .before .before .before .before .before .before .before .before .before .before .before .before .before .before .before .before .before .before .before .before .before .before .before .before .before .before .before .before .before .before .set-blocked in
-    set-blocked2 .kept .1 .1 .1 .0 ∙ attempt-goal .kept .1 .1 .1 .1 .1 .0 ∙ set-blocked .kept .1 .1 .1 .0
+    set-blocked2 .kept .1 .1 .1 .0 ∙ attempt-goal .kept .1 .1 .1 .1 .0 ∙ set-blocked .kept .1 .1 .1 .0
 
 attempt-again-same-length-4 : (t : ℕ) → attempt-again-lts.Need-same-length-4 (attempt-again-claims t) (attempt-again-at t) attempt-again.Post
 attempt-again-same-length-4 t c =
     let attempt-goal = c .before .before .before .before .before .before .before .before .before .before .before .before .before .before .before .before .before .before .before .before .before .attempt-goal in
-    attempt-goal .kept .1 .1 .1 .1 .1 .1 .0
+    attempt-goal .kept .1 .1 .1 .1 .1 .0
 
 attempt-again-same-length-5 : (t : ℕ) → attempt-again-lts.Need-same-length-5 (attempt-again-claims t) (attempt-again-at t) attempt-again.Post
 attempt-again-same-length-5 t c =
     let attempt-goal = c .before .before .before .before .before .before .before .before .before .before .before .before .before .before .before .before .before .before .before .before .before .attempt-goal in
-    attempt-goal .kept .1 .1 .1 .1 .1 .1 .1 .0
+    attempt-goal .kept .1 .1 .1 .1 .1 .1 .0
 
 attempt-again-same-length-6 : (t : ℕ) → attempt-again-lts.Need-same-length-6 (attempt-again-claims t) (attempt-again-at t) attempt-again.Post
 attempt-again-same-length-6 t c =
     let attempt-goal = c .before .before .before .before .before .before .before .before .before .before .before .before .before .before .before .before .before .before .before .before .before .attempt-goal in
-    attempt-goal .kept .1 .1 .1 .1 .1 .1 .1 .1 .0
+    attempt-goal .kept .1 .1 .1 .1 .1 .1 .1 .0
 
 attempt-again-same-length-7 : (t : ℕ) → attempt-again-lts.Need-same-length-7 (attempt-again-claims t) (attempt-again-at t) attempt-again.Post
 attempt-again-same-length-7 t c =
     let attempt-goal = c .before .before .before .before .before .before .before .before .before .before .before .before .before .before .before .before .before .before .before .before .before .attempt-goal in
-    attempt-goal .kept .1 .1 .1 .1 .1 .1 .1 .1 .1 .0
+    attempt-goal .kept .1 .1 .1 .1 .1 .1 .1 .1 .0
 
 attempt-again-returns : (t : ℕ) → attempt-again-lts.Need-returns (attempt-again-claims t) (attempt-again-at t) attempt-again.Post
 attempt-again-returns t c =
@@ -158,14 +158,14 @@ attempt-goal-attempt-again-requires t c κs =
     let once2 = c .before .before .before .before .before .before .before .before .once2 in
     let if1 = c .before .before .before .before .before .before .before .before .before .before .before .before .before .before .before .before .before .before .before .before .before .before .before .before .before .before .before .before .if1 in
     let pre = c .before .before .before .before .before .before .before .before .before .before .before .before .before .before .before .before .before .before .before .before .before .before .before .before .before .before .before .before .before .before .before .before .before .before .before .before .before .pre in
-    let same = site-same (args .room) (args .config) (args .kinds .now) (args .joinable .now) _ (args .queue .now) (attempt-once .last .1 .1 .1 .1 .1 .1 .1 .1 .1 .0) (attempt-once .ensures .1) (attempt-once .kept .1 .1 .1 .1 .1 .1 .1 .1 .1 .0) in
+    let same = site-same (args .ground) (args .kinds .now) (args .joinable .now) _ (args .queue .now) (attempt-once .last .1 .1 .1 .1 .1 .1 .1 .1 .0) (attempt-once .ensures .1) (attempt-once .kept .1 .1 .1 .1 .1 .1 .1 .1 .0) in
     let once = rw (once2 .given .1) at (attempt-once .ensures .0) in
-    (omega (arith, if1 .left, pre .0), (able-kept (pre .1) same (attempt-once .kept .1 .1 .1 .1 .1 .1 .0) (attempt-once .kept .1 .1 .1 .1 .1 .1 .1 .0) (attempt-once .kept .1 .1 .1 .1 .1 .1 .1 .1 .0), (once .comes .inside, once .comes .free)))
+    (omega (arith, if1 .left, pre .0), (able-kept (pre .1) same (attempt-once .kept .1 .1 .1 .1 .1 .0) (attempt-once .kept .1 .1 .1 .1 .1 .1 .0) (attempt-once .kept .1 .1 .1 .1 .1 .1 .1 .0), (once .comes .inside, once .comes .free)))
 
 attempt-goal-same-length : (t : ℕ) → attempt-goal-lts.Need-same-length (attempt-goal-claims t) (attempt-goal-at t) attempt-goal.Post
 attempt-goal-same-length t c =
     let attempt-once = c .before .before .before .before .before .before .before .before .before .before .before .before .before .attempt-once in
-    attempt-once .kept .1 .1 .1 .0
+    attempt-once .kept .1 .1 .0
 
 attempt-goal-same-length-2 : (t : ℕ) → attempt-goal-lts.Need-same-length-2 (attempt-goal-claims t) (attempt-goal-at t) attempt-goal.Post
 attempt-goal-same-length-2 t c = refl
@@ -176,22 +176,22 @@ attempt-goal-same-length-3 t c = refl
 attempt-goal-same-length-4 : (t : ℕ) → attempt-goal-lts.Need-same-length-4 (attempt-goal-claims t) (attempt-goal-at t) attempt-goal.Post
 attempt-goal-same-length-4 t c =
     let attempt-once = c .before .before .before .before .before .before .before .before .before .before .before .before .before .attempt-once in
-    attempt-once .kept .1 .1 .1 .1 .1 .1 .0
+    attempt-once .kept .1 .1 .1 .1 .1 .0
 
 attempt-goal-same-length-5 : (t : ℕ) → attempt-goal-lts.Need-same-length-5 (attempt-goal-claims t) (attempt-goal-at t) attempt-goal.Post
 attempt-goal-same-length-5 t c =
     let attempt-once = c .before .before .before .before .before .before .before .before .before .before .before .before .before .attempt-once in
-    attempt-once .kept .1 .1 .1 .1 .1 .1 .1 .0
+    attempt-once .kept .1 .1 .1 .1 .1 .1 .0
 
 attempt-goal-same-length-6 : (t : ℕ) → attempt-goal-lts.Need-same-length-6 (attempt-goal-claims t) (attempt-goal-at t) attempt-goal.Post
 attempt-goal-same-length-6 t c =
     let attempt-once = c .before .before .before .before .before .before .before .before .before .before .before .before .before .attempt-once in
-    attempt-once .kept .1 .1 .1 .1 .1 .1 .1 .1 .0
+    attempt-once .kept .1 .1 .1 .1 .1 .1 .1 .0
 
 attempt-goal-same-length-7 : (t : ℕ) → attempt-goal-lts.Need-same-length-7 (attempt-goal-claims t) (attempt-goal-at t) attempt-goal.Post
 attempt-goal-same-length-7 t c =
     let attempt-once = c .before .before .before .before .before .before .before .before .before .before .before .before .before .attempt-once in
-    attempt-once .kept .1 .1 .1 .1 .1 .1 .1 .1 .1 .0
+    attempt-once .kept .1 .1 .1 .1 .1 .1 .1 .1 .0
 
 attempt-goal-returns-2 : (t : ℕ) → attempt-goal-lts.Need-returns-2 (attempt-goal-claims t) (attempt-goal-at t) attempt-goal.Post
 attempt-goal-returns-2 t c =
@@ -205,41 +205,41 @@ attempt-goal-same-length-8 : (t : ℕ) → attempt-goal-lts.Need-same-length-8 (
 attempt-goal-same-length-8 t c =
     let attempt-again = c .before .before .before .before .before .before .before .before .before .before .before .before .before .before .attempt-again in
     let attempt-once = c .before .before .before .before .before .before .before .before .before .before .before .before .before .before .before .before .before .before .before .before .before .before .before .before .before .before .before .before .before .before .before .before .before .before .before .attempt-once in
-    attempt-again .kept .1 .1 .1 .0 ∙ attempt-once .kept .1 .1 .1 .0
+    attempt-again .kept .1 .1 .0 ∙ attempt-once .kept .1 .1 .0
 
 attempt-goal-same-length-9 : (t : ℕ) → attempt-goal-lts.Need-same-length-9 (attempt-goal-claims t) (attempt-goal-at t) attempt-goal.Post
 attempt-goal-same-length-9 t c =
     let attempt-again = c .before .before .before .before .before .before .before .before .before .before .before .before .before .before .attempt-again in
-    attempt-again .kept .1 .1 .1 .1 .0
+    attempt-again .kept .1 .1 .1 .0
 
 attempt-goal-same-length-10 : (t : ℕ) → attempt-goal-lts.Need-same-length-10 (attempt-goal-claims t) (attempt-goal-at t) attempt-goal.Post
 attempt-goal-same-length-10 t c =
     let attempt-again = c .before .before .before .before .before .before .before .before .before .before .before .before .before .before .attempt-again in
-    attempt-again .kept .1 .1 .1 .1 .1 .0
+    attempt-again .kept .1 .1 .1 .1 .0
 
 attempt-goal-same-length-11 : (t : ℕ) → attempt-goal-lts.Need-same-length-11 (attempt-goal-claims t) (attempt-goal-at t) attempt-goal.Post
 attempt-goal-same-length-11 t c =
     let attempt-again = c .before .before .before .before .before .before .before .before .before .before .before .before .before .before .attempt-again in
     let attempt-once = c .before .before .before .before .before .before .before .before .before .before .before .before .before .before .before .before .before .before .before .before .before .before .before .before .before .before .before .before .before .before .before .before .before .before .before .attempt-once in
-    attempt-again .kept .1 .1 .1 .1 .1 .1 .0 ∙ attempt-once .kept .1 .1 .1 .1 .1 .1 .0
+    attempt-again .kept .1 .1 .1 .1 .1 .0 ∙ attempt-once .kept .1 .1 .1 .1 .1 .0
 
 attempt-goal-same-length-12 : (t : ℕ) → attempt-goal-lts.Need-same-length-12 (attempt-goal-claims t) (attempt-goal-at t) attempt-goal.Post
 attempt-goal-same-length-12 t c =
     let attempt-again = c .before .before .before .before .before .before .before .before .before .before .before .before .before .before .attempt-again in
     let attempt-once = c .before .before .before .before .before .before .before .before .before .before .before .before .before .before .before .before .before .before .before .before .before .before .before .before .before .before .before .before .before .before .before .before .before .before .before .attempt-once in
-    attempt-again .kept .1 .1 .1 .1 .1 .1 .1 .0 ∙ attempt-once .kept .1 .1 .1 .1 .1 .1 .1 .0
+    attempt-again .kept .1 .1 .1 .1 .1 .1 .0 ∙ attempt-once .kept .1 .1 .1 .1 .1 .1 .0
 
 attempt-goal-same-length-13 : (t : ℕ) → attempt-goal-lts.Need-same-length-13 (attempt-goal-claims t) (attempt-goal-at t) attempt-goal.Post
 attempt-goal-same-length-13 t c =
     let attempt-again = c .before .before .before .before .before .before .before .before .before .before .before .before .before .before .attempt-again in
     let attempt-once = c .before .before .before .before .before .before .before .before .before .before .before .before .before .before .before .before .before .before .before .before .before .before .before .before .before .before .before .before .before .before .before .before .before .before .before .attempt-once in
-    attempt-again .kept .1 .1 .1 .1 .1 .1 .1 .1 .0 ∙ attempt-once .kept .1 .1 .1 .1 .1 .1 .1 .1 .0
+    attempt-again .kept .1 .1 .1 .1 .1 .1 .1 .0 ∙ attempt-once .kept .1 .1 .1 .1 .1 .1 .1 .0
 
 attempt-goal-same-length-14 : (t : ℕ) → attempt-goal-lts.Need-same-length-14 (attempt-goal-claims t) (attempt-goal-at t) attempt-goal.Post
 attempt-goal-same-length-14 t c =
     let attempt-again = c .before .before .before .before .before .before .before .before .before .before .before .before .before .before .attempt-again in
     let attempt-once = c .before .before .before .before .before .before .before .before .before .before .before .before .before .before .before .before .before .before .before .before .before .before .before .before .before .before .before .before .before .before .before .before .before .before .before .attempt-once in
-    attempt-again .kept .1 .1 .1 .1 .1 .1 .1 .1 .1 .0 ∙ attempt-once .kept .1 .1 .1 .1 .1 .1 .1 .1 .1 .0
+    attempt-again .kept .1 .1 .1 .1 .1 .1 .1 .1 .0 ∙ attempt-once .kept .1 .1 .1 .1 .1 .1 .1 .1 .0
 
 attempt-goal-returns-3 : (t : ℕ) → attempt-goal-lts.Need-returns-3 (attempt-goal-claims t) (attempt-goal-at t) attempt-goal.Post
 attempt-goal-returns-3 t c =
@@ -248,7 +248,7 @@ attempt-goal-returns-3 t c =
     let once2 = c .before .before .before .before .before .before .before .before .before .before .before .before .before .before .before .before .before .before .before .before .before .before .before .once2 in
     let if1 = c .before .before .before .before .before .before .before .before .before .before .before .before .before .before .before .before .before .before .before .before .before .before .before .before .before .before .before .before .before .before .before .before .before .before .before .before .before .before .before .before .before .before .before .if1 in
     let attempt-again = c .before .before .before .before .before .before .before .before .before .before .before .before .before .before .attempt-again in
-    let same = site-same (args .room) (args .config) (args .kinds .now) (args .joinable .now) _ (args .queue .now) (attempt-once .last .1 .1 .1 .1 .1 .1 .1 .1 .1 .0) (attempt-once .ensures .1) (attempt-once .kept .1 .1 .1 .1 .1 .1 .1 .1 .1 .0) in
+    let same = site-same (args .ground) (args .kinds .now) (args .joinable .now) _ (args .queue .now) (attempt-once .last .1 .1 .1 .1 .1 .1 .1 .1 .0) (attempt-once .ensures .1) (attempt-once .kept .1 .1 .1 .1 .1 .1 .1 .1 .0) in
     let once = rw (once2 .given .1) at (attempt-once .ensures .0) in (
       attempts-repeat _ _ _ _ _ (if1 .left) (once .comes) same (attempt-again .ensures .0),
       (attempt-again .ensures .1 .0 ∙ attempt-once .ensures .1, attempt-again .ensures .1 .1, attempt-again .ensures .1 .2),

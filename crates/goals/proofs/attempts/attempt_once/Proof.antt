@@ -46,12 +46,12 @@ returns : tie.Need-returns
 returns c =
     let search-for = c .before .before .before .before .before .before .before .before .before .search-for in
     let pre = c .before .before .before .before .before .before .before .before .before .before .before .before .before .before .before .before .before .before .before .before .before .before .pre in
-    (ended-search _ _ _ _ _ _ (routeless-by-tag (search-for .result) (c .match .keys2)) (search-for .ensures .tells _ (pre .says)), refl)
+    (ended-search _ _ _ _ _ _ (routeless-by-tag (search-for .result) (c .match .keys2)) (search-for .ensures .tells _ _ (pre .says)), refl)
 
 -- a route that the search found is the one of its task
 route-told : (c : tie.After-search-for) → {n : ℕ} {cost : Cost} → c .search-for .result ≡ Found n cost
-    → Tells (searchedFor (siteTask (siteOf (c .before .before .before .before .before .before .before .before .before .before .before .before .before .args .room) (c .before .before .before .before .before .before .before .before .before .before .before .before .before .args .config) (c .before .before .before .before .before .before .before .before .before .before .before .before .before .args .kinds .now) (c .before .before .before .before .before .before .before .before .before .before .before .before .before .args .joinable .now) (c .before .before .before .before .before .before .before .before .before .before .before .before .before .args .queue .now)) (c .before .before .before .before .before .before .before .before .before .before .before .before .before .args .blocked .now) (c .before .before .before .before .before .before .before .before .before .before .before .before .before .args .start) (c .before .before .before .before .before .before .before .before .before .before .before .before .before .args .goal))) (Found n cost) (c .search-for .last .1 .1 .1 .1 .1 .1 .0)
-route-told c e = rw e at (c .search-for .ensures .tells _ (c .before .before .before .before .before .before .before .before .before .before .before .before .before .pre .says))
+    → Tells (searchedFor (siteTask (siteOf (c .before .before .before .before .before .before .before .before .before .before .before .before .before .args .ground) (c .before .before .before .before .before .before .before .before .before .before .before .before .before .args .kinds .now) (c .before .before .before .before .before .before .before .before .before .before .before .before .before .args .joinable .now) (c .before .before .before .before .before .before .before .before .before .before .before .before .before .args .queue .now)) (c .before .before .before .before .before .before .before .before .before .before .before .before .before .args .blocked .now) (c .before .before .before .before .before .before .before .before .before .before .before .before .before .args .start) (c .before .before .before .before .before .before .before .before .before .before .before .before .before .args .goal))) (Found n cost) (c .search-for .last .1 .1 .1 .1 .1 .1 .0)
+route-told c e = rw e at (c .search-for .ensures .tells _ _ (c .before .before .before .before .before .before .before .before .before .before .before .before .before .pre .says))
 
 slice-reshare-prefix-geometry-conflict : tie.Need-slice-reshare-prefix-geometry-conflict
 slice-reshare-prefix-geometry-conflict c = route-told (c .before .before .before .before .before .before .before .before .before .before .before .before) (c .before .before .tried .given .1) .fits
@@ -64,7 +64,7 @@ geometry-conflict-requires c κs =
     let pre = c .before .before .before .before .before .before .before .before .before .before .before .before .before .before .before .before .before .before .before .before .before .before .before .before .before .before .pre in
     let args = c .before .before .before .before .before .before .before .before .before .before .before .before .before .before .before .before .before .before .before .before .before .before .before .before .before .before .args in
     let t = route-told (c .before .before .before .before .before .before .before .before .before .before .before .before .before) (c .before .before .before .tried .given .1) in
-    (pre .grounds .good, ((pre .grounds .kinds-long, pre .grounds .joinable-long), (path-in (siteOf (args .room) (args .config) (args .kinds .now) (args .joinable .now) (args .queue .now)) _ _ _ (pre .grounds .start-in) (pre .goal-in) t, (pre .grounds .joinable-marks, pre .grounds .no-pair))))
+    (pre .grounds .good, ((pre .grounds .kinds-long, pre .grounds .joinable-long), (path-in (siteOf (args .ground) (args .kinds .now) (args .joinable .now) (args .queue .now)) _ _ _ (pre .grounds .start-in) (pre .goal-in) t, (pre .grounds .joinable-marks, pre .grounds .no-pair))))
 
 enum-known-conflict : tie.Need-enum-known-conflict
 enum-known-conflict c = search needs

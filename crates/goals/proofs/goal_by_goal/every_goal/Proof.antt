@@ -21,11 +21,11 @@ goes-on-by-tag (Full x) (inl e) = omega arith
 goes-on-by-tag (Full x) (inr e) = omega arith
 
 abbrev Inv-loop : tie.InvT-loop
-Inv-loop room config kinds joinable₀ blocked₀ classes₀ known₀ previous₀ path₀ best₀ queue₀ start cells kept₀ goal₀ joinable blocked classes known previous path best queue kept goal =
-    GoalsTried (siteOf room config kinds joinable₀ queue₀) start goal kept joinable₀ joinable blocked₀ blocked classes₀ classes known₀ known previous₀ previous path₀ path best₀ best queue₀ queue
+Inv-loop ground kinds joinable₀ blocked₀ classes₀ known₀ previous₀ path₀ best₀ queue₀ start cells kept₀ goal₀ joinable blocked classes known previous path best queue kept goal =
+    GoalsTried (siteOf ground kinds joinable₀ queue₀) start goal kept joinable₀ joinable blocked₀ blocked classes₀ classes known₀ known previous₀ previous path₀ path best₀ best queue₀ queue
 
 abbrev μ-loop : tie.MeasureT-loop
-μ-loop room config kinds joinable₀ blocked₀ classes₀ known₀ previous₀ path₀ best₀ queue₀ start cells kept₀ goal₀ joinable blocked classes known previous path best queue kept goal = cells - goal
+μ-loop ground kinds joinable₀ blocked₀ classes₀ known₀ previous₀ path₀ best₀ queue₀ start cells kept₀ goal₀ joinable blocked classes known previous path best queue kept goal = cells - goal
 
 loop-holds : tie.Need-loop-holds Inv-loop μ-loop
 loop-holds c = goals-first _ _ _ _ _ _ _ _ _ _
@@ -37,7 +37,7 @@ try-next-requires c κs =
     let args = c .before .before .before .before .before .before .before .before .before .before .before .before .before .before .before .before .before .before .before .args in
     let loop = c .before .before .before .before .before .before .before .before .before .loop in
     let h = rw (pre .0 .grounds .kinds-long) at (loop-test .taken) in
-    (memory-able (args .room) (args .config) (args .kinds .now) (loop .inv .same) (pre .0), ((h, loop .inv .same .best-long ∙ pre .1), (loop .inv .on, goals-tells (args .room) (args .config) (args .kinds .now) (loop .inv))))
+    (memory-able (args .ground) (args .kinds .now) (loop .inv .same) (pre .0), ((h, loop .inv .same .best-long ∙ pre .1), (loop .inv .on, goals-tells (args .ground) (args .kinds .now) (loop .inv))))
 
 enum-told : tie.Need-enum-told Inv-loop μ-loop
 enum-told c = search needs
@@ -46,49 +46,49 @@ same-length : tie.Need-same-length Inv-loop μ-loop
 same-length c =
     let try-next = c .before .before .before .before .before .before .before .before .before .before .before .before .before .before .before .before .before .before .try-next in
     let loop = c .before .before .before .before .before .before .before .before .before .before .before .before .before .before .before .before .before .before .before .before .before .before .before .before .before .before .before .before .loop in
-    try-next .kept .1 .1 .1 .0 ∙ ap length (loop .inv .same .joinable-is)
+    try-next .kept .1 .1 .0 ∙ ap length (loop .inv .same .joinable-is)
 
 same-length-2 : tie.Need-same-length-2 Inv-loop μ-loop
 same-length-2 c =
     let try-next = c .before .before .before .before .before .before .before .before .before .before .before .before .before .before .before .before .before .before .try-next in
     let loop = c .before .before .before .before .before .before .before .before .before .before .before .before .before .before .before .before .before .before .before .before .before .before .before .before .before .before .before .before .loop in
-    try-next .kept .1 .1 .1 .1 .0 ∙ ap length (loop .inv .same .blocked-is)
+    try-next .kept .1 .1 .1 .0 ∙ ap length (loop .inv .same .blocked-is)
 
 same-length-3 : tie.Need-same-length-3 Inv-loop μ-loop
 same-length-3 c =
     let try-next = c .before .before .before .before .before .before .before .before .before .before .before .before .before .before .before .before .before .before .try-next in
     let loop = c .before .before .before .before .before .before .before .before .before .before .before .before .before .before .before .before .before .before .before .before .before .before .before .before .before .before .before .before .loop in
-    try-next .kept .1 .1 .1 .1 .1 .0 ∙ ap length (loop .inv .same .classes-is)
+    try-next .kept .1 .1 .1 .1 .0 ∙ ap length (loop .inv .same .classes-is)
 
 same-length-4 : tie.Need-same-length-4 Inv-loop μ-loop
 same-length-4 c =
     let try-next = c .before .before .before .before .before .before .before .before .before .before .before .before .before .before .before .before .before .before .try-next in
     let loop = c .before .before .before .before .before .before .before .before .before .before .before .before .before .before .before .before .before .before .before .before .before .before .before .before .before .before .before .before .loop in
-    try-next .kept .1 .1 .1 .1 .1 .1 .0 ∙ loop .inv .same .known-long
+    try-next .kept .1 .1 .1 .1 .1 .0 ∙ loop .inv .same .known-long
 
 same-length-5 : tie.Need-same-length-5 Inv-loop μ-loop
 same-length-5 c =
     let try-next = c .before .before .before .before .before .before .before .before .before .before .before .before .before .before .before .before .before .before .try-next in
     let loop = c .before .before .before .before .before .before .before .before .before .before .before .before .before .before .before .before .before .before .before .before .before .before .before .before .before .before .before .before .loop in
-    try-next .kept .1 .1 .1 .1 .1 .1 .1 .0 ∙ loop .inv .same .previous-long
+    try-next .kept .1 .1 .1 .1 .1 .1 .0 ∙ loop .inv .same .previous-long
 
 same-length-6 : tie.Need-same-length-6 Inv-loop μ-loop
 same-length-6 c =
     let try-next = c .before .before .before .before .before .before .before .before .before .before .before .before .before .before .before .before .before .before .try-next in
     let loop = c .before .before .before .before .before .before .before .before .before .before .before .before .before .before .before .before .before .before .before .before .before .before .before .before .before .before .before .before .loop in
-    try-next .kept .1 .1 .1 .1 .1 .1 .1 .1 .0 ∙ loop .inv .same .path-long
+    try-next .kept .1 .1 .1 .1 .1 .1 .1 .0 ∙ loop .inv .same .path-long
 
 same-length-7 : tie.Need-same-length-7 Inv-loop μ-loop
 same-length-7 c =
     let try-next = c .before .before .before .before .before .before .before .before .before .before .before .before .before .before .before .before .before .before .try-next in
     let loop = c .before .before .before .before .before .before .before .before .before .before .before .before .before .before .before .before .before .before .before .before .before .before .before .before .before .before .before .before .loop in
-    try-next .kept .1 .1 .1 .1 .1 .1 .1 .1 .1 .0 ∙ loop .inv .same .best-long
+    try-next .kept .1 .1 .1 .1 .1 .1 .1 .1 .0 ∙ loop .inv .same .best-long
 
 same-length-8 : tie.Need-same-length-8 Inv-loop μ-loop
 same-length-8 c =
     let try-next = c .before .before .before .before .before .before .before .before .before .before .before .before .before .before .before .before .before .before .try-next in
     let loop = c .before .before .before .before .before .before .before .before .before .before .before .before .before .before .before .before .before .before .before .before .before .before .before .before .before .before .before .before .loop in
-    try-next .kept .1 .1 .1 .1 .1 .1 .1 .1 .1 .1 .0 ∙ loop .inv .same .queue-long
+    try-next .kept .1 .1 .1 .1 .1 .1 .1 .1 .1 .0 ∙ loop .inv .same .queue-long
 
 returns : tie.Need-returns Inv-loop μ-loop
 returns c =
@@ -99,9 +99,9 @@ returns c =
     let try-next = c .before .before .before .before .before .before .before .before .before .before .before .before .before .before .before .before .before .before .try-next in
     let enum-told = c .enum-told in
     let h = rw (pre .0 .grounds .kinds-long) at (loop-test .taken) in
-    let t = goals-told (args .room) (args .config) (args .kinds .now) (loop .inv) (loop .goal + 1) (try-next .ensures .0) in
+    let t = goals-told (args .ground) (args .kinds .now) (loop .inv) (loop .goal + 1) (try-next .ensures .0) in
     let same = try-next .ensures .1 in (
-      rw (enum-told .given .1) (tree-full (siteOf (args .room) (args .config) (args .kinds .now) (args .joinable .now) (args .queue .now)) (args .start) (loop .goal + 1) (args .blocked .now) (rw (enum-told .given .1) at t) (omega arith)),
+      rw (enum-told .given .1) (tree-full (siteOf (args .ground) (args .kinds .now) (args .joinable .now) (args .queue .now)) (args .start) (loop .goal + 1) (args .blocked .now) (rw (enum-told .given .1) at t) (omega arith)),
       (same .0 ∙ loop .inv .same .joinable-is, same .1 ∙ loop .inv .same .blocked-is, same .2 ∙ loop .inv .same .classes-is),
     )
 
@@ -123,7 +123,7 @@ loop-again c =
     let loop = c .before .before .before .before .before .before .before .before .before .before .before .before .before .before .before .before .before .before .before .before .before .before .before .before .before .before .before .loop in
     let try-next = c .before .before .before .before .before .before .before .before .before .before .before .before .before .before .before .before .before .try-next in
     let h = rw (pre .0 .grounds .kinds-long) at (loop-test .taken) in
-    goals-next (args .room) (args .config) (args .kinds .now) (loop .inv) h (goes-on-by-tag (try-next .result) (c .match .keys2)) (try-next .ensures .0) (try-next .ensures .1) (try-next .kept .1 .1 .1 .1 .1 .1 .0) (try-next .kept .1 .1 .1 .1 .1 .1 .1 .0) (try-next .kept .1 .1 .1 .1 .1 .1 .1 .1 .0) (try-next .kept .1 .1 .1 .1 .1 .1 .1 .1 .1 .0) (try-next .kept .1 .1 .1 .1 .1 .1 .1 .1 .1 .1 .0)
+    goals-next (args .ground) (args .kinds .now) (loop .inv) h (goes-on-by-tag (try-next .result) (c .match .keys2)) (try-next .ensures .0) (try-next .ensures .1) (try-next .kept .1 .1 .1 .1 .1 .0) (try-next .kept .1 .1 .1 .1 .1 .1 .0) (try-next .kept .1 .1 .1 .1 .1 .1 .1 .0) (try-next .kept .1 .1 .1 .1 .1 .1 .1 .1 .0) (try-next .kept .1 .1 .1 .1 .1 .1 .1 .1 .1 .0)
 
 same-length-9 : tie.Need-same-length-9 Inv-loop μ-loop
 same-length-9 c = ap length (c .before .loop .inv .same .joinable-is)
@@ -155,7 +155,7 @@ returns-2 c =
     let args = c .before .before .before .before .before .before .before .before .before .before .before .args in
     let loop = c .before .loop in
     let h = rw (pre .0 .grounds .kinds-long) at (c .loop-test .left) in (
-      tree-all (siteOf (args .room) (args .config) (args .kinds .now) (args .joinable .now) (args .queue .now)) (args .start) (loop .goal) (args .blocked .now) (loop .inv .tells) (loop .inv .within) h,
+      tree-all (siteOf (args .ground) (args .kinds .now) (args .joinable .now) (args .queue .now)) (args .start) (loop .goal) (args .blocked .now) (loop .inv .tells) (loop .inv .within) h,
       (loop .inv .same .joinable-is, loop .inv .same .blocked-is, loop .inv .same .classes-is),
     )
 

@@ -14,11 +14,11 @@ use Rattle.goals.proofs.passing.by_bids.Statement.{statement}
 use Rattle.goals.proofs.passing.by_bids.Tie as tie
 
 abbrev Inv-loop : tie.InvT-loop
-Inv-loop room config kinds joinable₀ blocked₀ classes₀ known₀ previous₀ path₀ best₀ queue₀ start cells from kept₀ next₀ joinable blocked classes known previous path best queue kept next =
-    GoalsPassed (siteOf room config kinds joinable₀ queue₀) start next kept joinable₀ joinable blocked₀ blocked classes₀ classes known₀ known previous₀ previous path₀ path best₀ best queue₀ queue
+Inv-loop ground kinds joinable₀ blocked₀ classes₀ known₀ previous₀ path₀ best₀ queue₀ start cells from kept₀ next₀ joinable blocked classes known previous path best queue kept next =
+    GoalsPassed (siteOf ground kinds joinable₀ queue₀) start next kept joinable₀ joinable blocked₀ blocked classes₀ classes known₀ known previous₀ previous path₀ path best₀ best queue₀ queue
 
 abbrev μ-loop : tie.MeasureT-loop
-μ-loop room config kinds joinable₀ blocked₀ classes₀ known₀ previous₀ path₀ best₀ queue₀ start cells from kept₀ next₀ joinable blocked classes known previous path best queue kept next = noBid - next .bid
+μ-loop ground kinds joinable₀ blocked₀ classes₀ known₀ previous₀ path₀ best₀ queue₀ start cells from kept₀ next₀ joinable blocked classes known previous path best queue kept next = noBid - next .bid
 
 -- where the loop is entered: the function's start
 abbrev start-of : tie.After-next-bid Inv-loop μ-loop → tie.Start Inv-loop μ-loop
@@ -43,7 +43,7 @@ loop-holds : tie.Need-loop-holds Inv-loop μ-loop
 loop-holds c =
     let start = start-of c in
     let grounds = start .pre .0 .grounds in
-    passed-first (start .args .room) (start .args .config) (start .args .kinds .now) (start .args .start) (grounds .good) (grounds .config-good) (grounds .start-in) _ _ _ _ _ _ _ _ (c .before .before .pos .ensures) (c .next-bid .ensures)
+    passed-first (start .args .ground) (start .args .kinds .now) (start .args .start) (grounds .good) (grounds .config-good) (grounds .start-in) _ _ _ _ _ _ _ _ (c .before .before .pos .ensures) (c .next-bid .ensures)
 
 pass-goal-requires : tie.Need-pass-goal-requires Inv-loop μ-loop
 pass-goal-requires c κs =
@@ -53,7 +53,7 @@ pass-goal-requires c κs =
     let pre = start .pre in
     let grounds = pre .0 .grounds in
     let h = rw (grounds .kinds-long) at (test .if1 .taken) in
-    (memory-able (start .args .room) (start .args .config) (start .args .kinds .now) (loop .inv .same) (pre .0), passed-able (start .args .room) (start .args .config) (start .args .kinds .now) (start .args .start) (grounds .good) (grounds .config-good) (grounds .start-in) (loop .inv) (pre .1 .0) (pre .1 .1) h)
+    (memory-able (start .args .ground) (start .args .kinds .now) (loop .inv .same) (pre .0), passed-able (start .args .ground) (start .args .kinds .now) (start .args .start) (grounds .good) (grounds .config-good) (grounds .start-in) (loop .inv) (pre .1 .0) (pre .1 .1) h)
 
 bid-to-beat-requires : tie.Need-bid-to-beat-requires Inv-loop μ-loop
 bid-to-beat-requires c κs = kept-small _ _ _ (start-of (test-of (passing c) .before .before .before) .pre .0 .grounds .good) (passing c .pass-goal .ensures .0 .held)
@@ -76,7 +76,7 @@ loop-less c =
     let start = start-of (test .before .before .before) in
     let grounds = start .pre .0 .grounds in
     let h = rw (grounds .kinds-long) at (test .if1 .taken) in
-    bid-rises (start .args .room) (start .args .config) (start .args .kinds .now) (start .args .start) (grounds .good) (grounds .config-good) (grounds .start-in) (loop .inv) h (c .next-bid2 .ensures)
+    bid-rises (start .args .ground) (start .args .kinds .now) (start .args .start) (grounds .good) (grounds .config-good) (grounds .start-in) (loop .inv) h (c .next-bid2 .ensures)
 
 loop-again : tie.Need-loop-again Inv-loop μ-loop
 loop-again c =
@@ -87,7 +87,7 @@ loop-again c =
     let grounds = start .pre .0 .grounds in
     let pass-goal = passed .pass-goal in
     let h = rw (grounds .kinds-long) at (test .if1 .taken) in
-    passed-next (start .args .room) (start .args .config) (start .args .kinds .now) (start .args .start) (grounds .good) (grounds .config-good) (grounds .start-in) (loop .inv) h (pass-goal .ensures .0) (pass-goal .ensures .1) (pass-goal .kept .1 .1 .1 .1 .1 .1 .0) (pass-goal .kept .1 .1 .1 .1 .1 .1 .1 .0) (pass-goal .kept .1 .1 .1 .1 .1 .1 .1 .1 .0) (pass-goal .kept .1 .1 .1 .1 .1 .1 .1 .1 .1 .0) (pass-goal .kept .1 .1 .1 .1 .1 .1 .1 .1 .1 .1 .0) (test .before .before .before .before .before .pos .ensures) (c .before .bid-to-beat .ensures) (c .next-bid2 .ensures)
+    passed-next (start .args .ground) (start .args .kinds .now) (start .args .start) (grounds .good) (grounds .config-good) (grounds .start-in) (loop .inv) h (pass-goal .ensures .0) (pass-goal .ensures .1) (pass-goal .kept .1 .1 .1 .1 .1 .0) (pass-goal .kept .1 .1 .1 .1 .1 .1 .0) (pass-goal .kept .1 .1 .1 .1 .1 .1 .1 .0) (pass-goal .kept .1 .1 .1 .1 .1 .1 .1 .1 .0) (pass-goal .kept .1 .1 .1 .1 .1 .1 .1 .1 .1 .0) (test .before .before .before .before .before .pos .ensures) (c .before .bid-to-beat .ensures) (c .next-bid2 .ensures)
 
 same-length : tie.Need-same-length Inv-loop μ-loop
 same-length c = ap length (c .before .before .loop .inv .same .joinable-is)
@@ -121,7 +121,7 @@ returns c =
     let args = start .args in
     let loop = c .before .before .loop in
     let h = rw (grounds .kinds-long) at (c .if1 .left) in (
-      passed-all (args .room) (args .config) (args .kinds .now) (args .start) (grounds .good) (grounds .config-good) (grounds .start-in) (loop .inv) (pre .1 .1) h,
+      passed-all (args .ground) (args .kinds .now) (args .start) (grounds .good) (grounds .config-good) (grounds .start-in) (loop .inv) (pre .1 .1) h,
       (loop .inv .same .joinable-is, loop .inv .same .blocked-is, loop .inv .same .classes-is),
     )
 

@@ -19,31 +19,31 @@ keep-first-requires : tie.Need-keep-first-requires
 keep-first-requires c κs =
     let pre = start-of c .pre in
     let try-goal = trying c .try-goal in
-    (try-goal .kept .1 .1 .1 .1 .1 .1 .1 .1 .0 ∙ pre .0 .memory .path-long ∙ sym (pre .1 .best-long), try-goal .ensures .0 .fits)
+    (try-goal .kept .1 .1 .1 .1 .1 .1 .1 .0 ∙ pre .0 .memory .path-long ∙ sym (pre .1 .best-long), try-goal .ensures .0 .fits)
 
 same-length : tie.Need-same-length
-same-length c = trying (c .before .before .before) .try-goal .kept .1 .1 .1 .0
+same-length c = trying (c .before .before .before) .try-goal .kept .1 .1 .0
 
 same-length-2 : tie.Need-same-length-2
-same-length-2 c = trying (c .before .before .before) .try-goal .kept .1 .1 .1 .1 .0
+same-length-2 c = trying (c .before .before .before) .try-goal .kept .1 .1 .1 .0
 
 same-length-3 : tie.Need-same-length-3
-same-length-3 c = trying (c .before .before .before) .try-goal .kept .1 .1 .1 .1 .1 .0
+same-length-3 c = trying (c .before .before .before) .try-goal .kept .1 .1 .1 .1 .0
 
 same-length-4 : tie.Need-same-length-4
-same-length-4 c = trying (c .before .before .before) .try-goal .kept .1 .1 .1 .1 .1 .1 .0
+same-length-4 c = trying (c .before .before .before) .try-goal .kept .1 .1 .1 .1 .1 .0
 
 same-length-5 : tie.Need-same-length-5
-same-length-5 c = trying (c .before .before .before) .try-goal .kept .1 .1 .1 .1 .1 .1 .1 .0
+same-length-5 c = trying (c .before .before .before) .try-goal .kept .1 .1 .1 .1 .1 .1 .0
 
 same-length-6 : tie.Need-same-length-6
-same-length-6 c = trying (c .before .before .before) .try-goal .kept .1 .1 .1 .1 .1 .1 .1 .1 .0
+same-length-6 c = trying (c .before .before .before) .try-goal .kept .1 .1 .1 .1 .1 .1 .1 .0
 
 same-length-7 : tie.Need-same-length-7
 same-length-7 c = c .before .before .keep-first .kept .1 .1 .1 .1 .0
 
 same-length-8 : tie.Need-same-length-8
-same-length-8 c = trying (c .before .before .before) .try-goal .kept .1 .1 .1 .1 .1 .1 .1 .1 .1 .0
+same-length-8 c = trying (c .before .before .before) .try-goal .kept .1 .1 .1 .1 .1 .1 .1 .1 .0
 
 returns : tie.Need-returns
 returns c =

@@ -9,10 +9,10 @@ use Rattle.multinet.proofs.growing.grow_tree.Statement.{statement}
 use Rattle.multinet.proofs.growing.grow_tree.Tie as tie
 
 abbrev Inv-loop : tie.InvT-loop
-Inv-loop room config source taps kinds joinable₀ blocked₀ classes₀ known₀ previous₀ path₀ best₀ queue₀ branches₀ count lengths₀ turn₀ joinable blocked classes known previous path best queue branches lengths turn = (count ≡ taps .count) × (Lasting joinable₀ joinable blocked₀ blocked classes₀ classes known₀ known previous₀ previous path₀ path best₀ best queue₀ queue branches₀ branches × Turning (plotOf room config kinds queue₀ branches₀ source taps) blocked₀ branches₀ turn lengths joinable blocked branches)
+Inv-loop ground source taps kinds joinable₀ blocked₀ classes₀ known₀ previous₀ path₀ best₀ queue₀ branches₀ count lengths₀ turn₀ joinable blocked classes known previous path best queue branches lengths turn = (count ≡ taps .count) × (Lasting joinable₀ joinable blocked₀ blocked classes₀ classes known₀ known previous₀ previous path₀ path best₀ best queue₀ queue branches₀ branches × Turning (plotOf ground kinds queue₀ branches₀ source taps) blocked₀ branches₀ turn lengths joinable blocked branches)
 
 abbrev μ-loop : tie.MeasureT-loop
-μ-loop room config source taps kinds joinable₀ blocked₀ classes₀ known₀ previous₀ path₀ best₀ queue₀ branches₀ count lengths₀ turn₀ joinable blocked classes known previous path best queue branches lengths turn = count - turn
+μ-loop ground source taps kinds joinable₀ blocked₀ classes₀ known₀ previous₀ path₀ best₀ queue₀ branches₀ count lengths₀ turn₀ joinable blocked classes known previous path best queue branches lengths turn = count - turn
 
 no-lengths-requires : tie.Need-no-lengths-requires Inv-loop μ-loop
 no-lengths-requires c κs = search needs
@@ -34,19 +34,19 @@ enum-known-turned-2 c = search needs
 
 -- after the turn of a sink each buffer is as long as at the start
 lasting : (c : tie.After-grow-sink Inv-loop μ-loop)
-    → Lasting (c .before .before .before .before .before .before .before .before .before .before .before .before .before .before .before .before .before .before .before .before .before .before .before .args .joinable .now) (c .grow-sink .last .1 .1 .1 .1 .1 .1 .1 .0) (c .before .before .before .before .before .before .before .before .before .before .before .before .before .before .before .before .before .before .before .before .before .before .before .args .blocked .now) (c .grow-sink .last .1 .1 .1 .1 .1 .1 .1 .1 .0) (c .before .before .before .before .before .before .before .before .before .before .before .before .before .before .before .before .before .before .before .before .before .before .before .args .classes .now) (c .grow-sink .last .1 .1 .1 .1 .1 .1 .1 .1 .1 .0) (c .before .before .before .before .before .before .before .before .before .before .before .before .before .before .before .before .before .before .before .before .before .before .before .args .known .now) (c .grow-sink .last .1 .1 .1 .1 .1 .1 .1 .1 .1 .1 .0) (c .before .before .before .before .before .before .before .before .before .before .before .before .before .before .before .before .before .before .before .before .before .before .before .args .previous .now) (c .grow-sink .last .1 .1 .1 .1 .1 .1 .1 .1 .1 .1 .1 .0) (c .before .before .before .before .before .before .before .before .before .before .before .before .before .before .before .before .before .before .before .before .before .before .before .args .path .now) (c .grow-sink .last .1 .1 .1 .1 .1 .1 .1 .1 .1 .1 .1 .1 .0) (c .before .before .before .before .before .before .before .before .before .before .before .before .before .before .before .before .before .before .before .before .before .before .before .args .best .now) (c .grow-sink .last .1 .1 .1 .1 .1 .1 .1 .1 .1 .1 .1 .1 .1 .0) (c .before .before .before .before .before .before .before .before .before .before .before .before .before .before .before .before .before .before .before .before .before .before .before .args .queue .now) (c .grow-sink .last .1 .1 .1 .1 .1 .1 .1 .1 .1 .1 .1 .1 .1 .1 .0) (c .before .before .before .before .before .before .before .before .before .before .before .before .before .before .before .before .before .before .before .before .before .before .before .args .branches .now) (c .grow-sink .last .1 .1 .1 .1 .1 .1 .1 .1 .1 .1 .1 .1 .1 .1 .1 .0)
+    → Lasting (c .before .before .before .before .before .before .before .before .before .before .before .before .before .before .before .before .before .before .before .before .before .before .before .args .joinable .now) (c .grow-sink .last .1 .1 .1 .1 .1 .1 .0) (c .before .before .before .before .before .before .before .before .before .before .before .before .before .before .before .before .before .before .before .before .before .before .before .args .blocked .now) (c .grow-sink .last .1 .1 .1 .1 .1 .1 .1 .0) (c .before .before .before .before .before .before .before .before .before .before .before .before .before .before .before .before .before .before .before .before .before .before .before .args .classes .now) (c .grow-sink .last .1 .1 .1 .1 .1 .1 .1 .1 .0) (c .before .before .before .before .before .before .before .before .before .before .before .before .before .before .before .before .before .before .before .before .before .before .before .args .known .now) (c .grow-sink .last .1 .1 .1 .1 .1 .1 .1 .1 .1 .0) (c .before .before .before .before .before .before .before .before .before .before .before .before .before .before .before .before .before .before .before .before .before .before .before .args .previous .now) (c .grow-sink .last .1 .1 .1 .1 .1 .1 .1 .1 .1 .1 .0) (c .before .before .before .before .before .before .before .before .before .before .before .before .before .before .before .before .before .before .before .before .before .before .before .args .path .now) (c .grow-sink .last .1 .1 .1 .1 .1 .1 .1 .1 .1 .1 .1 .0) (c .before .before .before .before .before .before .before .before .before .before .before .before .before .before .before .before .before .before .before .before .before .before .before .args .best .now) (c .grow-sink .last .1 .1 .1 .1 .1 .1 .1 .1 .1 .1 .1 .1 .0) (c .before .before .before .before .before .before .before .before .before .before .before .before .before .before .before .before .before .before .before .before .before .before .before .args .queue .now) (c .grow-sink .last .1 .1 .1 .1 .1 .1 .1 .1 .1 .1 .1 .1 .1 .0) (c .before .before .before .before .before .before .before .before .before .before .before .before .before .before .before .before .before .before .before .before .before .before .before .args .branches .now) (c .grow-sink .last .1 .1 .1 .1 .1 .1 .1 .1 .1 .1 .1 .1 .1 .1 .0)
 lasting c =
     let l = c .before .before .before .before .before .before .before .before .before .before .before .loop .inv .1 .0 in
     let k = c .grow-sink .kept in record {
-      joinable-long = k .1 .1 .1 .1 .1 .1 .1 .0 ∙ l .joinable-long;
-      blocked-long = k .1 .1 .1 .1 .1 .1 .1 .1 .0 ∙ l .blocked-long;
-      classes-long = k .1 .1 .1 .1 .1 .1 .1 .1 .1 .0 ∙ l .classes-long;
-      known-long = k .1 .1 .1 .1 .1 .1 .1 .1 .1 .1 .0 ∙ l .known-long;
-      previous-long = k .1 .1 .1 .1 .1 .1 .1 .1 .1 .1 .1 .0 ∙ l .previous-long;
-      path-long = k .1 .1 .1 .1 .1 .1 .1 .1 .1 .1 .1 .1 .0 ∙ l .path-long;
-      best-long = k .1 .1 .1 .1 .1 .1 .1 .1 .1 .1 .1 .1 .1 .0 ∙ l .best-long;
-      queue-long = k .1 .1 .1 .1 .1 .1 .1 .1 .1 .1 .1 .1 .1 .1 .0 ∙ l .queue-long;
-      branches-long = k .1 .1 .1 .1 .1 .1 .1 .1 .1 .1 .1 .1 .1 .1 .1 .0 ∙ l .branches-long;
+      joinable-long = k .1 .1 .1 .1 .1 .1 .0 ∙ l .joinable-long;
+      blocked-long = k .1 .1 .1 .1 .1 .1 .1 .0 ∙ l .blocked-long;
+      classes-long = k .1 .1 .1 .1 .1 .1 .1 .1 .0 ∙ l .classes-long;
+      known-long = k .1 .1 .1 .1 .1 .1 .1 .1 .1 .0 ∙ l .known-long;
+      previous-long = k .1 .1 .1 .1 .1 .1 .1 .1 .1 .1 .0 ∙ l .previous-long;
+      path-long = k .1 .1 .1 .1 .1 .1 .1 .1 .1 .1 .1 .0 ∙ l .path-long;
+      best-long = k .1 .1 .1 .1 .1 .1 .1 .1 .1 .1 .1 .1 .0 ∙ l .best-long;
+      queue-long = k .1 .1 .1 .1 .1 .1 .1 .1 .1 .1 .1 .1 .1 .0 ∙ l .queue-long;
+      branches-long = k .1 .1 .1 .1 .1 .1 .1 .1 .1 .1 .1 .1 .1 .1 .0 ∙ l .branches-long;
     }
 
 same-length : tie.Need-same-length Inv-loop μ-loop

@@ -56,7 +56,7 @@ slice-aggregate-put-answer-2 c = search needs
 put-answer-requires : tie.Need-put-answer-requires
 put-answer-requires c κs =
     let run = c .before .before .before .before .before .before .before .before .before .before .before .before .before .before .before .route-net-tree in
-    (promise-branched (run .ensures), promise-fits (run .ensures) (run .kept .1 .0 ∙ length-replicate {A = ℕ} maxBranchCells 0) (run .kept .1 .1 .1 .0 ∙ length-replicate {A = ℕ} maxCells 0) (c .before .before .before .before .before .before .before .before .before .before .before .before .before .before .before .before .before .before .before .before .before .before .before .before .before .before .before .before .before .before .pre))
+    (promise-branched (run .ensures), promise-fits (run .ensures) (run .kept .1 .1 .0 ∙ length-replicate {A = ℕ} maxBranchCells 0) (run .kept .1 .1 .1 .1 .0 ∙ length-replicate {A = ℕ} maxCells 0) (c .before .before .before .before .before .before .before .before .before .before .before .before .before .before .before .before .before .before .before .before .before .before .before .before .before .before .before .before .before .before .pre))
 
 same-length : tie.Need-same-length
 same-length c = search needs
@@ -65,7 +65,7 @@ returns : tie.Need-returns
 returns c =
     let run = c .before .before .before .before .before .before .before .before .before .before .before .before .before .before .before .before .before .before .route-net-tree in
     promise-shown (run .ensures) own-lengths
-    (promise-fits (run .ensures) (run .kept .1 .0 ∙ length-replicate {A = ℕ} maxBranchCells 0) (run .kept .1 .1 .1 .0 ∙ length-replicate {A = ℕ} maxCells 0) (c .before .before .before .before .before .before .before .before .before .before .before .before .before .before .before .before .before .before .before .before .before .before .before .before .before .before .before .before .before .before .before .before .before .pre)) (c .before .before .put-answer .ensures)
+    (promise-fits (run .ensures) (run .kept .1 .1 .0 ∙ length-replicate {A = ℕ} maxBranchCells 0) (run .kept .1 .1 .1 .1 .0 ∙ length-replicate {A = ℕ} maxCells 0) (c .before .before .before .before .before .before .before .before .before .before .before .before .before .before .before .before .before .before .before .before .before .before .before .before .before .before .before .before .before .before .before .before .before .pre)) (c .before .before .put-answer .ensures)
 
 pub put-routed-spec : {M : Type 1} → statement M
 put-routed-spec =
