@@ -1,5 +1,5 @@
 /* DustRoute's router for one net, proved: one search over a room of kinds, why such a search finds no route, and the tree of one
- * job sheet.
+ * job sheet, in the published router's way or in strict mode.
  *
  * Link with libdustroute.a, which `tools/native-archive dustroute` makes; it needs memset and memcpy of the C library and
  * nothing else. The functions allocate nothing, keep nothing between calls and may be called from several threads at once,
@@ -59,6 +59,12 @@ enum {
     DUSTROUTE_SEARCH_VALUES = 4,
     DUSTROUTE_TREE_VALUES = 20,
     DUSTROUTE_MOVES = 12
+};
+
+/* What blocked Air is to the searches of dustroute_tree_mode. */
+enum dustroute_mode {
+    DUSTROUTE_PUBLISHED = 0, /* Solid, as in the published router */
+    DUSTROUTE_STRICT = 1     /* neither entered nor used as a support; any number but 0 says the same */
 };
 
 /* What dustroute_why tells of a move; where several hold, the least. */
@@ -160,8 +166,32 @@ uint32_t dustroute_tree(
     uint64_t *queue, size_t queue_length,
     uint64_t *values, size_t values_length);
 
+/* dustroute_tree in the mode that the caller chooses; the sheet doesn't carry it. Numbers, their order, outputs and lengths are those
+ * of dustroute_tree, which is the published mode.
+ *
+ * strict         DUSTROUTE_PUBLISHED, 0: blocked Air counts as Solid, so that wire may rest on another net's wire for free. Any other
+ *                number, as DUSTROUTE_STRICT: blocked Air is neither entered nor used as a support, but for the start and the goal of
+ *                each search. Blocked are cells that other nets hold or keep clear, and reserved ones
+ * all others     as of dustroute_tree */
+uint32_t dustroute_tree_mode(
+    uint32_t strict,
+    const uint8_t *sheet, size_t sheet_length,
+    uint32_t *branches, size_t branches_length,
+    uint8_t *occupied, size_t occupied_length,
+    uint8_t *repeaters, size_t repeaters_length,
+    uint8_t *kinds, size_t kinds_length,
+    uint8_t *blocked, size_t blocked_length,
+    uint8_t *classes, size_t classes_length,
+    uint8_t *joinable, size_t joinable_length,
+    uint32_t *known, size_t known_length,
+    uint32_t *previous, size_t previous_length,
+    uint32_t *path, size_t path_length,
+    uint32_t *best, size_t best_length,
+    uint64_t *queue, size_t queue_length,
+    uint64_t *values, size_t values_length);
+
 /* ONE LENT ARENA FOR A TREE, instead of thirteen buffers: ask dustroute_arena_size for the bytes that suffice, lend so many, and call
- * dustroute_tree_in_arena. The answer's pointers go into the arena. Any arena is lawful, NULL of size 0 too: in one that is too short a
+ * dustroute_tree_in_arena, or dustroute_tree_mode_in_arena with a mode. The answer's pointers go into the arena. Any arena is lawful, NULL of size 0 too: in one that is too short a
  * sheet that would need more is refused with 6. */
 struct dustroute_tree_answer {
     size_t cells;                                /* V; 0 for a sheet without a room that could be routed */
@@ -204,20 +234,21 @@ static inline size_t dustroute_arena_size(const uint8_t *sheet, size_t sheet_len
     return dustroute_arena_bytes(cells, queue_length) + 7;
 }
 
-/* dustroute_tree over an arena: the same number, and the answer. */
-static inline uint32_t dustroute_tree_in_arena(
-    const uint8_t *sheet, size_t sheet_length, void *arena, size_t arena_size, struct dustroute_tree_answer *answer) {
+/* dustroute_tree_mode over an arena: the same number, and the answer. */
+static inline uint32_t dustroute_tree_mode_in_arena(
+    uint32_t strict, const uint8_t *sheet, size_t sheet_length, void *arena, size_t arena_size, struct dustroute_tree_answer *answer) {
     size_t queue_length, cells = dustroute_sheet_cells(sheet, sheet_length, &queue_length), skipped = (8 - (uintptr_t)arena % 8) % 8;
     struct dustroute_tree_answer none = {0, 0, 0, 0, 0, 0, 0, 0, 0};
     *answer = none;
     if (arena_size < skipped || arena_size - skipped < dustroute_arena_bytes(cells, queue_length))
-        return dustroute_tree(sheet, sheet_length, 0, 0, 0, 0, 0, 0, 0, 0, 0, 0, 0, 0, 0, 0, 0, 0, 0, 0, 0, 0, 0, 0, 0, 0, 0, 0);
+        return dustroute_tree_mode(
+            strict, sheet, sheet_length, 0, 0, 0, 0, 0, 0, 0, 0, 0, 0, 0, 0, 0, 0, 0, 0, 0, 0, 0, 0, 0, 0, 0, 0, 0, 0);
     /* the widest elements first: then each buffer is aligned */
     uint64_t *queue = (uint64_t *)((uint8_t *)arena + skipped), *values = queue + queue_length;
     uint32_t *branches = (uint32_t *)(values + DUSTROUTE_TREE_VALUES), *known = branches + DUSTROUTE_BRANCHES_LENGTH(cells);
     uint8_t *occupied = (uint8_t *)(known + 4 * cells);
-    uint32_t number = dustroute_tree(
-        sheet, sheet_length, branches, DUSTROUTE_BRANCHES_LENGTH(cells), occupied, cells, occupied + cells, cells,
+    uint32_t number = dustroute_tree_mode(
+        strict, sheet, sheet_length, branches, DUSTROUTE_BRANCHES_LENGTH(cells), occupied, cells, occupied + cells, cells,
         occupied + 2 * cells, cells, occupied + 3 * cells, cells, occupied + 4 * cells, cells, occupied + 5 * cells, cells,
         known, cells, known + cells, cells, known + 2 * cells, cells, known + 3 * cells, cells, queue, queue_length,
         values, DUSTROUTE_TREE_VALUES);
@@ -229,6 +260,12 @@ static inline uint32_t dustroute_tree_in_arena(
         answer->branch_count = (size_t)values[1], answer->occupied_count = (size_t)values[2], answer->repeater_count = (size_t)values[3];
     }
     return number;
+}
+
+/* dustroute_tree over an arena: the same number, and the answer. */
+static inline uint32_t dustroute_tree_in_arena(
+    const uint8_t *sheet, size_t sheet_length, void *arena, size_t arena_size, struct dustroute_tree_answer *answer) {
+    return dustroute_tree_mode_in_arena(DUSTROUTE_PUBLISHED, sheet, sheet_length, arena, arena_size, answer);
 }
 
 #ifdef __cplusplus

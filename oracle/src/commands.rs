@@ -11,7 +11,9 @@ use cases::smallest::Point;
 use cases::stats::Tally;
 use cases::text::{number, parse_hex, parse_search, search_answer_lines, tree_answer_lines};
 use cases::tree::ROUTE_LIMITS;
-use oracle::{Profile, Rng, Search, Sheet, Why, check_route, check_search, check_sheet};
+use oracle::{
+    Profile, Rng, Search, Sheet, StrictSheet, Why, check_route, check_search, check_sheet,
+};
 
 use crate::Trouble;
 use crate::arguments::Arguments;
@@ -33,9 +35,12 @@ oracle compare KIND --seed N --count N [--profile P]
                                             answers random cases, writes none
 oracle show KIND FILE [INDEX]               cases and answers for a reader
 oracle stats KIND FILE                      how many of which cases
-KIND is `searches`, `sheets` or `whys`, searches with their reason; P is tiny, small, middle, large or mixed (the default); `-` is standard input.
+KIND is `searches`, `sheets`, `strict-sheets`, sheets in strict mode, or `whys`, searches with their reason; P is tiny, small, middle, large or
+mixed (the default); `-` is standard input.
 Status 0: done; 1: answers differ; 2: bad input.
 ";
+
+const KINDS: &str = "`searches`, `sheets`, `strict-sheets`, `whys`";
 
 pub fn run(raw: impl Iterator<Item = OsString>) -> Result<(), Trouble> {
     let mut arguments = Arguments::sort(raw)?;
@@ -47,11 +52,12 @@ pub fn run(raw: impl Iterator<Item = OsString>) -> Result<(), Trouble> {
         "search" => with(arguments, |a| a.word("FILE"), |file| search(&file)),
         "sheet" => with(arguments, sheet_request, |request| sheet(&request)),
         "generate" | "answer" | "check" | "compare" | "show" | "stats" => {
-            match arguments.word("`searches`, `sheets` or `whys`")?.as_str() {
+            match arguments.word(KINDS)?.as_str() {
                 "searches" => run_lists::<Search>(&command, arguments),
                 "sheets" => run_lists::<Sheet>(&command, arguments),
+                "strict-sheets" => run_lists::<StrictSheet>(&command, arguments),
                 "whys" => run_lists::<Why>(&command, arguments),
-                kind => Err(format!("neither `searches`, `sheets` nor `whys`: {kind}").into()),
+                kind => Err(format!("none of {KINDS}: {kind}").into()),
             }
         }
         _ => Err(format!("unknown command {command}; see `oracle help`").into()),

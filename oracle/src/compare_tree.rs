@@ -5,6 +5,7 @@ use std::collections::BTreeSet;
 use cases::room::{MOST_CELLS, Room};
 use cases::search::cells16;
 use cases::sheet::{Job, Sheet, TreeAnswer};
+use cases::strict::StrictSheet;
 use cases::text::{sheet_lines, tree_answer_lines};
 use cases::tree::{Limits, ROUTE_MOST_CELLS, plain_answer};
 use published::multinet::{MultiNetError, RoutedNet};
@@ -18,6 +19,12 @@ use crate::{Disagreement, Refusal, agreed};
 /// The answer to a sheet as the library's tree gives it, or how the published Rust and the plain router differ on it.
 pub fn check_sheet(case: &Sheet) -> Result<TreeAnswer, Disagreement> {
     check(case, MOST_CELLS)
+}
+
+/// The plain router's answer in strict mode, which the published Rust lacks. In the published mode the two agree on the same sheet.
+pub fn check_strict(case: &StrictSheet) -> Result<TreeAnswer, Disagreement> {
+    check_sheet(&case.0)?;
+    Ok(case.plain_answer())
 }
 
 /// The answer of program `route`: its limits, and number 2 over 4,096 cells.

@@ -1,14 +1,15 @@
-//! Searches, sheets and searches with their reason under one roof, so that each command is written once.
+//! Searches, sheets in both modes and searches with their reason under one roof, so that each command is written once.
 
-use cases::examples::{search_cases, sheet_cases, why_cases};
+use cases::examples::{search_cases, sheet_cases, strict_cases, why_cases};
 use cases::files::Case;
-use cases::stats::{Tally, count_search, count_sheet, count_why};
+use cases::stats::{Tally, count_search, count_sheet, count_strict, count_why};
 use cases::text::{
     search_answer_lines, search_lines, sheet_lines, tree_answer_lines, why_answer_lines, why_lines,
 };
 use oracle::{
-    Disagreement, Profile, Rng, Search, SearchAnswer, Sheet, TreeAnswer, Why, WhyAnswer,
-    check_search, check_sheet, check_why, random_search, random_sheet, random_why,
+    Disagreement, Profile, Rng, Search, SearchAnswer, Sheet, StrictSheet, TreeAnswer, Why,
+    WhyAnswer, check_search, check_sheet, check_strict, check_why, random_search, random_sheet,
+    random_strict, random_why,
 };
 
 pub trait Asked: Case<Answer: Eq> {
@@ -66,6 +67,32 @@ impl Asked for Sheet {
 
     fn lines(&self) -> String {
         sheet_lines(self)
+    }
+
+    fn answer_lines(answer: &TreeAnswer) -> String {
+        tree_answer_lines(answer)
+    }
+}
+
+impl Asked for StrictSheet {
+    fn random(rng: &mut Rng, profile: Profile) -> Self {
+        random_strict(rng, profile)
+    }
+
+    fn examples() -> Vec<Self> {
+        strict_cases()
+    }
+
+    fn check(&self) -> Result<TreeAnswer, Disagreement> {
+        check_strict(self)
+    }
+
+    fn count(&self, answer: &TreeAnswer, tally: &mut Tally) {
+        count_strict(tally, self, answer);
+    }
+
+    fn lines(&self) -> String {
+        sheet_lines(&self.0)
     }
 
     fn answer_lines(answer: &TreeAnswer) -> String {

@@ -9,14 +9,15 @@ mod published_side;
 use std::fmt::{Display, Formatter};
 
 pub use cases::Refusal;
-pub use cases::generate::{Profile, random_search, random_sheet, random_why};
+pub use cases::generate::{Profile, random_search, random_sheet, random_strict, random_why};
 pub use cases::rng::Rng;
 pub use cases::search::{Search, SearchAnswer};
 pub use cases::sheet::{Sheet, TreeAnswer};
+pub use cases::strict::StrictSheet;
 pub use cases::why::{Why, WhyAnswer};
 
 pub use compare_search::check_search;
-pub use compare_tree::{check_route, check_sheet, tree_of};
+pub use compare_tree::{check_route, check_sheet, check_strict, tree_of};
 pub use compare_why::check_why;
 pub use published_side::{PublishedJob, cell_at, pos_of, router_config, world_of};
 
@@ -58,6 +59,11 @@ pub fn answer_search(case: &Search) -> SearchAnswer {
 /// plain router differ.
 pub fn answer_sheet(case: &Sheet) -> TreeAnswer {
     check_sheet(case).unwrap_or_else(|difference| panic!("{difference}"))
+}
+
+/// The answer to a sheet in strict mode. Panics with the case if the published Rust and the plain router differ in the published mode.
+pub fn answer_strict(case: &StrictSheet) -> TreeAnswer {
+    check_strict(case).unwrap_or_else(|difference| panic!("{difference}"))
 }
 
 /// The answer to a search with its reason. Panics with the case if the published Rust and the plain search or flood differ.

@@ -5,7 +5,9 @@ use cases::samples::{HEX_SHEET, HEX_SHEET_LINES, Sample, default_job, samples};
 use cases::smallest::{Input, points};
 use cases::text::{parse_hex, tree_answer_lines};
 use cases::{answers, examples, generate};
-use oracle::{Profile, answer_search, answer_sheet, answer_why, check_route, check_search};
+use oracle::{
+    Profile, answer_search, answer_sheet, answer_strict, answer_why, check_route, check_search,
+};
 
 #[test]
 fn samples_of_document_01() {
@@ -55,6 +57,14 @@ fn examples_of_searches() {
 #[test]
 fn examples_of_sheets() {
     for (name, case, answer) in examples::sheets() {
+        assert_eq!(answer_sheet(&case), answer, "{name}");
+    }
+}
+
+/// The published Rust answers as the published mode does.
+#[test]
+fn examples_of_modes() {
+    for (name, case, answer, _) in examples::modes() {
         assert_eq!(answer_sheet(&case), answer, "{name}");
     }
 }
@@ -119,6 +129,12 @@ fn stored_searches_are_made_again() {
 fn stored_sheets_are_made_again() {
     let made = answered(answers::sheets(), answer_sheet);
     assert!(write_answered(&made) == answers::SHEETS.bytes());
+}
+
+#[test]
+fn stored_strict_sheets_are_made_again() {
+    let made = answered(answers::strict_sheets(), answer_strict);
+    assert!(write_answered(&made) == answers::STRICT_SHEETS.bytes());
 }
 
 #[test]

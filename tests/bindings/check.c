@@ -276,6 +276,10 @@ struct tree {
     uint32_t number;
 };
 
+/* Whether trees are asked through dustroute_tree_mode, and the number that it is handed for its mode. */
+static bool in_mode = false;
+static uint32_t strict = DUSTROUTE_PUBLISHED;
+
 static struct tree tree_of(const uint8_t *sheet, size_t sheet_length, const size_t n[TREE_BUFFERS]) {
     static const size_t sizes[TREE_BUFFERS] = {4, 1, 1, 1, 1, 1, 1, 4, 4, 4, 4, 8, 8};
     struct tree asked;
@@ -283,11 +287,12 @@ static struct tree tree_of(const uint8_t *sheet, size_t sheet_length, const size
     for (int i = 0; i < TREE_BUFFERS; i++)
         asked.lent[i] = lend(n[i], sizes[i]);
     struct buffer *b = asked.lent;
-    asked.number = dustroute_tree(
-        at(copy), sheet_length, at(b[BRANCHES]), n[BRANCHES], at(b[OCCUPIED]), n[OCCUPIED], at(b[REPEATERS]), n[REPEATERS],
-        at(b[KINDS]), n[KINDS], at(b[BLOCKED]), n[BLOCKED], at(b[TREE_CLASSES]), n[TREE_CLASSES], at(b[JOINABLE]), n[JOINABLE],
-        at(b[TREE_KNOWN]), n[TREE_KNOWN], at(b[TREE_PREVIOUS]), n[TREE_PREVIOUS], at(b[TREE_PATH]), n[TREE_PATH],
-        at(b[BEST]), n[BEST], at(b[TREE_QUEUE]), n[TREE_QUEUE], at(b[TREE_VALUES]), n[TREE_VALUES]);
+#define TREE_LENT \
+    at(copy), sheet_length, at(b[BRANCHES]), n[BRANCHES], at(b[OCCUPIED]), n[OCCUPIED], at(b[REPEATERS]), n[REPEATERS], \
+    at(b[KINDS]), n[KINDS], at(b[BLOCKED]), n[BLOCKED], at(b[TREE_CLASSES]), n[TREE_CLASSES], at(b[JOINABLE]), n[JOINABLE], \
+    at(b[TREE_KNOWN]), n[TREE_KNOWN], at(b[TREE_PREVIOUS]), n[TREE_PREVIOUS], at(b[TREE_PATH]), n[TREE_PATH], \
+    at(b[BEST]), n[BEST], at(b[TREE_QUEUE]), n[TREE_QUEUE], at(b[TREE_VALUES]), n[TREE_VALUES]
+    asked.number = in_mode ? dustroute_tree_mode(strict, TREE_LENT) : dustroute_tree(TREE_LENT);
     expect_kept(copy, sheet, b, TREE_BUFFERS);
     return asked;
 }
@@ -421,7 +426,8 @@ static void check_damaged(void) {
 /* An arena of so many bytes that ends at a barred page: wherever it begins, and however short it is, nothing outside is touched. */
 static uint32_t tree_in(const uint8_t *sheet, size_t length, struct buffer arena, struct dustroute_tree_answer *answer) {
     struct buffer copy = lend_copy(sheet, length);
-    uint32_t number = dustroute_tree_in_arena(at(copy), length, at(arena), arena.length, answer);
+    uint32_t number = in_mode ? dustroute_tree_mode_in_arena(strict, at(copy), length, at(arena), arena.length, answer)
+                              : dustroute_tree_in_arena(at(copy), length, at(arena), arena.length, answer);
     expect_kept(copy, sheet, &arena, 1);
     return number;
 }
@@ -472,6 +478,41 @@ static void check_damaged_in_arena(void) {
         EXPECT(dustroute_arena_size(ROW, length) >= 7);
 }
 
+/* ---- both modes */
+
+/* A room of 1x2x3, in whose upper level the net runs from end to end; beneath its middle lies another net's wire. */
+static const uint8_t OVER[48] = {
+    1, 0, 0, 0, 43, 1, 2, 3, 0, 0, 0x75, 0x30, 0, 0, 0, 10, 0, 0, 0, 25, 0, 0, 0, 15,
+    0, 0, 0, 1, 0, 0, 1, 0, 0, 0, 0, 0, 0, 0, 1, 0, 0, 0, 1, 0, 1, 2, 0, 0};
+
+static void check_modes(void) {
+    static const uint32_t modes[4] = {DUSTROUTE_PUBLISHED, DUSTROUTE_STRICT, 2, UINT32_MAX};
+    in_mode = true;
+    for (int i = 0; i < 4; i++) {
+        strict = modes[i];
+        check_tree(); /* in a bare room the modes are one */
+        check_arena();
+        struct tree asked = tree_of(OVER, sizeof OVER, LONGER);
+        const uint32_t *branches = at(asked.lent[BRANCHES]);
+        const uint64_t *values = at(asked.lent[TREE_VALUES]);
+        if (strict) {
+            EXPECT(asked.number == DUSTROUTE_NO_GOAL && values[0] == 5 && values[1] == 0);
+            expect_tree_cleared(asked, BRANCHES);
+        } else {
+            EXPECT(asked.number == DUSTROUTE_DONE && values[4] == 3);
+            EXPECT(branches[0] == 3 && branches[1] == 4 && branches[2] == 5 && branches[3] == 0);
+            expect_tree_cleared(asked, KINDS);
+        }
+        free_tree(asked);
+        struct dustroute_tree_answer answer;
+        struct buffer arena = lend(dustroute_arena_size(OVER, sizeof OVER), 1);
+        EXPECT(tree_in(OVER, sizeof OVER, arena, &answer) == (strict ? DUSTROUTE_NO_GOAL : DUSTROUTE_DONE));
+        EXPECT(answer.detail == (strict ? 5 : 0) && answer.branch_count == (strict ? 0 : 1));
+        give_back(arena);
+    }
+    in_mode = false;
+}
+
 int main(void) {
     for (int null = 0; null < 2; null++) {
         empty_is_null = null;
@@ -479,6 +520,7 @@ int main(void) {
         check_why();
         check_tree();
         check_arena();
+        check_modes();
     }
     check_damaged();
     check_damaged_in_arena();

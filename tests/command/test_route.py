@@ -144,6 +144,38 @@ class Json(unittest.TestCase):
         self.assertIn("shape", told["not_checked"])
 
 
+class Strict(unittest.TestCase):
+    """--strict: another answer is printed, told as JSON and drawn, and no warning of wire on another net's."""
+    GAP = os.path.join(EXAMPLES, "gap.txt")
+
+    def test_the_example(self):
+        for words, file in (([], "gap.out"), (["--strict"], "gap-strict.out")):
+            status, printed, said = run("route", *words, self.GAP)
+            self.assertEqual((status, printed), (0, content(file).decode()))
+            self.assertEqual("needs a support at (4, 1, 0), which is another net's conductor" in said, not words, said)
+
+    def test_json(self):
+        for words, mode, supports in (([], "published", [[4, 1, 0]]), (["--strict"], "strict", [[4, 2, 0]])):
+            told = json.loads(run("route", "--json", *words, self.GAP)[1])
+            self.assertEqual((told["mode"], told["branches"][0]["new_supports"]), (mode, supports))
+        self.assertEqual(json.loads(routed(b"\1", "--json", "--strict")[1])["mode"], "strict")
+
+    def test_a_refusal_and_the_node_limit(self):
+        over = "room 1 2 3\nlimit %d\nconductor 0 0 1\nsource 0 1 0\nsink 0 1 2\n"
+        self.assertEqual(routed(over % 1, "--strict")[1], "refused 14 5\n")
+        # the published mode has a way at a limit that suffices; strict mode has none
+        self.assertIn("the node limit 1 was passed", routed(over % 1)[2])
+        self.assertIn("doesn't help", routed(over % 1, "--strict")[2])
+
+    def test_the_page_says_which_mode(self):
+        with tempfile.TemporaryDirectory() as folder:
+            page = os.path.join(folder, "page.html")
+            for words, says in (([], "Published mode:"), (["--strict"], "Strict mode:")):
+                run("route", self.GAP, "--view", page, *words)
+                text = "".join(ElementTree.parse(page).getroot().itertext())
+                self.assertEqual([mode for mode in ("Published mode:", "Strict mode:") if mode in text], [says])
+
+
 class Views(unittest.TestCase):
     def test_pages(self):
         with tempfile.TemporaryDirectory() as folder:

@@ -52,10 +52,11 @@ class Stored:
         return "\n".join(lines + [" ".join(["repeaters", *map(str, self.repeaters)])]) + "\n"
 
 
-def stored():
-    with open(os.path.join(ROOT, "crates", "replay_sheets", "data", "sheets.bin"), "rb") as file:
+def stored(path="crates/replay_sheets/data/sheets.bin", magic=b"DRT1"):
+    """Sheets with their answers, of a file in the form of oracle/STORED.md: those of the published mode, or in strict mode."""
+    with open(os.path.join(ROOT, path), "rb") as file:
         data = file.read()
-    assert data[:4] == b"DRT1"
+    assert data[:4] == magic
     place = 4
 
     def value(size):

@@ -50,6 +50,25 @@ class StoredAnswers(unittest.TestCase):
                     drawn += 1
         self.assertGreater(drawn, 200)
 
+    def test_answers_in_strict_mode(self):
+        """Each is taken as one of strict mode; of those of the published mode some are refused as such."""
+        trees = 0
+        for place, case in enumerate(stored("tests/bindings/strict.bin", b"DRM1")):
+            if case.number == 0:
+                with self.subTest(place=place):
+                    answers.read(case.printed(), from_bytes(case.sheet), strict=True)
+                    trees += 1
+        self.assertGreater(trees, 200)
+        refused = 0
+        for case in stored():
+            try:
+                if case.number == 0:
+                    answers.read(case.printed(), from_bytes(case.sheet), strict=True)
+            except answers.BadAnswer as bad:
+                self.assertIn("no answer of strict mode", str(bad))
+                refused += 1
+        self.assertGreater(refused, 20)
+
     def check_page(self, job, answer):
         tree = parsed(page("stored", job, answer))
         self.assertEqual(branches_of(tree), {place for place, branch in enumerate(answer.branches, 1) if len(branch) > 1})
@@ -202,6 +221,20 @@ class Answers(unittest.TestCase):
                 self.assertEqual(status, 0)
                 self.assertIn("Refused.", "".join(parsed(content).itertext()))
                 self.assertEqual(run("view", sheet, "-", given=HEX_ANSWER.encode())[0], 2)
+
+    def test_the_mode_is_told_and_checked(self):
+        with tempfile.TemporaryDirectory() as folder:
+            sheet = os.path.join(folder, "a.txt")
+            with open(sheet, "w", encoding="utf-8") as file:
+                file.write("room 1 2 3\nconductor 0 0 1\nsource 0 1 0\nsink 0 1 2\n")
+            for words, given, status, says in (
+                    ([], b"net 1 3\nbranch 3 4 5\nrepeaters\n", 0, "Published mode:"), (["--strict"], b"refused 14 5\n", 0, "Strict mode:"),
+                    (["--strict"], b"net 1 3\nbranch 3 4 5\nrepeaters\n", 2, "no answer of strict mode")):
+                found, content, message = run("view", sheet, "-", *words, given=given)
+                self.assertEqual(found, status)
+                self.assertIn(says, message if status else "".join(parsed(content).itertext()))
+            self.assertNotIn("mode:", "".join(parsed(run("view", sheet)[1]).itertext()))
+            self.assertEqual(run("view", "--strict", sheet)[0], 2)
 
     def test_rooms_above_the_programs_size(self):
         job = job_of("room 64 2 64\nsource 0 0 0\nsink 1 0 1")

@@ -7,7 +7,7 @@ from dataclasses import dataclass, field
 from typing import Dict, List, Optional, Set, Tuple
 
 from .job import AHEAD, ROUTE_CELLS, End, Job, Pos, first_fault, spell
-from .rules import approach, late_faults, step, terminal
+from .rules import approach, blocked, late_faults, step, terminal
 from .text import quoted
 from .words import of_job, sentence
 
@@ -26,8 +26,8 @@ class Answer:
     refused: Optional[Tuple[int, int]] = None  # number and detail
 
 
-def read(text: str, job: Job) -> Answer:
-    """The answer to a job that no number 1 to 5 refuses."""
+def read(text: str, job: Job, strict: bool = False) -> Answer:
+    """The answer to a job that no number 1 to 5 refuses, in the published mode or in strict mode."""
     lines = [line.split() for line in text.splitlines() if line.strip()]
     if not lines:
         raise BadAnswer("the answer is empty; expected a line 'net ..' or 'refused ..'")
@@ -35,7 +35,10 @@ def read(text: str, job: Job) -> Answer:
         return _read_refusal(lines, job)
     if lines[0][0] != "net":
         raise BadAnswer("line 1 begins with %s; expected 'net' or 'refused'" % quoted(lines[0][0]))
-    return _read_net(lines, job)
+    answer = _read_net(lines, job)
+    if strict:
+        _check_strict(answer, job)
+    return answer
 
 
 def numbers(words: List[str], line: str) -> List[int]:
@@ -135,6 +138,20 @@ def _check_branch(place: int, branch: List[Pos], job: Job) -> None:
     for one, other in zip(branch, branch[1:]):
         if abs(one[0] - other[0]) + abs(one[2] - other[2]) != 1 or abs(one[1] - other[1]) > 1:
             raise BadAnswer("branch %d jumps from cell %d to cell %d" % (place, job.number(one), job.number(other)))
+
+
+def _check_strict(answer: Answer, job: Job) -> None:
+    """In strict mode air that is blocked at the outset is neither entered nor rested on, but for the ends of the search. It goes from the
+    sink's approach to where the branch leaves the tree."""
+    free = {block.at for block in job.blocks}
+    barred = {at for at in blocked(job) if at not in free}
+    for sink, branch in zip(job.sinks, answer.branches):
+        ends = (branch[0], approach(sink))
+        way = branch if approach(sink) == terminal(sink) else branch[:-1]
+        for at in way[:-1]:
+            for used, words in ((at, "lies in"), (step(at, (0, -1, 0)), "rests on")):
+                if used in barred and used not in ends:
+                    raise BadAnswer("this is no answer of strict mode: the wire at %s %s the cell %s, which is blocked" % (spell(at), words, spell(used)))
 
 
 def _check_counts(answer: Answer, said: int, job: Job) -> None:

@@ -24,12 +24,13 @@ SIGN_WORDS = [
 ]
 
 
-def page(name: str, job: Job, answer: Optional[Answer], reason: Optional[str] = None) -> str:
-    """The page of a job that no number 1 to 5 refuses. Where more is known of a refusal than its number tells, that is the reason."""
+def page(name: str, job: Job, answer: Optional[Answer], reason: Optional[str] = None, strict: bool = False) -> str:
+    """The page of a job that no number 1 to 5 refuses, and of its answer in a mode. Where more is known of a refusal than its number
+    tells, that is the reason."""
     drawing = Drawing(job, answer)
     floors = floor_figures(drawing)
-    body = [MODES, heading(name, job), answer_words(job, answer, reason), warnings(drawing, answer), room_picture(drawing, answer), '<h2>Floors</h2>',
-            reading_help(drawing), *floors, branch_table(job, answer), legend(job, drawing)]
+    body = [MODES, heading(name, job), mode_words(strict) if answer else "", answer_words(job, answer, reason), warnings(drawing, answer),
+            room_picture(drawing, answer), '<h2>Floors</h2>', reading_help(drawing), *floors, branch_table(job, answer), legend(job, drawing)]
     return document(name, '<main id="projector">%s</main>' % "".join(body))
 
 
@@ -52,6 +53,15 @@ MODES = ('<p class="modes screen"><a href="#projector">For the projector: one fl
 def heading(name: str, job: Job) -> str:
     return ('<h1>%s</h1><p>Room of %d x %d x %d cells. Costs in tenths: flat step %d, stair %d, new support %d. Node limit %d.</p>'
             % (escape(name), *job.sides, *job.costs, job.limit))
+
+
+def mode_words(strict: bool) -> str:
+    """Which mode the answer was routed in: docs/MORE-RULES.md."""
+    if strict:
+        return ('<p class="mode"><b>Strict mode:</b> no wire enters or rests on air that other nets hold or keep clear, or that is reserved, '
+                'but at the ends of a search.</p>')
+    return ('<p class="mode"><b>Published mode:</b> air that other nets hold or keep clear, or that is reserved, counts as solid, '
+            'and wire may rest on it.</p>')
 
 
 def count(number: int, word: str) -> str:

@@ -10,17 +10,21 @@ from .job import PORTS, Job
 from .net import Branch, branches, signals
 
 
-def of_net(job: Job, answer: Answer, found: List[Remark]) -> str:
+def of_net(job: Job, answer: Answer, found: List[Remark], strict: bool) -> str:
     signal = signals(answer, job)
     listed = [_branch(place, branch, signal) for place, branch in enumerate(branches(answer, job), 1)]
-    return _text({"room": job.sides, "occupied": len(occupied(answer, job)), "branches": listed, "repeaters": answer.repeaters,
+    return _text({"room": job.sides, "mode": _mode(strict), "occupied": len(occupied(answer, job)), "branches": listed, "repeaters": answer.repeaters,
                   **_warnings(found)})
 
 
-def of_refusal(job: Optional[Job], number: int, detail: int, reason: List[str], found: List[Remark]) -> str:
+def of_refusal(job: Optional[Job], number: int, detail: int, reason: List[str], found: List[Remark], strict: bool) -> str:
     """The room is null where the sheet has none."""
     refused = {"number": number, "detail": detail, "words": "\n".join(reason)}
-    return _text({"room": job.sides if job else None, "refused": refused, **_warnings(found)})
+    return _text({"room": job.sides if job else None, "mode": _mode(strict), "refused": refused, **_warnings(found)})
+
+
+def _mode(strict: bool) -> str:
+    return "strict" if strict else "published"
 
 
 def _branch(place: int, branch: Branch, signal: dict) -> dict:

@@ -4,6 +4,7 @@
 
     tree = dustroute.route(open("examples/lane.txt").read())     # a text, or a sheet's bytes
     print(tree.branches, tree.repeaters)                         # cells by number; tree.room.position(cell) is where one is
+    dustroute.route(open("examples/gap.txt").read(), strict=True)     # no wire rests on what other nets hold or keep clear
 
     room = dustroute.Room(3, 1, 1)
     dustroute.search(room, [dustroute.Kind.AIR] * 3, start=0, goal=2)      # Route(path=(0, 1, 2), cost=20, expanded=2)

@@ -87,14 +87,18 @@ def sheet_of(sheet_or_text: Union[bytes, str, Job]) -> bytes:
     return jobs.to_bytes(texts.job_of(draft))
 
 
-def route(sheet_or_text: Union[bytes, str, Job], memory: Optional[Memory] = None) -> Tree:
+def route(sheet_or_text: Union[bytes, str, Job], memory: Optional[Memory] = None, *, strict: bool = False) -> Tree:
     """The tree of the net that a job sheet, or the text of one, describes.
+
+    A cell of air that other nets hold or keep clear, or that is reserved, counts as solid, as the published router has it, so wire may
+    rest on it for free. With `strict` wire neither enters it nor rests on it, but at the ends of each search.
 
     Raises Refusal with number 1 to 5, 7 to 9, or 14 (no way was found to a sink); BadText for a text that can't be read."""
     sheet = sheet_of(sheet_or_text)
     room, config = _head(sheet)
     lengths = {"branches": MAX_SINKS * (room.cells() + 1), "values": library().constants["DUSTROUTE_TREE_VALUES"]}
-    called = call("tree", room, config, memory, lengths, sheet=sheet)
+    mode = library().constants["DUSTROUTE_STRICT" if strict else "DUSTROUTE_PUBLISHED"]
+    called = call("tree_mode", room, config, memory, lengths, strict=mode, sheet=sheet)
     if called.number:
         raise Refusal(called.number, called.detail, words.of_sheet(called.number, called.detail, sheet))
     return _tree(room, called.lent)

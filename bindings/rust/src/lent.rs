@@ -2,8 +2,9 @@
 //! from one call to the next, or lends another length. Any length and any content is lawful: what is too short is refused.
 
 use crate::answer::{Cost, Nodes, Refusal, Route, Tree};
-use crate::ffi::{dustroute_search, dustroute_tree, dustroute_why};
+use crate::ffi::{dustroute_search, dustroute_tree, dustroute_tree_mode, dustroute_why};
 use crate::job::{Code, Config, Room, Sheet, bytes_of};
+use crate::mode::Mode;
 use crate::why::{MOVES, WalledIn, Why};
 
 /// How many values a search and a tree come to.
@@ -188,6 +189,43 @@ impl WhyMemory {
     }
 }
 
+/// Calls a function of a tree over the sheet and each buffer of its memory, a pointer and a length each; a mode stands before them.
+macro_rules! over_slices {
+    ($function:ident, $memory:expr, $sheet:expr $(, $mode:expr)?) => {
+        $function(
+            $($mode,)?
+            $sheet.as_ptr(),
+            $sheet.len(),
+            $memory.branches.as_mut_ptr(),
+            $memory.branches.len(),
+            $memory.occupied.as_mut_ptr(),
+            $memory.occupied.len(),
+            $memory.repeaters.as_mut_ptr(),
+            $memory.repeaters.len(),
+            $memory.kinds.as_mut_ptr(),
+            $memory.kinds.len(),
+            $memory.blocked.as_mut_ptr(),
+            $memory.blocked.len(),
+            $memory.classes.as_mut_ptr(),
+            $memory.classes.len(),
+            $memory.joinable.as_mut_ptr(),
+            $memory.joinable.len(),
+            $memory.known.as_mut_ptr(),
+            $memory.known.len(),
+            $memory.previous.as_mut_ptr(),
+            $memory.previous.len(),
+            $memory.path.as_mut_ptr(),
+            $memory.path.len(),
+            $memory.best.as_mut_ptr(),
+            $memory.best.len(),
+            $memory.queue.as_mut_ptr(),
+            $memory.queue.len(),
+            $memory.values.as_mut_ptr(),
+            $memory.values.len(),
+        )
+    };
+}
+
 /// What a tree is lent: `branches`, `occupied`, `repeaters` and `values` are its output, the others work memory.
 #[derive(Clone, Debug, Eq, PartialEq)]
 pub struct TreeMemory {
@@ -236,6 +274,17 @@ impl TreeMemory {
     /// The tree of a sheet. A refusal by 1 to 6 leaves the memory as it was, `values` included.
     pub fn route_tree(&mut self, sheet: &Sheet) -> Result<Tree, Refusal> {
         let number = self.call(sheet.bytes());
+        self.answer(number)
+    }
+
+    /// The tree of a sheet in a mode.
+    pub fn route_tree_in(&mut self, mode: Mode, sheet: &Sheet) -> Result<Tree, Refusal> {
+        let number = self.call_mode(mode.number(), sheet.bytes());
+        self.answer(number)
+    }
+
+    /// What a tree that returned this number left here.
+    fn answer(&self, number: u32) -> Result<Tree, Refusal> {
         match number {
             0 => Ok(Tree {
                 branches: self.cut_branches(),
@@ -250,38 +299,13 @@ impl TreeMemory {
     pub fn call(&mut self, sheet: &[u8]) -> u32 {
         // SAFETY: each pointer and length is that of a slice that lives through the call, and no two of them overlap. The router has
         // no requirement on what it is handed, and reads and writes within the slices alone.
-        unsafe {
-            dustroute_tree(
-                sheet.as_ptr(),
-                sheet.len(),
-                self.branches.as_mut_ptr(),
-                self.branches.len(),
-                self.occupied.as_mut_ptr(),
-                self.occupied.len(),
-                self.repeaters.as_mut_ptr(),
-                self.repeaters.len(),
-                self.kinds.as_mut_ptr(),
-                self.kinds.len(),
-                self.blocked.as_mut_ptr(),
-                self.blocked.len(),
-                self.classes.as_mut_ptr(),
-                self.classes.len(),
-                self.joinable.as_mut_ptr(),
-                self.joinable.len(),
-                self.known.as_mut_ptr(),
-                self.known.len(),
-                self.previous.as_mut_ptr(),
-                self.previous.len(),
-                self.path.as_mut_ptr(),
-                self.path.len(),
-                self.best.as_mut_ptr(),
-                self.best.len(),
-                self.queue.as_mut_ptr(),
-                self.queue.len(),
-                self.values.as_mut_ptr(),
-                self.values.len(),
-            )
-        }
+        unsafe { over_slices!(dustroute_tree, self, sheet) }
+    }
+
+    /// The same in the mode that a number stands for: 0 is the published one, any other number strict.
+    pub fn call_mode(&mut self, strict: u32, sheet: &[u8]) -> u32 {
+        // SAFETY: as for `call`; the mode is a number, and any is lawful.
+        unsafe { over_slices!(dustroute_tree_mode, self, sheet, strict) }
     }
 
     /// The branches stand one behind another, and the values tell how long each is.

@@ -1,5 +1,6 @@
 //! DustRoute's router for one net, proved in Rattle, behind safe functions: [`search`] looks for one route in a room of kinds, [`why`]
-//! tells the reason as well where there is none, [`route_tree`] makes the tree that a job sheet asks for.
+//! tells the reason as well where there is none, [`route_tree`] makes the tree that a job sheet asks for, and
+//! [`route_tree_in`] in strict mode as well.
 //!
 //! Every input gets an answer: a bad room, cost, position or sheet comes back as a [`Refusal`]. The functions lend the router
 //! as much memory as its answer can need, so that [`Refusal::QueueFull`] and [`Refusal::BranchesFull`] never come from them, and
@@ -10,10 +11,12 @@ mod answer;
 mod ffi;
 mod job;
 pub mod lent;
+mod mode;
 mod why;
 
 pub use answer::{Cost, End, Nodes, Refusal, Route, Tree};
 pub use job::{Block, Code, Config, Endpoint, Facing, Job, JobTooLong, Kind, Port, Position, Room, Sheet};
+pub use mode::Mode;
 pub use why::{MOVES, Reason, Wall, WalledIn, Why};
 
 use lent::{SearchMemory, TreeMemory, WhyMemory};
@@ -32,4 +35,9 @@ pub fn why<C: Code>(room: Room, config: Config, kinds: &[C], start: usize, goal:
 /// The tree of the one net that a sheet describes.
 pub fn route_tree(sheet: &Sheet) -> Result<Tree, Refusal> {
     TreeMemory::for_sheet(sheet).route_tree(sheet)
+}
+
+/// The same in a mode: [`Mode::Published`] is what [`route_tree`] has.
+pub fn route_tree_in(mode: Mode, sheet: &Sheet) -> Result<Tree, Refusal> {
+    TreeMemory::for_sheet(sheet).route_tree_in(mode, sheet)
 }

@@ -2,10 +2,11 @@
 
 use std::path::PathBuf;
 
-use crate::examples::{search_cases, sheet_cases, why_cases};
+use crate::examples::{search_cases, sheet_cases, strict_cases, why_cases};
 use crate::generate::{self, Profile};
 use crate::search::Search;
 use crate::sheet::Sheet;
+use crate::strict::StrictSheet;
 use crate::why::Why;
 
 /// A file of the samples and examples, followed by random cases of the mixed profile. It lies in the repository beside the proved
@@ -26,6 +27,12 @@ pub const SHEETS: Stored = Stored {
     file: "crates/replay_sheets/data/sheets.bin",
     seed: 100,
     count: 990,
+};
+
+pub const STRICT_SHEETS: Stored = Stored {
+    file: "tests/bindings/strict.bin",
+    seed: 1,
+    count: 400,
 };
 
 pub const WHYS: Stored = Stored {
@@ -53,6 +60,12 @@ pub fn searches() -> Vec<Search> {
 pub fn sheets() -> Vec<Sheet> {
     let random = generate::sheets(SHEETS.seed, SHEETS.count, Profile::Mixed);
     sheet_cases().into_iter().chain(random).collect()
+}
+
+/// The cases of `strict.bin`, made anew.
+pub fn strict_sheets() -> Vec<StrictSheet> {
+    let random = generate::strict_sheets(STRICT_SHEETS.seed, STRICT_SHEETS.count, Profile::Mixed);
+    strict_cases().into_iter().chain(random).collect()
 }
 
 /// The cases of `whys.bin`, made anew.

@@ -1,10 +1,12 @@
 //! Small cases beside the samples, each for one rule: open points as docs/DECISIONS.md settles them, every refusal, and the
-//! order in which refusals are judged. Searches stand here, sheets in `trees`, the reasons of searches in `reasons`. Whoever
-//! answers cases can run them.
+//! order in which refusals are judged. Searches stand here, sheets in `trees`, sheets for both modes in `modes`, the reasons of
+//! searches in `reasons`. Whoever answers cases can run them.
 
+mod modes;
 mod reasons;
 mod trees;
 
+pub use modes::{modes, strict_cases};
 pub use reasons::{why_cases, whys};
 pub use trees::sheets;
 

@@ -1,10 +1,11 @@
-//! Files of cases, big-endian throughout. `DRS1`, `DRT1` and `DRW1` hold searches, sheets and searches with their reason, each with
-//! its answer; `DRS0`, `DRT0` and `DRW0` the same records without answers.
+//! Files of cases, big-endian throughout. `DRS1`, `DRT1`, `DRM1` and `DRW1` hold searches, sheets, sheets in strict mode and searches
+//! with their reason, each with its answer; `DRS0`, `DRT0`, `DRM0` and `DRW0` the same records without answers.
 
 use crate::Refusal;
 use crate::room::Config;
 use crate::search::{Search, SearchAnswer};
 use crate::sheet::{Sheet, TreeAnswer};
+use crate::strict::StrictSheet;
 use crate::why::{Told, Why, WhyAnswer};
 
 /// A kind of case that can be kept in a file.
@@ -289,6 +290,28 @@ impl Case for Sheet {
             }) => Ok(TreeAnswer::Refused(refusal)),
             refusal => Err(format!("no answer of a tree: {refusal:?}")),
         }
+    }
+}
+
+impl Case for StrictSheet {
+    type Answer = TreeAnswer;
+    const BARE: [u8; 4] = *b"DRM0";
+    const ANSWERED: [u8; 4] = *b"DRM1";
+
+    fn write(&self, out: &mut Vec<u8>) {
+        self.0.write(out);
+    }
+
+    fn read(input: &mut Input) -> Result<Self, String> {
+        Sheet::read(input).map(Self)
+    }
+
+    fn write_answer(answer: &TreeAnswer, out: &mut Vec<u8>) {
+        Sheet::write_answer(answer, out);
+    }
+
+    fn read_answer(input: &mut Input) -> Result<TreeAnswer, String> {
+        Sheet::read_answer(input)
     }
 }
 

@@ -18,6 +18,7 @@ pub mod search;
 pub mod sheet;
 pub mod smallest;
 pub mod stats;
+pub mod strict;
 pub mod text;
 pub mod tree;
 pub mod why;

@@ -68,6 +68,7 @@ impl Search {
             goal: self.goal as usize,
             config: &self.config,
             places,
+            barred: &[],
         };
         question.search()
     }
@@ -131,6 +132,8 @@ pub struct Question<'a> {
     pub config: &'a Config,
     /// Places in the queue.
     pub places: usize,
+    /// The cells whose Air is barred, by a mark each; none are where it is empty.
+    pub barred: &'a [bool],
 }
 
 impl Question<'_> {
@@ -176,11 +179,21 @@ impl Question<'_> {
         End::NoRoute
     }
 
-    /// An Air cell is routeable; start and goal may also hold RedstoneWire.
+    /// An Air cell that isn't barred is routeable; start and goal may also hold RedstoneWire.
     fn routeable(&self, cell: usize) -> bool {
-        let end = cell == self.start || cell == self.goal;
         let kind = self.kinds[cell];
-        kind == kind::AIR || end && kind == kind::REDSTONE_WIRE
+        kind == kind::AIR && !self.is_barred(cell)
+            || self.is_end(cell) && kind == kind::REDSTONE_WIRE
+    }
+
+    fn is_end(&self, cell: usize) -> bool {
+        cell == self.start || cell == self.goal
+    }
+
+    /// Barred Air is neither entered nor used as a support; the search's own start and goal are never barred.
+    fn is_barred(&self, cell: usize) -> bool {
+        let marked = self.barred.get(cell).is_some_and(|mark| *mark);
+        marked && self.kinds[cell] == kind::AIR && !self.is_end(cell)
     }
 
     fn estimate(&self, cell: usize) -> u64 {
@@ -193,7 +206,9 @@ impl Question<'_> {
         if !self.routeable(next) {
             return None;
         }
-        let support = match kind_at(self.kinds, self.room.next(next, DOWN)) {
+        let beneath = self.room.next(next, DOWN);
+        let support = match kind_at(self.kinds, beneath) {
+            _ if beneath.is_some_and(|cell| self.is_barred(cell)) => return None,
             kind::AIR => self.config.support,
             kind::SOLID | kind::TRANSPARENT | kind::REDSTONE_BLOCK => 0,
             _ => return None,

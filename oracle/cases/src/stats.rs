@@ -7,6 +7,7 @@ use crate::conflict::stairs;
 use crate::room::{MOST_CELLS, Room, kind, port, sideways};
 use crate::search::{Search, SearchAnswer};
 use crate::sheet::{Job, Port, Sheet, TreeAnswer};
+use crate::strict::{Apart, StrictSheet};
 use crate::why::{MOVES, Why, WhyAnswer, reason};
 
 /// Counts under names, printed in the order of the names.
@@ -122,6 +123,19 @@ pub fn count_sheet(tally: &mut Tally, case: &Sheet, answer: &TreeAnswer) {
     {
         count_tree(tally, &room, branches, repeaters);
     }
+}
+
+/// Counts a sheet in strict mode, and how its answer differs from that of the published mode.
+pub fn count_strict(tally: &mut Tally, case: &StrictSheet, answer: &TreeAnswer) {
+    count_sheet(tally, &case.0, answer);
+    tally.add("strict-sheets");
+    tally.add(match Apart::of(&case.0.plain_answer(), answer) {
+        Apart::Same => "modes: the same answer",
+        Apart::AnotherTree => "modes: another tree",
+        Apart::StrictRefuses => "modes: a tree in the published mode alone",
+        Apart::StrictRoutes => "modes: a tree in strict mode alone",
+        Apart::AnotherRefusal => "modes: another refusal",
+    });
 }
 
 fn count_job(tally: &mut Tally, job: &Job) {

@@ -14,6 +14,15 @@ use crate::sheet::{Job, Port, Sheet, TreeAnswer};
 /// Searches that one goal gets at most.
 const ATTEMPTS: usize = 64;
 
+/// What blocked Air is in a search, as docs/MORE-RULES.md has it. The caller of a tree chooses; the sheet doesn't carry it.
+#[derive(Clone, Copy, Debug, Eq, PartialEq)]
+pub enum Mode {
+    /// Solid, as a support too: so the published Rust has it.
+    Published,
+    /// Neither entered nor used as a support.
+    Strict,
+}
+
 /// Room for a tree: the queue's places and the branch buffer's cells.
 #[derive(Clone, Copy, Debug, Eq, PartialEq)]
 pub struct Limits {
@@ -69,10 +78,18 @@ impl Sheet {
     }
 
     pub fn plain_answer_within(&self, most_cells: usize) -> TreeAnswer {
-        match self.judge(most_cells) {
-            Err(refusal) => TreeAnswer::Refused(refusal),
-            Ok((job, room)) => plain_answer(&job, &room, self.limits()),
-        }
+        self.answer_by(most_cells, Mode::Published)
+    }
+
+    pub fn plain_answer_in(&self, mode: Mode) -> TreeAnswer {
+        self.answer_by(MOST_CELLS, mode)
+    }
+
+    fn answer_by(&self, most_cells: usize, mode: Mode) -> TreeAnswer {
+        let judged = self.judge(most_cells);
+        judged
+            .and_then(|(job, room)| route_in_mode(&job, &room, self.limits(), mode))
+            .map_or_else(TreeAnswer::Refused, |net| net.answer())
     }
 }
 
@@ -108,7 +125,12 @@ impl Net {
 
 /// Numbers 7, 8, 9, then 13 or 14 and 15 sink by sink, or the net.
 pub fn route_net_tree(job: &Job, room: &Room, limits: Limits) -> Result<Net, Refusal> {
-    route_as_read(job, room, limits, Reading::PUBLISHED)
+    route_in_mode(job, room, limits, Mode::Published)
+}
+
+/// The same in a mode.
+pub fn route_in_mode(job: &Job, room: &Room, limits: Limits, mode: Mode) -> Result<Net, Refusal> {
+    route(job, room, limits, mode, Reading::PUBLISHED)
 }
 
 /// The same with an open point read otherwise.
@@ -118,6 +140,16 @@ pub fn route_as_read(
     limits: Limits,
     reading: Reading,
 ) -> Result<Net, Refusal> {
+    route(job, room, limits, Mode::Published, reading)
+}
+
+fn route(
+    job: &Job,
+    room: &Room,
+    limits: Limits,
+    mode: Mode,
+    reading: Reading,
+) -> Result<Net, Refusal> {
     if let Some(cell) = overlap(job, room) {
         return Err(Refusal::new(7, cell as u32));
     }
@@ -125,7 +157,7 @@ pub fn route_as_read(
     if reading.is(Other::SourceApproachJudged) && source_approach(job, room).is_none() {
         return Err(Refusal::new(9, 0));
     }
-    let mut tree = Tree::new(job, room, &ends, limits, reading);
+    let mut tree = Tree::new(job, room, &ends, limits, mode, reading);
     let order = sink_order(room, &ends);
     let branches = tree.join_all(&ends, &order)?;
     let laid = Laid {
@@ -244,6 +276,7 @@ struct Tree<'a> {
     job: &'a Job,
     room: &'a Room,
     limits: Limits,
+    mode: Mode,
     reading: Reading,
     /// Cells of this net that an own clearance leaves open.
     stay_open: BTreeSet<usize>,
@@ -256,12 +289,20 @@ struct Tree<'a> {
 }
 
 impl<'a> Tree<'a> {
-    fn new(job: &'a Job, room: &'a Room, ends: &Ends, limits: Limits, reading: Reading) -> Self {
+    fn new(
+        job: &'a Job,
+        room: &'a Room,
+        ends: &Ends,
+        limits: Limits,
+        mode: Mode,
+        reading: Reading,
+    ) -> Self {
         let stay_open = reading.is(Other::EndsStayOpen).then(|| ends.own());
         Self {
             job,
             room,
             limits,
+            mode,
             reading,
             stay_open: stay_open.unwrap_or_default(),
             kinds: kinds(job, room),
@@ -350,15 +391,12 @@ impl<'a> Tree<'a> {
         Ok(None)
     }
 
-    /// One search in which each blocked Air cell other than its start and goal counts as Solid, as a support too.
+    /// One search, in which cells are blocked.
     fn search(&self, blocked: &[bool], start: usize, goal: usize) -> Searched {
-        let mut kinds = self.kinds.clone();
-        let turns = |kind| kind == kind::AIR || self.reading.is(Other::BlockedBears);
-        for cell in 0..kinds.len() {
-            if blocked[cell] && cell != start && cell != goal && turns(kinds[cell]) {
-                kinds[cell] = kind::SOLID;
-            }
-        }
+        let (kinds, barred) = match self.mode {
+            Mode::Published => (self.walled(blocked, start, goal), [].as_slice()),
+            Mode::Strict => (self.kinds.clone(), blocked),
+        };
         let question = Question {
             room: self.room,
             kinds: &kinds,
@@ -366,8 +404,21 @@ impl<'a> Tree<'a> {
             goal,
             config: &self.job.config,
             places: self.limits.queue,
+            barred,
         };
         question.search()
+    }
+
+    /// The room in which each blocked Air cell other than the search's start and goal counts as Solid, as a support too.
+    fn walled(&self, blocked: &[bool], start: usize, goal: usize) -> Vec<u8> {
+        let mut kinds = self.kinds.clone();
+        let turns = |kind| kind == kind::AIR || self.reading.is(Other::BlockedBears);
+        for cell in 0..kinds.len() {
+            if blocked[cell] && cell != start && cell != goal && turns(kinds[cell]) {
+                kinds[cell] = kind::SOLID;
+            }
+        }
+        kinds
     }
 
     /// The first conflict of a path with the joinable cells, in the unblocked room.

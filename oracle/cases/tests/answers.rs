@@ -3,11 +3,14 @@
 use std::collections::BTreeMap;
 use std::fmt::Debug;
 
-use cases::answers::{SEARCHES, SHEETS, Stored, WHYS, searches, sheets, whys};
+use cases::answers::{
+    SEARCHES, SHEETS, STRICT_SHEETS, Stored, WHYS, searches, sheets, strict_sheets, whys,
+};
 use cases::files::{Case, read};
 use cases::room::MOST_CELLS;
 use cases::search::Search;
 use cases::sheet::{MOST_BYTES, Sheet, TreeAnswer};
+use cases::strict::StrictSheet;
 use cases::why::Why;
 
 /// The cases of a file with their answers: they are those that are made, and the plain router agrees.
@@ -61,6 +64,17 @@ fn stored_sheets() {
     let well_formed = stored.iter().filter(|(case, _)| well_formed(case)).count();
     let several = stored.iter().filter(|(_, answer)| several(answer)).count();
     assert!(3 * several >= well_formed, "{several} of {well_formed}");
+}
+
+#[test]
+fn stored_strict_sheets() {
+    let stored = agreed(&STRICT_SHEETS, strict_sheets(), StrictSheet::plain_answer);
+    let numbers = stored.iter().map(|(_, answer)| answer.number());
+    let due = [0, 1, 2, 3, 4, 5, 6, 7, 8, 9, 13, 14, 15];
+    is_common(&due, 3, numbers);
+    let another = |(case, answer): &&(StrictSheet, TreeAnswer)| case.0.plain_answer() != *answer;
+    let apart = stored.iter().filter(another).count();
+    assert!(apart >= 20, "{apart}");
 }
 
 #[test]

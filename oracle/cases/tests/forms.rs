@@ -1,11 +1,12 @@
 //! Files, text and sheets: what is written is read back, and what is damaged is refused.
 
 use cases::files::{Case, read, write_answered, write_bare};
-use cases::generate::{Profile, searches, sheets, whys};
+use cases::generate::{Profile, searches, sheets, strict_sheets, whys};
 use cases::room::Config;
 use cases::samples::HEX_SHEET;
 use cases::search::Search;
 use cases::sheet::{Block, Job, Port, Sheet};
+use cases::strict::StrictSheet;
 use cases::text::{parse_hex, parse_search, search_lines, sheet_lines};
 use cases::why::Why;
 
@@ -15,6 +16,10 @@ fn some_searches() -> Vec<Search> {
 
 fn some_sheets() -> Vec<Sheet> {
     sheets(7, 200, Profile::Tiny)
+}
+
+fn some_strict_sheets() -> Vec<StrictSheet> {
+    strict_sheets(7, 200, Profile::Tiny)
 }
 
 fn some_whys() -> Vec<Why> {
@@ -32,6 +37,7 @@ fn bare_round_trip<C: Case + Clone + PartialEq>(cases: &[C]) {
 fn bare_files_are_read_back() {
     bare_round_trip(&some_searches());
     bare_round_trip(&some_sheets());
+    bare_round_trip(&some_strict_sheets());
     bare_round_trip(&some_whys());
 }
 
@@ -54,6 +60,7 @@ where
 fn answered_files_are_read_back() {
     answered_round_trip(&some_searches(), Search::plain_answer);
     answered_round_trip(&some_sheets(), Sheet::plain_answer);
+    answered_round_trip(&some_strict_sheets(), StrictSheet::plain_answer);
     answered_round_trip(&some_whys(), Why::plain_answer);
 }
 
@@ -68,6 +75,7 @@ fn damaged_files_are_refused() {
         assert!(read::<Search>(&bytes[..length]).is_err(), "{length}");
     }
     assert!(read::<Sheet>(&bytes).is_err());
+    assert!(read::<StrictSheet>(&write_bare(&some_sheets())).is_err());
     let longer = [bytes.as_slice(), &[0]].concat();
     assert_eq!(read::<Search>(&longer), Err("1 bytes left over".into()));
 }

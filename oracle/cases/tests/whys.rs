@@ -29,6 +29,7 @@ fn question<'a>(case: &'a Why, room: &'a Room) -> Question<'a> {
         goal: case.search.goal as usize,
         config: &case.search.config,
         places: 1,
+        barred: &[],
     }
 }
 

@@ -15,13 +15,13 @@ use dustroute::lent::{TREE_VALUES, TreeMemory};
 use oracle::{PublishedJob, Rng, Sheet, tree_of};
 
 use crate::bench::best;
-use crate::compare_trees::tree_differs;
+use crate::compare_trees::{Call, tree_differs};
 use crate::proved;
 
 /// A job that is timed, and how often by the proved tree.
-struct Load {
-    name: &'static str,
-    job: Job,
+pub struct Load {
+    pub name: &'static str,
+    pub job: Job,
     runs: usize,
 }
 
@@ -31,7 +31,19 @@ pub fn bench(only: &[String]) {
         "{:<44}{:>7}{:>10}{:>12}{:>14}{:>9}",
         "trees", "cells", "occupied", "proved", "published", "faster"
     );
-    for load in [
+    for load in loads() {
+        if only.is_empty() || only.iter().any(|word| load.name.starts_with(word)) {
+            measure(&load);
+        }
+    }
+    if only.is_empty() || only.iter().any(|word| word == "growth") {
+        growths();
+    }
+}
+
+/// The rooms of the first table.
+pub fn loads() -> Vec<Load> {
+    vec![
         load("open 20x10x20", open([20, 10, 20], 0)),
         load(
             "ground and pillars 20x10x20",
@@ -44,14 +56,7 @@ pub fn bench(only: &[String]) {
         load("storeys 32x16x32", storeys([32, 16, 32])),
         load("serpentine 63x2x63", serpentine([63, 2, 63])),
         load("noise 32x16x32", noise([32, 16, 32])),
-    ] {
-        if only.is_empty() || only.iter().any(|word| load.name.starts_with(word)) {
-            measure(&load);
-        }
-    }
-    if only.is_empty() || only.iter().any(|word| word == "growth") {
-        growths();
-    }
+    ]
 }
 
 /// How the time grows with the cells and with the sinks.
@@ -73,11 +78,7 @@ fn growths() {
 }
 
 fn load(name: &'static str, job: Job) -> Load {
-    Load {
-        name,
-        job,
-        runs: 5,
-    }
+    Load { name, job, runs: 5 }
 }
 
 /// Sixteen Wire sinks, four by four over the room's ground plan, on three levels above `floor`.
@@ -215,7 +216,7 @@ fn blocks_and_other_nets(sides: [u8; 3]) -> Job {
     job
 }
 
-fn sheet_of(job: &Job) -> (Sheet, TreeMemory) {
+pub fn sheet_of(job: &Job) -> (Sheet, TreeMemory) {
     let cells: usize = job.sides.iter().map(|side| usize::from(*side)).product();
     let sheet = Sheet {
         queue: 12 * cells as u32,
@@ -253,7 +254,8 @@ fn measure(load: &Load) {
         net = Some(black_box(published_job.route()).expect("a tree"));
     });
     let due = tree_of(&room, &net.expect("a tree")).expect("a tree of this room");
-    tree_differs(&sheet, &due, lent.clone()).unwrap_or_else(|difference| panic!("{difference}"));
+    tree_differs(&sheet, &due, Call::Plain, lent.clone())
+        .unwrap_or_else(|difference| panic!("{difference}"));
     println!(
         "{:>11.1} ms{:>8.1}x",
         published.as_secs_f64() * 1e3,
@@ -291,7 +293,10 @@ fn growth_line(name: &str, job: &Job, number: u32) {
     let time = proved_time(15, &sheet, &mut lent, number);
     println!(
         "{name:<44}{:>7}{:>7}{:>9.3} ms",
-        job.sides.iter().map(|side| usize::from(*side)).product::<usize>(),
+        job.sides
+            .iter()
+            .map(|side| usize::from(*side))
+            .product::<usize>(),
         job.sinks.len(),
         time.as_secs_f64() * 1e3
     );

@@ -6,7 +6,7 @@ use cases::text::{search_lines, sheet_lines};
 use oracle::{Search, Sheet, check_search, check_sheet};
 
 use crate::compare::{self, Differences};
-use crate::compare_trees;
+use crate::compare_trees::{self, Call};
 use crate::flat::Flat;
 
 /// Compares each point's input in the way that a random case is compared, and prints how many there are; false if anything
@@ -37,5 +37,5 @@ fn search_differs(case: &Search) -> Result<(), String> {
 
 fn sheet_differs(case: &Sheet) -> Result<(), String> {
     let expected = check_sheet(case).map_err(|difference| difference.to_string())?;
-    compare_trees::differs(case, &expected, 1)
+    compare_trees::differs(case, &expected, Call::Plain, 1)
 }

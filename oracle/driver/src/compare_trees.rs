@@ -2,6 +2,7 @@
 
 use cases::stats::{Tally, count_sheet, has_rich_tree};
 use cases::text::{sheet_lines, tree_answer_lines};
+use cases::tree::Mode;
 use checks::tree_due;
 use dustroute::lent::{TREE_VALUES, TreeMemory};
 use oracle::{Refusal, Rng, Sheet, TreeAnswer, check_sheet, random_sheet};
@@ -16,7 +17,7 @@ pub fn compare(draw: &Draw) -> bool {
     for (index, case) in sheets(draw).take(draw.count as usize) {
         let found = expected_answer(draw, &case).and_then(|expected| {
             count_sheet(&mut tally, &case, &expected);
-            differs(&case, &expected, index as u8)
+            differs(&case, &expected, Call::Plain, index as u8)
         });
         if let Err(what) = found {
             differences.add(&draw.name(index), &what, &sheet_lines(&case));
@@ -46,23 +47,49 @@ fn expected_answer(draw: &Draw, case: &Sheet) -> Result<TreeAnswer, String> {
     Ok(case.plain_answer())
 }
 
+/// Which exported function is called.
+#[derive(Clone, Copy)]
+pub enum Call {
+    /// `dustroute_tree`.
+    Plain,
+    /// `dustroute_tree_mode`, with this number for the mode.
+    InMode(u32),
+}
+
+impl Call {
+    fn mode(self) -> Mode {
+        match self {
+            Self::Plain | Self::InMode(0) => Mode::Published,
+            Self::InMode(_) => Mode::Strict,
+        }
+    }
+
+    pub fn of(self, memory: &mut TreeMemory, sheet: &[u8]) -> u32 {
+        match self {
+            Self::Plain => memory.call(sheet),
+            Self::InMode(strict) => memory.call_mode(strict, sheet),
+        }
+    }
+}
+
 /// How an answer differs from the expected one, if it does: through memory of just the lengths of the case, through longer
 /// memory, with too few values, and with a branch buffer that is just full and one cell short. All memory is full of rubbish
 /// before.
-pub fn differs(case: &Sheet, expected: &TreeAnswer, salt: u8) -> Result<(), String> {
+pub fn differs(case: &Sheet, expected: &TreeAnswer, call: Call, salt: u8) -> Result<(), String> {
     let [cells, branch, queue] = lengths(case);
     let memory = |cells, queue, values| tree_memory(cells, branch, queue, values, salt | 1);
     let number = expected.number();
-    tree_differs(case, expected, memory(cells, queue, TREE_VALUES))?;
+    let tree_differs = |expected, lent| tree_differs(case, expected, call, lent);
+    tree_differs(expected, memory(cells, queue, TREE_VALUES))?;
     let extra = extra(number, salt);
     // One number more is no place of the queue.
     let longer = memory(cells + extra, queue + 1, TREE_VALUES + extra);
-    tree_differs(case, expected, longer)?;
+    tree_differs(expected, longer)?;
     let few = if matches!(number, 1..=5) { number } else { 6 };
     let refused = TreeAnswer::Refused(Refusal::bare(few));
     let short = memory(cells, queue, usize::from(salt) % TREE_VALUES);
-    tree_differs(case, &refused, short)?;
-    at_branch_length_differs(case, expected, salt)
+    tree_differs(&refused, short)?;
+    at_branch_length_differs(case, expected, call, salt)
 }
 
 /// The lengths that a case names: cells, the branch buffer, and the queue's numbers, two a place.
@@ -71,7 +98,12 @@ pub fn lengths(case: &Sheet) -> [usize; 3] {
 }
 
 /// How an answer differs with a branch buffer that is just full, or one cell short.
-fn at_branch_length_differs(case: &Sheet, expected: &TreeAnswer, salt: u8) -> Result<(), String> {
+fn at_branch_length_differs(
+    case: &Sheet,
+    expected: &TreeAnswer,
+    call: Call,
+    salt: u8,
+) -> Result<(), String> {
     let TreeAnswer::Tree { branches, .. } = expected else {
         return Ok(());
     };
@@ -84,18 +116,23 @@ fn at_branch_length_differs(case: &Sheet, expected: &TreeAnswer, salt: u8) -> Re
         let due = if branch == used {
             expected.clone()
         } else {
-            case.plain_answer()
+            case.plain_answer_in(call.mode())
         };
         let [cells, branch, queue] = lengths(&case);
         let memory = tree_memory(cells, branch, queue, TREE_VALUES, salt | 1);
-        tree_differs(&case, &due, memory)?;
+        tree_differs(&case, &due, call, memory)?;
     }
     Ok(())
 }
 
-pub fn tree_differs(case: &Sheet, expected: &TreeAnswer, before: TreeMemory) -> Result<(), String> {
+pub fn tree_differs(
+    case: &Sheet,
+    expected: &TreeAnswer,
+    call: Call,
+    before: TreeMemory,
+) -> Result<(), String> {
     let mut after = before.clone();
-    let number = after.call(&case.bytes);
+    let number = call.of(&mut after, &case.bytes);
     let due = tree_due(&before, case, expected);
     let same = [
         ("number", number == u32::from(expected.number())),

@@ -2,10 +2,12 @@
 //! cases, and timed.
 
 mod bench;
+mod bench_modes;
 mod bench_trees;
 mod bench_whys;
 mod clock;
 mod compare;
+mod compare_modes;
 mod compare_smallest;
 mod compare_trees;
 mod compare_whys;
@@ -19,8 +21,8 @@ use std::process::ExitCode;
 use oracle::Profile;
 
 const HELP: &str = "\
-driver compare searches|sheets|whys --seed N --count N [--profile P] [--against oracle|plain] [--only rich]
-                compares random cases, of whys the reason as well; P is tiny, small, middle, large or mixed (the default).
+driver compare searches|sheets|modes|whys --seed N --count N [--profile P] [--against oracle|plain] [--only rich]
+                compares random cases, of whys the reason as well, of modes sheets in both; P is tiny, small, middle, large or mixed (the default).
                 oracle (the default): the published Rust and the plain router, which must agree; plain: the latter alone.
                 rich: of the sheets only those that have a tree of two or more sinks with stairs and repeaters
 driver compare smallest compares the smallest inputs of docs/SMALLEST.md
@@ -28,6 +30,7 @@ driver connected --seed N --count N [--profile P]
                 tests on so many trees of random sheets that the whole net hangs together
 driver bench searches   times the proved search, the published Rust and plain Rust over flat arrays
 driver bench whys       times a search without a route, and the same with its reason
+driver bench modes      times the proved tree in both modes
 driver bench trees [NAME..]
                 times the proved tree and the published Rust: of trees whose names begin so, or all
 driver wraps            shows costs at which the published Rust's sums wrap, and both answers
@@ -88,6 +91,10 @@ fn run(words: &[String]) -> Result<bool, String> {
             draw if draw.rich => Err("--only rich is for sheets".into()),
             draw => Ok(compare_whys::compare(&draw)),
         },
+        ["compare", "modes"] => match draw(&words[2..])? {
+            draw if draw.rich => Err("--only rich is for sheets".into()),
+            draw => Ok(compare_modes::compare(&draw)),
+        },
         ["compare", "sheets"] => Ok(compare_trees::compare(&draw(&words[2..])?)),
         ["compare", "smallest"] => Ok(compare_smallest::compare()),
         ["connected", ..] => match draw(&words[1..])? {
@@ -100,6 +107,10 @@ fn run(words: &[String]) -> Result<bool, String> {
         }
         ["bench", "whys"] => {
             bench_whys::bench();
+            Ok(true)
+        }
+        ["bench", "modes"] => {
+            bench_modes::bench();
             Ok(true)
         }
         ["wraps"] => {

@@ -23,6 +23,8 @@ NAME = "dustroute"
 def configure(parser: argparse.ArgumentParser) -> None:
     parser.add_argument("file", metavar="FILE", help="the text of a job, or a job sheet, or - for standard input")
     parser.add_argument("--view", metavar="PAGE.html", help="also draw it as a page for a browser")
+    parser.add_argument("--strict", action="store_true", help="strict mode: wire neither enters nor rests on air that other nets hold or keep "
+                        "clear, or that is reserved; else such air counts as solid, as in the published router")
     parser.add_argument("--json", action="store_true", help="print coordinates and numbers as JSON instead")
     parser.add_argument("-q", "--quiet", action="store_true", help="tell nothing of progress")
     parser.set_defaults(run=route)
@@ -35,21 +37,21 @@ def route(args: argparse.Namespace) -> int:
     given = read(args.file)
     progress = Progress(NAME, args.quiet)
     load(progress)
-    answered = progress.watch("routing", lambda: attempt(given.sheet))
-    reason = progress.watch("looking for the reason", lambda: refusal_lines(given, answered))
+    answered = progress.watch("routing", lambda: attempt(given.sheet, args.strict))
+    reason = progress.watch("looking for the reason", lambda: refusal_lines(given, answered, args.strict))
     said = printed(answered)
     job = given.job()
-    answer = answers.read(said, job) if job else None
+    answer = answers.read(said, job, args.strict) if job else None
     found = remarks(job, answer) if job else []
     if args.view:
-        page = views.page_of(files.title(args.file), given.sheet, said, files.shown(args.file), "; ".join(reason))
+        page = views.page_of(files.title(args.file), given.sheet, said, files.shown(args.file), "; ".join(reason), args.strict)
         files.write(args.view, page.encode(), is_text=True)
     if not args.json:
         print_out(said)
     elif isinstance(answered, dustroute.Refusal):
-        print_out(report.of_refusal(job, answered.number, answered.detail, reason, found))
+        print_out(report.of_refusal(job, answered.number, answered.detail, reason, found, args.strict))
     elif job and answer:
-        print_out(report.of_net(job, answer, found))
+        print_out(report.of_net(job, answer, found, args.strict))
     tell(reason, found)
     return REFUSED if isinstance(answered, dustroute.Refusal) else 0
 
@@ -69,16 +71,16 @@ def load(progress: Progress) -> None:
     progress.done()
 
 
-def attempt(sheet: bytes) -> Answered:
+def attempt(sheet: bytes, strict: bool) -> Answered:
     try:
-        return dustroute.route(sheet)
+        return dustroute.route(sheet, strict=strict)
     except dustroute.Refusal as refusal:
         return refusal
 
 
 # ---- why it was refused
 
-def refusal_lines(given: Given, answered: Answered) -> List[str]:
+def refusal_lines(given: Given, answered: Answered, strict: bool) -> List[str]:
     """The reason of a refusal in plain words: for a text at its lines, if a line is to blame."""
     if isinstance(answered, dustroute.Tree):
         return []
@@ -86,11 +88,11 @@ def refusal_lines(given: Given, answered: Answered) -> List[str]:
         problems = texts.problems_of(given.draft, texts.job_of(given.draft))
         if problems:
             return sheets.listed(given.draft, problems).split("\n")
-    more = limit_words(given, answered) if answered.number == 14 else None
+    more = limit_words(given, answered, strict) if answered.number == 14 else None
     return [answered.words + (": " + more if more else "")]
 
 
-def limit_words(given: Given, refusal: dustroute.Refusal) -> Optional[str]:
+def limit_words(given: Given, refusal: dustroute.Refusal, strict: bool) -> Optional[str]:
     """Whether the node limit is to blame: that is so just if another limit, which suffices, changes the answer."""
     job = given.job()
     if job is None:
@@ -101,7 +103,7 @@ def limit_words(given: Given, refusal: dustroute.Refusal) -> Optional[str]:
     enough = ample or jobs.MAX_NODES
     if job.limit >= enough:
         return "the node limit %d is the highest there is" % job.limit
-    again = attempt(jobs.to_bytes(dataclasses.replace(job, limit=enough)))
+    again = attempt(jobs.to_bytes(dataclasses.replace(job, limit=enough)), strict)
     passed = "the node limit %d was passed; a limit of %d suffices" % (job.limit, enough)
     if isinstance(again, dustroute.Tree):
         return passed

@@ -14,6 +14,7 @@ def configure(parser: argparse.ArgumentParser) -> None:
     parser.add_argument("file", metavar="FILE", help="a job sheet, or the text of one, or - for standard input")
     parser.add_argument("answer", metavar="ANSWER", nargs="?", help="what the router printed for it, or - for standard input")
     parser.add_argument("-o", dest="out", metavar="PAGE.html", help="where to write the page; standard output if left out")
+    parser.add_argument("--strict", action="store_true", help="the answer was routed in strict mode")
     parser.add_argument("--hex", action="store_true", help="the sheet is written as hex digits")
     parser.set_defaults(run=draw)
 
@@ -21,16 +22,19 @@ def configure(parser: argparse.ArgumentParser) -> None:
 def draw(args: argparse.Namespace) -> None:
     if args.file == "-" and args.answer == "-":
         raise files.Stop("view: sheet and answer can't both come from standard input")
+    if args.strict and args.answer is None:
+        raise files.Stop("view: --strict is for an answer, and none was given")
     said = None if args.answer is None else files.read_text(args.answer)
     try:
-        content = page_of(files.title(args.file), read(args.file, args.hex).sheet, said, files.shown(args.file))
+        content = page_of(files.title(args.file), read(args.file, args.hex).sheet, said, files.shown(args.file), strict=args.strict)
     except answers.BadAnswer as bad:
         raise files.Stop("%s: %s" % (files.shown(args.answer), bad)) from None
     files.write(args.out, content.encode(), is_text=True)
 
 
-def page_of(name: str, sheet: bytes, said: Optional[str], shown: str, reason: Optional[str] = None) -> str:
-    """The page of a sheet with what was answered, and why it was refused, if more is known of that. BadAnswer where it can't be."""
+def page_of(name: str, sheet: bytes, said: Optional[str], shown: str, reason: Optional[str] = None, strict: bool = False) -> str:
+    """The page of a sheet with what was answered in which mode, and why it was refused, if more is known of that. BadAnswer where it
+    can't be."""
     try:
         job = jobs.from_bytes(sheet)
     except jobs.Refused as refused:
@@ -38,7 +42,7 @@ def page_of(name: str, sheet: bytes, said: Optional[str], shown: str, reason: Op
     damage = answers.damage(job, said)
     if damage:
         return damaged(name, said, damage, shown)
-    return pages.page(name, job, None if said is None else answers.read(said, job), reason)
+    return pages.page(name, job, None if said is None else answers.read(said, job, strict), reason, strict)
 
 
 def damaged(name: str, said: Optional[str], damage: Tuple[int, str], shown: str) -> str:

@@ -25,7 +25,7 @@ pub fn sheets() -> Vec<(&'static str, Sheet, TreeAnswer)> {
     list
 }
 
-fn tree(branches: &[&[u16]], occupied: u32, repeaters: &[u16]) -> TreeAnswer {
+pub fn tree(branches: &[&[u16]], occupied: u32, repeaters: &[u16]) -> TreeAnswer {
     TreeAnswer::Tree {
         branches: branches.iter().map(|branch| branch.to_vec()).collect(),
         occupied,
@@ -33,11 +33,11 @@ fn tree(branches: &[&[u16]], occupied: u32, repeaters: &[u16]) -> TreeAnswer {
     }
 }
 
-fn refused(number: u8, detail: u32) -> TreeAnswer {
+pub fn refused(number: u8, detail: u32) -> TreeAnswer {
     TreeAnswer::Refused(Refusal::new(number, detail))
 }
 
-fn sheet(job: &Job) -> Sheet {
+pub fn sheet(job: &Job) -> Sheet {
     Sheet::of_route(job.bytes())
 }
 

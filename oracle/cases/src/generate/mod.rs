@@ -4,18 +4,21 @@ mod damage;
 mod searches;
 mod sheets;
 mod site;
+mod strict;
 mod terrain;
 mod whys;
 
 pub use damage::count_places;
 pub use searches::random_search;
 pub use sheets::random_sheet;
+pub use strict::random_strict;
 pub use whys::random_why;
 
 use crate::rng::Rng;
 use crate::room::{Config, MOST_CELLS, MOST_COST, MOST_NODES, Room};
 use crate::search::Search;
 use crate::sheet::Sheet;
+use crate::strict::StrictSheet;
 use crate::why::Why;
 
 /// How large the rooms of random cases are.
@@ -61,6 +64,13 @@ pub fn searches(seed: u64, count: u32, profile: Profile) -> Vec<Search> {
 pub fn sheets(seed: u64, count: u32, profile: Profile) -> Vec<Sheet> {
     (0..u64::from(count))
         .map(|index| random_sheet(&mut Rng::for_case(seed, index), profile))
+        .collect()
+}
+
+/// A list of random sheets for strict mode.
+pub fn strict_sheets(seed: u64, count: u32, profile: Profile) -> Vec<StrictSheet> {
+    (0..u64::from(count))
+        .map(|index| random_strict(&mut Rng::for_case(seed, index), profile))
         .collect()
 }
 

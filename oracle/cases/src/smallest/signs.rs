@@ -32,6 +32,7 @@ pub fn cheapest(search: &Search) -> Option<u64> {
         goal: search.goal as usize,
         config: &search.config,
         places: usize::MAX,
+        barred: &[],
     };
     let mut least = vec![None; room.cells()];
     least[question.start] = Some(0);
