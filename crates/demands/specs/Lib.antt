@@ -9,6 +9,10 @@ pub mod Numbers
 pub mod TreeStatements
 pub mod QueueLaws
 pub mod TreeTheorems
+pub mod Supports
+pub mod SupportTheorems
+pub mod SupportSamples
 pub mod ExportTheorems
+pub mod ExportSupports
 pub mod ModeStatements
 pub mod ModeTheorems

@@ -151,10 +151,10 @@ module _ {T : Task} (P : Posed T) where
 -- ---- the public search, from its promise alone
 
 -- an answer that comes of no search: its number is from 2 to 10, and nothing was expanded
-record Unsearched (a : public.Answer) : Type 0 where
-  some : 2 ≤ numberOf a
-  small : numberOf a ≤ 10
-  none-expanded : expandedFor a ≡ 0
+pub record Unsearched (a : public.Answer) : Type 0 where
+  pub some : 2 ≤ numberOf a
+  pub small : numberOf a ≤ 10
+  pub none-expanded : expandedFor a ≡ 0
 
 unsearched-refused : (why : Refusal) → Unsearched (Refused why)
 unsearched-refused Sides = record { some = omega arith; small = omega arith; none-expanded = refl }
@@ -177,17 +177,17 @@ lengthTold (QueueFull x) = 0
 
 module _ (I : Input) where
   module _ (U : Unrefused I) where
-    ready : Posed (taskOf I)
+    pub ready : Posed (taskOf I)
     ready =
         let r = admitted {R = I .room} {C = I .config} {kinds = I .kinds} {start = I .start} {goal = I .goal} {L = I .lengths} (U .fit) in
         record { good = r .good; start-in = r .start-in; goal-in = r .goal-in; start-free = U .start-free; goal-free = U .goal-free }
 
-    said : answerOf I ≡ answered (searched (taskOf I))
+    pub said : answerOf I ≡ answered (taskOf I) (searched (taskOf I))
     unfolding answerOf fitAnswer
     said = rw (U .fit, U .start-free, U .goal-free)
 
   -- it is searched, or its number is from 2 to 10
-  searched-or-not : Unrefused I ⊎ Unsearched (answerOf I)
+  pub searched-or-not : Unrefused I ⊎ Unsearched (answerOf I)
   unfolding answerOf fitAnswer
   searched-or-not = go (judged I) refl
     where
@@ -206,7 +206,7 @@ module _ (I : Input) where
     as-route w z (inr n) = absurd (omega (arith, n .some, ap numberOf (sym (K .answer) ∙ z)))
     as-route w z (inl U) = go (searched (taskOf I)) refl (sym (said U) ∙ sym (K .answer) ∙ z)
       where
-        go : (a : Answer) → searched (taskOf I) ≡ a → answered a ≡ Routed w → RouteHeld I path w path′
+        go : (a : Answer) → searched (taskOf I) ≡ a → answered (taskOf I) a ≡ Routed w → RouteHeld I path w path′
         go (route cells cost x) e q =
             let c : cost ≡ w .cost .0 = ap routeCost q in
             record {
@@ -222,28 +222,28 @@ module _ (I : Input) where
 
     no-route-so : numberOf r ≡ noRouteNumber → Unrefused I ⊎ Unsearched (answerOf I) → NoLawfulWay (taskOf I)
     no-route-so z (inr n) = absurd (omega (arith, n .small, ap numberOf (sym (K .answer)), z))
-    no-route-so z (inl U) = no-route-true (ready U) (number-no-route (searched (taskOf I)) (ap numberOf (sym (said U) ∙ sym (K .answer)) ∙ z) .1)
+    no-route-so z (inl U) = no-route-true (ready U) (number-no-route (taskOf I) (searched (taskOf I)) (ap numberOf (sym (said U) ∙ sym (K .answer)) ∙ z) .1)
 
     no-limit-so : Priced (I .config) → Enough (I .room) (I .config) (taskOf I .places) → Unrefused I ⊎ Unsearched (answerOf I)
         → (numberOf r ≢ limitPassedNumber) × (numberOf r ≢ queueFullNumber)
     no-limit-so D E (inr n) = ((λ z. omega (arith, n .small, ap numberOf (K .answer), z)), (λ z. omega (arith, n .small, ap numberOf (K .answer), z)))
-    no-limit-so D E (inl U) = go (number-settled (settled (ready U) D E))
+    no-limit-so D E (inl U) = go (number-settled (taskOf I) (settled (ready U) D E))
       where
-        is : numberOf r ≡ numberOf (answered (searched (taskOf I)))
+        is : numberOf r ≡ numberOf (answered (taskOf I) (searched (taskOf I)))
         is = ap numberOf (K .answer ∙ said U)
 
-        go : (numberOf (answered (searched (taskOf I))) ≡ doneNumber) ⊎ (numberOf (answered (searched (taskOf I))) ≡ noRouteNumber) → (numberOf r ≢ limitPassedNumber) × (numberOf r ≢ queueFullNumber)
+        go : (numberOf (answered (taskOf I) (searched (taskOf I))) ≡ doneNumber) ⊎ (numberOf (answered (taskOf I) (searched (taskOf I))) ≡ noRouteNumber) → (numberOf r ≢ limitPassedNumber) × (numberOf r ≢ queueFullNumber)
         go (inl e) = ((λ z. omega (arith, is, e, z)), (λ z. omega (arith, is, e, z)))
         go (inr e) = ((λ z. omega (arith, is, e, z)), (λ z. omega (arith, is, e, z)))
 
     few-so : Priced (I .config) → Unrefused I ⊎ Unsearched (answerOf I) → expandedFor r ≤ 12 * volume (I .room)
     few-so D (inr n) = rw (K .answer, n .none-expanded) zero-le
-    few-so D (inl U) = rw (K .answer, said U, same-expanded (searched (taskOf I))) (expanded-twelve (ready U) D)
+    few-so D (inl U) = rw (K .answer, said U, same-expanded (taskOf I) (searched (taskOf I))) (expanded-twelve (ready U) D)
 
     not-full-so : 11 * I .config .limit .0 < taskOf I .places → numberOf r ≡ queueFullNumber → Unrefused I ⊎ Unsearched (answerOf I) → ⊥
     not-full-so wide z (inr n) = omega (arith, n .small, ap numberOf (K .answer), z)
     not-full-so wide z (inl U) =
-        let f = number-full (searched (taskOf I)) (ap numberOf (sym (said U) ∙ sym (K .answer)) ∙ z) in
+        let f = number-full (taskOf I) (searched (taskOf I)) (ap numberOf (sym (said U) ∙ sym (K .answer)) ∙ z) in
         limit-never-full (taskOf I) (ready U .start-in) (ready U .goal-in) wide (f .0) (f .1)
 
     -- THE THIRD DEMAND of `astar_route`
@@ -252,7 +252,7 @@ module _ (I : Input) where
       route-held = λ w z. as-route w z searched-or-not;
       no-route-true = λ z. no-route-so z searched-or-not;
       no-route-exactly = λ U D E. ((λ z. no-route-so z (inl U)), (λ n. rw (K .answer, said U, no-route-exactly (ready U) D E .1 n .1) refl));
-      settled = λ U D E. rw (K .answer, said U) (number-settled (settled (ready U) D E));
+      settled = λ U D E. rw (K .answer, said U) (number-settled (taskOf I) (settled (ready U) D E));
       no-limit = λ D E. no-limit-so D E searched-or-not;
       expands-few = λ D. few-so D searched-or-not;
       never-full = λ wide z. not-full-so wide z searched-or-not;

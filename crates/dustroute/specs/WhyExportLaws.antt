@@ -5,13 +5,12 @@ use Prim.Native.Nat.{ℕ, _≤_, _<_}
 use lib.ListN.{length}
 use borrow.Author.Tests.{le-leb, lt-leb}
 use Rattle.basics.specs.Promises.{Determines}
-use Rattle.lent.specs.Lent.{outputAfter}
 use Rattle.routing.specs.declared.Answer.{Answer}
 use Rattle.routing.specs.Answers.{Input, numberOf, refusalNumber}
 use Rattle.routing.specs.PromiseLaws.{untouched}
 use Rattle.why.specs.Why.{Memory, Promise}
 use Rattle.why.specs.WhyLaws.{memory-one}
-use Rattle.dustroute.specs.Export.{shortRefusal, valuesOf}
+use Rattle.dustroute.specs.Export.{shortRefusal, valuesTold}
 use Rattle.dustroute.specs.WhyExport.{exportedWhy, WhyExported}
 
 module _ {I : Input} {M : Memory} {values : List ℕ} where
@@ -37,7 +36,7 @@ module _ {I : Input} {M : Memory} {values : List ℕ} where
 
   -- the answer, told
   pub why-export-told : {a : Answer} {r : ℕ} {M′ : Memory} {values′ : List ℕ} → 4 ≤ length values → Promise I M a M′ → r ≡ numberOf a
-      → values′ ≡ outputAfter (numberOf a) (valuesOf a) values → WhyExported I M values r M′ values′
+      → values′ ≡ valuesTold a values → WhyExported I M values r M′ values′
   unfolding exportedWhy
   why-export-told h P n v =
       let e = le-leb 4 (length values) h in

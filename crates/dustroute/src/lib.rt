@@ -9,16 +9,17 @@ pub use why_export::dustroute_why;
 ghost use mathlib.Core.Path.{_≡_};
 ghost use mathlib.Core.List.{[], _∷_, _++_};
 ghost use Prim.Native.Nat.{_-_, _≤_};
-ghost use lib.ListN.{length, replicate};
-ghost use Rattle.lent.specs.Lent.{outputAfter};
+ghost use lib.ListN.{length, replicate, take};
+ghost use Rattle.lent.specs.Lent.{filled};
 ghost use Rattle.routing.specs.Answers.{numberOf, input, lengthsOf};
-ghost use Rattle.dustroute.specs.Export.{roomOf, configOf, shortRefusal, valuesOf, Exported};
+ghost use Rattle.dustroute.specs.Export.{roomOf, configOf, shortRefusal, valuesWith, valuesTold, Exported};
 use room::Cost;
 use room::Nodes;
 use room::Room;
 use room::RouterConfig;
 use routing::Answer;
 use routing::Refusal;
+use routing::Route;
 
 // Fewer than four values are lent: 6, unless 2 or 3 comes before it.
 fn short_refusal(room: Room, config: RouterConfig) -> Refusal
@@ -45,30 +46,52 @@ fn write_four(values: &mut [u64], detail: u64, second: u64, third: u64, fourth: 
     values[3] = fourth;
 }
 
+// An answer's seven values, as many of them as are lent, and zeros behind them.
+fn write_answer(values: &mut [u64], detail: usize, route: Route)
+    requires { ⌜ 4 ≤ length (now values) ⌝ }
+    ensures { λ _. ⌜ now (values .exit) ≡ filled (take (length (now (values .entry))) (valuesWith detail route)) (now (values .entry)) ⌝ }
+{
+    let lent = values.len();
+    write_four(
+        values,
+        detail as u64,
+        route.length as u64,
+        route.cost.0 as u64,
+        route.expanded.0 as u64,
+    );
+    if lent < 5 {
+        return;
+    }
+    values[4] = route.steps.0 as u64;
+    if lent < 6 {
+        return;
+    }
+    values[5] = route.supports.0 as u64;
+    if lent < 7 {
+        return;
+    }
+    values[6] = route.laid as u64;
+}
+
 // Writes an answer's values and returns its number. A refusal by 2 to 6 writes nothing.
 fn tell(answer: Answer, values: &mut [u64]) -> u32
     requires { ⌜ 4 ≤ length (now values) ⌝ }
     ensures { λ r. ⌜ r ≡ numberOf answer ⌝ }
-    ensures { λ _. ⌜ now (values .exit) ≡ outputAfter (numberOf answer) (valuesOf answer) (now (values .entry)) ⌝ }
+    ensures { λ _. ⌜ now (values .exit) ≡ valuesTold answer (now (values .entry)) ⌝ }
 {
     let number = reply::number_of(answer);
     if lent::touches(number) {
         let detail = reply::detail_of(answer);
         let route = reply::route_of(answer);
-        write_four(
-            values,
-            detail as u64,
-            route.length as u64,
-            route.cost.0 as u64,
-            route.expanded.0 as u64,
-        );
+        write_answer(values, detail, route);
     }
     number
 }
 
 // One search over a room of kinds, as `routing::astar_route`. The number comes back, 0 for a route; its detail, and the
-// route's length, cost and expanded count, go to the first four of `values`. The path goes to the front of `path`; a place
-// of the queue takes two numbers. See the promise in specs/Export.antt.
+// route's length, cost and expanded count, go to the first four of `values`; what its steps and its new supports come to, and
+// how many supports are new, each behind these where so many are lent. The path goes to the front of `path`; a place of the
+// queue takes two numbers. See the promise in specs/Export.antt.
 #[no_mangle]
 pub extern "C" fn dustroute_search(
     wide: usize,

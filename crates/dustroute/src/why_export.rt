@@ -12,7 +12,7 @@ ghost use Rattle.dustroute.specs.WhyExport.{WhyExported};
 
 // One search, as `dustroute_search`, that tells why it finds no route, as `why::why_no_route`: on number 11 `reached` marks the
 // cells that lawful steps lead to from the start, and twelve bytes a cell of `walls` say what stands against each of its
-// moves. The number comes back; the four values are the search's. See the promise in specs/WhyExport.antt.
+// moves. The number comes back; the values are the search's. See the promise in specs/WhyExport.antt.
 #[no_mangle]
 pub extern "C" fn dustroute_why(
     wide: usize,

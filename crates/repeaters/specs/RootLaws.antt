@@ -3,7 +3,7 @@ use mathlib.Core.Path.{_≡_, refl, sym, ap, _∙_}
 use mathlib.Core.Logic.{_≢_}
 use mathlib.Core.List.{List, [], _∷_, _++_}
 use Prim.Native.Nat.{ℕ, zero, suc, _+_, _-_, _/_, _≤_, _<_}
-use native.Mathlib.Nat.{le-of-suc-le-suc, not-suc-le-zero, sub-zero}
+use native.Mathlib.Nat.{not-suc-le-zero, sub-zero}
 use native.Mathlib.Numerals.{add-one}
 use native.Mathlib.Omega.{arith}
 use lib.Dec.{ltb}
@@ -18,9 +18,8 @@ use Rattle.room.specs.declared.Pos.{Pos}
 use Rattle.room.specs.declared.Neighbour.{Neighbour}
 use Rattle.room.specs.Room.{volume}
 use Rattle.best_first.specs.ListsAfterSet.{nonzeros, nonzeros-none, nonzeros-new}
-use Rattle.best_first.specs.Search.{trace}
-use Rattle.best_first.specs.Equations.{trace-start, trace-back}
 use Rattle.trace.specs.Traces.{PreviousInside}
+use Rattle.trace.specs.TraceLaws.{trace-cells}
 use Rattle.walk.specs.Walks.{Wave, wave, meetAll, spread, firstParents, parentsFrom, rootPath}
 use Rattle.walk.specs.WalkLaws.{meet-new, meet-old, spread-visit, spread-done}
 use Rattle.repeaters.specs.Links.{orderedMoves, orderedMove, linkedPlace, consPlace, cellsBy, linkedCells}
@@ -241,25 +240,6 @@ traced parents line cell {count} e h k f = record {
   is = ap (take count) f ∙ take-at (rootPath parents cell) (drop count line) count (sym e);
   fits = omega arith;
 }
-
--- each cell of the path is one of the room
-trace-cells : (n : ℕ) (parents : List ℕ) → PreviousInside parents → (v : ℕ) (rest : List ℕ) → v < length parents
-    → ((i : ℕ) → i < length rest → getD rest i 0 < length parents)
-    → (i : ℕ) → i < length (trace n parents v rest) → getD (trace n parents v rest) i 0 < length parents
-unfolding trace
-trace-cells zero parents L v rest h r = r
-trace-cells (suc n) parents L v rest h r = go (getD parents v 0) refl (λ u. trace-cells n parents L u (v ∷ rest))
-  where
-    cons : (i : ℕ) → i < length (v ∷ rest) → getD (v ∷ rest) i 0 < length parents
-    cons zero k = h
-    cons (suc i) k = r i (le-of-suc-le-suc k)
-
-    go : (k : ℕ) → getD parents v 0 ≡ k
-        → ((u : ℕ) → u < length parents → ((i : ℕ) → i < length (v ∷ rest) → getD (v ∷ rest) i 0 < length parents)
-        → (i : ℕ) → i < length (trace n parents u (v ∷ rest)) → getD (trace n parents u (v ∷ rest)) i 0 < length parents)
-        → (i : ℕ) → i < length (trace (suc n) parents v rest) → getD (trace (suc n) parents v rest) i 0 < length parents
-    go zero e ih = rw (trace-start n parents v rest e) cons
-    go (suc u) e ih = rw (trace-back n parents v u rest e) (ih u (omega (arith, L v)) cons)
 
 pub path-cells : (R : Room) (parents : List ℕ) → length parents ≡ volume R → PreviousInside parents → (cell : ℕ) → cell < volume R
     → AllCells R (rootPath parents cell)

@@ -5,7 +5,7 @@ use Rattle.routing.specs.declared.Route.{Route}
 
 -- all zero where there is none
 abbrev pub noRoute : Route
-noRoute = record { length = 0; cost = record { 0 = 0 }; expanded = record { 0 = 0 } }
+noRoute = record { length = 0; cost = record { 0 = 0 }; expanded = record { 0 = 0 }; steps = record { 0 = 0 }; supports = record { 0 = 0 }; laid = 0 }
 
 abbrev pub routeOf : Answer → Route
 routeOf (Routed r) = r

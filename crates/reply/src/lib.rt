@@ -57,6 +57,9 @@ pub fn route_of(answer: Answer) -> Route
         length: 0,
         cost: Cost(0),
         expanded: Nodes(0),
+        steps: Cost(0),
+        supports: Cost(0),
+        laid: 0,
     };
     match answer {
         Answer::Routed(route) => route,

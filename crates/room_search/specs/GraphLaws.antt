@@ -84,8 +84,8 @@ dearest C = max (C .horizontal .0) (C .stair .0) + C .support .0
 pub price-low : (C : RouterConfig) (m : Move) (class : ℕ) → total (priceOf C m class) ≤ dearest C
 unfolding priceOf dearest
 price-low C m class =
-    let step : priceOf C m class .step ≤ max (C .horizontal .0) (C .stair .0) = ask (flat m) (λ t. rw t (omega arith)) (λ f. rw f (omega arith)) in
-    let support : priceOf C m class .support ≤ C .support .0 = ask (eqb class 2) (λ t. rw t (omega arith)) (λ f. rw f (omega arith)) in
+    let step : priceOf C m class .step .0 ≤ max (C .horizontal .0) (C .stair .0) = ask (flat m) (λ t. rw t (omega arith)) (λ f. rw f (omega arith)) in
+    let support : priceOf C m class .support .0 ≤ C .support .0 = ask (eqb class 2) (λ t. rw t (omega arith)) (λ f. rw f (omega arith)) in
     omega arith
 
 pub dearest-most : {C : RouterConfig} → GoodConfig C → dearest C ≤ 2 * maxCost

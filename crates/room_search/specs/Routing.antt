@@ -15,6 +15,7 @@ use Rattle.room.specs.Room.{volume, moves, neighbour, beneath, distance, flat}
 use Rattle.room.specs.Units.{air, solid, transparent, redstoneWire, redstoneBlock}
 use Rattle.best_first.specs.Search
 use Rattle.best_first.specs.Search.{Graph, Answer, bestFirst}
+use Rattle.room_search.specs.declared.Price.{Price}
 
 -- a queue of so many numbers holds half as many places: two numbers a place
 abbrev pub placesIn : ℕ → ℕ
@@ -68,18 +69,14 @@ abbrev pub entering : Task → ℕ → ℕ
 entering T v = classAt (anEnd (T .start) (T .goal) v) (T .room) (T .kinds) v
 
 -- "Flat step: horizontal cost. Otherwise: stair cost." The price of a step is a pair: the step, and the new support
-pub record Price : Type 0 where
-  pub step : ℕ
-  pub support : ℕ
-
-abbrev pub total : Price → ℕ
-total p = p .step + p .support
-
 unfoldable pub priceOf : RouterConfig → Move → ℕ → Price
 priceOf C m class = record {
-  step = either (flat m) (C .horizontal .0) (C .stair .0);
-  support = either (eqb class 2) (C .support .0) 0;
+  step = record { 0 = either (flat m) (C .horizontal .0) (C .stair .0) };
+  support = record { 0 = either (eqb class 2) (C .support .0) 0 };
 }
+
+abbrev pub total : Price → ℕ
+total p = p .step .0 + p .support .0
 
 -- the moves out of a cell, of a room whose cells have classes: what it takes to enter each, as above
 abbrev pub moveInto : RouterConfig → (ℕ → ℕ) → Move → Neighbour → List Search.Move

@@ -12,12 +12,14 @@ use Rattle.room.specs.declared.Room.{Room}
 use Rattle.room.specs.declared.Pos.{Pos}
 use Rattle.room.specs.declared.Move.{Move}
 use Rattle.room.specs.declared.RouterConfig.{RouterConfig}
+use Rattle.room.specs.declared.Cost.{Cost}
 use Rattle.room.specs.declared.Neighbour.the-variants.{Inside, Outside}
 use Rattle.room.specs.Room.{Good, Within, SmallPos, at, volume, posOf, cellOf, between, stays, neighbour, distanceAt, distance}
 use Rattle.room.specs.RoomLaws.{cell-pos, pos-cell, pos-in, cell-in, small-pos}
 use Rattle.room.specs.MoveLaws.{Moved, leads-to, not-stays, one-less-in}
 use Rattle.best_first.specs.Search.{Graph}
 use Rattle.room_search.specs.declared.Line.{Line}
+use Rattle.room_search.specs.declared.Price.{Price}
 use Rattle.room_search.specs.declared.Spot.{Spot}
 use Rattle.room_search.specs.declared.MovesTried.{MovesTried}
 use Rattle.room_search.specs.declared.MovesTried.the-variants.{On, Full}
@@ -163,21 +165,26 @@ module _ {S : Setting} {known previous queue : List ℕ} {line : Line} where
     pub tried-full : MovesCame S a known previous queue line Full known′ previous′ queue′ → MovesCame S (a ++ b) known previous queue line Full known′ previous′ queue′
     tried-full T = record { readied = tt; goes = λ A F ms D. T .goes A F (b ++ ms) (rw (append-assoc a b ms) at D) }
 
--- ---- the price, as the code adds it up
+-- ---- the price, as the code puts it together
 
 module _ (C : RouterConfig) (m : Move) (class : ℕ) where
-  pub price-flat : m .y ≡ 1 → C .horizontal .0 ≡ priceOf C m class .step
+  pub price-flat : m .y ≡ 1 → C .horizontal .0 ≡ priceOf C m class .step .0
   unfolding priceOf
   price-flat e = rw (eq-eqb (m .y) 1 e)
 
-  pub price-stair : m .y ≢ 1 → C .stair .0 ≡ priceOf C m class .step
+  pub price-stair : m .y ≢ 1 → C .stair .0 ≡ priceOf C m class .step .0
   unfolding priceOf
   price-stair e = rw (ne-eqb (m .y) 1 e)
 
-  pub price-laid : (step : ℕ) → class ≡ 2 → step ≡ priceOf C m class .step → step + C .support .0 ≡ total (priceOf C m class)
+  -- the step's amount does not look at the class
+  put-together : {p : Price} → p .step .0 ≡ priceOf C m 0 .step .0 → p .support .0 ≡ priceOf C m class .support .0 → p ≡ priceOf C m class
   unfolding priceOf
-  price-laid step e f = rw (f, eq-eqb class 2 e)
+  put-together s t = λ i. record { step = record { 0 = s i }; support = record { 0 = t i } }
 
-  pub price-bare : (step : ℕ) → class ≢ 2 → step ≡ priceOf C m class .step → step ≡ total (priceOf C m class)
+  pub price-laid : {step : Cost} → class ≡ 2 → step .0 ≡ priceOf C m 0 .step .0 → record { step = step; support = C .support } ≡ priceOf C m class
   unfolding priceOf
-  price-bare step e f = rw (ne-eqb class 2 e, add-zero) f
+  price-laid e s = put-together s (rw (eq-eqb class 2 e))
+
+  pub price-bare : {step : Cost} → class ≢ 2 → step .0 ≡ priceOf C m 0 .step .0 → record { step = step; support = record { 0 = 0 } } ≡ priceOf C m class
+  unfolding priceOf
+  price-bare e s = put-together s (rw (ne-eqb class 2 e))

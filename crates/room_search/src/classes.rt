@@ -56,7 +56,7 @@ pub fn class_for(endpoint: bool, kind: u8, below: u8) -> u8
 }
 
 // The kind right beneath a cell; outside is Solid.
-fn kind_beneath(room: Room, kinds: &[u8], cell: usize) -> u8
+pub fn kind_beneath(room: Room, kinds: &[u8], cell: usize) -> u8
     requires { ⌜ Good room ⌝ }
     requires { ⌜ length (now kinds) ≡ volume room ⌝ }
     requires { ⌜ cell < volume room ⌝ }

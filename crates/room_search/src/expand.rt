@@ -4,11 +4,12 @@ ghost use Prim.Native.Nat.{_+_, _*_, _≤_, _<_, _^_};
 ghost use lib.ListN.{length};
 ghost use mathlib.Core.List.{[], _∷_};
 ghost use Rattle.room.specs.Room.{maxVolume, SmallPos, moves, distanceAt};
-ghost use Rattle.room.specs.Units.{GoodConfig, maxCost};
-ghost use Rattle.room_search.specs.Routing.{total, priceOf, estimateOf};
+ghost use Rattle.room.specs.Units.{maxCost};
+ghost use Rattle.room_search.specs.Routing.{priceOf, estimateOf};
 ghost use Rattle.room_search.specs.TriedMoves.{maxKnown, HeapReady, Offered, Able, Aside, setting, MovesCame, column};
 use crate::Line;
 use crate::MovesTried;
+use crate::Price;
 use crate::Spot;
 use room::Cost;
 use room::Move;
@@ -71,7 +72,7 @@ fn offer(
 
 // What the step of a move costs: flat, or a stair.
 fn step_cost(config: RouterConfig, m: Move) -> Cost
-    ensures { λ r. ⌜ r .0 ≡ priceOf config m 0 .step ⌝ }
+    ensures { λ r. ⌜ r .0 ≡ priceOf config m 0 .step .0 ⌝ }
 {
     if m.y == 1 {
         config.horizontal
@@ -81,15 +82,20 @@ fn step_cost(config: RouterConfig, m: Move) -> Cost
 }
 
 // What entering a cell of that class costs: the step, and a new support where there is none.
-fn price(config: RouterConfig, m: Move, class: u8) -> Cost
-    requires { ⌜ GoodConfig config ⌝ }
-    ensures { λ r. ⌜ r .0 ≡ total (priceOf config m class) ⌝ }
+fn price(config: RouterConfig, m: Move, class: u8) -> Price
+    ensures { λ r. ⌜ r ≡ priceOf config m class ⌝ }
 {
     let step = step_cost(config, m);
+    let support = config.support;
     if class == 2 {
-        Cost(step.0 + config.support.0)
-    } else {
-        step
+        return Price {
+            step: step,
+            support: support,
+        };
+    }
+    Price {
+        step: step,
+        support: Cost(0),
     }
 }
 
@@ -130,7 +136,7 @@ fn try_move(
         y: y - 1,
         z: beside.at.z,
     };
-    let step = price(config, m, class);
+    let paid = price(config, m, class);
     offer(
         known,
         previous,
@@ -138,7 +144,7 @@ fn try_move(
         line,
         from.cell,
         cell,
-        Cost(cost.0 + step.0),
+        Cost(cost.0 + (paid.step.0 + paid.support.0)),
         at,
         goal.at,
     )

@@ -5,6 +5,7 @@ mod search; // search.rt: the takings
 
 pub use classes::class_for;
 pub use classes::fill_classes;
+pub use classes::kind_beneath;
 pub use classes::make_end;
 pub use classes::routeable_kind;
 pub use search::search_classes;
@@ -13,6 +14,12 @@ pub use search::search_classes;
 pub struct Line {
     pub waiting: usize,
     pub serial: u64,
+}
+
+// The price of a step: the step alone, and a new support, 0 where none is laid.
+pub struct Price {
+    pub step: room::Cost,
+    pub support: room::Cost,
 }
 
 // What trying a cell's moves comes to: the search goes on, or a push found the queue full.

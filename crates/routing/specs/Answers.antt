@@ -20,9 +20,12 @@ use Rattle.routing.specs.declared.Answer.the-variants.{Routed, Refused, 
 use Rattle.routing.specs.declared.Refusal.{Refusal}
 use Rattle.routing.specs.declared.Refusal.the-variants.{Sides, Config, Buffer, Code, Position}
 use Rattle.routing.specs.declared.Lengths.{Lengths}
+use Rattle.routing.specs.declared.Route.{Route}
+use Rattle.routing.specs.declared.Totals.{Totals}
 use Rattle.routing.specs.declared.Judgement.{Judgement}
 use Rattle.routing.specs.declared.Judgement.the-variants.{Fit, Unfit}
 use Rattle.room_search.specs.Routing.{Task, placesIn, routeable, searched}
+use Rattle.routing.specs.Totals.{totalsOf}
 
 -- what is handed over; of the lent buffers only their lengths count
 pub record Input : Type 0 where
@@ -60,18 +63,29 @@ judged I =
     (either (every kindKnown (I .kinds)) (either (endsInside (I .room) (I .start) (I .goal)) Fit (Unfit Position)) (Unfit Code)) (Unfit Buffer)) (Unfit Config))
     (Unfit Sides)
 
--- the defined search's answer, as the code gives it
-abbrev pub answered : search.Answer → Answer
-answered (search.route path cost x) = Routed (record { length = length path; cost = record { 0 = cost }; expanded = record { 0 = x } })
-answered (search.no-route x) = NoRoute (record { 0 = x })
-answered (search.limit-passed x) = LimitPassed (record { 0 = x })
-answered (search.queue-full x) = QueueFull (record { 0 = x })
+-- a route by its numbers and its path's totals
+abbrev pub routeIn : Totals → ℕ → ℕ → ℕ → Route
+routeIn t cells cost x = record {
+  length = cells;
+  cost = record { 0 = cost };
+  expanded = record { 0 = x };
+  steps = t .steps;
+  supports = t .supports;
+  laid = t .laid;
+}
+
+-- the defined search's answer, as the code gives it, with the totals of its path
+abbrev pub answered : Task → search.Answer → Answer
+answered T (search.route path cost x) = Routed (routeIn (totalsOf (T .room) (T .config) (T .kinds) path) (length path) cost x)
+answered T (search.no-route x) = NoRoute (record { 0 = x })
+answered T (search.limit-passed x) = LimitPassed (record { 0 = x })
+answered T (search.queue-full x) = QueueFull (record { 0 = x })
 
 -- number 10: "start, else goal, not routeable"
 unfoldable pub fitAnswer : Input → Answer
 fitAnswer I =
     either (routeable (taskOf I) (I .start))
-    (either (routeable (taskOf I) (I .goal)) (answered (searched (taskOf I))) (NotRouteable (I .goal)))
+    (either (routeable (taskOf I) (I .goal)) (answered (taskOf I) (searched (taskOf I))) (NotRouteable (I .goal)))
     (NotRouteable (I .start))
 
 -- the answer to an input, by its judgement

@@ -3,6 +3,7 @@ use mathlib.Core.Path.{_≡_, refl, sym, ap, _∙_}
 use mathlib.Core.List.{List, [], _++_}
 use Prim.Native.Nat.{ℕ, _-_, _≤_, pred}
 use native.Mathlib.Nat.{sub-zero}
+use native.Mathlib.Omega.{arith}
 use lib.ListN.{length, getD, take, drop, replicate}
 use lib.Seq.{take-at, length-take-le, length-front}
 use Rattle.basics.specs.Zeros.{drop-zeros, cleared-to}
@@ -10,7 +11,9 @@ use Rattle.lent.specs.Lent.{Cleared, filled}
 use Rattle.room.specs.declared.Room.{Room}
 use Rattle.room.specs.declared.RouterConfig.{RouterConfig}
 use Rattle.room.specs.Room.{volume}
-use Rattle.best_first.specs.Search.{Answer, trace, route}
+use Rattle.best_first.specs.Search.{Answer, route}
+use Rattle.trace.specs.Traces.{PreviousInside}
+use Rattle.trace.specs.TraceLaws.{trace-short, trace-cells}
 use Rattle.room.specs.declared.Nodes.{Nodes}
 use Rattle.routing.specs.declared.Route.{Route}
 use Rattle.routing.specs.declared.Answer.the-variants.{Routed}
@@ -21,7 +24,8 @@ use Rattle.room_search.specs.Classes.{Plain, withEnd}
 use Rattle.room_search.specs.SameGraphLaws.{ends-length, ends-graph}
 use Rattle.room_search.specs.TriedMoves.{placesOf}
 use Rattle.room_search.specs.Takings.{SearchRan, spotOf, Searchable}
-use Rattle.routing.specs.Entry.{SearchFound, RouteWritten, Admitted, RoomSearchable}
+use Rattle.routing.specs.TotalLaws.{Countable}
+use Rattle.routing.specs.Entry.{SearchFound, Shown, RouteWritten, traced, Admitted, RoomSearchable}
 use Rattle.routing.specs.Answers.{taskIn, lengthsOf, answered, cellsOf}
 
 -- with the classes filled in, the search can run; what it comes to is what the definition says
@@ -49,23 +53,37 @@ module _ {R : Room} {C : RouterConfig} {kinds : List ℕ} {start goal : ℕ} {kn
 
 -- ---- the answer
 
-module _ {goal : ℕ} {known previous path : List ℕ} where
-  module _ {T : Task} (v : volume (T .room) ≡ length previous) (g : T .goal ≡ goal) where
-    pub shown-route : {x : Nodes} {r : Route} {path′ : List ℕ} → path ≡ replicate (length path) 0 → SearchFound T (Arrived x) known previous
-        → RouteWritten goal known previous path x r path′
-        → (Routed r ≡ answered (searched T)) × (path′ ≡ filled (cellsOf (searched T)) path)
+module _ {R : Room} {C : RouterConfig} {kinds : List ℕ} {goal : ℕ} {known previous path : List ℕ} (S : Shown R C kinds goal known previous path) where
+  -- the cells of the path can be counted
+  pub traced-countable : PreviousInside previous → Countable R C kinds (traced previous goal)
+  traced-countable inside =
+      let long = S .previous-long in
+      record {
+        good = S .good;
+        config-good = S .config-good;
+        kinds-long = S .kinds-long;
+        path-short = omega (arith, trace-short (length previous) previous goal [], long);
+        cells = λ i k. rw (← long) (trace-cells (length previous) previous inside goal [] (rw long (S .goal-in)) (λ j q. absurd (omega arith)) i k);
+      }
+
+  module _ (start places : ℕ) where
+    abbrev shown : Task
+    shown = taskIn R C kinds start goal places
+
+    pub shown-route : {x : Nodes} {r : Route} {path′ : List ℕ} → path ≡ replicate (length path) 0 → SearchFound shown (Arrived x) known previous
+        → RouteWritten R C kinds goal known previous path x r path′
+        → (Routed r ≡ answered shown (searched shown)) × (path′ ≡ filled (cellsOf (searched shown)) path)
     unfolding graphOf
     shown-route {x} {r} {path′} z F W =
-        let e : searched T ≡ route (trace (length previous) previous goal []) (pred (getD known goal 0)) (x .0) = rw (← v, ← g) (F .told .is) in
-        let d : drop (length (trace (length previous) previous goal [])) path ≡ replicate (length path - length (trace (length previous) previous goal [])) 0 =
-        ap (drop (length (trace (length previous) previous goal []))) z ∙ drop-zeros (length (trace (length previous) previous goal [])) (length path) in
-        let s : Routed r ≡ answered (route (trace (length previous) previous goal []) (pred (getD known goal 0)) (x .0)) =
-        λ i. Routed (record { length = W .length-is i; cost = record { 0 = W .cost-is i }; expanded = W .expanded-is i }) in
-        (rw e s, rw e (W .path-is ∙ ap (λ (l : List ℕ). trace (length previous) previous goal [] ++ l) d))
+        let cells = traced previous goal in
+        let e : searched shown ≡ route cells (pred (getD known goal 0)) (x .0) = rw (S .previous-long) (F .told .is) in
+        let d : drop (length cells) path ≡ replicate (length path - length cells) 0 = ap (drop (length cells)) z ∙ drop-zeros (length cells) (length path) in
+        let s : Routed r ≡ answered shown (route cells (pred (getD known goal 0)) (x .0)) = ap Routed (W .route-is) in
+        (rw e s, rw e (W .path-is ∙ ap (λ (l : List ℕ). cells ++ l) d))
 
 -- an answer that shows no cells: the buffer stays cleared
 pub shown-bare : (T : Task) {path : List ℕ} {a : Answer} → path ≡ replicate (length path) 0 → searched T ≡ a → cellsOf a ≡ []
-    → (answered a ≡ answered (searched T)) × (path ≡ filled (cellsOf (searched T)) path)
+    → (answered T a ≡ answered T (searched T)) × (path ≡ filled (cellsOf (searched T)) path)
 shown-bare T z e none = rw (e, none) (refl, rw sub-zero z)
 
 -- ---- work memory of which the first V numbers are lent on

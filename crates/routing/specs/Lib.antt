@@ -1,3 +1,5 @@
+pub mod Totals
+pub mod TotalLaws
 pub mod Answers
 pub mod Entry
 pub mod EntryLaws

@@ -24,7 +24,7 @@ use Rattle.routing.specs.declared.Judgement.the-variants.{Fit, Unfit}
 use Rattle.routing.specs.declared.EndsFit.the-variants.{Good as EndsGood, Bad as EndsBad}
 use Rattle.routing.specs.declared.Answer.{Answer}
 use Rattle.routing.specs.declared.Answer.the-variants.{Refused, NotRouteable}
-use Rattle.room_search.specs.Routing.{placesIn, routeableKind, routeable, searched}
+use Rattle.room_search.specs.Routing.{Task, placesIn, routeableKind, routeable, searched}
 use Rattle.room_search.specs.TriedMoves.{placesOf}
 use Rattle.room_search.specs.SearchEndLaws.{start-is-end, goal-is-end}
 use Rattle.routing.specs.Answers.{Input, taskIn, taskOf, buffersGood, endsInside, judged, answered, fitAnswer, answerOf, refusalNumber, numberOf, cellsOf, cellsFor, Promise, input, lengthsOf}
@@ -82,11 +82,11 @@ module _ {R : Room} {C : RouterConfig} {kinds : List ℕ} {start goal : ℕ} {L 
 other-end : {cell : ℕ} → EndsGood ≡ EndsBad cell → ⊥
 other-end e = never (cc)
 
-touched : (a : search.Answer) → touches (numberOf (answered a)) ≡ true
-touched (search.route p c x) = refl
-touched (search.no-route x) = refl
-touched (search.limit-passed x) = refl
-touched (search.queue-full x) = refl
+touched : (T : Task) (a : search.Answer) → touches (numberOf (answered T a)) ≡ true
+touched T (search.route p c x) = refl
+touched T (search.no-route x) = refl
+touched T (search.limit-passed x) = refl
+touched T (search.queue-full x) = refl
 
 pub untouched : (why : Refusal) → touches (refusalNumber why) ≡ false
 untouched Sides = refl
@@ -144,13 +144,13 @@ module _ (R : Room) (C : RouterConfig) (kinds : List ℕ) (start goal : ℕ) (pa
             (λ g. rw (s, g) (let q : EndsBad cell ≡ EndsBad goal = rw (s, g) at e in let k : cell ≡ goal = cc in rw k)))
             (λ s. rw s (let q : EndsBad cell ≡ EndsBad start = rw s at e in let k : cell ≡ start = cc in rw k)))
 
-    cells-are : (a : search.Answer) → searched (taskOf I) ≡ a → cellsFor (answered a) I ≡ cellsOf a
+    cells-are : (a : search.Answer) → searched (taskOf I) ≡ a → cellsFor (answered (taskOf I) a) I ≡ cellsOf a
     cells-are (search.route p c x) e = ap cellsOf e
     cells-are (search.no-route x) e = refl
     cells-are (search.limit-passed x) e = refl
     cells-are (search.queue-full x) e = refl
 
-    both-free : EndsGood ≡ endsFit kinds start goal → answerOf I ≡ answered (searched (taskOf I))
+    both-free : EndsGood ≡ endsFit kinds start goal → answerOf I ≡ answered (taskOf I) (searched (taskOf I))
     unfolding answerOf fitAnswer
     both-free e =
         rw (fit, start-is, goal-is)
@@ -160,11 +160,11 @@ module _ (R : Room) (C : RouterConfig) (kinds : List ℕ) (start goal : ℕ) (pa
 
     -- the defined search
     pub promise-searched : (r : Answer) {path′ known′ previous′ classes′ queue′ : List ℕ} → EndsGood ≡ endsFit kinds start goal
-        → Fitted (searched (taskIn R C kinds start goal (placesOf queue))) path known previous classes queue r path′ known′ previous′ classes′ queue′
+        → Fitted (taskIn R C kinds start goal (placesOf queue)) path known previous classes queue r path′ known′ previous′ classes′ queue′
         → Promise I path known previous classes queue r path′ known′ previous′ classes′ queue′
     promise-searched r e F =
         let is = both-free e in
-        let t = touched (searched (taskOf I)) in
+        let t = touched (taskOf I) (searched (taskOf I)) in
         record {
           answer = F .answer ∙ sym is;
           path-is = rw (is, t, cells-are (searched (taskOf I)) refl) (F .path-is);

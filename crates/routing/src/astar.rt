@@ -1,20 +1,19 @@
 // The public search, over lent memory.
 ghost use mathlib.Core.Path.{_≡_};
-ghost use Prim.Native.Nat.{_≤_, _<_};
+ghost use Prim.Native.Nat.{_<_};
 ghost use lib.ListN.{length, getD, replicate};
 ghost use Rattle.room_search.specs.Takings.{Showable};
 ghost use Rattle.lent.specs.Lent.{Cleared};
 ghost use Rattle.trace.specs.Traces.{PreviousInside};
-ghost use Rattle.room.specs.Room.{maxVolume};
 ghost use Rattle.routing.specs.Answers.{input, taskIn, lengthsOf, Promise};
-ghost use Rattle.routing.specs.Entry.{RoomSearchable, SearchFound, RouteShown, RouteWritten, endsFit, Admitted, Fitted};
-ghost use Rattle.room_search.specs.Routing.{searched};
+ghost use Rattle.routing.specs.Entry.{RoomSearchable, SearchFound, Shown, RouteShown, RouteWritten, endsFit, Admitted, Fitted};
 ghost use Rattle.room_search.specs.TriedMoves.{placesOf};
 use crate::Answer;
 use crate::EndsFit;
 use crate::Judgement;
 use crate::Lengths;
 use crate::Route;
+use crate::counts::totals_of;
 use crate::judge::judge;
 use room::Cost;
 use room::Nodes;
@@ -47,43 +46,55 @@ fn search_room(
     search_classes(room, config, classes, known, previous, queue, start, goal)
 }
 
-// The path is counted and written to a cleared buffer.
+// The path is counted and written to a cleared buffer, and its totals are told.
 fn show_route(
+    room: Room,
+    config: RouterConfig,
+    kinds: &[u8],
     goal: usize,
     known: &[u32],
     previous: &[u32],
     path: &mut [u32],
     expanded: Nodes,
 ) -> Route
-    requires { ⌜ (goal < length (now previous)) × (length (now previous) ≤ maxVolume) × (length (now known) ≡ length (now previous)) × (length (now previous) ≤ length (now path)) ⌝ }
+    requires { ⌜ Shown room config (now kinds) goal (now known) (now previous) (now path) ⌝ }
     requires { ⌜ PreviousInside (now previous) ⌝ }
     requires { ⌜ 0 < getD (now known) goal 0 ⌝ }
-    ensures { λ r. ⌜ RouteWritten goal (now (known .entry)) (now (previous .entry)) (now (path .entry)) expanded r (now (path .exit)) ⌝ }
+    ensures { λ r. ⌜ RouteWritten room config (now (kinds .entry)) goal (now (known .entry)) (now (previous .entry)) (now (path .entry)) expanded r (now (path .exit)) ⌝ }
 {
     let length = trace::path_to(previous, goal, path);
+    let totals = totals_of(room, config, kinds, &path[..length]);
+    let steps = totals.steps;
+    let supports = totals.supports;
     Route {
         length: length,
         cost: Cost(known[goal] - 1),
         expanded: expanded,
+        steps: steps,
+        supports: supports,
+        laid: totals.laid,
     }
 }
 
 // What an outcome answers; the path goes to a cleared buffer.
 fn answer_of(
+    room: Room,
+    config: RouterConfig,
+    kinds: &[u8],
     outcome: Outcome,
     goal: usize,
     known: &[u32],
     previous: &[u32],
     path: &mut [u32],
 ) -> Answer
-    requires { ⌜ (goal < length (now previous)) × (length (now previous) ≤ maxVolume) × (length (now known) ≡ length (now previous)) × (length (now previous) ≤ length (now path)) ⌝ }
+    requires { ⌜ Shown room config (now kinds) goal (now known) (now previous) (now path) ⌝ }
     requires { ⌜ now path ≡ replicate (length (now path)) 0 ⌝ }
     requires { ⌜ Showable outcome goal (now known) (now previous) ⌝ }
-    ensures { λ r. ⌜ RouteShown outcome goal (now (known .entry)) (now (previous .entry)) (now (path .entry)) r (now (path .exit)) ⌝ }
+    ensures { λ r. ⌜ RouteShown room config (now (kinds .entry)) outcome goal (now (known .entry)) (now (previous .entry)) (now (path .entry)) r (now (path .exit)) ⌝ }
 {
     match outcome {
         Outcome::Arrived(expanded) => {
-            Answer::Routed(show_route(goal, known, previous, path, expanded))
+            Answer::Routed(show_route(room, config, kinds, goal, known, previous, path, expanded))
         }
         Outcome::NoRoute(expanded) => Answer::NoRoute(expanded),
         Outcome::LimitPassed(expanded) => Answer::LimitPassed(expanded),
@@ -129,7 +140,7 @@ fn answer_fit(
     queue: &mut [u64],
 ) -> Answer
     requires { ⌜ Admitted room config (now kinds) start goal (lengthsOf (now path) (now known) (now previous) (now classes) (now queue)) ⌝ }
-    ensures { λ r. ⌜ Fitted (searched (taskIn room config (now (kinds .entry)) start goal (placesOf (now (queue .entry))))) (now (path .entry)) (now (known .entry)) (now (previous .entry)) (now (classes .entry)) (now (queue .entry)) r (now (path .exit)) (now (known .exit)) (now (previous .exit)) (now (classes .exit)) (now (queue .exit)) ⌝ }
+    ensures { λ r. ⌜ Fitted (taskIn room config (now (kinds .entry)) start goal (placesOf (now (queue .entry)))) (now (path .entry)) (now (known .entry)) (now (previous .entry)) (now (classes .entry)) (now (queue .entry)) r (now (path .exit)) (now (known .exit)) (now (previous .exit)) (now (classes .exit)) (now (queue .exit)) ⌝ }
 {
     let cells = room.volume();
     let outcome = search_room(
@@ -144,7 +155,16 @@ fn answer_fit(
         queue,
     );
     lent::clear_words(path);
-    let answer = answer_of(outcome, goal, &known[..cells], &previous[..cells], path);
+    let answer = answer_of(
+        room,
+        config,
+        kinds,
+        outcome,
+        goal,
+        &known[..cells],
+        &previous[..cells],
+        path,
+    );
     clear_work(known, previous, classes, queue);
     answer
 }

@@ -1,14 +1,26 @@
 // One search over a room of kinds: its input is judged, its memory cleared, and its answer told.
 mod astar; // astar.rt: the public search
+mod counts; // counts.rt: the totals of a path
 mod judge; // judge.rt: numbers 2, 3, 6, 5 and 4
 
 pub use astar::astar_route;
 
-// A route: how many cells its path has, its cost in tenths, and how many cells were expanded.
+// A route: how many cells its path has, its cost in tenths, and how many cells were expanded; what its steps and its new
+// supports come to in that cost, and how many supports are new.
 pub struct Route {
     pub length: usize,
     pub cost: room::Cost,
     pub expanded: room::Nodes,
+    pub steps: room::Cost,
+    pub supports: room::Cost,
+    pub laid: usize,
+}
+
+// What the steps and the new supports of a path come to, and how many supports are new.
+pub struct Totals {
+    pub steps: room::Cost,
+    pub supports: room::Cost,
+    pub laid: usize,
 }
 
 // The lengths of the lent buffers.

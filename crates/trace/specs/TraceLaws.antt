@@ -3,7 +3,7 @@ use mathlib.Core.Path.{_≡_, refl, sym, ap, _∙_}
 use mathlib.Core.Logic.{_≢_}
 use mathlib.Core.List.{List, [], _∷_, _++_}
 use Prim.Native.Nat.{ℕ, zero, suc, _+_, _-_, _≤_, _<_}
-use native.Mathlib.Nat.{sub-zero, zero-add}
+use native.Mathlib.Nat.{le-of-suc-le-suc, sub-zero, zero-add}
 use native.Mathlib.Omega.{arith}
 use lib.ListN.{length, getD, set, drop, length-set}
 use lib.Seq.{drop-cons, getD-set-same, drop-set-lt}
@@ -21,6 +21,25 @@ trace-short (suc n) previous v rest = go (getD previous v 0) refl (λ u. trace-s
         → length (trace (suc n) previous v rest) ≤ suc n + length rest
     go zero e ih = rw (e, trace) (omega arith)
     go (suc u) e ih = rw (e, trace) (omega (arith, ih u))
+
+-- each cell of the path is a cell, as every predecessor is
+pub trace-cells : (n : ℕ) (previous : List ℕ) → PreviousInside previous → (v : ℕ) (rest : List ℕ) → v < length previous
+    → ((i : ℕ) → i < length rest → getD rest i 0 < length previous)
+    → (i : ℕ) → i < length (trace n previous v rest) → getD (trace n previous v rest) i 0 < length previous
+unfolding trace
+trace-cells zero previous L v rest h r = r
+trace-cells (suc n) previous L v rest h r = go (getD previous v 0) refl (λ u. trace-cells n previous L u (v ∷ rest))
+  where
+    cons : (i : ℕ) → i < length (v ∷ rest) → getD (v ∷ rest) i 0 < length previous
+    cons zero k = h
+    cons (suc i) k = r i (le-of-suc-le-suc k)
+
+    go : (k : ℕ) → getD previous v 0 ≡ k
+        → ((u : ℕ) → u < length previous → ((i : ℕ) → i < length (v ∷ rest) → getD (v ∷ rest) i 0 < length previous)
+        → (i : ℕ) → i < length (trace n previous u (v ∷ rest)) → getD (trace n previous u (v ∷ rest)) i 0 < length previous)
+        → (i : ℕ) → i < length (trace (suc n) previous v rest) → getD (trace (suc n) previous v rest) i 0 < length previous
+    go zero e ih = rw (trace-start n previous v rest e) cons
+    go (suc u) e ih = rw (trace-back n previous v u rest e) (ih u (omega (arith, L v)) cons)
 
 -- what stands behind the path does not change how many cells lead to v
 trace-length : (n : ℕ) (previous : List ℕ) (v : ℕ) (rest : List ℕ) → length (trace n previous v rest) ≡ length (trace n previous v []) + length rest

@@ -8,13 +8,12 @@ use lib.ListN.{length}
 use borrow.Author.Tests.{le-leb, lt-leb}
 use Rattle.numbers.specs.Refusals.{noRouteNumber}
 use Rattle.basics.specs.Tests.{askLess}
-use Rattle.lent.specs.Lent.{outputAfter}
 use Rattle.routing.specs.declared.Answer.{Answer}
 use Rattle.routing.specs.declared.Refusal.{Refusal}
 use Rattle.routing.specs.declared.Refusal.the-variants.{Sides, Config, Buffer, Code, Position}
 use Rattle.routing.specs.Answers.{Input, taskOf, refusalNumber, numberOf}
 use Rattle.why.specs.Why.{Memory, Promise, answerIn}
-use Rattle.dustroute.specs.Export.{shortRefusal, valuesOf}
+use Rattle.dustroute.specs.Export.{shortRefusal, valuesTold}
 use Rattle.dustroute.specs.WhyExport.{WhyExported, exportedWhy}
 use Rattle.why_demands.specs.Statements.{WalledIn}
 use Rattle.why_demands.specs.Theorems.{walled-in}
@@ -23,7 +22,7 @@ use Rattle.why_demands.specs.Theorems.{walled-in}
 pub record WhyExportMeans (I : Input) (M : Memory) (values : List ℕ) (r : ℕ) (M′ : Memory) (values′ : List ℕ) : Type 0 where
   pub answer : Answer
   pub number-is : r ≡ numberOf answer
-  pub values-are : values′ ≡ outputAfter (numberOf answer) (valuesOf answer) values
+  pub values-are : values′ ≡ valuesTold answer values
   pub promised : Promise I M answer M′
 
 -- a refusal has another number

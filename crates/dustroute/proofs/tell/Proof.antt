@@ -17,24 +17,18 @@ detail-of-requires c κs = search needs
 route-of-requires : tie.Need-route-of-requires
 route-of-requires c κs = search needs
 
-cast-write-four : tie.Need-cast-write-four
-cast-write-four c = search needs
-
-cast-write-four-2 : tie.Need-cast-write-four-2
-cast-write-four-2 c = search needs
-
-write-four-requires : tie.Need-write-four-requires
-write-four-requires c κs = search needs
+write-answer-requires : tie.Need-write-answer-requires
+write-answer-requires c κs = search needs
 
 same-length : tie.Need-same-length
-same-length c = c .before .before .write-four .kept .0
+same-length c = c .before .before .write-answer .kept .0
 
 returns : tie.Need-returns
 returns c =
-    let args = c .before .before .before .before .before .before .before .before .before .before .before .before .args in
-    let number = c .before .before .before .before .before .before .before .before .before .before .number-of .ensures in
-    let touched = sym (c .before .before .before .before .before .before .before .before .before .touches .ensures) ∙ c .before .before .before .before .before .before .before .before .if1 .taken in
-    (number, values-written (args .answer) (args .values .now) number touched (c .before .before .before .before .before .before .before .detail-of .ensures) (c .before .before .before .before .before .before .route-of .ensures) (c .before .before .write-four .ensures))
+    let args = c .before .before .before .before .before .before .before .before .before .before .args in
+    let number = c .before .before .before .before .before .before .before .before .number-of .ensures in
+    let touched = sym (c .before .before .before .before .before .before .before .touches .ensures) ∙ c .before .before .before .before .before .before .if1 .taken in
+    (number, values-written (args .answer) (args .values .now) number touched (c .before .before .before .before .before .detail-of .ensures) (c .before .before .before .before .route-of .ensures) (c .before .before .write-answer .ensures))
 
 returns-2 : tie.Need-returns-2
 returns-2 c =
@@ -50,9 +44,7 @@ tell-spec =
     touches-requires
     detail-of-requires
     route-of-requires
-    cast-write-four
-    cast-write-four-2
-    write-four-requires
+    write-answer-requires
     same-length
     returns
     returns-2)

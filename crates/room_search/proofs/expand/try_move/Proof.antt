@@ -1,8 +1,9 @@
 -- `try_move` meets its contract: the move leads out of the room, or into a cell that can't be entered, or is offered.
 use native.Mathlib.Omega.{arith}
-use mathlib.Core.Path.{sym, _∙_}
+use mathlib.Core.Path.{sym, ap, _∙_}
 use Prim.Native.Nat.{_+_, _-_, _*_}
 use lib.ListN.{getD}
+use Rattle.room_search.specs.Routing.{total}
 use Rattle.room_search.specs.TryLaws.{out-level, landed, placed-small, rise-few, tried-out, tried-shut, tried-offered}
 use borrow.Author.Needs.{needs}
 use Rattle.room.specs.RoomLaws.{between-below, between-above}
@@ -38,10 +39,13 @@ price-requires : tie.Need-price-requires
 price-requires c κs = search needs
 
 add-t29 : tie.Need-add-t29
-add-t29 c = let s = c .before .before .before .before .before .before .before .before .before .before .before .before .before .before .before .before .before .before .before .before .before in let a = s .args in let p = s .pre .0 in record { fits = omega (arith, c .before .before .before .before .before .price .ensures, price-low (a .config) (a .m) (getD (a .classes .now) (a .beside .cell + a .m .y * a .room .deep - a .room .deep) 0), dearest-most (p .config-good), p .cost-most) }
+add-t29 c = let s = c .before .before .before .before .before .before .before .before .before .before .before .before .before .before .before .before .before .before .before .before in let a = s .args in let p = s .pre .0 in record { fits = omega (arith, ap total (c .before .before .before .before .price .ensures), price-low (a .config) (a .m) (getD (a .classes .now) (a .beside .cell + a .m .y * a .room .deep - a .room .deep) 0), dearest-most (p .config-good)) }
+
+add-t30 : tie.Need-add-t30
+add-t30 c = let s = c .before .before .before .before .before .before .before .before .before .before .before .before .before .before .before .before .before .before .before .before .before in let a = s .args in let p = s .pre .0 in record { fits = omega (arith, ap total (c .before .before .before .before .before .price .ensures), price-low (a .config) (a .m) (getD (a .classes .now) (a .beside .cell + a .m .y * a .room .deep - a .room .deep) 0), dearest-most (p .config-good), p .cost-most) }
 
 offer-requires : tie.Need-offer-requires
-offer-requires c κs = let s = c .before .before .before .before .before .before .before .before .before .before .before .before .before .before .before .before .before .before .before .before .before in let a = s .args in let p = s .pre .0 in let q = s .pre .1 .0 in let L = landed (a .room) (p .good) (a .from) (a .beside) (a .m) (p .from-placed) q (c .before .before .before .before .before .before .before .before .before .before .before .before .before .before .if1 .left) (c .before .before .before .before .before .before .before .before .before .before .before .before .if2 .left) in let low = price-low (a .config) (a .m) (getD (a .classes .now) (a .beside .cell + a .m .y * a .room .deep - a .room .deep) 0) in let most = dearest-most (p .config-good) in ((omega (arith, L .inside, p .known-long), p .previous-long ∙ sym (p .known-long), omega (arith, p .known-long, p .good .few)), ((omega (arith, p .from-placed .inside, p .good .few), omega (arith, c .before .before .before .before .before .price .ensures, p .cost-most), omega (arith, p .serial-most)), (p .ready, (L .small, placed-small (a .room) (p .good) (a .goal) (p .goal-placed)))))
+offer-requires c κs = let s = c .before .before .before .before .before .before .before .before .before .before .before .before .before .before .before .before .before .before .before .before .before in let a = s .args in let p = s .pre .0 in let q = s .pre .1 .0 in let L = landed (a .room) (p .good) (a .from) (a .beside) (a .m) (p .from-placed) q (c .before .before .before .before .before .before .before .before .before .before .before .before .before .before .if1 .left) (c .before .before .before .before .before .before .before .before .before .before .before .before .if2 .left) in let low = price-low (a .config) (a .m) (getD (a .classes .now) (a .beside .cell + a .m .y * a .room .deep - a .room .deep) 0) in let most = dearest-most (p .config-good) in ((omega (arith, L .inside, p .known-long), p .previous-long ∙ sym (p .known-long), omega (arith, p .known-long, p .good .few)), ((omega (arith, p .from-placed .inside, p .good .few), omega (arith, ap total (c .before .before .before .before .before .price .ensures), p .cost-most), omega (arith, p .serial-most)), (p .ready, (L .small, placed-small (a .room) (p .good) (a .goal) (p .goal-placed)))))
 
 same-length : tie.Need-same-length
 same-length c = c .before .before .before .before .before .before .offer .kept .0
@@ -69,6 +73,7 @@ try-move-spec =
     returns-3
     price-requires
     add-t29
+    add-t30
     offer-requires
     same-length
     same-length-2

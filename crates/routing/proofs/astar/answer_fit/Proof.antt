@@ -94,7 +94,7 @@ answer-of-requires c κs =
     let T = taskIn (a .room) (a .config) (a .kinds .now) (a .start) (a .goal) (placesOf (a .queue .now)) in
     let long = ap length (previous-again found) ∙ previous-long found in
     let cleared = c .before .before .before .before .before .clear-words in
-    ((rw (long, e) (p .goal-in), rw (long, e) (p .good .few), ap length (known-again found) ∙ known-long found ∙ sym long, rw (long, e) (omega (arith, p .path-enough, cleared .kept .0))), (cleared-to (sym (cleared .kept .0)) (cleared .ensures), rw (known-again found, previous-again found) (told-showable (graph T) (searched T) (run .result) (known found) (previous found) (previous-long found ∙ e) (run .ensures .told))))
+    (record { good = p .good; config-good = p .config-good; kinds-long = p .kinds-long; previous-long = long ∙ e; known-long = ap length (known-again found) ∙ known-long found ∙ e; goal-in = p .goal-in; path-enough = omega (arith, p .path-enough, cleared .kept .0) }, (cleared-to (sym (cleared .kept .0)) (cleared .ensures), rw (known-again found, previous-again found) (told-showable (graph T) (searched T) (run .result) (known found) (previous found) (previous-long found ∙ e) (run .ensures .told))))
 
 clear-work-requires : tie.Need-clear-work-requires
 clear-work-requires c κs = search needs
@@ -121,7 +121,7 @@ returns c =
     let a = found .before .before .before .before .before .before .before .before .before .before .before .before .args in
     let T = taskIn (a .room) (a .config) (a .kinds .now) (a .start) (a .goal) (placesOf (a .queue .now)) in
     let cleared = c .before .before .before .before .before .before .before .before .clear-work .ensures in
-    let S = c .before .before .before .before .before .before .before .before .before .before .before .before .before .before .before .answer-of .ensures .shows T (sym (ap length (previous-again found) ∙ previous-long found ∙ found .before .before .before .before .before .volume .ensures)) refl (rw (known-again found, previous-again found) (run .ensures)) in
+    let S = c .before .before .before .before .before .before .before .before .before .before .before .before .before .before .before .answer-of .ensures .shows (a .start) (placesOf (a .queue .now)) (rw (known-again found, previous-again found) (run .ensures)) in
     record {
       answer = S .0;
       path-is = rw (c .before .before .before .before .before .before .before .before .before .before .before .before .before .before .before .before .before .before .before .before .before .clear-words .kept .0) at (S .1);
