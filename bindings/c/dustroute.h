@@ -57,6 +57,7 @@ enum {
     DUSTROUTE_MAX_SINKS = 16,
     DUSTROUTE_MAX_SHEET = 60000,
     DUSTROUTE_SEARCH_VALUES = 4,
+    DUSTROUTE_SEARCH_TOTALS = 7,
     DUSTROUTE_TREE_VALUES = 20,
     DUSTROUTE_MOVES = 12
 };
@@ -99,7 +100,10 @@ enum dustroute_reason {
  *                V at least each. Work memory
  * queue          2 at least; see DUSTROUTE_QUEUE_LENGTH. Work memory
  * values         DUSTROUTE_SEARCH_VALUES at least. Output, untouched by numbers 2 to 6: the detail, how many cells the route has,
- *                its cost in tenths, how many cells were expanded; the last three are 0 from number 10 on */
+ *                its cost in tenths, how many cells were expanded. Behind these, each where so many values are lent: what its
+ *                steps come to, what its new supports come to, and how many these are; DUSTROUTE_SEARCH_TOTALS hold all. The two
+ *                amounts add up to the cost. A support is new beneath each cell of the path but the start that has Air
+ *                there, on the path itself too. All but the detail are 0 from number 10 on */
 uint32_t dustroute_search(
     size_t wide, size_t high, size_t deep,
     uint32_t limit, uint32_t horizontal, uint32_t stair, uint32_t support,

@@ -124,9 +124,27 @@ static void expect_sample_b(const size_t lengths[SEARCH_BUFFERS]) {
     for (size_t i = 0; i < lengths[PATH]; i++)
         EXPECT(path[i] == (i < 3 ? i : 0));
     for (size_t i = 4; i < lengths[SEARCH_VALUES]; i++)
-        EXPECT(values[i] == 0);
+        EXPECT(values[i] == (i == 4 ? 20 : 0));
     expect_work_cleared(asked);
     free_search(asked);
+}
+
+/* Two storeys of Air, from 1 to 3: a step of 10 and one new support of 15. Each total is told where so many values are lent. */
+static void expect_totals(size_t lent) {
+    static const uint8_t air[4] = {0, 0, 0, 0};
+    static const uint64_t due[DUSTROUTE_SEARCH_TOTALS] = {0, 2, 25, 1, 10, 15, 1};
+    uint32_t path[4], known[4], previous[4];
+    uint8_t classes[4];
+    uint64_t queue[40];
+    struct buffer values = lend(lent, 8);
+    uint32_t number = dustroute_search(
+        2, 2, 1, 30000, 10, 25, 15, air, 4, 1, 3, path, 4, known, 4, previous, 4, classes, 4, queue, 40, at(values), lent);
+    const uint64_t *told = at(values);
+    EXPECT(number == DUSTROUTE_DONE);
+    for (size_t i = 0; i < lent; i++)
+        EXPECT(told[i] == (i < DUSTROUTE_SEARCH_TOTALS ? due[i] : 0));
+    EXPECT(all(values.elements - GUARD, GUARD, GUARD_BYTE));
+    give_back(values);
 }
 
 static void check_search(void) {
@@ -135,6 +153,8 @@ static void check_search(void) {
     static const uint8_t air[3] = {0, 0, 0}, walled[3] = {0, 1, 0};
     expect_sample_b(exact);
     expect_sample_b(longer);
+    for (size_t lent = DUSTROUTE_SEARCH_VALUES; lent < DUSTROUTE_SEARCH_TOTALS + 3; lent++)
+        expect_totals(lent);
 
     /* number 11: zeros, and the detail */
     struct search refused = search_row(walled, 3, longer);

@@ -7,6 +7,7 @@ from common import HEX_ANSWER, HEX_SHEET, content, examples, stored
 from dustroute import BadText, Config, Kind, Memory, Refusal, Room, Route, route, search, sheet_of
 from dustsheet import text as texts
 from dustsheet.job import from_bytes, is_sheet
+from dustsheet.supports import of_route
 
 ROW = Room(3, 1, 1)
 
@@ -22,11 +23,22 @@ def refusal(run):
 class Searches(unittest.TestCase):
     def test_samples(self):
         air = [Kind.AIR] * 3
-        self.assertEqual(search(Room(1, 1, 1), [Kind.AIR], 0, 0), Route((0,), 0, 0))
-        self.assertEqual(search(ROW, air, 0, 2), Route((0, 1, 2), 20, 2))
-        self.assertEqual(search((3, 1, 1), b"\0\0\0", 0, 2, (30_000, 10, 25, 15)), Route((0, 1, 2), 20, 2))
+        self.assertEqual(search(Room(1, 1, 1), [Kind.AIR], 0, 0), Route((0,), 0, 0, 0, 0, 0))
+        self.assertEqual(search(ROW, air, 0, 2), Route((0, 1, 2), 20, 2, 20, 0, 0))
+        self.assertEqual(search((3, 1, 1), b"\0\0\0", 0, 2, (30_000, 10, 25, 15)), Route((0, 1, 2), 20, 2, 20, 0, 0))
         self.assertEqual(search(Room(3, 2, 1), [0, 0, Kind.SOLID, 0, 0, 0], 0, 4).cost, 50)
-        self.assertEqual(search(Room(3, 2, 1), [0] * 6, 1, 5, Config(support=40)), Route((1, 2, 5), 90, 5))
+        self.assertEqual(search(Room(3, 2, 1), [0] * 6, 1, 5, Config(support=40)), Route((1, 2, 5), 90, 5, 50, 40, 1))
+
+    def test_supports_are_counted(self):
+        upright, steep = Room(2, 2, 1), Room(4, 4, 1)
+        self.assertEqual(search(upright, [0] * 4, 1, 3), Route((1, 3), 25, 1, steps=10, supports=15, laid=1))
+        self.assertEqual(search(upright, [0] * 4, 1, 3, Config(support=0)), Route((1, 3), 10, 1, steps=10, supports=0, laid=1))
+        kinds = [Kind.LEVER if cell in (2, 10) else Kind.AIR for cell in range(16)]
+        route = search(steep, kinds, 3, 5)
+        self.assertEqual((route.path, route.cost, route.steps, route.supports, route.laid), ((3, 6, 9, 5), 105, 60, 45, 3))
+        for room, kinds, route in ((upright, [0] * 4, search(upright, [0] * 4, 1, 3)), (steep, kinds, route)):
+            fetched = of_route(room, kinds, route.path)
+            self.assertEqual(fetched.fetch - fetched.start + fetched.on_path, route.laid)
 
     def test_refusals(self):
         lever = [Kind.AIR, Kind.AIR, Kind.LEVER]

@@ -10,8 +10,9 @@ from .answer import Answer, occupied, refusal_words
 from .check import NOT_KNOWN
 from .drawing import HOVER_CELLS, Drawing
 from .job import BLOCK_POWER, KINDS, PORTS, Job, spell
-from .net import branches, supports
+from .net import branches
 from .solid import Picture
+from .supports import Supports, of_answer
 from .symbols import CELL, COLOURS, KIND_NAMES, STYLE, definitions, line_style, use
 from .words import sentence
 
@@ -74,9 +75,19 @@ def answer_words(job: Job, answer: Optional[Answer], reason: Optional[str]) -> s
         return "<p>The room alone, with %s; no answer was given.</p>" % count(len(job.sinks), "sink")
     if answer.refused:
         return refused_box(*answer.refused, sentence(reason) if reason else refusal_words(*answer.refused, job))
-    fetch = count(sum(map(len, supports(answer, job))), "support")
-    return "<p>The net: %s, %s occupied, %s, %s to fetch.</p>" % (
-        count(len(answer.branches), "branch"), count(len(occupied(answer, job)), "cell"), count(len(answer.repeaters), "repeater"), fetch)
+    return "<p>The net: %s, %s occupied, %s, %s.</p>" % (
+        count(len(answer.branches), "branch"), count(len(occupied(answer, job)), "cell"), count(len(answer.repeaters), "repeater"),
+        fetch_words(of_answer(job, answer)))
+
+
+def fetch_words(supports: Supports) -> str:
+    """What builders fetch, and how it differs from what the searches count: docs/DIFFERENCES.md, Supports."""
+    words = count(supports.fetch, "support") + " to fetch"
+    if supports.start:
+        words += ", %d of them beneath a sink's own wire, where no search counts one" % supports.start
+    if supports.on_path:
+        words += "; %d that a search counts fall on the net's own wire" % supports.on_path
+    return words
 
 
 def refused_box(number: int, detail: int, words: str) -> str:

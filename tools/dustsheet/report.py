@@ -8,13 +8,14 @@ from .answer import Answer, occupied
 from .check import NOT_KNOWN, Remark
 from .job import PORTS, Job
 from .net import Branch, branches, signals
+from .supports import of_answer
 
 
 def of_net(job: Job, answer: Answer, found: List[Remark], strict: bool) -> str:
     signal = signals(answer, job)
     listed = [_branch(place, branch, signal) for place, branch in enumerate(branches(answer, job), 1)]
     return _text({"room": job.sides, "mode": _mode(strict), "occupied": len(occupied(answer, job)), "branches": listed, "repeaters": answer.repeaters,
-                  **_warnings(found)})
+                  "supports": of_answer(job, answer)._asdict(), **_warnings(found)})
 
 
 def of_refusal(job: Optional[Job], number: int, detail: int, reason: List[str], found: List[Remark], strict: bool) -> str:

@@ -7,7 +7,8 @@
     dustroute.route(open("examples/gap.txt").read(), strict=True)     # no wire rests on what other nets hold or keep clear
 
     room = dustroute.Room(3, 1, 1)
-    dustroute.search(room, [dustroute.Kind.AIR] * 3, start=0, goal=2)      # Route(path=(0, 1, 2), cost=20, expanded=2)
+    dustroute.search(room, [dustroute.Kind.AIR] * 3, start=0, goal=2)
+    # Route(path=(0, 1, 2), cost=20, expanded=2, steps=20, supports=0, laid=0)
 
     dustroute.why(room, [dustroute.Kind.AIR, dustroute.Kind.SOLID, dustroute.Kind.AIR], 0, 2).reached   # (0,): no way leads further
 

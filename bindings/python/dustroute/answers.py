@@ -40,10 +40,16 @@ class Config(NamedTuple):
 
 
 class Route(NamedTuple):
-    """The answer of a search: its cells from start to goal, what they cost in tenths, how many cells were expanded."""
+    """The answer of a search: its cells from start to goal, what they cost in tenths, how many cells were expanded.
+
+    The cost is that of its steps and of its new supports together: one for each cell but the start that has Air beneath.
+    What a builder fetches is another count: docs/DIFFERENCES.md, Supports; tools/dustsheet/supports.py has it."""
     path: Tuple[int, ...]
     cost: int
     expanded: int
+    steps: int
+    supports: int
+    laid: int  # how many supports are new
 
 
 class Tree(NamedTuple):

@@ -49,12 +49,12 @@ def search(room: Room, kinds: Sequence[int], start: int, goal: int, config: Conf
 
     Raises Refusal with number 2 to 6, 10, 11 (there is no way) or 12 (the node limit was passed)."""
     room, config = Room(*room), Config(*config)
-    called = call("search", room, config, memory, {"values": library().constants["DUSTROUTE_SEARCH_VALUES"]}, kinds=bytes(kinds),
+    called = call("search", room, config, memory, {"values": library().constants["DUSTROUTE_SEARCH_TOTALS"]}, kinds=bytes(kinds),
                   start=start, goal=goal)
     if called.number:
         raise Refusal(called.number, called.detail, words.of_search(called.number, called.detail, room, config.limit))
-    _, length, cost, expanded = called.lent["values"][:4]
-    return Route(tuple(called.lent["path"][:length]), cost, expanded)
+    _, length, cost, expanded, steps, supports, laid = called.lent["values"][:]
+    return Route(tuple(called.lent["path"][:length]), cost, expanded, steps, supports, laid)
 
 
 # ---- the tree of a job

@@ -10,12 +10,17 @@ pub struct Cost(pub u32);
 #[derive(Clone, Copy, Debug, Eq, Ord, PartialEq, PartialOrd)]
 pub struct Nodes(pub u32);
 
-/// The answer of a search: its cells from start to goal, what they cost, and how many cells were expanded.
+/// The answer of a search: its cells from start to goal, what they cost, and how many cells were expanded. The cost is `steps`
+/// and `supports` together, and `supports` is `laid` times the support cost: one new support for each cell but the start that
+/// has Air beneath. See docs/DIFFERENCES.md for what a builder fetches.
 #[derive(Clone, Debug, Eq, PartialEq)]
 pub struct Route {
     pub path: Vec<u32>,
     pub cost: Cost,
     pub expanded: Nodes,
+    pub steps: Cost,
+    pub supports: Cost,
+    pub laid: u32,
 }
 
 /// The answer of a job.

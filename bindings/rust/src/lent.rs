@@ -7,8 +7,9 @@ use crate::job::{Code, Config, Room, Sheet, bytes_of};
 use crate::mode::Mode;
 use crate::why::{MOVES, WalledIn, Why};
 
-/// How many values a search and a tree come to.
+/// How many values a search and a tree come to, and a search with its totals.
 pub const SEARCH_VALUES: usize = 4;
+pub const SEARCH_TOTALS: usize = 7;
 pub const TREE_VALUES: usize = 20;
 
 /// A place of the queue takes two numbers.
@@ -53,7 +54,7 @@ impl SearchMemory {
             previous: vec![0; cells],
             classes: vec![0; cells],
             queue: vec![0; NUMBERS_A_PLACE * places],
-            values: vec![0; SEARCH_VALUES],
+            values: vec![0; SEARCH_TOTALS],
         }
     }
 
@@ -63,10 +64,19 @@ impl SearchMemory {
         Self::new(cells, places_that_suffice(cells, config))
     }
 
-    /// One search from cell `start` to cell `goal`. A refusal by 1 to 6 leaves the memory as it was, `values` included.
+    /// One search from cell `start` to cell `goal`. A refusal by 1 to 6 leaves the memory as it was, `values` included; but where
+    /// `values` is long enough for a route and not for its totals, it is made so first.
     pub fn search<C: Code>(&mut self, room: Room, config: Config, kinds: &[C], start: usize, goal: usize) -> Result<Route, Refusal> {
+        self.make_room_for_totals();
         let number = self.call(room, config, bytes_of(kinds), start, goal);
         self.answer(number)
+    }
+
+    /// Lends as many values as a route with its totals comes to, where as many as a route asks for are lent.
+    fn make_room_for_totals(&mut self) {
+        if (SEARCH_VALUES..SEARCH_TOTALS).contains(&self.values.len()) {
+            self.values.resize(SEARCH_TOTALS, 0);
+        }
     }
 
     /// What a search that returned this number left here.
@@ -76,6 +86,9 @@ impl SearchMemory {
                 path: self.path[..self.values[1] as usize].to_vec(),
                 cost: Cost(self.values[2] as u32),
                 expanded: Nodes(self.values[3] as u32),
+                steps: Cost(self.values[4] as u32),
+                supports: Cost(self.values[5] as u32),
+                laid: self.values[6] as u32,
             }),
             refused => Err(Refusal::of(refused, detail(refused, &self.values))),
         }
@@ -140,8 +153,9 @@ impl WhyMemory {
     }
 
     /// One search from cell `start` to cell `goal`, and the reason where there is no route. A refusal by 1 to 6 leaves the memory as it
-    /// was, `values` included.
+    /// was, `values` included, as [`SearchMemory::search`] has it.
     pub fn why<C: Code>(&mut self, room: Room, config: Config, kinds: &[C], start: usize, goal: usize) -> Why {
+        self.search.make_room_for_totals();
         let number = self.call(room, config, bytes_of(kinds), start, goal);
         match self.search.answer(number) {
             Ok(route) => Why::Route(route),

@@ -22,11 +22,15 @@ fn at_usual_costs(room: Room, others: &[(usize, Kind)], start: usize, goal: usiz
     search(room, Config::default(), &kinds(room, others), start, goal)
 }
 
-fn route(path: &[u32], cost: u32, expanded: u32) -> Result<Route, Refusal> {
+/// A route whose cost is its two amounts together.
+fn route(path: &[u32], [steps, supports, laid]: [u32; 3], expanded: u32) -> Result<Route, Refusal> {
     Ok(Route {
         path: path.to_vec(),
-        cost: Cost(cost),
+        cost: Cost(steps + supports),
         expanded: Nodes(expanded),
+        steps: Cost(steps),
+        supports: Cost(supports),
+        laid,
     })
 }
 
@@ -72,7 +76,7 @@ fn refusals_are_words_without_a_newline() {
 
 #[test]
 fn a_start_is_goal() {
-    assert_eq!(at_usual_costs(room(1, 1, 1), &[], 0, 0), route(&[0], 0, 0));
+    assert_eq!(at_usual_costs(room(1, 1, 1), &[], 0, 0), route(&[0], [0, 0, 0], 0));
 }
 
 #[test]
@@ -90,15 +94,18 @@ fn b_to_e_a_row_of_three() {
             2,
         )
     };
-    assert_eq!(at_usual_costs(row, &[], 0, 2), route(&[0, 1, 2], 20, 2));
+    assert_eq!(at_usual_costs(row, &[], 0, 2), route(&[0, 1, 2], [20, 0, 0], 2));
     assert_eq!(limited(1), Err(Refusal::LimitPassed(Nodes(2))));
-    assert_eq!(limited(2), route(&[0, 1, 2], 20, 2));
+    assert_eq!(limited(2), route(&[0, 1, 2], [20, 0, 0], 2));
     assert_eq!(at_usual_costs(row, &[(1, Kind::Solid)], 0, 2), Err(Refusal::NoRoute(Nodes(1))));
     assert_eq!(
         at_usual_costs(row, &[(1, Kind::RedstoneWire)], 0, 2),
         Err(Refusal::NoRoute(Nodes(1)))
     );
-    assert_eq!(at_usual_costs(row, &[(2, Kind::RedstoneWire)], 0, 2), route(&[0, 1, 2], 20, 2));
+    assert_eq!(
+        at_usual_costs(row, &[(2, Kind::RedstoneWire)], 0, 2),
+        route(&[0, 1, 2], [20, 0, 0], 2)
+    );
     assert_eq!(
         at_usual_costs(row, &[(2, Kind::Lever)], 0, 2),
         Err(Refusal::NotRouteable { cell: 2 })
@@ -112,9 +119,9 @@ fn f_to_i_two_storeys() {
         support: 40,
         ..Config::default()
     };
-    assert_eq!(at_usual_costs(low, &[(2, Kind::Solid)], 0, 4), route(&[0, 3, 4], 50, 2));
-    assert_eq!(at_usual_costs(low, &[], 1, 5), route(&[1, 3, 5], 50, 4));
-    assert_eq!(search(low, dear, &[0; 6], 1, 5), route(&[1, 2, 5], 90, 5));
+    assert_eq!(at_usual_costs(low, &[(2, Kind::Solid)], 0, 4), route(&[0, 3, 4], [50, 0, 0], 2));
+    assert_eq!(at_usual_costs(low, &[], 1, 5), route(&[1, 3, 5], [20, 30, 2], 4));
+    assert_eq!(search(low, dear, &[0; 6], 1, 5), route(&[1, 2, 5], [50, 40, 1], 5));
     assert_eq!(at_usual_costs(low, &[(2, Kind::Lever)], 1, 5), Err(Refusal::NoRoute(Nodes(1))));
 }
 
@@ -122,8 +129,36 @@ fn f_to_i_two_storeys() {
 fn j_queue_of_five_suffices() {
     let square = room(3, 1, 3);
     let with_places = |places| SearchMemory::new(9, places).search(square, Config::default(), &[0; 9], 4, 0);
-    assert_eq!(with_places(5), route(&[4, 1, 0], 20, 3));
+    assert_eq!(with_places(5), route(&[4, 1, 0], [20, 0, 0], 3));
     assert_eq!(with_places(4), Err(Refusal::QueueFull(Nodes(2))));
+}
+
+/// A route's totals are the search's: the start's own support is not among them, and one may fall on the path itself.
+#[test]
+fn supports_are_counted() {
+    let upright = room(2, 2, 1);
+    assert_eq!(at_usual_costs(upright, &[], 1, 3), route(&[1, 3], [10, 15, 1], 1));
+    let free = Config {
+        support: 0,
+        ..Config::default()
+    };
+    assert_eq!(search(upright, free, &[0; 4], 1, 3), route(&[1, 3], [10, 0, 1], 1));
+    let steep = at_usual_costs(room(4, 4, 1), &[(2, Kind::Lever), (10, Kind::Lever)], 3, 5).unwrap();
+    assert_eq!(steep.path, [3, 6, 9, 5]);
+    assert_eq!((steep.steps, steep.supports, steep.laid), (Cost(60), Cost(45), 3));
+    assert_eq!(steep.cost, Cost(105));
+}
+
+/// Memory that was lent for four values is made long enough for the totals.
+#[test]
+fn totals_find_room() {
+    let mut memory = SearchMemory::new(4, 20);
+    memory.values.truncate(5);
+    let upright = room(2, 2, 1);
+    let answer = memory.search(upright, Config::default(), &[0; 4], 1, 3);
+    assert_eq!(answer, route(&[1, 3], [10, 15, 1], 1));
+    memory.values.truncate(3);
+    assert_eq!(memory.search(upright, Config::default(), &[0; 4], 1, 3), Err(Refusal::Buffer));
 }
 
 fn wire(x: u8) -> Endpoint {

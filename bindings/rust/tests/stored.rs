@@ -55,7 +55,7 @@ fn ask_search(case: &Search, due: &SearchAnswer, name: &str) {
     let (room, config) = (room_of(case.sides), config_of(&case.config));
     let answer = after.search(room, config, &case.kinds, case.start as usize, case.goal as usize);
     assert!(same_route(&answer, due), "{name}: {answer:?} for {due:?}");
-    assert!(after == search_due(&before, due), "{name}: memory");
+    assert!(after == search_due(&before, case, due), "{name}: memory");
 }
 
 #[test]

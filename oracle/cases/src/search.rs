@@ -30,6 +30,37 @@ pub enum SearchAnswer {
     },
 }
 
+/// The price of a step: the step by itself, and the new support where one is laid.
+#[derive(Clone, Copy, Debug, Eq, PartialEq)]
+pub struct Price {
+    pub step: u32,
+    pub support: Option<u32>,
+}
+
+impl Price {
+    pub fn total(self) -> u64 {
+        u64::from(self.step) + u64::from(self.support.unwrap_or(0))
+    }
+}
+
+/// What the steps of a path and its new supports come to, and how many supports are new.
+#[derive(Clone, Copy, Debug, Default, Eq, PartialEq)]
+pub struct Totals {
+    pub steps: u64,
+    pub supports: u64,
+    pub laid: u64,
+}
+
+impl Totals {
+    fn plus(self, price: Price) -> Self {
+        Self {
+            steps: self.steps + u64::from(price.step),
+            supports: self.supports + u64::from(price.support.unwrap_or(0)),
+            laid: self.laid + u64::from(price.support.is_some()),
+        }
+    }
+}
+
 impl SearchAnswer {
     /// The number of a refusal; 0 for a route.
     pub fn number(&self) -> u8 {
@@ -61,7 +92,11 @@ impl Search {
 
     /// The plain search on judged input, with a queue of `places`.
     pub fn run(&self, room: &Room, places: usize) -> Searched {
-        let question = Question {
+        self.question(room, places).search()
+    }
+
+    fn question<'a>(&'a self, room: &'a Room, places: usize) -> Question<'a> {
+        Question {
             room,
             kinds: &self.kinds,
             start: self.start as usize,
@@ -69,8 +104,22 @@ impl Search {
             config: &self.config,
             places,
             barred: &[],
-        };
-        question.search()
+        }
+    }
+
+    /// The totals of a path that this search answers, step by step by the rules.
+    pub fn totals(&self, path: &[u16]) -> Totals {
+        let room = self.judge().expect("it has a route");
+        let question = self.question(&room, self.queue as usize);
+        let steps = path.windows(2).map(|pair| {
+            let [from, to] = [pair[0], pair[1]].map(usize::from);
+            let mut steps = moves().filter_map(|offset| question.step(from, offset));
+            let (_, price) = steps
+                .find(|(next, _)| *next == to)
+                .expect("each step of a route is lawful");
+            price
+        });
+        steps.fold(Totals::default(), Totals::plus)
     }
 
     pub fn plain_answer(&self) -> SearchAnswer {
@@ -165,7 +214,7 @@ impl Question<'_> {
                 return End::LimitPassed;
             }
             for (next, price) in moves().filter_map(|offset| self.step(cell, offset)) {
-                let cost = state.cost(cell) + price;
+                let cost = state.cost(cell) + price.total();
                 if state.known[next].is_some_and(|known| cost >= known) {
                     continue;
                 }
@@ -201,7 +250,7 @@ impl Question<'_> {
     }
 
     /// The cell that a move enters and the step's price; none if the step is not lawful. The outside is Solid.
-    pub fn step(&self, cell: usize, offset: Offset) -> Option<(usize, u64)> {
+    pub fn step(&self, cell: usize, offset: Offset) -> Option<(usize, Price)> {
         let next = self.room.next(cell, offset)?;
         if !self.routeable(next) {
             return None;
@@ -209,8 +258,8 @@ impl Question<'_> {
         let beneath = self.room.next(next, DOWN);
         let support = match kind_at(self.kinds, beneath) {
             _ if beneath.is_some_and(|cell| self.is_barred(cell)) => return None,
-            kind::AIR => self.config.support,
-            kind::SOLID | kind::TRANSPARENT | kind::REDSTONE_BLOCK => 0,
+            kind::AIR => Some(self.config.support),
+            kind::SOLID | kind::TRANSPARENT | kind::REDSTONE_BLOCK => None,
             _ => return None,
         };
         let step = if offset.1 == 0 {
@@ -218,7 +267,7 @@ impl Question<'_> {
         } else {
             self.config.stair
         };
-        Some((next, u64::from(step) + u64::from(support)))
+        Some((next, Price { step, support }))
     }
 }
 

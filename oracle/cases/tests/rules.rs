@@ -1,7 +1,8 @@
 //! The plain router on the samples and on the examples of single rules.
 
-use cases::room::{Place, Room, moves};
+use cases::room::{Config, Place, Room, kind, moves};
 use cases::samples::{HEX_SHEET, HEX_SHEET_LINES, Sample, default_job, samples};
+use cases::search::{Search, SearchAnswer, Totals};
 use cases::sheet::{Job, Sheet};
 use cases::text::{parse_hex, tree_answer_lines};
 use cases::tree::ROUTE_MOST_CELLS;
@@ -54,6 +55,57 @@ fn route_has_fewer_cells() {
     assert_eq!(printed(&large), "refused 2 0\n");
     large.sinks = vec![large.source; 17];
     assert_eq!(printed(&large), "refused 1 0\n");
+}
+
+/// The totals of the paths that the plain search answers: a support is new beneath each cell but the start that has Air there.
+#[test]
+fn totals_of_paths() {
+    let asked = |sides: [u8; 3], levers: &[usize], start, goal, config| {
+        let cells = sides.map(usize::from).iter().product();
+        let mut kinds = vec![kind::AIR; cells];
+        levers.iter().for_each(|cell| kinds[*cell] = kind::LEVER);
+        let case = Search {
+            sides,
+            config,
+            start,
+            goal,
+            queue: 12 * cells as u32,
+            lent: cells as u32,
+            kinds,
+        };
+        let SearchAnswer::Route { path, cost, .. } = case.plain_answer() else {
+            panic!("there is a route");
+        };
+        let totals = case.totals(&path);
+        assert_eq!(totals.steps + totals.supports, u64::from(cost));
+        (path, totals)
+    };
+    let totals = |steps, supports, laid| Totals {
+        steps,
+        supports,
+        laid,
+    };
+    let usual = Config::DEFAULT;
+    let free = Config {
+        support: 0,
+        ..usual
+    };
+    assert_eq!(
+        asked([1, 1, 1], &[], 0, 0, usual),
+        (vec![0], totals(0, 0, 0))
+    );
+    assert_eq!(
+        asked([2, 2, 1], &[], 1, 3, usual),
+        (vec![1, 3], totals(10, 15, 1))
+    );
+    assert_eq!(
+        asked([2, 2, 1], &[], 1, 3, free),
+        (vec![1, 3], totals(10, 0, 1))
+    );
+    assert_eq!(
+        asked([4, 4, 1], &[2, 10], 3, 5, usual),
+        (vec![3, 6, 9, 5], totals(60, 45, 3))
+    );
 }
 
 #[test]

@@ -143,7 +143,7 @@ fn measure(load: &Load, places: usize) {
         let number = proved::search(case, &mut lent);
         routes += usize::from(number == 0);
         assert_eq!(number, u32::from(answer.number()), "{}", load.name);
-        assert!(lent == search_due(&lent, &answer), "{}", load.name);
+        assert!(lent == search_due(&lent, case, &answer), "{}", load.name);
     }
     let proved = best(load.runs, || {
         for case in &load.searches {

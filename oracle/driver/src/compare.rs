@@ -2,7 +2,7 @@
 
 use cases::text::{search_answer_lines, search_lines};
 use checks::search_due;
-use dustroute::lent::{SEARCH_VALUES, SearchMemory};
+use dustroute::lent::{SEARCH_TOTALS, SEARCH_VALUES, SearchMemory};
 use oracle::{Profile, Refusal, Rng, Search, SearchAnswer, check_search, random_search};
 
 use crate::flat::Flat;
@@ -97,8 +97,9 @@ pub fn extra(number: u8, salt: u8) -> usize {
     }
 }
 
-/// How an answer differs from the expected one, if it does: through memory of just the lengths of the case, through longer
-/// memory, with too few values, and by the plain Rust. All memory is full of rubbish before.
+/// How an answer differs from the expected one, if it does: through memory of just the lengths of the case, with none of the
+/// totals lent and with each one more, through longer memory, with too few values, and by the plain Rust. All memory is full
+/// of rubbish before.
 pub fn differs(
     case: &Search,
     expected: &SearchAnswer,
@@ -108,10 +109,12 @@ pub fn differs(
     let [cells, queue] = [case.lent as usize, 2 * case.queue as usize];
     let memory = |cells, queue, values| search_memory(cells, queue, values, salt | 1);
     let number = expected.number();
-    proved_differs(case, expected, memory(cells, queue, SEARCH_VALUES))?;
+    for values in SEARCH_VALUES..=SEARCH_TOTALS {
+        proved_differs(case, expected, memory(cells, queue, values))?;
+    }
     let extra = extra(number, salt);
     // One number more is no place of the queue.
-    let longer = memory(cells + extra, queue + 1, SEARCH_VALUES + extra);
+    let longer = memory(cells + extra, queue + 1, SEARCH_TOTALS + extra);
     proved_differs(case, expected, longer)?;
     let few = if matches!(number, 2 | 3) { number } else { 6 };
     let refused = SearchAnswer::Refused(Refusal::bare(few));
@@ -130,7 +133,7 @@ fn proved_differs(
 ) -> Result<(), String> {
     let mut after = before.clone();
     let number = proved::search(case, &mut after);
-    let due = search_due(&before, expected);
+    let due = search_due(&before, case, expected);
     let same = [
         ("number", number == u32::from(expected.number())),
         ("path", after.path == due.path),

@@ -4,7 +4,7 @@
 
 use cases::Refusal;
 use cases::room::MOST_CELLS;
-use cases::search::SearchAnswer;
+use cases::search::{Search, SearchAnswer};
 use cases::sheet::{Sheet, TreeAnswer};
 use cases::tree::realize;
 use cases::why::WhyAnswer;
@@ -96,8 +96,8 @@ fn mark(buffer: &mut [u8], cells: &[u16]) {
     cells.iter().for_each(|cell| buffer[usize::from(*cell)] = 1);
 }
 
-/// The memory as this answer leaves it, given what it was before.
-pub fn search_due(before: &SearchMemory, answer: &SearchAnswer) -> SearchMemory {
+/// The memory as this answer to a search leaves it, given what it was before. The totals are counted by the plain router.
+pub fn search_due(before: &SearchMemory, search: &Search, answer: &SearchAnswer) -> SearchMemory {
     let mut due = dirty_search(before.clone(), 0);
     match answer {
         SearchAnswer::Refused(Refusal { number: 1..=6, .. }) => return before.clone(),
@@ -107,6 +107,9 @@ pub fn search_due(before: &SearchMemory, answer: &SearchAnswer) -> SearchMemory 
             due.values[1] = path.len() as u64;
             due.values[2] = u64::from(*cost);
             due.values[3] = u64::from(*expanded);
+            let totals = search.totals(path);
+            let behind = [totals.steps, totals.supports, totals.laid];
+            due.values[4..].iter_mut().zip(behind).for_each(|(value, total)| *value = total);
         }
     }
     due

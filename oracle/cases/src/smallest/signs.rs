@@ -42,8 +42,9 @@ pub fn cheapest(search: &Search) -> Option<u64> {
         for cell in 0..room.cells() {
             let Some(cost) = least[cell] else { continue };
             for (next, price) in moves().filter_map(|offset| question.step(cell, offset)) {
-                if least[next].is_none_or(|known| cost + price < known) {
-                    least[next] = Some(cost + price);
+                let cost = cost + price.total();
+                if least[next].is_none_or(|known| cost < known) {
+                    least[next] = Some(cost);
                     changed = true;
                 }
             }
