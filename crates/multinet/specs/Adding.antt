@@ -57,9 +57,11 @@ pub record BranchPlaceable (R : Room) (k : ℕ) (L : BranchLengths) (tap : Tap) 
   pub joinable-long : length joinable ≡ volume R
   pub blocked-long : length blocked ≡ volume R
 
--- number 15 is due, or the branch is placed
+-- number 15 is due and nothing is changed, or the branch is placed
 pub data BranchPlaced (R : Room) (k : ℕ) (L : BranchLengths) (tap : Tap) (path branches joinable blocked : List ℕ) (r : Turned) (branches′ joinable′ blocked′ : List ℕ) : Type 0 where
-  buffer-full : length branches < usedBy L + length (branchOf tap path) → r ≡ Stopped (BufferFull (k + 1)) → BranchPlaced R k L tap path branches joinable blocked r branches′ joinable′ blocked′
+  buffer-full : length branches < usedBy L + length (branchOf tap path) → r ≡ Stopped (BufferFull (k + 1)) k
+      → (branches′ ≡ branches) × (joinable′ ≡ joinable) × (blocked′ ≡ blocked)
+      → BranchPlaced R k L tap path branches joinable blocked r branches′ joinable′ blocked′
   is-placed : usedBy L + length (branchOf tap path) ≤ length branches → r ≡ Grown k (length (branchOf tap path))
       → BranchAdded R (beforeSink L k) (usedBy L) tap path branches joinable blocked branches′ joinable′ blocked′
       → BranchPlaced R k L tap path branches joinable blocked r branches′ joinable′ blocked′

@@ -53,10 +53,10 @@ module _ {R : Room} {at used len : ℕ} {tap : Tap} {path branches joinable bloc
 
 -- ---- where the lengths are known
 
-pub no-space-left : {R : Room} {k : ℕ} {L : BranchLengths} {tap : Tap} {path branches joinable blocked branches′ joinable′ blocked′ : List ℕ}
+pub no-space-left : {R : Room} {k : ℕ} {L : BranchLengths} {tap : Tap} {path branches joinable blocked : List ℕ}
     {used len : ℕ} → used ≡ usedBy L → len ≡ length (branchOf tap path) → length branches < used + len
-    → BranchPlaced R k L tap path branches joinable blocked (Stopped (BufferFull (k + 1))) branches′ joinable′ blocked′
-no-space-left u l n = buffer-full (rw (u, l) at n) refl
+    → BranchPlaced R k L tap path branches joinable blocked (Stopped (BufferFull (k + 1)) k) branches joinable blocked
+no-space-left u l n = buffer-full (rw (u, l) at n) refl (refl, refl, refl)
 
 module _ {R : Room} {k : ℕ} {L : BranchLengths} {tap : Tap} {path branches joinable blocked : List ℕ} (A : BranchPlaceable R k L tap path joinable blocked)
     {at used len : ℕ} (a : at ≡ beforeSink L k) (u : used ≡ usedBy L) (l : len ≡ length (branchOf tap path)) (fits : used + len ≤ length branches) where

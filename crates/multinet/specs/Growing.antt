@@ -18,7 +18,7 @@ use Rattle.turns.specs.Turns.{far, turnOf}
 use Rattle.goals.specs.Goals.{Site}
 use Rattle.branches.specs.Branches.{SheetOrder, LengthsOf, longestBranch}
 use Rattle.repeaters.specs.Masks.{Steps}
-use Rattle.multinet.specs.Tree.{Plot, Tree, tapAt, growFrom, growthOf, sourceMarks}
+use Rattle.multinet.specs.Tree.{Plot, Tree, grown, planted, tapAt, growFrom, growthOf, sourceMarks}
 
 -- a sink's terminal is its approach, or one step from it
 abbrev pub Near : Room → Tap → Type 0
@@ -61,11 +61,12 @@ pub record Sprouted (P : Plot) (turn : ℕ) (T : Tree) : Type 0 where
   pub cells-in : (k : ℕ) → k < P .taps .count → AllCells (P .room) (branchIn T k)
   pub steps : (k : ℕ) → k < P .taps .count → Steps (P .room) (branchIn T k)
 
--- the turns from here on come to what all of them come to from the outset; the buffer has the branches in sheet order, and behind them what it had
+-- the turns before have grown this tree, and those from here on come to what all of them come to from the outset; the buffer has the branches in sheet order, and behind them what it had
 pub record Growing (P : Plot) (outset start-buffer : List ℕ) (turn : ℕ) (joinable blocked buffer each : List ℕ) : Type 0 where
   pub tree : Tree
   pub joinable-is : joinable ≡ tree .joinable
   pub blocked-is : blocked ≡ tree .blocked
+  pub so-far : growFrom turn P 0 (planted P outset) ≡ grown tree
   pub same : growFrom (P .taps .count - turn) P turn tree ≡ growthOf P outset
   pub sprouted : Sprouted P turn tree
   pub in-order : SheetOrder (tree .branches) (length (joined (tree .branches))) buffer

@@ -4,6 +4,7 @@ use mathlib.Core.Logic.{_⊎_, inl, inr, _≢_}
 use mathlib.Core.Bool.{true, _||_, or-comm, or-assoc}
 use mathlib.Core.List.{List, [], _∷_, _++_, reverse, reverse-cons, append-nil}
 use Prim.Native.Nat.{ℕ, suc, _+_, _-_, _≤_, _<_}
+use native.Mathlib.Numerals.{add-one}
 use native.Mathlib.Omega.{arith}
 use lib.Dec.{eqb}
 use lib.ListN.{length, getD, take, drop, set, length-set, length-append}
@@ -26,8 +27,9 @@ use Rattle.goals.specs.Goals.{Site, Trial, found, failed, full, routeToTree}
 use Rattle.branches.specs.Branches.{branchOf, allButLast, inserted, longestBranch}
 use Rattle.branches.specs.BranchLaws.{branch-short, branch-below, but-last-in, joined-none, joined-set, order-kept, behind-kept, inserted-long, lengths-set}
 use Rattle.repeaters.specs.Masks.{Steps}
-use Rattle.multinet.specs.Tree.{Plot, Tree, grown, stopped, tapAt, siteAt, sinkNow, withBranch, afterSink, growSink, growOn, growFrom, growthOf}
+use Rattle.multinet.specs.Tree.{Plot, Tree, grown, stopped, planted, tapAt, siteAt, sinkNow, withBranch, afterSink, growSink, growOn, growFrom, growthOf}
 use Rattle.multinet.specs.StepLaws.{branch-steps}
+use Rattle.multinet.specs.GrowthLaws.{turn-more}
 use Rattle.multinet.specs.Growing.{SoundPlot, RouteKnown, turnIn, branchIn, Sprouted, Growing}
 
 -- ---- the sink whose turn it is
@@ -47,7 +49,7 @@ module _ (P : Plot) (outset : List ℕ) {turn : ℕ} (h : turn < P .taps .count)
   unfolding growFrom
   one-turn = let e : P .taps .count - turn ≡ suc (P .taps .count - (turn + 1)) = omega arith in rw e at same
 
-  turn-stops : (number detail : ℕ) → growSink P (sinkNow P turn) T ≡ stopped number detail → growthOf P outset ≡ stopped number detail
+  pub turn-stops : (number detail : ℕ) → growSink P (sinkNow P turn) T ≡ stopped number detail → growthOf P outset ≡ stopped number detail
   turn-stops number detail e = sym one-turn ∙ rw e
 
   turn-grows : (T′ : Tree) → growSink P (sinkNow P turn) T ≡ grown T′ → growFrom (P .taps .count - (turn + 1)) P (turn + 1) T′ ≡ growthOf P outset
@@ -157,25 +159,25 @@ module _ {P : Plot} {outset start-buffer : List ℕ} {turn : ℕ} {joinable bloc
   now-tree = G .tree
 
   module _ (k : ℕ) (e : k ≡ sinkNow P turn) {trial : Trial} (t : trial ≡ routeToTree (siteAt P (now-tree .joinable)) (tapAt P k .approach) (now-tree .blocked)) where
-    comes : growSink P (sinkNow P turn) now-tree ≡ afterSink P k now-tree trial
+    comes : growSink P k now-tree ≡ afterSink P k now-tree trial
     unfolding growSink
-    comes = rw (← e, t)
+    comes = rw t
 
-    pub sink-fails : trial ≡ failed → growthOf P outset ≡ stopped noGoalNumber (tapAt P k .approach)
+    pub sink-fails : trial ≡ failed → growSink P k now-tree ≡ stopped noGoalNumber (tapAt P k .approach)
     unfolding afterSink
-    sink-fails f = turn-stops P outset h now-tree (G .same) noGoalNumber (tapAt P k .approach) (comes ∙ rw f)
+    sink-fails f = comes ∙ rw f
 
-    pub sink-full : (x : ℕ) → trial ≡ full x → growthOf P outset ≡ stopped queueFullNumber x
+    pub sink-full : (x : ℕ) → trial ≡ full x → growSink P k now-tree ≡ stopped queueFullNumber x
     unfolding afterSink
-    sink-full x f = turn-stops P outset h now-tree (G .same) queueFullNumber x (comes ∙ rw f)
+    sink-full x f = comes ∙ rw f
 
     module _ (path : List ℕ) (cost : ℕ) (f : trial ≡ found path cost) where
       abbrev branch : List ℕ
       branch = branchOf (tapAt P k) path
 
-      pub sink-buffer-full : P .buffer < length (joined (now-tree .branches)) + length branch → growthOf P outset ≡ stopped branchesFullNumber (k + 1)
+      pub sink-buffer-full : P .buffer < length (joined (now-tree .branches)) + length branch → growSink P k now-tree ≡ stopped branchesFullNumber (k + 1)
       unfolding afterSink
-      sink-buffer-full n = turn-stops P outset h now-tree (G .same) branchesFullNumber (k + 1) (comes ∙ rw (f, lt-leb _ _ n))
+      sink-buffer-full n = comes ∙ rw (f, lt-leb _ _ n)
 
       module _ (w : RouteKnown (siteAt P (now-tree .joinable)) (tapAt P k .approach) path) (fits : length (joined (now-tree .branches)) + length branch ≤ P .buffer) where
         in-tree : k < length (now-tree .branches)
@@ -208,7 +210,9 @@ module _ {P : Plot} {outset start-buffer : List ℕ} {turn : ℕ} {joinable bloc
               tree = withBranch (P .room) k branch now-tree;
               joinable-is = j ∙ ap (markedBy (standsIn (allButLast branch))) (G .joinable-is);
               blocked-is = b ∙ ap (markedBy (isClearance (P .room) branch)) (G .blocked-is);
-              same = turn-grows P outset h now-tree (G .same) (withBranch (P .room) k branch now-tree) (comes ∙ rw (f, le-leb _ _ fits));
+              so-far = let z : 0 + turn ≡ turn = omega arith in rw (add-one turn) (turn-more P turn 0 (planted P outset) now-tree (G .so-far)
+                  ∙ ap (λ (t : ℕ). growSink P (sinkNow P t) now-tree) z ∙ ap (λ (j : ℕ). growSink P j now-tree) (sym e) ∙ comes ∙ rw (f, le-leb _ _ fits));
+              same = turn-grows P outset h now-tree (G .same) (withBranch (P .room) k branch now-tree) (rw (← e) (comes ∙ rw (f, le-leb _ _ fits)));
               sprouted = sprouted-next (G .sprouted) k e h branch (branch-below (tapAt P k) path (w .cells-in) (S .net .taps-in .terminal-in k (s .0))) goes
                   (no-pair-after (P .room) (P .kinds) (now-tree .joinable) path (w .free) (standsIn (allButLast branch)) (joinable-on-path (tapAt P k) path));
               in-order = rw (u, ← joined-more) (order-kept (now-tree .branches) k in-tree empty (G .in-order) branch left-over);

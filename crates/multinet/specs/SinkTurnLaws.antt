@@ -1,7 +1,7 @@
 -- Laws of a sink's turn: what its functions ask, and what they come to.
 use mathlib.Core.Path.{_≡_, refl, sym, _∙_}
 use mathlib.Core.List.{List}
-use Prim.Native.Nat.{ℕ, _*_, _≤_, _<_}
+use Prim.Native.Nat.{ℕ, _+_, _*_, _≤_, _<_}
 use native.Mathlib.Omega.{arith}
 use lib.ListN.{length, take}
 use Rattle.basics.specs.Lists.{joined}
@@ -19,13 +19,14 @@ use Rattle.branches.specs.BranchLaws.{joined-place, place-within, lengths-sum}
 use Rattle.branches.specs.LoopLaws.{sum-most}
 use Rattle.multinet.specs.declared.Turned.{Turned}
 use Rattle.multinet.specs.declared.Turned.the-variants.{Stopped}
-use Rattle.multinet.specs.declared.Stop.the-variants.{QueueFull, NoGoal}
+use Rattle.multinet.specs.declared.Stop.{Stop}
+use Rattle.multinet.specs.declared.Stop.the-variants.{QueueFull, NoGoal, BufferFull}
 use Rattle.multinet.specs.Adding.{beforeSink, usedBy, BranchPlaceable, BranchPlaced, buffer-full, is-placed}
-use Rattle.multinet.specs.Tree.{Plot, tapAt, siteAt, sinkNow}
+use Rattle.multinet.specs.Tree.{Plot, tapAt, siteAt, growSink, growthOf, sinkNow}
 use Rattle.multinet.specs.StepLaws.{steps-by-place}
 use Rattle.multinet.specs.Growing.{SoundPlot, RouteKnown, Growing}
-use Rattle.multinet.specs.GrowingLaws.{route-some, sink-now, sink-in-tree, sink-empty, sink-fails, sink-full, sink-buffer-full, sink-grows}
-use Rattle.multinet.specs.SinkTurns.{Findable, Turnable, TurnCame}
+use Rattle.multinet.specs.GrowingLaws.{route-some, sink-now, sink-in-tree, sink-empty, turn-stops, sink-fails, sink-full, sink-buffer-full, sink-grows}
+use Rattle.multinet.specs.SinkTurns.{Findable, Turnable, TurnCame, stoppedBy, StoppedEarly}
 
 -- a tree held in slices, at the turn of sink k
 module _ {P : Plot} {turn : ℕ} {L : BranchLengths} {outset start-buffer joinable blocked branches : List ℕ} (S : SoundPlot P)
@@ -91,6 +92,18 @@ found-fits T n cost q = rw q at (T .fits)
 
 -- ---- what the turn comes to
 
+-- a number that is due for a sink is due for the whole
+pub early-growth : {P : Plot} {outset start-buffer each joinable blocked branches : List ℕ} {stop : Stop} {sink : ℕ}
+    → StoppedEarly P outset start-buffer each joinable blocked branches stop sink → growthOf P outset ≡ stoppedBy stop
+early-growth {P = P} {outset = outset} E = turn-stops P outset (E .turn-in) (E .growing .tree) (E .growing .same) _ _ (rw (E .sink-is) at (E .stops))
+
+-- the slices hold the tree still
+unmoved : {P : Plot} {outset start-buffer each : List ℕ} {turn k : ℕ} {joinable blocked branches : List ℕ} → turn < P .taps .count → k ≡ sinkNow P turn
+    → (G : Growing P outset start-buffer turn joinable blocked branches each) → {stop : Stop} → growSink P k (G .tree) ≡ stoppedBy stop
+    → {joinable′ blocked′ branches′ : List ℕ} → joinable′ ≡ joinable → blocked′ ≡ blocked → branches′ ≡ branches
+    → StoppedEarly P outset start-buffer each joinable′ blocked′ branches′ stop k
+unmoved {turn = turn} h e G s j b u = rw (j, b, u) (record { turn = turn; turn-in = h; sink-is = e; growing = G; stops = s })
+
 module _ {P : Plot} {turn : ℕ} {L : BranchLengths} {joinable blocked classes known previous path best branches : List ℕ}
     (A : Turnable P turn L joinable blocked classes known previous path best branches) (k : ℕ) (e : k ≡ sinkNow P turn) where
   pub findable : Findable (siteAt P joinable) blocked classes known previous path best (tapAt P k .approach)
@@ -99,11 +112,17 @@ module _ {P : Plot} {turn : ℕ} {L : BranchLengths} {joinable blocked classes k
   module _ {r : Tried} {best′ : List ℕ}
       (T : Tells (routeToTree (siteAt P joinable) (tapAt P k .approach) blocked) r best′)
     where
-      pub came-full : {joinable′ blocked′ branches′ : List ℕ} (x : _) → r ≡ Full x → TurnCame P turn L joinable blocked branches (Stopped (QueueFull x)) joinable′ blocked′ branches′
-      came-full x q = record { came = λ o s G. sink-full (A .sound) G (A .turn-in) k e (trial (A .sound) G (A .count-is) k e (A .turn-in) T) (x .0) (rw q) }
+      pub came-full : (x : _) → r ≡ Full x → {joinable′ blocked′ : List ℕ} → joinable′ ≡ joinable → blocked′ ≡ blocked
+          → TurnCame P turn L joinable blocked branches (Stopped (QueueFull x) k) joinable′ blocked′ branches
+      came-full x q j b = record {
+        came = λ o s G. unmoved (A .turn-in) e G {stop = QueueFull x} (sink-full (A .sound) G (A .turn-in) k e (trial (A .sound) G (A .count-is) k e (A .turn-in) T) (x .0) (rw q)) j b refl;
+      }
 
-      pub came-failed : {joinable′ blocked′ branches′ : List ℕ} → r ≡ Failed → TurnCame P turn L joinable blocked branches (Stopped (NoGoal (tapAt P k .approach))) joinable′ blocked′ branches′
-      came-failed q = record { came = λ o s G. sink-fails (A .sound) G (A .turn-in) k e (trial (A .sound) G (A .count-is) k e (A .turn-in) T) (rw q) }
+      pub came-failed : r ≡ Failed → {joinable′ blocked′ : List ℕ} → joinable′ ≡ joinable → blocked′ ≡ blocked
+          → TurnCame P turn L joinable blocked branches (Stopped (NoGoal (tapAt P k .approach)) k) joinable′ blocked′ branches
+      came-failed q j b = record {
+        came = λ o s G. unmoved (A .turn-in) e G {stop = NoGoal (tapAt P k .approach)} (sink-fails (A .sound) G (A .turn-in) k e (trial (A .sound) G (A .count-is) k e (A .turn-in) T) (rw q)) j b refl;
+      }
 
       module _ (n : ℕ) (cost : _) (q : r ≡ Found n cost) where
         is-found : told r best′ ≡ found (take n best′) (cost .0)
@@ -132,9 +151,9 @@ module _ {P : Plot} {turn : ℕ} {L : BranchLengths} {joinable blocked classes k
         pub came-placed : P .buffer ≡ length branches → {joinable′ blocked′ branches′ joinable″ blocked″ : List ℕ} → joinable″ ≡ joinable → blocked″ ≡ blocked → {t : Turned}
             → BranchPlaced (P .room) k L (tapAt P k) (take n best′) branches joinable″ blocked″ t branches′ joinable′ blocked′
             → TurnCame P turn L joinable blocked branches t joinable′ blocked′ branches′
-        came-placed m j b (buffer-full over is) = record {
-          came = λ o s G. rw is (sink-buffer-full (A .sound) G (A .turn-in) k e (trial (A .sound) G (A .count-is) k e (A .turn-in) T) (take n best′) (cost .0) is-found
-              (omega (arith, m, over, used-is (A .sound) G (A .count-is) k e (A .turn-in))));
+        came-placed m j b (buffer-full over is same) = record {
+          came = λ o s G. rw is (unmoved (A .turn-in) e G {stop = BufferFull (k + 1)} (sink-buffer-full (A .sound) G (A .turn-in) k e (trial (A .sound) G (A .count-is) k e (A .turn-in) T) (take n best′) (cost .0) is-found
+              (omega (arith, m, over, used-is (A .sound) G (A .count-is) k e (A .turn-in)))) (same .1 ∙ j) (same .2 ∙ b) (same .0));
         }
         came-placed m j b (is-placed fits is D) = record {
           came = λ o s G.

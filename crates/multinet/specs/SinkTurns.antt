@@ -20,7 +20,7 @@ use Rattle.multinet.specs.declared.GrowthEnd.{GrowthEnd}
 use Rattle.multinet.specs.declared.GrowthEnd.the-variants.{Whole, Early}
 use Rattle.multinet.specs.declared.GrownBranches.{GrownBranches}
 use Rattle.routing_resources.specs.Marks.{Marks}
-use Rattle.multinet.specs.Tree.{Plot, Growth, stopped, growthOf, sourceMarks}
+use Rattle.multinet.specs.Tree.{Plot, Growth, stopped, growSink, sinkNow, sourceMarks}
 use Rattle.multinet.specs.Growing.{SoundPlot, Growing}
 
 -- marks that joinable and blocked cells may have, and work memory of exactly V cells, whatever it holds
@@ -69,11 +69,19 @@ stopDetail (BufferFull place) = place
 abbrev pub stoppedBy : Stop → Growth
 stoppedBy stop = stopped (stopNumber stop) (stopDetail stop)
 
+-- the number that is due for the sink whose turn it is, the turns before having grown the tree that the slices hold
+pub record StoppedEarly (P : Plot) (outset start-buffer each joinable blocked branches : List ℕ) (stop : Stop) (sink : ℕ) : Type 0 where
+  pub turn : ℕ
+  pub turn-in : turn < P .taps .count
+  pub sink-is : sink ≡ sinkNow P turn
+  pub growing : Growing P outset start-buffer turn joinable blocked branches each
+  pub stops : growSink P sink (growing .tree) ≡ stoppedBy stop
+
 -- the next turn's tree, or the number that is due for the whole
 abbrev pub Came : Plot → List ℕ → List ℕ → ℕ → List ℕ → List ℕ → List ℕ → List ℕ → Turned → Type 0
 Came P outset start-buffer turn each joinable blocked branches (Grown k n) =
     (k < maxSinks) × Growing P outset start-buffer (turn + 1) joinable blocked branches (set each k n)
-Came P outset start-buffer turn each joinable blocked branches (Stopped stop) = growthOf P outset ≡ stoppedBy stop
+Came P outset start-buffer turn each joinable blocked branches (Stopped stop k) = StoppedEarly P outset start-buffer each joinable blocked branches stop k
 
 pub record TurnCame (P : Plot) (turn : ℕ) (L : BranchLengths) (joinable blocked branches : List ℕ) (r : Turned) (joinable′ blocked′ branches′ : List ℕ) : Type 0 where
   pub came : (outset start-buffer : List ℕ) → Growing P outset start-buffer turn joinable blocked branches (L .each)
@@ -115,7 +123,7 @@ pub record Turning (P : Plot) (outset start-buffer : List ℕ) (turn : ℕ) (L :
 abbrev pub EndTold : Plot → List ℕ → List ℕ → BranchLengths → List ℕ → List ℕ → List ℕ → GrowthEnd → Type 0
 EndTold P outset start-buffer L joinable blocked branches Whole =
     (L .count ≡ P .taps .count) × Growing P outset start-buffer (P .taps .count) joinable blocked branches (L .each)
-EndTold P outset start-buffer L joinable blocked branches (Early stop) = growthOf P outset ≡ stoppedBy stop
+EndTold P outset start-buffer L joinable blocked branches (Early stop sink) = StoppedEarly P outset start-buffer (L .each) joinable blocked branches stop sink
 
 pub record GrowthTold (P : Plot) (outset start-buffer : List ℕ) (r : GrownBranches) (joinable blocked branches : List ℕ) : Type 0 where
   pub told : EndTold P outset start-buffer (r .lengths) joinable blocked branches (r .end)

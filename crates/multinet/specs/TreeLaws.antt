@@ -64,13 +64,14 @@ module _ {P : Plot} (S : SoundPlot P) (blocked : List ℕ) where
 
 module _ {P : Plot} {joinable blocked classes known previous path best : List ℕ} (A : Plantable P joinable blocked classes known previous path best) where
   first-growing : (branches : List ℕ) → P .buffer ≡ length branches → Growing P blocked branches 0 joinable blocked branches (replicate maxSinks 0)
-  unfolding growthOf planted
+  unfolding growFrom growthOf planted
   first-growing branches b =
       let z : length (joined (replicate {A = List ℕ} (P .taps .count) [])) ≡ 0 = ap length (joined-nothing (P .taps .count)) in
       record {
         tree = planted P blocked;
         joinable-is = A .joinable-is;
         blocked-is = refl;
+        so-far = refl;
         same = let e : P .taps .count - 0 ≡ P .taps .count = omega arith in ap (λ n. growFrom n P 0 (planted P blocked)) e;
         sprouted = planted-sprouts (A .sound) blocked (A .blocked-long) (A .blocked-marks);
         in-order = rw z (order-first (P .taps .count) branches);
@@ -110,7 +111,7 @@ module _ {P : Plot} {outset start-buffer : List ℕ} {turn : ℕ} {L : BranchLen
     pub turn-recordable : {k n : ℕ} → turned ≡ Grown k n → k < maxSinks
     turn-recordable e = (rw e at came-now) .0
 
-    pub turn-ends : {stop : Stop} → turned ≡ Stopped stop → GrowthTold P outset start-buffer (record { end = Early stop; lengths = L }) joinable′ blocked′ branches′
+    pub turn-ends : {stop : Stop} {sink : ℕ} → turned ≡ Stopped stop sink → GrowthTold P outset start-buffer (record { end = Early stop sink; lengths = L }) joinable′ blocked′ branches′
     turn-ends e = record { told = rw e at came-now }
 
     pub turn-goes-on : turn < P .taps .count → {k n : ℕ} → turned ≡ Grown k n → {L′ : BranchLengths} → L′ ≡ withLength L k n

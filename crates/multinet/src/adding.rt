@@ -28,7 +28,7 @@ fn add_branch(
     routing_resources::branch_stair_clearances(room, &branches[at..last + 1], blocked);
 }
 
-// Puts a sink's branch into what is left of the branch buffer; number 15 is due where it does not fit.
+// Puts a sink's branch into what is left of the branch buffer; number 15 is due where it does not fit, and then nothing is changed.
 pub fn place_branch(
     room: Room,
     sink: usize,
@@ -45,7 +45,10 @@ pub fn place_branch(
     let used = branches::joined_length(lengths, lengths.count);
     let len = branches::branch_length(path.len(), tap);
     if branches.len() < used + len {
-        return Turned::Stopped(Stop::BufferFull(sink + 1));
+        return Turned::Stopped {
+            stop: Stop::BufferFull(sink + 1),
+            sink: sink,
+        };
     }
     let at = branches::joined_length(lengths, sink);
     add_branch(room, at, used, len, tap, path, branches, joinable, blocked);

@@ -86,8 +86,14 @@ fn grow_sink(
         tap.approach,
     );
     match tried {
-        Tried::Full(expanded) => Turned::Stopped(Stop::QueueFull(expanded)),
-        Tried::Failed => Turned::Stopped(Stop::NoGoal(tap.approach)),
+        Tried::Full(expanded) => Turned::Stopped {
+            stop: Stop::QueueFull(expanded),
+            sink: sink,
+        },
+        Tried::Failed => Turned::Stopped {
+            stop: Stop::NoGoal(tap.approach),
+            sink: sink,
+        },
         Tried::Found { length, cost: _ } => place_branch(
             ground.room,
             sink,
@@ -112,7 +118,7 @@ fn with_length(lengths: BranchLengths, sink: usize, length: usize) -> BranchLeng
     BranchLengths { count, each }
 }
 
-// The tree from its outset: every sink has its turn, until a number is due.
+// The tree from its outset: every sink has its turn, until a number is due for one; the slices hold the tree of that turn then.
 pub fn grow_tree(
     ground: Ground,
     source: usize,
@@ -156,9 +162,9 @@ pub fn grow_tree(
             Turned::Grown { sink, length } => {
                 lengths = with_length(lengths, sink, length);
             }
-            Turned::Stopped(stop) => {
+            Turned::Stopped { stop, sink } => {
                 return GrownBranches {
-                    end: GrowthEnd::Early(stop),
+                    end: GrowthEnd::Early { stop, sink },
                     lengths: lengths,
                 };
             }

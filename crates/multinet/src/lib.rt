@@ -14,16 +14,16 @@ pub enum Stop {
     BufferFull(usize),
 }
 
-// What a sink's turn comes to: it has a branch of so many cells, or a number is due.
+// What a sink's turn comes to: it has a branch of so many cells, or a number is due for it.
 pub enum Turned {
     Grown { sink: usize, length: usize },
-    Stopped(Stop),
+    Stopped { stop: Stop, sink: usize },
 }
 
-// How growing ends: every sink has its branch, or a number was due for one.
+// How growing ends: every sink has its branch, or a number was due for this one.
 pub enum GrowthEnd {
     Whole,
-    Early(Stop),
+    Early { stop: Stop, sink: usize },
 }
 
 // What growing comes to: how it ended, and the branches' lengths.

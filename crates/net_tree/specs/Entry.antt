@@ -59,7 +59,7 @@ pub record Gatherable (R : Room) (source : ℕ) (taps : Taps) (g : GrownBranches
 
 -- the harvest of a whole tree, or a refusal
 pub data Gathered (R : Room) (source : ℕ) (taps : Taps) (g : GrownBranches) (branches : List ℕ) (r : Answer) (occupied repeaters : List ℕ) : Type 0 where
-  ended-early : (stop : Stop) → g .end ≡ Early stop → r ≡ answerOf (refusedBy stop) → Gathered R source taps g branches r occupied repeaters
+  ended-early : (stop : Stop) (sink : ℕ) → g .end ≡ Early stop sink → r ≡ answerOf (refusedBy stop) → Gathered R source taps g branches r occupied repeaters
   in-whole : g .end ≡ Whole → Harvested R source taps (g .lengths) branches r occupied repeaters → Gathered R source taps g branches r occupied repeaters
 
 -- a plot that no number refuses, these cells blocked, cleared outputs, and work memory of exactly V cells

@@ -27,6 +27,7 @@ use Rattle.multinet.specs.declared.GrownBranches.{GrownBranches}
 use Rattle.multinet.specs.Tree.{Plot, grown, stopped, growFrom, growthOf, repeatersOf}
 use Rattle.multinet.specs.Growing.{Growing}
 use Rattle.multinet.specs.SinkTurns.{Plantable, EndTold, GrowthTold}
+use Rattle.multinet.specs.SinkTurnLaws.{early-growth}
 use Rattle.multinet.specs.Finishing.{BufferHolds, Finishable}
 use Rattle.net_tree.specs.declared.Answer.{Answer}
 use Rattle.net_tree.specs.declared.Ended.the-variants.{Routed}
@@ -74,11 +75,11 @@ module _ {P : Plot} {B : Lent} (A : Growable P B) where
     told-as : {end : GrowthEnd} → g .end ≡ end → EndTold P (B .blocked) (B .branches) (g .lengths) joinable blocked branches end
     told-as e = rw (← e) (T .told)
 
-    refused-grown : (stop : Stop) → g .end ≡ Early stop → {r : Answer} → r ≡ answerOf (refusedBy stop) → {branches′ occupied′ repeaters′ : List ℕ}
+    refused-grown : (stop : Stop) (sink : ℕ) → g .end ≡ Early stop sink → {r : Answer} → r ≡ answerOf (refusedBy stop) → {branches′ occupied′ repeaters′ : List ℕ}
         → TreeGrown P B r branches′ occupied′ repeaters′
-    refused-grown (QueueFull x) e a = stopped-grown (told-as e) (omega arith) a
-    refused-grown (NoGoal cell) e a = stopped-grown (told-as e) (omega arith) a
-    refused-grown (BufferFull place) e a = stopped-grown (told-as e) (omega arith) a
+    refused-grown (QueueFull x) sink e a = stopped-grown (early-growth (told-as e)) (omega arith) a
+    refused-grown (NoGoal cell) sink e a = stopped-grown (early-growth (told-as e)) (omega arith) a
+    refused-grown (BufferFull place) sink e a = stopped-grown (early-growth (told-as e)) (omega arith) a
 
     module _ (e : g .end ≡ Whole) where
       abbrev all-in : Growing P (B .blocked) (B .branches) (P .taps .count) joinable blocked branches (g .lengths .each)
@@ -162,5 +163,5 @@ module _ {P : Plot} {B : Lent} (A : Growable P B) where
 
     pub gathered : {r : Answer} {occupied repeaters : List ℕ} → Gathered (P .room) (P .source) (P .taps) g branches r occupied repeaters
         → TreeGrown P B r branches occupied repeaters
-    gathered (ended-early stop e a) = refused-grown stop e a
+    gathered (ended-early stop sink e a) = refused-grown stop sink e a
     gathered (in-whole w H) = harvested w H

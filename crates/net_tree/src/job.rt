@@ -110,7 +110,7 @@ fn gather(
 {
     let end = growth.end;
     let lengths = growth.lengths;
-    if let GrowthEnd::Early(stop) = end {
+    if let GrowthEnd::Early { stop, sink: _ } = end {
         return refusal_of(stop);
     }
     harvest(

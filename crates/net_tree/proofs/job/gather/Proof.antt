@@ -11,7 +11,7 @@ refusal-of-requires : tie.Need-refusal-of-requires
 refusal-of-requires c κs = search needs
 
 returns : tie.Need-returns
-returns c = ended-early _ (c .before .before .end .given .1) (c .refusal-of .ensures)
+returns c = ended-early _ _ (c .before .before .end .given .1) (c .refusal-of .ensures)
 
 enum-told : tie.Need-enum-told
 enum-told c = search needs
