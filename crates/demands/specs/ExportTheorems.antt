@@ -15,6 +15,7 @@ use Rattle.demands.specs.Theorems.{third-demand}
 
 pub record ExportMeans (I : Input) (path values : List ℕ) (r : ℕ) (path′ values′ : List ℕ) : Type 0 where
   pub answer : Answer
+  pub answer-is : answer ≡ answerOf I
   pub number-is : r ≡ numberOf answer
   pub values-are : values′ ≡ valuesTold answer values
   pub means : Meaning I path answer path′
@@ -42,6 +43,7 @@ module _ {I : Input} {path known previous classes queue values : List ℕ} {r : 
   pub export-means : ExportMeans I path values r path′ values′
   export-means = record {
     answer = answerOf I;
+    answer-is = refl;
     number-is = rw same at (K .number);
     values-are = rw same at (K .values-is);
     means = third-demand I promised;

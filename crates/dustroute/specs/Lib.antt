@@ -4,3 +4,5 @@ pub mod TreeExport
 pub mod TreeExportLaws
 pub mod WhyExport
 pub mod WhyExportLaws
+pub mod PlainExport
+pub mod PlainExportLaws

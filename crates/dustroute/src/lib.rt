@@ -1,8 +1,10 @@
 // One net's router, exported for other languages: numbers pass as themselves, a slice as a pointer and then a length. Here is
-// the search; the tree is in tree_export.rt, and why a search found no route in why_export.rt.
+// the search; the tree is in tree_export.rt, why a search found no route in why_export.rt, the plain engine in plain_export.rt.
+mod plain_export;
 mod tree_export;
 mod why_export;
 
+pub use plain_export::dustroute_plain;
 pub use tree_export::dustroute_tree;
 pub use tree_export::dustroute_tree_mode;
 pub use why_export::dustroute_why;

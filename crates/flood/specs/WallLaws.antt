@@ -18,7 +18,7 @@ use Rattle.room.specs.declared.Neighbour.{Neighbour}
 use Rattle.room.specs.declared.Neighbour.the-variants.{Inside, Outside}
 use Rattle.room.specs.Room.{volume, posOf, moves, moveAt, neighbourAt, neighbour}
 use Rattle.room.specs.MoveLaws.{leads}
-use Rattle.flood.specs.Walls.{reasonAt, reasonBy, freeAt, freeBy, reachedBy, marksBy, wallOf, wallAt, wallsOver, wallsBy, markedIn, WallsWritten, WallsTold}
+use Rattle.flood.specs.Walls.{reasonAt, reasonBy, freeAt, freeBy, reachedBy, marksBy, wallByte, wallAt, wallsOver, wallsBy, markedIn, WallsWritten, WallsTold}
 use Rattle.flood.specs.Flooding.{Written}
 use Rattle.flood.specs.TableLaws.{tabled-long, tabled-at, tabled-same, written-next, written-skip}
 
@@ -35,14 +35,14 @@ module _ (R : Room) (u : ℕ) {at : Pos} (here : at ≡ posOf R u) (i : ℕ) {pl
 -- ---- the bytes of a cell, one after another
 
 module _ (R : Room) (obstacle : ℕ → ℕ) (reached : ℕ → Bool) where
-  wall-at : (u i : ℕ) → i < 12 → wallAt R obstacle reached (12 * u + i) ≡ wallOf R obstacle reached u i
+  wall-at : (u i : ℕ) → i < 12 → wallAt R obstacle reached (12 * u + i) ≡ wallByte R obstacle reached u i
   wall-at u i h =
       let d : (12 * u + i) / 12 ≡ u = rw (mul-comm 12 u) (digits-div u h) in
       let m : (12 * u + i) % 12 ≡ i = rw (mul-comm 12 u) (digits-mod u h) in
       rw (d, m)
 
   -- byte 12u + i of the walls
-  pub walls-at : (u i : ℕ) → u < volume R → i < 12 → getD (wallsOver R obstacle reached) (12 * u + i) 0 ≡ wallOf R obstacle reached u i
+  pub walls-at : (u i : ℕ) → u < volume R → i < 12 → getD (wallsOver R obstacle reached) (12 * u + i) 0 ≡ wallByte R obstacle reached u i
   walls-at u i h k = tabled-at (12 * volume R) (wallAt R obstacle reached) (12 * u + i) (omega arith) ∙ wall-at u i k
 
   module _ {walls : List ℕ} {u : ℕ} (h : u < volume R) where

@@ -61,12 +61,12 @@ abbrev pub marksBy : Room → (ℕ → ℕ) → ℕ → List ℕ
 marksBy R obstacle start = tabled (volume R) (λ v. bit (reachedBy R obstacle start v))
 
 -- of the move i out of cell u: what stands against it where the cell is reached, else 0
-abbrev pub wallOf : Room → (ℕ → ℕ) → (ℕ → Bool) → ℕ → ℕ → ℕ
-wallOf R obstacle reached u i = either (reached u) (reasonBy R obstacle u i) 0
+abbrev pub wallByte : Room → (ℕ → ℕ) → (ℕ → Bool) → ℕ → ℕ → ℕ
+wallByte R obstacle reached u i = either (reached u) (reasonBy R obstacle u i) 0
 
 -- twelve bytes a cell: byte 12u + i is of the move i out of cell u
 abbrev pub wallAt : Room → (ℕ → ℕ) → (ℕ → Bool) → ℕ → ℕ
-wallAt R obstacle reached k = wallOf R obstacle reached (k / 12) (k % 12)
+wallAt R obstacle reached k = wallByte R obstacle reached (k / 12) (k % 12)
 
 abbrev pub wallsOver : Room → (ℕ → ℕ) → (ℕ → Bool) → List ℕ
 wallsOver R obstacle reached = tabled (12 * volume R) (wallAt R obstacle reached)

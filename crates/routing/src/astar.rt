@@ -113,7 +113,7 @@ fn clear_work(known: &mut [u32], previous: &mut [u32], classes: &mut [u8], queue
 }
 
 // The end that is not routeable: the start, else the goal.
-fn bad_end(kinds: &[u8], start: usize, goal: usize) -> EndsFit
+pub fn bad_end(kinds: &[u8], start: usize, goal: usize) -> EndsFit
     requires { ⌜ (start < length (now kinds)) × (goal < length (now kinds)) ⌝ }
     ensures { λ r. ⌜ r ≡ endsFit (now (kinds .entry)) start goal ⌝ }
 {

@@ -1,9 +1,10 @@
 // One search over a room of kinds: its input is judged, its memory cleared, and its answer told.
 mod astar; // astar.rt: the public search
 mod counts; // counts.rt: the totals of a path
-mod judge; // judge.rt: numbers 2, 3, 6, 5 and 4
+pub mod judge; // judge.rt: numbers 2, 3, 6, 5 and 4
 
 pub use astar::astar_route;
+pub use astar::bad_end;
 
 // A route: how many cells its path has, its cost in tenths, and how many cells were expanded; what its steps and its new
 // supports come to in that cost, and how many supports are new.

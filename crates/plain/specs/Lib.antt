@@ -1,0 +1,5 @@
+pub mod Answers
+pub mod Entry
+pub mod PromiseLaws
+pub mod Sweeping
+pub mod SweepingLaws

@@ -1,0 +1,4 @@
+pub mod Statements
+pub mod Theorems
+pub mod ExportTheorems
+pub mod Samples
