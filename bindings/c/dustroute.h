@@ -1,5 +1,5 @@
-/* DustRoute's router for one net, proved: one search over a room of kinds, why such a search finds no route, and the tree of one
- * job sheet, in the published router's way or in strict mode.
+/* DustRoute's router for one net, proved: one search over a room of kinds, why such a search finds no route, a plain engine to
+ * check a search against, and the tree of one job sheet, in the published router's way or in strict mode.
  *
  * Link with libdustroute.a, which `tools/native-archive dustroute` makes; it needs memset and memcpy of the C library and
  * nothing else. The functions allocate nothing, keep nothing between calls and may be called from several threads at once,
@@ -11,7 +11,8 @@
  *   - the buffer has that many elements; with length 0 any pointer will do, NULL too;
  *   - the pointer is aligned as its type asks (4 bytes for uint32_t, 8 for uint64_t);
  *   - no two buffers of a call overlap.
- * What a buffer holds when the function is called is of no account, but for `kinds` of a search and `sheet` of a tree.
+ * What a buffer holds when the function is called is of no account, but for `kinds` of a search or of the plain engine and `sheet` of
+ * a tree.
  *
  * A room has sides of 1 to 64 and V = wide * high * deep cells, at most 16,384. The cell at (x, y, z) has the number
  * (x * high + y) * deep + z.
@@ -44,7 +45,7 @@ enum dustroute_number {
     DUSTROUTE_PORT_FACING = 8,    /* BlockPower without a horizontal facing; 0 for the source, k for the k-th sink */
     DUSTROUTE_END_OUTSIDE = 9,    /* a terminal or an approach outside the room; the detail is as in 8 */
     DUSTROUTE_NOT_ROUTEABLE = 10, /* the start, else the goal, is not routeable; the detail is that cell */
-    DUSTROUTE_NO_ROUTE = 11,      /* there is no route; the detail is how many cells were expanded */
+    DUSTROUTE_NO_ROUTE = 11,      /* there is no route; how many cells were expanded, by the plain engine: are reached */
     DUSTROUTE_LIMIT_PASSED = 12,  /* the node limit was passed; expanded */
     DUSTROUTE_QUEUE_FULL = 13,    /* a push was due and the queue was full; expanded */
     DUSTROUTE_NO_GOAL = 14,       /* no way from a sink to the tree; its approach cell */
@@ -58,6 +59,7 @@ enum {
     DUSTROUTE_MAX_SHEET = 60000,
     DUSTROUTE_SEARCH_VALUES = 4,
     DUSTROUTE_SEARCH_TOTALS = 7,
+    DUSTROUTE_PLAIN_VALUES = 3,
     DUSTROUTE_TREE_VALUES = 20,
     DUSTROUTE_MOVES = 12
 };
@@ -138,6 +140,26 @@ uint32_t dustroute_why(
     uint32_t *previous, size_t previous_length,
     uint8_t *classes, size_t classes_length,
     uint64_t *queue, size_t queue_length,
+    uint64_t *values, size_t values_length);
+
+/* A cheapest route from `start` to `goal`, at any costs, by sweeps over the room: with no estimate, no queue and no node limit.
+ * Slower than a search, to check one against: with a flat step of at least 10 and a stair of at least 20 both have the same
+ * cost. Which of the cheapest paths comes is not promised. May return 0, 2 to 6, 10 and 11, and judges 2, 3, 6, 5, 4, 10 in
+ * that order. The detail of 11 is how many cells lawful steps lead to, the start included.
+ *
+ * horizontal, stair, support, kinds, path, known, previous, classes
+ *                as of a search
+ * values         DUSTROUTE_PLAIN_VALUES at least. Output, untouched by numbers 2 to 6: the detail, how many cells the route has,
+ *                its cost in tenths; the last two are 0 from number 10 on */
+uint32_t dustroute_plain(
+    size_t wide, size_t high, size_t deep,
+    uint32_t horizontal, uint32_t stair, uint32_t support,
+    const uint8_t *kinds, size_t kinds_length,
+    size_t start, size_t goal,
+    uint32_t *path, size_t path_length,
+    uint32_t *known, size_t known_length,
+    uint32_t *previous, size_t previous_length,
+    uint8_t *classes, size_t classes_length,
     uint64_t *values, size_t values_length);
 
 /* The tree of the one net that a job sheet describes. May return 0 to 9 and 13 to 15, and judges 1, 2, 3, then 4 and 5

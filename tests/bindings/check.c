@@ -284,6 +284,76 @@ static void check_why(void) {
         }
 }
 
+/* ---- one route by the plain engine */
+
+enum { PLAIN_PATH, PLAIN_KNOWN, PLAIN_PREVIOUS, PLAIN_CLASSES, PLAIN_VALUES, PLAIN_BUFFERS };
+
+struct plain {
+    struct buffer lent[PLAIN_BUFFERS];
+    uint32_t number;
+};
+
+/* A row of `wide` cells from end to end, a flat step for 7; the lent lengths are those of the table, in its order. */
+static struct plain plain_row(const uint8_t *kinds, size_t wide, const size_t n[PLAIN_BUFFERS]) {
+    static const size_t sizes[PLAIN_BUFFERS] = {4, 4, 4, 1, 8};
+    struct plain asked;
+    struct buffer copy = lend_copy(kinds, wide);
+    for (int i = 0; i < PLAIN_BUFFERS; i++)
+        asked.lent[i] = lend(n[i], sizes[i]);
+    struct buffer *b = asked.lent;
+    asked.number = dustroute_plain(
+        wide, 1, 1, 7, 25, 15, at(copy), wide, 0, wide - 1,
+        at(b[PLAIN_PATH]), n[PLAIN_PATH], at(b[PLAIN_KNOWN]), n[PLAIN_KNOWN], at(b[PLAIN_PREVIOUS]), n[PLAIN_PREVIOUS],
+        at(b[PLAIN_CLASSES]), n[PLAIN_CLASSES], at(b[PLAIN_VALUES]), n[PLAIN_VALUES]);
+    expect_kept(copy, kinds, b, PLAIN_BUFFERS);
+    return asked;
+}
+
+static void free_plain(struct plain asked) {
+    for (int i = 0; i < PLAIN_BUFFERS; i++)
+        give_back(asked.lent[i]);
+}
+
+/* The number, the three values with zeros behind them, so many cells 0, 1, 2 .. in the path, and work memory cleared. */
+static void expect_plain(const uint8_t *kinds, const size_t lengths[PLAIN_BUFFERS], uint32_t number, uint64_t detail, uint64_t cells,
+                         uint64_t cost) {
+    struct plain asked = plain_row(kinds, 3, lengths);
+    const uint32_t *path = at(asked.lent[PLAIN_PATH]);
+    const uint64_t *values = at(asked.lent[PLAIN_VALUES]);
+    EXPECT(asked.number == number);
+    EXPECT(values[0] == detail && values[1] == cells && values[2] == cost);
+    for (size_t i = 3; i < lengths[PLAIN_VALUES]; i++)
+        EXPECT(values[i] == 0);
+    for (size_t i = 0; i < lengths[PLAIN_PATH]; i++)
+        EXPECT(path[i] == (i < cells ? i : 0));
+    for (int i = PLAIN_KNOWN; i <= PLAIN_CLASSES; i++)
+        EXPECT(cleared(asked.lent[i]));
+    free_plain(asked);
+}
+
+static void check_plain(void) {
+    const size_t exact[PLAIN_BUFFERS] = {3, 3, 3, 3, 3};
+    const size_t longer[PLAIN_BUFFERS] = {8, 5, 9, 4, 11};
+    static const uint8_t air[3] = {0, 0, 0}, walled[3] = {0, 1, 0}, taken[3] = {0, 0, 7};
+    expect_plain(air, exact, DUSTROUTE_DONE, 0, 3, 14);
+    expect_plain(air, longer, DUSTROUTE_DONE, 0, 3, 14);
+    expect_plain(walled, longer, DUSTROUTE_NO_ROUTE, 1, 0, 0);
+    expect_plain(taken, exact, DUSTROUTE_NOT_ROUTEABLE, 2, 0, 0);
+
+    /* number 6: each buffer one short, then each of length 0; nothing is touched */
+    for (int i = 0; i < PLAIN_BUFFERS; i++)
+        for (int none = 0; none < 2; none++) {
+            size_t lengths[PLAIN_BUFFERS];
+            memcpy(lengths, exact, sizeof lengths);
+            lengths[i] = none ? 0 : exact[i] - 1;
+            struct plain asked = plain_row(air, 3, lengths);
+            EXPECT(asked.number == DUSTROUTE_BUFFER);
+            for (int j = 0; j < PLAIN_BUFFERS; j++)
+                EXPECT(untouched(asked.lent[j]));
+            free_plain(asked);
+        }
+}
+
 /* ---- one tree */
 
 enum {
@@ -538,6 +608,7 @@ int main(void) {
         empty_is_null = null;
         check_search();
         check_why();
+        check_plain();
         check_tree();
         check_arena();
         check_modes();

@@ -116,6 +116,7 @@ class Json(unittest.TestCase):
     def test_a_net(self):
         status, printed, _ = run("route", "--json", os.path.join(EXAMPLES, "lane.txt"))
         said = json.loads(printed)
+        self.assertEqual(said["supports"], {"fetch": 5, "start": 0, "on_path": 0})
         self.assertEqual((status, said["room"], said["occupied"], said["repeaters"]), (0, [13, 5, 5], 13, [[6, 3, 2]]))
         branch = said["branches"][0]
         self.assertEqual((branch["sink"], branch["at"], branch["steps"], branch["stairs"], branch["signal"]), (1, [12, 1, 2], 12, 4, 10))

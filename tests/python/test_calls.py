@@ -4,7 +4,7 @@ import threading
 import unittest
 
 from common import HEX_ANSWER, HEX_SHEET, content, examples, stored
-from dustroute import BadText, Config, Kind, Memory, Refusal, Room, Route, route, search, sheet_of
+from dustroute import BadText, Config, Kind, Memory, PlainRoute, Refusal, Room, Route, plain, route, search, sheet_of
 from dustsheet import text as texts
 from dustsheet.job import from_bytes, is_sheet
 from dustsheet.supports import of_route
@@ -66,6 +66,45 @@ class Searches(unittest.TestCase):
         room = Room(4, 3, 5)
         self.assertEqual([room.cell(*room.position(cell)) for cell in range(room.cells())], list(range(60)))
         self.assertEqual((room.position(17), Room(65, 1, 1).cells(), Room(64, 64, 5).cells()), ((1, 0, 2), 0, 0))
+
+
+class PlainEngine(unittest.TestCase):
+    def test_samples(self):
+        self.assertEqual(plain(Room(1, 1, 1), [Kind.AIR], 0, 0), PlainRoute((0,), 0))
+        self.assertEqual(plain(ROW, [Kind.AIR] * 3, 0, 2), PlainRoute((0, 1, 2), 20))
+        self.assertEqual(plain(ROW, [Kind.AIR] * 3, 0, 2, Config(limit=200_001)), PlainRoute((0, 1, 2), 20))
+        self.assertEqual(plain(Room(3, 2, 1), [0] * 6, 1, 5, Config(support=40)).cost, 90)
+
+    def test_cheaper_than_the_search(self):
+        room, costs = Room(2, 2, 1), Config(horizontal=0, stair=0, support=9)
+        self.assertEqual(plain(room, [0] * 4, 2, 3, costs), PlainRoute((2, 0, 3), 9))
+        self.assertEqual(search(room, [0] * 4, 2, 3, costs).cost, 18)
+
+    def test_the_same_cost_as_the_search(self):
+        room = Room(4, 3, 4)
+        for number in range(300):
+            kinds = [Kind.SOLID if (cell * 7919 + number * 104729) % 11 < 3 else Kind.AIR for cell in range(room.cells())]
+            kinds[0] = kinds[-1] = Kind.AIR
+            try:
+                due = search(room, kinds, 0, room.cells() - 1).cost
+            except Refusal as refused:
+                self.assertEqual((refused.number, refusal(lambda: plain(room, kinds, 0, room.cells() - 1)).number), (11, 11))
+            else:
+                self.assertEqual(plain(room, kinds, 0, room.cells() - 1).cost, due)
+
+    def test_refusals(self):
+        for due, words, run in (
+                ((2, 0), "a side is not 1 to 64", lambda: plain(Room(65, 1, 1), [0] * 65, 0, 1)),
+                ((3, 0), "a cost is over 100000", lambda: plain(ROW, [0] * 3, 0, 2, Config(stair=100_001))),
+                ((4, 0), "the start or the goal is outside the room", lambda: plain(ROW, [0] * 3, 0, 3)),
+                ((5, 0), "an unknown kind; kinds are 0 to 12", lambda: plain(ROW, [0, 13, 0], 0, 2)),
+                ((6, 0), "not as many kinds as the room has cells", lambda: plain(ROW, [0] * 2, 0, 2)),
+                ((10, 0), "cell (0, 0, 0), number 0, holds neither air nor redstone wire", lambda: plain(ROW, [7, 0, 0], 0, 2)),
+                ((11, 2), "none of the 2 cells that can be reached leads on", lambda: plain(Room(4, 1, 1), [0, 0, 1, 0], 0, 3))):
+            with self.subTest(due=due):
+                refused = refusal(run)
+                self.assertEqual((refused.number, refused.detail), due)
+                self.assertIn(words, refused.words)
 
 
 class Trees(unittest.TestCase):

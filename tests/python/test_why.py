@@ -36,7 +36,7 @@ class Reasons(unittest.TestCase):
             self.assertEqual({wall.to for wall in walls if wall.reason == reason}, cells)
 
     def test_a_route_is_that_of_the_search(self):
-        self.assertEqual(why((3, 1, 1), b"\0\0\0", 0, 2, (30_000, 10, 25, 15)), Route((0, 1, 2), 20, 2))
+        self.assertEqual(why((3, 1, 1), b"\0\0\0", 0, 2, (30_000, 10, 25, 15)), Route((0, 1, 2), cost=20, expanded=2, steps=20, supports=0, laid=0))
 
     def test_refusals(self):
         for due, run in (((2, 0), lambda: why(Room(65, 1, 1), [0] * 65, 0, 1)), ((6, 0), lambda: why(Room(3, 1, 1), [0] * 2, 0, 2)),

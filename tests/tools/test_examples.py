@@ -50,7 +50,7 @@ class Examples(unittest.TestCase):
             done = subprocess.run([ORACLE, "sheet", os.path.join(EXAMPLES, name + ".sheet")], stdout=subprocess.PIPE, check=True)
             self.assertEqual(done.stdout, content(name + ".out"), name)
 
-    def test_the_example_of_the_words(self):
+    def test_the_example_of_the_text(self):
         with open(os.path.join(TOOLS, "TEXT.md"), encoding="utf-8") as file:
             example = re.search(r"```text\n(.*?)```", file.read(), re.DOTALL).group(1)
         draft = texts.read(example, "TEXT.md")

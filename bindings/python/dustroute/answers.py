@@ -52,6 +52,12 @@ class Route(NamedTuple):
     laid: int  # how many supports are new
 
 
+class PlainRoute(NamedTuple):
+    """The answer of the plain engine: a cheapest way's cells from start to goal, and what they cost in tenths."""
+    path: Tuple[int, ...]
+    cost: int
+
+
 class Tree(NamedTuple):
     """The answer of a job. Cells are numbers; `room.position(cell)` is where one is. As a string it is what program `route` prints."""
     room: Room

@@ -8,7 +8,7 @@ import ctypes
 from typing import Dict, NamedTuple, Optional, Sequence, Tuple, Union
 
 from . import memory as memories
-from .answers import Config, Refusal, Room, Route, Tree
+from .answers import Config, PlainRoute, Refusal, Room, Route, Tree
 from .library import library
 from .memory import Memory
 from dustsheet import job as jobs, text as texts, words
@@ -53,8 +53,27 @@ def search(room: Room, kinds: Sequence[int], start: int, goal: int, config: Conf
                   start=start, goal=goal)
     if called.number:
         raise Refusal(called.number, called.detail, words.of_search(called.number, called.detail, room, config.limit))
+    return route_told(called)
+
+
+def route_told(called: Called) -> Route:
+    """The route that a search has told, with its totals."""
     _, length, cost, expanded, steps, supports, laid = called.lent["values"][:]
     return Route(tuple(called.lent["path"][:length]), cost, expanded, steps, supports, laid)
+
+
+def plain(room: Room, kinds: Sequence[int], start: int, goal: int, config: Config = Config(), memory: Optional[Memory] = None) -> PlainRoute:
+    """A cheapest route by the plain engine, to check `search` against: sweeps over the room, slower, but cheapest at any costs. The
+    config's node limit has no part in it.
+
+    Raises Refusal with number 2 to 6, 10 or 11 (there is no way; its detail is how many cells can be reached)."""
+    room, config = Room(*room), Config(*config)
+    called = call("plain", room, config, memory, {"values": library().constants["DUSTROUTE_PLAIN_VALUES"]}, kinds=bytes(kinds),
+                  start=start, goal=goal)
+    if called.number:
+        raise Refusal(called.number, called.detail, words.of_search(called.number, called.detail, room, config.limit))
+    _, length, cost = called.lent["values"][:3]
+    return PlainRoute(tuple(called.lent["path"][:length]), cost)
 
 
 # ---- the tree of a job

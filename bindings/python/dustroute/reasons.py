@@ -5,7 +5,7 @@ from enum import IntEnum
 from typing import Iterator, NamedTuple, Optional, Sequence, Tuple, Union
 
 from .answers import Config, Refusal, Room, Route
-from .calls import call
+from .calls import call, route_told
 from .library import library
 from .memory import Memory
 from dustsheet import words
@@ -70,12 +70,11 @@ def why(room: Room, kinds: Sequence[int], start: int, goal: int, config: Config 
     Raises Refusal with number 2 to 6, 10, or 12: then the search was cut short by the node limit, and no wall is named."""
     room, config = Room(*room), Config(*config)
     constants = library().constants
-    lengths = {"values": constants["DUSTROUTE_SEARCH_VALUES"], "walls": constants["DUSTROUTE_MOVES"] * room.cells()}
+    lengths = {"values": constants["DUSTROUTE_SEARCH_TOTALS"], "walls": constants["DUSTROUTE_MOVES"] * room.cells()}
     called = call("why", room, config, memory, lengths, kinds=bytes(kinds), start=start, goal=goal)
     if called.number == NO_ROUTE:
         reached = tuple(cell for cell, mark in enumerate(called.lent["reached"]) if mark)
         return WalledIn(room, called.detail, reached, bytes(called.lent["walls"]))
     if called.number:
         raise Refusal(called.number, called.detail, words.of_search(called.number, called.detail, room, config.limit))
-    _, length, cost, expanded = called.lent["values"][:4]
-    return Route(tuple(called.lent["path"][:length]), cost, expanded)
+    return route_told(called)

@@ -23,6 +23,17 @@ pub struct Route {
     pub laid: u32,
 }
 
+/// The answer of the plain engine: a cheapest way's cells from start to goal, and what they cost.
+#[derive(Clone, Debug, Eq, PartialEq)]
+pub struct PlainRoute {
+    pub path: Vec<u32>,
+    pub cost: Cost,
+}
+
+/// How many cells lawful steps lead to, the start included.
+#[derive(Clone, Copy, Debug, Eq, Ord, PartialEq, PartialOrd)]
+pub struct Reached(pub u32);
+
 /// The answer of a job.
 #[derive(Clone, Debug, Eq, PartialEq)]
 pub struct Tree {
@@ -155,6 +166,47 @@ impl Refusal {
         }
     }
 }
+
+/// Why the plain engine has no route.
+#[derive(Clone, Copy, Debug, Eq, PartialEq)]
+pub enum PlainRefusal {
+    /// 2 to 6 and 10, as a search refuses.
+    Refused(Refusal),
+    /// 11: there is no route.
+    NoRoute(Reached),
+}
+
+impl PlainRefusal {
+    /// The refusal of a number and its detail.
+    pub(crate) fn of(number: u32, detail: u64) -> Self {
+        match Refusal::of(number, detail) {
+            Refusal::NoRoute(count) => Self::NoRoute(Reached(count.0)),
+            other => Self::Refused(other),
+        }
+    }
+
+    pub fn number(self) -> u32 {
+        match self {
+            Self::Refused(refusal) => refusal.number(),
+            Self::NoRoute(_) => 11,
+        }
+    }
+
+    pub fn detail(self) -> u32 {
+        match self {
+            Self::Refused(refusal) => refusal.detail(),
+            Self::NoRoute(reached) => reached.0,
+        }
+    }
+}
+
+impl fmt::Display for PlainRefusal {
+    fn fmt(&self, out: &mut fmt::Formatter) -> fmt::Result {
+        writeln!(out, "refused {} {}", self.number(), self.detail())
+    }
+}
+
+impl std::error::Error for PlainRefusal {}
 
 impl End {
     fn of(place: u32) -> Self {

@@ -89,6 +89,29 @@ unsafe extern "C" {
         values_length: usize,
     ) -> u32;
 
+    pub fn dustroute_plain(
+        wide: usize,
+        high: usize,
+        deep: usize,
+        horizontal: u32,
+        stair: u32,
+        support: u32,
+        kinds: *const u8,
+        kinds_length: usize,
+        start: usize,
+        goal: usize,
+        path: *mut u32,
+        path_length: usize,
+        known: *mut u32,
+        known_length: usize,
+        previous: *mut u32,
+        previous_length: usize,
+        classes: *mut u8,
+        classes_length: usize,
+        values: *mut u64,
+        values_length: usize,
+    ) -> u32;
+
     pub fn dustroute_tree_mode(
         strict: u32,
         sheet: *const u8,

@@ -69,6 +69,31 @@ impl Default for Config {
     }
 }
 
+/// What a flat step, a stair and a new support cost, in tenths, up to 100,000 each; others are refused.
+#[derive(Clone, Copy, Debug, Eq, PartialEq)]
+pub struct Costs {
+    pub horizontal: u32,
+    pub stair: u32,
+    pub support: u32,
+}
+
+impl Config {
+    /// Its costs, without the node limit.
+    pub fn costs(self) -> Costs {
+        Costs {
+            horizontal: self.horizontal,
+            stair: self.stair,
+            support: self.support,
+        }
+    }
+}
+
+impl Default for Costs {
+    fn default() -> Self {
+        Config::default().costs()
+    }
+}
+
 /// What a cell holds.
 #[derive(Clone, Copy, Debug, Eq, PartialEq)]
 #[repr(u8)]

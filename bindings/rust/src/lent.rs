@@ -1,15 +1,16 @@
-//! The memory that the router is lent. [`crate::search`], [`crate::why`] and [`crate::route_tree`] make their own; here a caller keeps it
-//! from one call to the next, or lends another length. Any length and any content is lawful: what is too short is refused.
+//! The memory that the router is lent. [`crate::search`], [`crate::why`], [`crate::plain`] and [`crate::route_tree`] make their own; here
+//! a caller keeps it from one call to the next, or lends another length. Any length and any content is lawful: what is too short is refused.
 
-use crate::answer::{Cost, Nodes, Refusal, Route, Tree};
-use crate::ffi::{dustroute_search, dustroute_tree, dustroute_tree_mode, dustroute_why};
-use crate::job::{Code, Config, Room, Sheet, bytes_of};
+use crate::answer::{Cost, Nodes, PlainRefusal, PlainRoute, Refusal, Route, Tree};
+use crate::ffi::{dustroute_plain, dustroute_search, dustroute_tree, dustroute_tree_mode, dustroute_why};
+use crate::job::{Code, Config, Costs, Room, Sheet, bytes_of};
 use crate::mode::Mode;
 use crate::why::{MOVES, WalledIn, Why};
 
-/// How many values a search and a tree come to, and a search with its totals.
+/// How many values a search, a plain route and a tree come to, and a search with its totals.
 pub const SEARCH_VALUES: usize = 4;
 pub const SEARCH_TOTALS: usize = 7;
+pub const PLAIN_VALUES: usize = 3;
 pub const TREE_VALUES: usize = 20;
 
 /// A place of the queue takes two numbers.
@@ -198,6 +199,71 @@ impl WhyMemory {
                 search.queue.len(),
                 search.values.as_mut_ptr(),
                 search.values.len(),
+            )
+        }
+    }
+}
+
+/// What the plain engine is lent: `path` and `values` are its output, the others work memory.
+#[derive(Clone, Debug, Eq, PartialEq)]
+pub struct PlainMemory {
+    pub path: Vec<u32>,
+    pub known: Vec<u32>,
+    pub previous: Vec<u32>,
+    pub classes: Vec<u8>,
+    pub values: Vec<u64>,
+}
+
+impl PlainMemory {
+    /// Memory for a room of so many cells. A room that is refused needs none.
+    pub fn new(cells: usize) -> Self {
+        Self {
+            path: vec![0; cells],
+            known: vec![0; cells],
+            previous: vec![0; cells],
+            classes: vec![0; cells],
+            values: vec![0; PLAIN_VALUES],
+        }
+    }
+
+    /// A cheapest route from cell `start` to cell `goal`. A refusal by 2 to 6 leaves the memory as it was, `values` included.
+    pub fn plain<C: Code>(&mut self, room: Room, costs: Costs, kinds: &[C], start: usize, goal: usize) -> Result<PlainRoute, PlainRefusal> {
+        let number = self.call(room, costs, bytes_of(kinds), start, goal);
+        match number {
+            0 => Ok(PlainRoute {
+                path: self.path[..self.values[1] as usize].to_vec(),
+                cost: Cost(self.values[2] as u32),
+            }),
+            refused => Err(PlainRefusal::of(refused, detail(refused, &self.values))),
+        }
+    }
+
+    /// The bare call: the number comes back, 0 for a route, and the memory is as the router leaves it.
+    pub fn call(&mut self, room: Room, costs: Costs, kinds: &[u8], start: usize, goal: usize) -> u32 {
+        // SAFETY: each pointer and length is that of a slice that lives through the call, and no two of them overlap. The router has
+        // no requirement on what it is handed, and reads and writes within the slices alone.
+        unsafe {
+            dustroute_plain(
+                room.wide.into(),
+                room.high.into(),
+                room.deep.into(),
+                costs.horizontal,
+                costs.stair,
+                costs.support,
+                kinds.as_ptr(),
+                kinds.len(),
+                start,
+                goal,
+                self.path.as_mut_ptr(),
+                self.path.len(),
+                self.known.as_mut_ptr(),
+                self.known.len(),
+                self.previous.as_mut_ptr(),
+                self.previous.len(),
+                self.classes.as_mut_ptr(),
+                self.classes.len(),
+                self.values.as_mut_ptr(),
+                self.values.len(),
             )
         }
     }

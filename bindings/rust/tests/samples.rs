@@ -56,7 +56,7 @@ fn a_search_takes_kinds_and_bytes() {
     let bytes = [0u8, 1, 0];
     let config = Config::default();
     assert_eq!(search(row, config, &kinds, 0, 2), search(row, config, &bytes, 0, 2));
-    assert_eq!(search(row, config, &[Kind::Air; 3], 0, 2), route(&[0, 1, 2], 20, 2));
+    assert_eq!(search(row, config, &[Kind::Air; 3], 0, 2), route(&[0, 1, 2], [20, 0, 0], 2));
 }
 
 #[test]

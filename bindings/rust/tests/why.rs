@@ -5,7 +5,7 @@ use std::collections::BTreeSet;
 use cases::answers::WHYS;
 use cases::files;
 use cases::room::MOST_CELLS;
-use cases::search::SearchAnswer;
+use cases::search::{Search, SearchAnswer};
 use cases::why::WhyAnswer;
 use checks::{config_of, dirty_why, room_of, why_due};
 use dustroute::lent::WhyMemory;
@@ -88,6 +88,9 @@ fn a_route_and_refusals_are_those_of_the_search() {
         path: vec![0, 1, 2],
         cost: Cost(20),
         expanded: Nodes(2),
+        steps: Cost(20),
+        supports: Cost(0),
+        laid: 0,
     };
     assert_eq!(asked(row, &[], 0, 2), Why::Route(route));
     assert_eq!(
@@ -152,14 +155,18 @@ fn lent(case: &cases::why::Why, longer: usize) -> WhyMemory {
     dirty_why(memory, 0xA5)
 }
 
-/// Whether an answer can be one in a room of so many cells, with a path that fits its buffer: cells that are reached ascend.
-fn is_possible(answer: &WhyAnswer, cells: usize, lent: usize) -> bool {
+/// Whether an answer can be one of this search in a room of so many cells: its path is lawful and fits its buffer, and the cells that
+/// are reached ascend.
+fn is_possible(answer: &WhyAnswer, search: &Search, cells: usize) -> bool {
     let ascending = answer.reached.is_sorted_by(|one, other| one.cell < other.cell);
-    let path = match &answer.search {
-        SearchAnswer::Route { path, .. } => path.len(),
-        SearchAnswer::Refused(_) => 0,
+    let fits = match &answer.search {
+        SearchAnswer::Route { path, .. } => {
+            let cells: Vec<u32> = path.iter().copied().map(u32::from).collect();
+            cells.len() <= search.lent as usize && search.lawful_cost(&cells).is_some()
+        }
+        SearchAnswer::Refused(_) => true,
     };
-    path <= lent && ascending && answer.reached.iter().all(|told| usize::from(told.cell) < cells)
+    fits && ascending && answer.reached.iter().all(|told| usize::from(told.cell) < cells)
 }
 
 /// Whether a case is answered so: the number, and every byte of lent memory.
@@ -170,7 +177,7 @@ fn is_answered_so(case: &cases::why::Why, answer: &WhyAnswer, longer: usize) -> 
     let mut after = before.clone();
     let [start, goal] = [search.start, search.goal].map(|end| end as usize);
     let number = after.call(room_of(search.sides), config_of(&search.config), &search.kinds, start, goal);
-    number == u32::from(answer.number()) && is_possible(answer, cells, search.lent as usize) && after == why_due(&before, cells, answer)
+    number == u32::from(answer.number()) && is_possible(answer, search, cells) && after == why_due(&before, search, cells, answer)
 }
 
 type Stored = Vec<(cases::why::Why, WhyAnswer)>;

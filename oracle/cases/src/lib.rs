@@ -4,6 +4,7 @@
 
 pub mod answers;
 mod blocked;
+pub mod cheapest;
 pub mod conflict;
 pub mod connected;
 pub mod examples;

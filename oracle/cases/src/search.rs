@@ -95,7 +95,7 @@ impl Search {
         self.question(room, places).search()
     }
 
-    fn question<'a>(&'a self, room: &'a Room, places: usize) -> Question<'a> {
+    pub(crate) fn question<'a>(&'a self, room: &'a Room, places: usize) -> Question<'a> {
         Question {
             room,
             kinds: &self.kinds,
@@ -229,7 +229,7 @@ impl Question<'_> {
     }
 
     /// An Air cell that isn't barred is routeable; start and goal may also hold RedstoneWire.
-    fn routeable(&self, cell: usize) -> bool {
+    pub(crate) fn routeable(&self, cell: usize) -> bool {
         let kind = self.kinds[cell];
         kind == kind::AIR && !self.is_barred(cell)
             || self.is_end(cell) && kind == kind::REDSTONE_WIRE

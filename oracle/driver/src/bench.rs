@@ -19,11 +19,15 @@ use crate::flat::Flat;
 use crate::proved;
 
 /// Searches that are timed together.
-struct Load {
-    name: &'static str,
-    searches: Vec<Search>,
+pub struct Load {
+    pub name: &'static str,
+    pub searches: Vec<Search>,
     /// How often each is timed.
-    runs: usize,
+    pub runs: usize,
+}
+
+pub fn loads() -> [Load; 4] {
+    [open(), maze(), small_rooms(), a_third_solid()]
 }
 
 pub fn bench() {
@@ -31,7 +35,7 @@ pub fn bench() {
         "{:<42}{:>8}{:>12}{:>12}{:>14}{:>9}{:>9}",
         "searches", "routes", "proved", "plain Rust", "published", "to plain", "faster"
     );
-    for load in [open(), maze(), small_rooms(), a_third_solid()] {
+    for load in loads() {
         for places in [5, 12] {
             measure(&load, places);
         }

@@ -75,7 +75,7 @@ fn measure(name: &str, search: &Search, places: usize) {
     let mut told = before.clone();
     assert_eq!(proved::search(search, &mut lent), 11, "{name}");
     assert_eq!(proved::why(search, &mut told), 11, "{name}");
-    assert!(told == why_due(&before, cells, &due), "{name}");
+    assert!(told == why_due(&before, search, cells, &due), "{name}");
     let alone = best(RUNS, || {
         black_box(proved::search(black_box(search), &mut lent));
     });

@@ -121,7 +121,7 @@ fn proved_differs(
     let before = lent(lengths, salt | 1);
     let mut after = before.clone();
     let number = proved::why(&case.search, &mut after);
-    let due = why_due(&before, cells_of(case), expected);
+    let due = why_due(&before, &case.search, cells_of(case), expected);
     let same = [
         ("number", number == u32::from(expected.number())),
         ("path", after.search.path == due.search.path),

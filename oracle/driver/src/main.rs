@@ -1,13 +1,15 @@
-//! The proved search, its reason and the proved tree, called through their archive: compared with the oracle's answers on random
-//! cases, and timed.
+//! The proved search, its reason, the plain engine and the proved tree, called through their archive: compared with the oracle's
+//! answers on random cases, and timed.
 
 mod bench;
 mod bench_modes;
+mod bench_plain;
 mod bench_trees;
 mod bench_whys;
 mod clock;
 mod compare;
 mod compare_modes;
+mod compare_plain;
 mod compare_smallest;
 mod compare_trees;
 mod compare_whys;
@@ -25,12 +27,15 @@ driver compare searches|sheets|modes|whys --seed N --count N [--profile P] [--ag
                 compares random cases, of whys the reason as well, of modes sheets in both; P is tiny, small, middle, large or mixed (the default).
                 oracle (the default): the published Rust and the plain router, which must agree; plain: the latter alone.
                 rich: of the sheets only those that have a tree of two or more sinks with stairs and repeaters
+driver compare plain --seed N --count N [--profile P]
+                compares the plain engine with Dijkstra's rule and with the proved search, a fifth of the inputs damaged
 driver compare smallest compares the smallest inputs of docs/SMALLEST.md
 driver connected --seed N --count N [--profile P]
                 tests on so many trees of random sheets that the whole net hangs together
 driver bench searches   times the proved search, the published Rust and plain Rust over flat arrays
 driver bench whys       times a search without a route, and the same with its reason
 driver bench modes      times the proved tree in both modes
+driver bench plain      times the plain engine beside the proved search, with the number of its sweeps
 driver bench trees [NAME..]
                 times the proved tree and the published Rust: of trees whose names begin so, or all
 driver wraps            shows costs at which the published Rust's sums wrap, and both answers
@@ -96,6 +101,10 @@ fn run(words: &[String]) -> Result<bool, String> {
             draw => Ok(compare_modes::compare(&draw)),
         },
         ["compare", "sheets"] => Ok(compare_trees::compare(&draw(&words[2..])?)),
+        ["compare", "plain"] => match draw(&words[2..])? {
+            draw if draw.rich || !draw.published => Err("no --against, no --only".into()),
+            draw => Ok(compare_plain::compare(&draw)),
+        },
         ["compare", "smallest"] => Ok(compare_smallest::compare()),
         ["connected", ..] => match draw(&words[1..])? {
             draw if draw.rich || !draw.published => Err("no --against, no --only".into()),
@@ -111,6 +120,10 @@ fn run(words: &[String]) -> Result<bool, String> {
         }
         ["bench", "modes"] => {
             bench_modes::bench();
+            Ok(true)
+        }
+        ["bench", "plain"] => {
+            bench_plain::bench();
             Ok(true)
         }
         ["wraps"] => {

@@ -1,7 +1,7 @@
-//! The proved search and the proved tree, through the wrapper of bindings/rust, and memory of any lengths for them.
+//! The proved search, the plain engine and the proved tree, through the wrapper of bindings/rust, and memory of any lengths for them.
 
 use checks::{config_of, dirty_search, dirty_tree, dirty_why, room_of};
-use dustroute::lent::{SearchMemory, TreeMemory, WhyMemory};
+use dustroute::lent::{PlainMemory, SearchMemory, TreeMemory, WhyMemory};
 use oracle::Search;
 
 /// Memory of a search of such lengths, with `byte` in every byte. A place of the queue takes two numbers.
@@ -54,6 +54,16 @@ pub fn why(case: &Search, memory: &mut WhyMemory) -> u32 {
     memory.call(
         room_of(case.sides),
         config_of(&case.config),
+        &case.kinds,
+        case.start as usize,
+        case.goal as usize,
+    )
+}
+
+pub fn plain(case: &Search, memory: &mut PlainMemory) -> u32 {
+    memory.call(
+        room_of(case.sides),
+        config_of(&case.config).costs(),
         &case.kinds,
         case.start as usize,
         case.goal as usize,

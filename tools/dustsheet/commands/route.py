@@ -8,7 +8,7 @@ from typing import List, Optional, Union
 
 import dustroute
 
-from .. import answer as answers, files, job as jobs, report, text as texts
+from .. import answer as answers, crosscheck, files, job as jobs, report, text as texts
 from ..check import Remark, remarks
 from ..progress import Progress
 from ..rules import ample_limit
@@ -16,7 +16,7 @@ from . import sheet as sheets, view as views
 from .given import Given, read
 
 ABOUT = "route a job: a text or a sheet"
-NOT_BUILT, REFUSED = 1, 3
+NOT_BUILT, DIFFERS, REFUSED = 1, 1, 3
 NAME = "dustroute"
 
 
@@ -26,6 +26,8 @@ def configure(parser: argparse.ArgumentParser) -> None:
     parser.add_argument("--strict", action="store_true", help="strict mode: wire neither enters nor rests on air that other nets hold or keep "
                         "clear, or that is reserved; else such air counts as solid, as in the published router")
     parser.add_argument("--json", action="store_true", help="print coordinates and numbers as JSON instead")
+    parser.add_argument("--check", action="store_true", help="then make the tree's searches again beside the plain engine, and tell where "
+                        "they differ; takes longer, in a large maze some seconds a branch")
     parser.add_argument("-q", "--quiet", action="store_true", help="tell nothing of progress")
     parser.set_defaults(run=route)
 
@@ -53,7 +55,8 @@ def route(args: argparse.Namespace) -> int:
     elif job and answer:
         print_out(report.of_net(job, answer, found, args.strict))
     tell(reason, found)
-    return REFUSED if isinstance(answered, dustroute.Refusal) else 0
+    is_sound = not args.check or cross_check(progress, job, answered, args.strict)
+    return REFUSED if isinstance(answered, dustroute.Refusal) else 0 if is_sound else DIFFERS
 
 
 def printed(answered: Answered) -> str:
@@ -76,6 +79,19 @@ def attempt(sheet: bytes, strict: bool) -> Answered:
         return dustroute.route(sheet, strict=strict)
     except dustroute.Refusal as refusal:
         return refusal
+
+
+# ---- beside the plain engine
+
+def cross_check(progress: Progress, job: Optional[jobs.Job], answered: Answered, strict: bool) -> bool:
+    """Whether the tree's searches are as cheap as the plain engine's and its branches their ways. It is told, and where it isn't so."""
+    if job is None or isinstance(answered, dustroute.Refusal):
+        print("%s: checked: nothing, there is no tree" % NAME, file=sys.stderr)
+        return True
+    checked = progress.watch("checking beside the plain engine", lambda: crosscheck.check(job, answered.branches, strict))
+    for line in (checked.words(), *checked.differences):
+        print("%s: %s" % (NAME, line), file=sys.stderr)
+    return not checked.differences
 
 
 # ---- why it was refused

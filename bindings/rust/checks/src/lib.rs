@@ -3,12 +3,13 @@
 //! On 11 the two outputs of `why` hold the reason. The wrapper's tests and the oracle's driver share this.
 
 use cases::Refusal;
+use cases::cheapest::Cheapest;
 use cases::room::MOST_CELLS;
 use cases::search::{Search, SearchAnswer};
 use cases::sheet::{Sheet, TreeAnswer};
 use cases::tree::realize;
 use cases::why::WhyAnswer;
-use dustroute::lent::{SearchMemory, TreeMemory, WhyMemory};
+use dustroute::lent::{PlainMemory, SearchMemory, TreeMemory, WhyMemory};
 use dustroute::{Config, Room};
 
 pub fn room_of([wide, high, deep]: [u8; 3]) -> Room {
@@ -55,6 +56,17 @@ pub fn dirty_why(memory: WhyMemory, byte: u8) -> WhyMemory {
         reached,
         walls,
     }
+}
+
+/// The memory with this in every byte.
+pub fn dirty_plain(mut memory: PlainMemory, byte: u8) -> PlainMemory {
+    let (word, long) = words_of(byte);
+    for buffer in [&mut memory.path, &mut memory.known, &mut memory.previous] {
+        buffer.fill(word);
+    }
+    memory.classes.fill(byte);
+    memory.values.fill(long);
+    memory
 }
 
 /// The memory with this in every byte.
@@ -115,17 +127,42 @@ pub fn search_due(before: &SearchMemory, search: &Search, answer: &SearchAnswer)
     due
 }
 
-/// The memory as this answer leaves it, in a room of so many cells, given what it was before.
-pub fn why_due(before: &WhyMemory, cells: usize, answer: &WhyAnswer) -> WhyMemory {
+/// The memory as this answer to a search leaves it, in a room of so many cells, given what it was before.
+pub fn why_due(before: &WhyMemory, search: &Search, cells: usize, answer: &WhyAnswer) -> WhyMemory {
     if (1..=6).contains(&answer.number()) {
         return before.clone();
     }
     let mut due = dirty_why(before.clone(), 0);
-    due.search = search_due(&before.search, &answer.search);
+    due.search = search_due(&before.search, search, &answer.search);
     due.reached[..cells].copy_from_slice(&answer.reached_bytes(cells));
     let walls = answer.walls_bytes(cells);
     due.walls[..walls.len()].copy_from_slice(&walls);
     due
+}
+
+/// What the plain engine left in memory is not as due, if it is not. Which of the cheapest paths it wrote is free: it must be lawful
+/// and add up, and then determines the rest.
+pub fn plain_fault(case: &Search, due: &Cheapest, number: u32, before: &PlainMemory, after: &PlainMemory) -> Option<&'static str> {
+    if number != u32::from(due.number()) {
+        return Some("number");
+    }
+    let mut memory = dirty_plain(before.clone(), 0);
+    match due {
+        Cheapest::Refused(Refusal { number: 1..=6, .. }) => memory = before.clone(),
+        Cheapest::Refused(refusal) => memory.values[0] = refusal.detail.into(),
+        Cheapest::Cost(cost) => {
+            let Some(path) = after.path.get(..after.values[1] as usize) else {
+                return Some("length");
+            };
+            if case.lawful_cost(path) != Some(*cost) {
+                return Some("path");
+            }
+            memory.path[..path.len()].copy_from_slice(path);
+            memory.values[1] = path.len() as u64;
+            memory.values[2] = *cost;
+        }
+    }
+    (*after != memory).then_some("memory")
 }
 
 /// The memory as this answer to a sheet leaves it, given what it was before.

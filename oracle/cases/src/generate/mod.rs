@@ -9,7 +9,7 @@ mod terrain;
 mod whys;
 
 pub use damage::count_places;
-pub use searches::random_search;
+pub use searches::{random_plain_search, random_search};
 pub use sheets::random_sheet;
 pub use strict::random_strict;
 pub use whys::random_why;

@@ -12,8 +12,18 @@ const SHARES: [usize; 4] = [95, 83, 20, 2];
 
 /// A random search; about one in eight is one that numbers 2 to 6 refuse.
 pub fn random_search(rng: &mut Rng, profile: Profile) -> Search {
+    damaged(rng, profile, 12)
+}
+
+/// A random search for the plain engine; about one in five is damaged.
+pub fn random_plain_search(rng: &mut Rng, profile: Profile) -> Search {
+    damaged(rng, profile, 20)
+}
+
+/// A random search; of a hundred so many are damaged.
+fn damaged(rng: &mut Rng, profile: Profile, percent: usize) -> Search {
     let (room, mut case) = sound_search(rng, profile, |_, _, _, _| {});
-    if rng.percent(12) {
+    if rng.percent(percent) {
         damage_search(rng, &room, &mut case);
     }
     case
