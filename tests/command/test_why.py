@@ -23,6 +23,25 @@ def run(*words, given="", command=COMMANDS[0]):
     return done.returncode, done.stdout.decode(), done.stderr.decode()
 
 
+class Viewed(unittest.TestCase):
+    """`view --why` draws the page that `why -o` draws."""
+    VIEWS = ([str(ROOT / "dustroute"), "view"], [str(ROOT / "tools" / "view")])
+
+    def test_the_same_page(self):
+        with tempfile.TemporaryDirectory() as folder:
+            page = Path(folder, "why.html")
+            self.assertEqual(run(DOOR + ".txt", "-o", str(page)), (0, DOOR_SAYS, ""))
+            for command in self.VIEWS:
+                self.assertEqual(run(DOOR + ".txt", "--why", command=command), (0, page.read_text(encoding="utf-8"), ""))
+
+    def test_nothing_to_draw(self):
+        for words, said in ((("--why", os.path.join(EXAMPLES, "lane.txt")), "view: there is no reason to draw. Wire can get from "),
+                            (("--why", DOOR + ".sheet", DOOR + ".out"), "view: --why takes a job alone")):
+            status, printed, message = run(*words, command=self.VIEWS[0])
+            self.assertEqual((status, printed), (2, ""))
+            self.assertIn(said, message)
+
+
 class Said(unittest.TestCase):
     def test_text_and_sheet_by_either_command(self):
         for command in COMMANDS:

@@ -7,7 +7,8 @@ import xml.etree.ElementTree as ElementTree
 from common import content, random_job
 from dustsheet import text as texts
 from dustsheet.job import AIR, from_bytes
-from dustsheet.reason import BAD_SUPPORT, LINES, OUTSIDE, TAKEN, Question, ReasonDrawing, Surroundings, kinds_of, no_way, page, sentence
+from dustsheet.reason import BAD_SUPPORT, LINES, OUTSIDE, TAKEN, Question, ReasonDrawing, Surroundings, no_way, page, sentence
+from dustsheet.supports import kinds_of
 from dustsheet.rules import approach, late_faults, step, terminal
 
 SVG = "{http://www.w3.org/2000/svg}"

@@ -8,9 +8,10 @@ from html import escape
 from typing import Dict, Iterable, List, NamedTuple, Optional, Set, Tuple
 
 from .drawing import HOVER_CELLS, Drawing, centre, corner
-from .job import AIR, KINDS, Job, Pos, spell
+from .job import KINDS, Job, Pos, spell
 from .page import MODES, count, document, floor_figures, heading, legend, reading_help, sign
 from .rules import step
+from .supports import kinds_of
 from .symbols import CELL, KIND_NAMES
 from .window import Window, window
 
@@ -33,14 +34,6 @@ class Question(NamedTuple):
     job: Job
     start: Pos
     goal: Pos
-
-
-def kinds_of(job: Job) -> bytes:
-    """What each cell holds, in number order."""
-    kinds = bytearray([AIR]) * job.cells()
-    for block in job.blocks:
-        kinds[job.number(block.at)] = block.kind
-    return bytes(kinds)
 
 
 class Surroundings:

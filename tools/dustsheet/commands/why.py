@@ -4,7 +4,7 @@ from __future__ import annotations
 import argparse
 import re
 import sys
-from typing import Tuple
+from typing import Optional, Tuple, Union
 
 import dustroute
 
@@ -13,6 +13,7 @@ from ..job import Job, Pos, spell
 from ..page import count
 from ..progress import Progress
 from ..rules import approach, late_faults, terminal
+from ..supports import kinds_of
 from ..words import sentence
 from .given import read
 
@@ -38,24 +39,40 @@ def position(word: str) -> Pos:
 
 def explain(args: argparse.Namespace) -> int:
     asked = question(read_job(args.file), args.start, args.goal, files.shown(args.file))
-    load(Progress("why", args.quiet))
-    job = asked.job
-    try:
-        answer = dustroute.why(dustroute.Room(*job.sides), reasons.kinds_of(job), job.number(asked.start), job.number(asked.goal),
-                               dustroute.Config(job.limit, *job.costs))
-    except dustroute.Refusal as refusal:
-        raise files.Stop("why: %s%s" % (refusal.words, "; no wall is named" if refusal.number in (12, 13) else ""), REFUSED) from None
-    if isinstance(answer, dustroute.Route):
-        print(way_words(asked, answer))
+    told = answer_of(asked, Progress("why", args.quiet))
+    if isinstance(told, dustroute.Route):
+        print(way_words(asked, told))
         if args.out:
             print("why: there is a way, so no page was drawn", file=sys.stderr)
         return 0
-    told = reasons.Surroundings(asked, answer.reached, ((wall.cell, dustroute.MOVES[wall.move], wall.reason) for wall in answer.walls()))
     if args.out:
         files.write(args.out, reasons.page(files.title(args.file), told).encode(), is_text=True)
     print(reasons.no_way(asked))
     print(reasons.sentence(told))
     return 0
+
+
+def answer_of(asked: reasons.Question, progress: Progress) -> Union[dustroute.Route, reasons.Surroundings]:
+    """What the proved library says: a route, or the cells that wire gets to with what stands round them."""
+    load(progress)
+    job = asked.job
+    try:
+        answer = dustroute.why(dustroute.Room(*job.sides), kinds_of(job), job.number(asked.start), job.number(asked.goal),
+                               dustroute.Config(job.limit, *job.costs))
+    except dustroute.Refusal as refusal:
+        raise files.Stop("why: %s%s" % (refusal.words, "; no wall is named" if refusal.number in (12, 13) else ""), REFUSED) from None
+    if isinstance(answer, dustroute.Route):
+        return answer
+    return reasons.Surroundings(asked, answer.reached, ((wall.cell, dustroute.MOVES[wall.move], wall.reason) for wall in answer.walls()))
+
+
+def page_of(path: str) -> str:
+    """The page that draws why no wire can get from where sink 1 is approached to the source's wire."""
+    asked = question(read_job(path), None, None, files.shown(path))
+    told = answer_of(asked, Progress("view", True))
+    if isinstance(told, dustroute.Route):
+        raise files.Stop("view: there is no reason to draw. " + way_words(asked, told))
+    return reasons.page(files.title(path), told)
 
 
 def way_words(asked: reasons.Question, route: dustroute.Route) -> str:
@@ -77,7 +94,7 @@ def read_job(path: str) -> Job:
     return job
 
 
-def question(job: Job, start: Pos, goal: Pos, shown: str) -> reasons.Question:
+def question(job: Job, start: Optional[Pos], goal: Optional[Pos], shown: str) -> reasons.Question:
     """The search that is asked for: one of the router's own, from sink 1 to the source, where nothing else is said."""
     if start is None or goal is None:
         usual = usual_ends(job, shown)
