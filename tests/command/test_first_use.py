@@ -78,6 +78,6 @@ class FirstUse(test_built.Copy):
                 self.assertEqual(len(pids), 3)
                 process.send_signal(how)
                 self.assertEqual(process.wait(20), status)
-                self.assertEqual([pid for pid in pids if test_built.is_alive(int(pid))], [])
+                self.assertEqual(test_built.left_alive(list(map(int, pids))), [])
                 self.assertNotIn(b"Traceback", process.stderr.read())
 

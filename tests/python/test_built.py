@@ -157,6 +157,14 @@ def is_alive(pid):
         return False
 
 
+def left_alive(pids, seconds=10):
+    """Those of the processes that have not ended within so many seconds: an ended one may take a while to be gone."""
+    end = time.monotonic() + seconds
+    while time.monotonic() < end and any(map(is_alive, pids)):
+        time.sleep(0.05)
+    return [pid for pid in pids if is_alive(pid)]
+
+
 class Ended(Copy):
     """Ctrl-C, TERM and HUP end a build with all its processes."""
 
@@ -180,5 +188,5 @@ class Ended(Copy):
                 self.assertTrue(all(map(is_alive, pids)))
                 process.send_signal(how)
                 self.assertEqual(process.wait(20), status)
-                self.assertEqual([pid for pid in pids if is_alive(pid)], [])
+                self.assertEqual(left_alive(pids), [])
                 self.assertFalse(list(self.root.glob("target/native/*.so*.proved")))
