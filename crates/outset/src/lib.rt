@@ -35,7 +35,7 @@ pub struct Outset {
 }
 
 // Marks the cells of a list of positions.
-fn mark_positions(sheet: &[u8], part: Part, room: Room, marks: &mut [u8])
+pub fn mark_positions(sheet: &[u8], part: Part, room: Room, marks: &mut [u8])
     requires { ⌜ PositionsListed (now sheet) room part (now marks) ⌝ }
     ensures { λ _. ⌜ now (marks .exit) ≡ markedBy (λ v. any (standsAt room v) (positionsIn (now (sheet .entry)) part)) (now (marks .entry)) ⌝ }
 {
@@ -138,7 +138,7 @@ fn block_keepout(room: Room, block: Block, kinds: &[u8], nodes: &[u32], marks: &
 }
 
 // Marks the keepouts that the blocks ask for.
-fn cell_source_keepout(
+pub fn cell_source_keepout(
     sheet: &[u8],
     part: Part,
     room: Room,
@@ -180,7 +180,7 @@ fn take_out_tap(room: Room, marks: &mut [u8], tap: Tap)
 }
 
 // Takes out the net's own terminals and approaches, and the cells right beneath them.
-fn take_out_ends(room: Room, source: usize, taps: Taps, marks: &mut [u8])
+pub fn take_out_ends(room: Room, source: usize, taps: Taps, marks: &mut [u8])
     requires { ⌜ Good room ⌝ }
     requires { ⌜ NetInside room source taps ⌝ }
     requires { ⌜ length (now marks) ≡ volume room ⌝ }

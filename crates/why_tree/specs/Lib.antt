@@ -1,0 +1,2 @@
+pub mod WhyTree
+pub mod ShutInLaws
