@@ -14,7 +14,7 @@ use Rattle.routing.specs.declared.Answer.{Answer}
 use Rattle.routing.specs.declared.Answer.the-variants.{Routed, Refused, NotRouteable, NoRoute, LimitPassed, QueueFull}
 use Rattle.routing.specs.Answers.{Input, answerOf, numberOf, refusalNumber}
 use Rattle.reply.specs.Replies.{noRoute, routeOf}
-use Rattle.dustroute.specs.Export.{Exported, valuesOf, valuesTold}
+use Rattle.exports.specs.Export.{Exported, valuesOf, valuesTold}
 use Rattle.demands.specs.Supports.{TotalsHeld, TotalsTold}
 use Rattle.demands.specs.SupportTheorems.{totals-add-up}
 use Rattle.demands.specs.ExportTheorems.{promised, same}

@@ -9,7 +9,7 @@ use lib.ListN.{length}
 use borrow.Author.Tests.{le-leb}
 use Rattle.routing.specs.declared.Answer.{Answer}
 use Rattle.routing.specs.Answers.{Input, Promise, answerOf, numberOf}
-use Rattle.dustroute.specs.Export.{Exported, exported, valuesTold}
+use Rattle.exports.specs.Export.{Exported, exported, valuesTold}
 use Rattle.demands.specs.Statements.{Meaning}
 use Rattle.demands.specs.Theorems.{third-demand}
 

@@ -1,18 +1,16 @@
 // Why a search found no route, exported for other languages.
-use crate::short_refusal;
-use crate::tell;
 use room::Cost;
 use room::Nodes;
 use room::Room;
 use room::RouterConfig;
 ghost use Rattle.routing.specs.Answers.{input, lengthsOf};
 ghost use Rattle.why.specs.Why.{memory};
-ghost use Rattle.dustroute.specs.Export.{roomOf, configOf};
-ghost use Rattle.dustroute.specs.WhyExport.{WhyExported};
+ghost use Rattle.exports.specs.Export.{roomOf, configOf};
+ghost use Rattle.exports.specs.WhyExport.{WhyExported};
 
 // One search, as `dustroute_search`, that tells why it finds no route, as `why::why_no_route`: on number 11 `reached` marks the
 // cells that lawful steps lead to from the start, and twelve bytes a cell of `walls` say what stands against each of its
-// moves. The number comes back; the values are the search's. See the promise in specs/WhyExport.antt.
+// moves. The number comes back; the values are the search's. See the promise in crate exports, specs/WhyExport.antt.
 #[no_mangle]
 pub extern "C" fn dustroute_why(
     wide: usize,
@@ -48,7 +46,7 @@ pub extern "C" fn dustroute_why(
         support: Cost(support),
     };
     if values.len() < 4 {
-        return reply::refusal_number(short_refusal(room, config));
+        return reply::refusal_number(exports::short_refusal(room, config));
     }
     let answer = why::why_no_route(
         room,
@@ -64,5 +62,5 @@ pub extern "C" fn dustroute_why(
         reached,
         walls,
     );
-    tell(answer, values)
+    exports::tell(answer, values)
 }

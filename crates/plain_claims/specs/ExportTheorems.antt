@@ -11,8 +11,8 @@ use Rattle.routing.specs.declared.Lengths.{Lengths}
 use Rattle.routing.specs.declared.Answer.{Answer}
 use Rattle.routing.specs.Answers as first
 use Rattle.routing.specs.Answers.{Input}
-use Rattle.dustroute.specs.Export.{valuesTold, Exported}
-use Rattle.dustroute.specs.PlainExport.{plainValueCount, plainValues, PlainExported, plain-short, plain-told}
+use Rattle.exports.specs.Export.{valuesTold, Exported}
+use Rattle.exports.specs.PlainExport.{plainValueCount, plainValues, PlainExported, plain-short, plain-told}
 use Rattle.demands.specs.Statements.{Unrefused}
 use Rattle.demands.specs.ExportTheorems.{export-means}
 use Rattle.plain.specs.declared.PlainAnswer.{PlainAnswer}

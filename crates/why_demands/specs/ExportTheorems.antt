@@ -13,8 +13,8 @@ use Rattle.routing.specs.declared.Refusal.{Refusal}
 use Rattle.routing.specs.declared.Refusal.the-variants.{Sides, Config, Buffer, Code, Position}
 use Rattle.routing.specs.Answers.{Input, taskOf, refusalNumber, numberOf}
 use Rattle.why.specs.Why.{Memory, Promise, answerIn}
-use Rattle.dustroute.specs.Export.{shortRefusal, valuesTold}
-use Rattle.dustroute.specs.WhyExport.{WhyExported, exportedWhy}
+use Rattle.exports.specs.Export.{shortRefusal, valuesTold}
+use Rattle.exports.specs.WhyExport.{WhyExported, exportedWhy}
 use Rattle.why_demands.specs.Statements.{WalledIn}
 use Rattle.why_demands.specs.Theorems.{walled-in}
 

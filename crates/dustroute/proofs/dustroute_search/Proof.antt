@@ -1,5 +1,5 @@
 -- `dustroute_search` keeps its promise: too few values, or the answer of the search, told.
-use Rattle.dustroute.specs.ExportLaws.{exported-short, exported-told}
+use Rattle.exports.specs.ExportLaws.{exported-short, exported-told}
 use borrow.Author.Needs.{needs}
 use Rattle.dustroute.proofs.dustroute_search.Statement.{statement}
 use Rattle.dustroute.proofs.dustroute_search.Tie as tie

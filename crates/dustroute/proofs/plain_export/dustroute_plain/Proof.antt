@@ -1,7 +1,7 @@
 -- `dustroute_plain` keeps its promise: too few values, or the answer of the plain engine, told.
 use mathlib.Core.Path.{refl, ap, _∙_}
 use Rattle.routing.specs.Answers.{refusalNumber}
-use Rattle.dustroute.specs.PlainExport.{plain-short, plain-told}
+use Rattle.exports.specs.PlainExport.{plain-short, plain-told}
 use borrow.Author.Needs.{needs}
 use Rattle.dustroute.proofs.plain_export.dustroute_plain.Statement.{statement}
 use Rattle.dustroute.proofs.plain_export.dustroute_plain.Tie as tie

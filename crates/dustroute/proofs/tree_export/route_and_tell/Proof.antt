@@ -1,5 +1,5 @@
 -- `route_and_tell` keeps its promise: too few values, or the answer of the tree, told.
-use Rattle.dustroute.specs.TreeExportLaws.{tree-short, tree-told}
+use Rattle.exports.specs.TreeExportLaws.{tree-short, tree-told}
 use borrow.Author.Needs.{needs}
 use Rattle.dustroute.proofs.tree_export.route_and_tell.Statement.{statement}
 use Rattle.dustroute.proofs.tree_export.route_and_tell.Tie as tie

@@ -1,5 +1,5 @@
 -- `dustroute_why` keeps its promise: too few values, or the answer of `why_no_route`, told.
-use Rattle.dustroute.specs.WhyExportLaws.{why-export-short, why-export-told}
+use Rattle.exports.specs.WhyExportLaws.{why-export-short, why-export-told}
 use borrow.Author.Needs.{needs}
 use Rattle.dustroute.proofs.why_export.dustroute_why.Statement.{statement}
 use Rattle.dustroute.proofs.why_export.dustroute_why.Tie as tie
