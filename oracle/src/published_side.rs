@@ -93,6 +93,28 @@ pub fn world_of(room: &Room, kinds: &[u8]) -> World {
     world
 }
 
+/// The kind of a number.
+pub fn kind_of(number: u8) -> BlockKind {
+    KINDS[usize::from(number)]
+}
+
+/// The room's kinds as they stand in a world.
+pub fn kinds_in(room: &Room, world: &World) -> Vec<u8> {
+    let number = |cell| {
+        let kind = world.kind_at(pos_of(room, cell));
+        KINDS.iter().position(|known| *known == kind)
+    };
+    (0..room.cells())
+        .map(|cell| number(cell).expect("every kind has a number") as u8)
+        .collect()
+}
+
+/// The number of a facing.
+pub fn facing_number(facing: Option<Facing>) -> u8 {
+    let place = FACINGS.iter().position(|known| *known == facing);
+    place.expect("every facing has a number") as u8
+}
+
 /// A job's blocks, a node each, and the shell as a node of its own.
 fn circuit_of(room: &Room, job: &Job) -> PlacementCircuit {
     let mut nodes: BTreeMap<u32, World> = BTreeMap::from([(SHELL_NODE, shell(room))]);

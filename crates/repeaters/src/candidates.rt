@@ -52,7 +52,7 @@ fn facing_by(p: Pos, q: Pos) -> u8
 }
 
 // The facing of a step from cell a to cell b.
-fn facing(room: Room, a: usize, b: usize) -> u8
+pub fn facing(room: Room, a: usize, b: usize) -> u8
     requires { ⌜ Good room ⌝ }
     requires { ⌜ a < volume room ⌝ }
     requires { ⌜ b < volume room ⌝ }

@@ -7,6 +7,7 @@ mod strides;
 mod tails;
 
 use branches::BranchLengths;
+pub use candidates::facing;
 use ends::Taps;
 use links::tree_adjacency;
 use room::Room;

@@ -11,7 +11,7 @@ use room::Room;
 use room::RouterConfig;
 
 // Whether every kind is known.
-fn all_known(kinds: &[u8]) -> bool
+pub fn all_known(kinds: &[u8]) -> bool
     ensures { λ r. ⌜ r ≡ every kindKnown (now (kinds .entry)) ⌝ }
 {
     let n = kinds.len();

@@ -1,0 +1,16 @@
+pub mod Drawing
+pub mod Answers
+pub mod Listing
+pub mod Statements
+pub mod DrawingLaws
+pub mod ListingLaws
+pub mod PromiseLaws
+pub mod RoutePromiseLaws
+pub mod ListPromiseLaws
+pub mod RouteLaws
+pub mod RepeaterLaws
+pub mod Told
+pub mod RouteToldLaws
+pub mod ListToldLaws
+pub mod Theorems
+pub mod Samples

@@ -1,0 +1,2 @@
+pub mod FitLaws
+pub mod Theorems
