@@ -1,12 +1,15 @@
 // One net's router, exported for other languages: numbers pass as themselves, a slice as a pointer and then a length. Here is
 // the search; the others are in the files beside.
 mod drawing_export; // drawing_export.rt: one route drawn
+mod function_export; // function_export.rt: a function file
 mod plain_export; // plain_export.rt: the plain engine
 mod tree_export; // tree_export.rt: the tree
 mod why_export; // why_export.rt: why a search found no route
 
 pub use drawing_export::dustroute_insert_repeaters;
 pub use drawing_export::dustroute_materialize_route;
+pub use function_export::dustroute_read_function;
+pub use function_export::dustroute_write_function;
 pub use plain_export::dustroute_plain;
 pub use tree_export::dustroute_tree;
 pub use tree_export::dustroute_tree_mode;

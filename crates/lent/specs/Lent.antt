@@ -1,4 +1,4 @@
--- What a call leaves in lent memory: numbers 1 to 6 touch nothing; 7 to 15 leave every lent writable buffer zero; a success writes the answer, zeros behind it,
+-- What a call leaves in lent memory: numbers 1 to 6 touch nothing; those above leave every lent writable buffer zero; a success writes the answer, zeros behind it,
 -- and zeroes work memory. Definitions alone.
 use mathlib.Core.Path.{_≡_}
 use mathlib.Core.Bool.{Bool, true}

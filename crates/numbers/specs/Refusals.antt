@@ -67,7 +67,15 @@ noGoalNumber = 14
 abbrev pub branchesFullNumber : ℕ
 branchesFullNumber = 15
 
--- all of them, in their order
+-- a function file's text output is too short
+abbrev pub textShortNumber : ℕ
+textShortNumber = 18
+
+-- a line of a function file that no export has there
+abbrev pub badLineNumber : ℕ
+badLineNumber = 19
+
+-- all of them, in their order; 16 and 17 are no number of anything
 abbrev pub allNumbers : List ℕ
 allNumbers =
     doneNumber
@@ -86,4 +94,6 @@ allNumbers =
     ∷ queueFullNumber
     ∷ noGoalNumber
     ∷ branchesFullNumber
+    ∷ textShortNumber
+    ∷ badLineNumber
     ∷ []
