@@ -1,6 +1,7 @@
 """A job, its bytes, and numbers 1 to 5: docs/RULES.md, The job sheet."""
 from __future__ import annotations
 
+import itertools
 import re
 from dataclasses import dataclass, field
 from typing import Dict, Iterator, List, NamedTuple, Optional, Tuple
@@ -106,11 +107,14 @@ def groups(job: Job) -> List[bytes]:
 
 
 def to_bytes(job: Job) -> bytes:
+    """The job's sheet, whatever the router says of it. `dustroute.write_sheet` gives the same bytes, proved, of what it doesn't refuse."""
     return b"".join(groups(job))
 
 
-def to_hex(job: Job) -> str:
-    return " ".join(group.hex().upper() for group in groups(job)) + "\n"
+def to_hex(job: Job, sheet: bytes) -> str:
+    """The job's sheet as hex digits, with a blank between its groups."""
+    ends = list(itertools.accumulate(map(len, groups(job)), initial=0))
+    return " ".join(sheet[first:end].hex().upper() for first, end in zip(ends, ends[1:])) + "\n"
 
 
 def size(job: Job) -> int:

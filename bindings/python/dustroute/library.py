@@ -98,3 +98,14 @@ def library(say: Optional[Say] = None) -> Library:
         if not _kept:
             _kept.append(Library(str(built.shared_library(say or (lambda line: None)))))
         return _kept[0]
+
+
+def library_if_built() -> Optional[Library]:
+    """The same where it is built; None where it isn't, and nothing is built for it."""
+    with _lock:
+        if not _kept:
+            path = built.shared_library_if_built()
+            if path is None:
+                return None
+            _kept.append(Library(str(path)))
+        return _kept[0]

@@ -3,7 +3,7 @@
 use cases::sheet::TreeAnswer;
 use checks::{dirty_search, dirty_tree, tree_due};
 use dustroute::lent::{SearchMemory, TreeMemory};
-use dustroute::{Block, Config, Endpoint, Facing, Job, JobTooLong, Kind, Port, Position, Refusal, Room, Sheet, route_tree, search};
+use dustroute::{Block, Config, Endpoint, Facing, Job, Kind, Port, Position, Refusal, Room, Sheet, route_tree, search};
 
 fn at(x: u8, y: u8, z: u8) -> Position {
     Position { x, y, z }
@@ -102,20 +102,6 @@ fn bytes_left_over_and_sheets_too_long() {
     bytes.push(0);
     assert_eq!(route_tree(&Sheet::from_bytes(bytes)), Err(Refusal::Sheet));
     assert_eq!(route_tree(&Sheet::from_bytes(vec![1; Sheet::MAX_BYTES + 1])), Err(Refusal::Sheet));
-}
-
-#[test]
-fn jobs_too_long_for_a_sheet() {
-    let mut job = small_job();
-    job.sinks = vec![wire(at(0, 0, 0)); 17];
-    assert_eq!(job.sheet(), Err(JobTooLong));
-    let mut job = small_job();
-    job.reserved = vec![at(0, 0, 0); 65_536];
-    assert_eq!(job.sheet(), Err(JobTooLong));
-    job.reserved.truncate(30_000);
-    assert_eq!(job.sheet(), Err(JobTooLong));
-    job.reserved.truncate(19_000);
-    assert!(job.sheet().is_ok());
 }
 
 type Shorten = fn(&mut TreeMemory);

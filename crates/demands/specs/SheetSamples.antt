@@ -12,8 +12,8 @@ use lib.ListN.{length, replicate, set}
 use Rattle.basics.specs.Folds.{along}
 use Rattle.room.specs.declared.Room.{Room}
 use Rattle.room.specs.declared.Pos.{Pos}
-use Rattle.room.specs.Room.{at, within, posOf, cellOf, moves, between, sidesGood, stays, neighbour, beneath, above, distance, firstBelow}
-use Rattle.room.specs.Units.{solid, facingMove, ahead, usualConfig, configGood}
+use Rattle.room.specs.Room.{at, within, posOf, cellOf, moves, between, stays, neighbour, beneath, above, distance, firstBelow}
+use Rattle.room.specs.Units.{solid, facingMove, ahead, usualConfig}
 use Rattle.ground.specs.declared.Mode.{Mode}
 use Rattle.ground.specs.declared.Mode.the-variants.{Published, Strict}
 use Rattle.best_first.specs.Search.{sooner, least, push, offer, expand, trace, takeOne, takeAll, firstState, bestFirst}
@@ -24,7 +24,8 @@ use Rattle.port_realization.specs.Ports.{terminalOf, approachOf, realizedOf}
 use Rattle.job_sheet.specs.declared.Block.{Block}
 use Rattle.job_sheet.specs.declared.Endpoint.{Endpoint}
 use Rattle.job_sheet.specs.declared.Judgement.the-variants.{Good}
-use Rattle.job_sheet.specs.Sheet.{Contents, maxBytes, maxSinks, bytesOf, rest, bytesBy, firstFault, blockFault, endpointFault, judged}
+use Rattle.job_sheet.specs.Version.{versionOne, versionOf, sidesWithin, configWithin}
+use Rattle.job_sheet.specs.Sheet.{Contents, maxBytes, maxSinks, bytesOf, rest, bytesBy, firstFault, blockFault, endpointFault, sinkFault, judged}
 use Rattle.blocks.specs.declared.Placement.{Placement}
 use Rattle.blocks.specs.Blocks.{ofBlock, tabulated, kindsOf, nodesOf, recordNode, Repeat, each-its-own}
 use Rattle.ends.specs.Ends as endings
@@ -63,8 +64,9 @@ blockedFor J =
     outset-of.blockedAtOutset (kindsOf (J .room) (J .blocks)) (nodesOf (J .room) (J .blocks)) J (outsetFor J .ends .source) (outsetFor J .ends .taps)
 
 comes-by : (mode : Mode) (J : Contents) {sheet : List ℕ} {L : Lengths} {o : TreeOutcome} → bytesOf J ≡ sheet → leb (length sheet) maxBytes ≡ true → leb (length (J .sinks)) maxSinks ≡ true
-    → judged J ≡ Good → buffersGood (J .room) L ≡ true → leb (length (J .blocks)) 1 ≡ true → ready (outsetFor J) ≡ true
+    → judged versionOne J ≡ Good → buffersGood (J .room) L ≡ true → leb (length (J .blocks)) 1 ≡ true → ready (outsetFor J) ≡ true
     → o ≡ jobOutcome mode J L (outsetFor J) (kindsOf (J .room) (J .blocks)) (blockedFor J) → Comes mode sheet L o
+unfolding versionOf
 comes-by mode J {sheet} bytes short few good lent one is-ready is =
     set-out J
     (record { bytes = bytes; short = leb-true (length sheet) maxBytes short; few-sinks = leb-true (length (J .sinks)) maxSinks few })
@@ -149,7 +151,7 @@ row n blocks sink = record {
   terminals = [];
   reserved = [];
   source = wireAt 0;
-  sinks = sink ∷ [];
+  sinks = record { end = sink } ∷ [];
 }
 
 abbrev between-wires : Room → List Pos → Endpoint → Endpoint → Contents
@@ -162,7 +164,7 @@ between-wires room conductors source sink = record {
   terminals = [];
   reserved = [];
   source = source;
-  sinks = sink ∷ [];
+  sinks = record { end = sink } ∷ [];
 }
 
 abbrev onWire : Contents
@@ -218,7 +220,7 @@ AllCome [] = Unit {0}
 AllCome (s ∷ l) = Comes (s .mode) (s .sheet) (lengths (s .cells)) (s .outcome) × AllCome l
 
 pub sheet-samples : AllCome rows
-unfolding bytesBy rest judged firstFault blockFault endpointFault within sidesGood configGood buffersGood routeable searched graphOf movesBy priceOf classFor bearing routeableKind posOf cellOf moves between stays neighbour beneath distance sooner least push offer expand trace takeOne takeAll firstState bestFirst growthOf growFrom growSink afterSink withBranch planted isNetEnd repeatersOf far goesBefore turnOf sinkAt routeToTree bestBelow triedGoal cheaperRoute attempts afterSearch atConflict searchedFor blockedAir seenKinds standsIn conductor upperOfPair firstBelow firstPair atClearance stairConflict conflictAmong withByte clearanceOf isClearance branchOf allButLast above repeaters.isStep repeaters.besideOn repeaters.neighbouring repeaters.cellsPassing repeaters.treeNeighbours walks.meet walks.spread walks.parentsFrom repeaters.facingBy repeaters.straight repeaters.fits repeaters.latest repeaters.earliest repeaters.withRepeater repeaters.resume repeaters.candidate repeaters.stride repeaters.strides repeaters.run repeaters.reinforced along repeaters.planned repeaters.repeaterMarks jobOutcome ofBlock tabulated endings.sourceEnd endings.sinkEnd endings.firstDue endings.tapOf endings.faultOf endings.endsOf terminalOf approachOf realizedOf outset-of.powers outset-of.solidOf outset-of.blockKeepout outset-of.blockedBy outset-of.atOrBeneath outset-of.ownCell outset-of.blockedAtOutset facingMove ahead isNeighbour inKeepout directions
+unfolding bytesBy rest judged firstFault blockFault endpointFault sinkFault within sidesWithin configWithin buffersGood routeable searched graphOf movesBy priceOf classFor bearing routeableKind posOf cellOf moves between stays neighbour beneath distance sooner least push offer expand trace takeOne takeAll firstState bestFirst growthOf growFrom growSink afterSink withBranch planted isNetEnd repeatersOf far goesBefore turnOf sinkAt routeToTree bestBelow triedGoal cheaperRoute attempts afterSearch atConflict searchedFor blockedAir seenKinds standsIn conductor upperOfPair firstBelow firstPair atClearance stairConflict conflictAmong withByte clearanceOf isClearance branchOf allButLast above repeaters.isStep repeaters.besideOn repeaters.neighbouring repeaters.cellsPassing repeaters.treeNeighbours walks.meet walks.spread walks.parentsFrom repeaters.facingBy repeaters.straight repeaters.fits repeaters.latest repeaters.earliest repeaters.withRepeater repeaters.resume repeaters.candidate repeaters.stride repeaters.strides repeaters.run repeaters.reinforced along repeaters.planned repeaters.repeaterMarks jobOutcome ofBlock tabulated endings.sourceEnd endings.sinkEnd endings.firstDue endings.tapOf endings.faultOf endings.endsOf terminalOf approachOf realizedOf outset-of.powers outset-of.solidOf outset-of.blockKeepout outset-of.blockedBy outset-of.atOrBeneath outset-of.ownCell outset-of.blockedAtOutset facingMove ahead isNeighbour inKeepout directions
 sheet-samples =
     let wire : (n x : ℕ) → Contents = λ n x. row n [] (wireAt x) in (
       comes-by Published (wire 20 8) refl refl refl refl refl refl refl refl,

@@ -3,6 +3,7 @@
 mod drawing_export; // drawing_export.rt: one route drawn
 mod function_export; // function_export.rt: a function file
 mod plain_export; // plain_export.rt: the plain engine
+mod sheet_export; // sheet_export.rt: a sheet written
 mod tree_export; // tree_export.rt: the tree
 mod why_export; // why_export.rt: why a search found no route
 
@@ -11,6 +12,7 @@ pub use drawing_export::dustroute_materialize_route;
 pub use function_export::dustroute_read_function;
 pub use function_export::dustroute_write_function;
 pub use plain_export::dustroute_plain;
+pub use sheet_export::dustroute_write_sheet;
 pub use tree_export::dustroute_tree;
 pub use tree_export::dustroute_tree_mode;
 pub use why_export::dustroute_why;

@@ -21,8 +21,9 @@ use Rattle.port_realization.specs.declared.Realized.{Realized}
 use Rattle.port_realization.specs.Ports.{terminalOf}
 use Rattle.port_realization.specs.PortLaws.{terminal-in, sink-inside}
 use Rattle.job_sheet.specs.declared.Endpoint.{Endpoint}
+use Rattle.job_sheet.specs.declared.Sink.{Sink}
 use Rattle.job_sheet.specs.declared.Sinks.{Sinks}
-use Rattle.job_sheet.specs.Sheet.{maxSinks, noEndpoint}
+use Rattle.job_sheet.specs.Sheet.{maxSinks, noSink}
 use Rattle.job_sheet.specs.Accepted.{SinkList}
 use Rattle.ends.specs.declared.Tap.{Tap}
 use Rattle.ends.specs.declared.Taps.{Taps}
@@ -36,8 +37,8 @@ module _ {R : Room} {k : Sinks} (S : SinkList R k) where
   sinks-long = length-take-le (k .count) (k .ends) (omega (arith, S .few, S .whole))
 
   -- the sinks from the i-th on
-  from-sink : (i : ℕ) → i < k .count → drop i (sinksIn k) ≡ getD (k .ends) i noEndpoint ∷ drop (i + 1) (sinksIn k)
-  from-sink i h = rw add-one (slice-cons i (k .count) (k .ends) noEndpoint h (omega (arith, S .few, S .whole)))
+  from-sink : (i : ℕ) → i < k .count → drop i (sinksIn k) ≡ getD (k .ends) i noSink ∷ drop (i + 1) (sinksIn k)
+  from-sink i h = rw add-one (slice-cons i (k .count) (k .ends) noSink h (omega (arith, S .few, S .whole)))
 
 -- ---- the first end for which a number is due
 
@@ -56,7 +57,7 @@ module _ (R : Room) (number : ℕ) (source : Endpoint) {k : Sinks} (S : SinkList
 
   -- it is not due for the source
   module _ (n : dueFor (sourceEnd R source) ≢ number) {i : ℕ} (P : NoneDue R number k i) where
-    pub due-sink : i < k .count → dueFor (sinkEnd R (getD (k .ends) i noEndpoint)) ≡ number → i + 2 ≡ firstDue number 0 (endsAt R source (sinksIn k))
+    pub due-sink : i < k .count → dueFor (sinkEnd R (getD (k .ends) i noSink)) ≡ number → i + 2 ≡ firstDue number 0 (endsAt R source (sinksIn k))
     unfolding firstDue
     due-sink h e = let p = P .same in rw (ne-eqb _ _ n, ← p, from-sink S i h, eq-eqb _ _ e) (omega arith)
 
@@ -68,7 +69,7 @@ module _ (R : Room) (number : ℕ) (source : Endpoint) {k : Sinks} (S : SinkList
         rw (ne-eqb _ _ n, ← p, none)
 
 pub sink-passed : {R : Room} {number : ℕ} {k : Sinks} → SinkList R k → {i : ℕ} → NoneDue R number k i → i < k .count
-    → (dueFor (sinkEnd R (getD (k .ends) i noEndpoint)) ≢ number) → NoneDue R number k (i + 1)
+    → (dueFor (sinkEnd R (getD (k .ends) i noSink)) ≢ number) → NoneDue R number k (i + 1)
 unfolding firstDue
 sink-passed {R = R} {number = number} {k = k} S {i = i} P h n = record { same = step ∙ P .same; so-far = omega arith }
   where
@@ -82,12 +83,12 @@ pub record Tapped (R : Room) (k : Sinks) (taps : List Tap) (i : ℕ) : Type 0 wh
   pub so-far : i ≤ k .count
 
 module _ {R : Room} {k : Sinks} (S : SinkList R k) {taps : List Tap} {i : ℕ} (T : Tapped R k taps i) where
-  pub tap-on : i < k .count → (t : Tap) → t ≡ tapOf R (getD (k .ends) i noEndpoint) → Tapped R k (set taps i t) (i + 1)
+  pub tap-on : i < k .count → (t : Tap) → t ≡ tapOf R (getD (k .ends) i noSink) → Tapped R k (set taps i t) (i + 1)
   tap-on h t e =
       let p = map (tapOf R) (take i (k .ends)) in
       let n : length p ≡ i = length-map (take i (k .ends)) (tapOf R) ∙ length-take-le i (k .ends) (omega (arith, S .few, S .whole)) in
       let m : map (tapOf R) (take (i + 1) (k .ends)) ≡ p ++ (t ∷ []) =
-      rw (add-one i, e) (ap (map (tapOf R)) (take-suc (k .ends) i noEndpoint (omega (arith, S .few, S .whole))) ∙ map-append (tapOf R) (take i (k .ends)) (getD (k .ends) i noEndpoint ∷ [])) in
+      rw (add-one i, e) (ap (map (tapOf R)) (take-suc (k .ends) i noSink (omega (arith, S .few, S .whole))) ∙ map-append (tapOf R) (take i (k .ends)) (getD (k .ends) i noSink ∷ [])) in
       record {
         same =
             ap (λ x. set x i t) (T .same)
@@ -120,7 +121,7 @@ by-none zero zero h g = refl
 by-none zero (suc m) h g = absurd (omega arith)
 by-none (suc n) m h g = absurd (omega arith)
 
-module _ (R : Room) (source : Endpoint) (sinks : List Endpoint) {n : ℕ} (e : n ≡ firstDue portFacingNumber 0 (endsAt R source sinks)) where
+module _ (R : Room) (source : Endpoint) (sinks : List Sink) {n : ℕ} (e : n ≡ firstDue portFacingNumber 0 (endsAt R source sinks)) where
   pub fault-facing : 0 < n → NoFacing (n - 1) ≡ faultOf R source sinks
   unfolding faultOf
   fault-facing h = by-facing n _ h ∙ ap (λ x. faultBy x (firstDue endOutsideNumber 0 (endsAt R source sinks))) e
@@ -134,7 +135,7 @@ module _ (R : Room) (source : Endpoint) (sinks : List Endpoint) {n : ℕ} (e : n
     unfolding faultOf
     fault-none h = by-none n m p h ∙ ap (faultBy n) f ∙ ap (λ x. faultBy x (firstDue endOutsideNumber 0 (endsAt R source sinks))) e
 
-pub ends-is : (R : Room) (e : Endpoint) (es : List Endpoint) {f : Fault} {t : ℕ} {k : Taps}
+pub ends-is : (R : Room) (e : Endpoint) (es : List Sink) {f : Fault} {t : ℕ} {k : Taps}
     → f ≡ faultOf R e es → t ≡ terminalIn (sourceEnd R e) → k ≡ tapsOf R es → _≡_ {A = Ends} (record { fault = f; source = t; taps = k }) (endsOf R e es)
 unfolding endsOf
 ends-is R e es p q r = λ i. record { fault = p i; source = q i; taps = r i }
@@ -170,14 +171,14 @@ source-inside R e w n m = go (terminalOf R (e .at) (e .port) (e .facing)) refl n
     go Terminal.NoFacing q a b = absurd (a refl)
     go Terminal.Outside q a b = absurd (b refl)
 
-tap-inside : (R : Room) (e : Endpoint) → Within R (e .at) → (dueFor (sinkEnd R e) ≢ portFacingNumber) → (dueFor (sinkEnd R e) ≢ endOutsideNumber)
-    → (tapOf R e .terminal < volume R) × (tapOf R e .approach < volume R)
+tap-inside : (R : Room) (k : Sink) → Within R (k .end .at) → (dueFor (sinkEnd R k) ≢ portFacingNumber) → (dueFor (sinkEnd R k) ≢ endOutsideNumber)
+    → (tapOf R k .terminal < volume R) × (tapOf R k .approach < volume R)
 unfolding tapOf sinkEnd
-tap-inside R e w n m = go (sinkEnd R e) refl n m
+tap-inside R k w n m = go (sinkEnd R k) refl n m
   where
-    go : (r : Realized) → sinkEnd R e ≡ r → (dueFor r ≢ portFacingNumber) → (dueFor r ≢ endOutsideNumber)
-        → (tapFrom (eqb (e .port) wire) r .terminal < volume R) × (tapFrom (eqb (e .port) wire) r .approach < volume R)
-    go (Realized.At t a) q x y = let E = sink-inside R (e .at) w (e .port) (e .facing) t a q in (E .terminal-below, E .approach-below)
+    go : (r : Realized) → sinkEnd R k ≡ r → (dueFor r ≢ portFacingNumber) → (dueFor r ≢ endOutsideNumber)
+        → (tapFrom (eqb (k .end .port) wire) r .terminal < volume R) × (tapFrom (eqb (k .end .port) wire) r .approach < volume R)
+    go (Realized.At t a) q x y = let E = sink-inside R (k .end .at) w (k .end .port) (k .end .facing) t a q in (E .terminal-below, E .approach-below)
     go Realized.NoFacing q x y = absurd (x refl)
     go Realized.Outside q x y = absurd (y refl)
 
@@ -188,24 +189,24 @@ mapped-at f (x ∷ xs) (suc i) d e h = mapped-at f xs i d e (omega arith)
 
 -- each sink's tap stands at its place
 module _ {R : Room} {k : Sinks} (S : SinkList R k) where
-  pub tap-at : (i : ℕ) → i < k .count → getD (tapsOf R (sinksIn k) .taps) i noTap ≡ tapOf R (getD (k .ends) i noEndpoint)
+  pub tap-at : (i : ℕ) → i < k .count → getD (tapsOf R (sinksIn k) .taps) i noTap ≡ tapOf R (getD (k .ends) i noSink)
   tap-at i h =
       let l = sinksIn k in
       let b : i < length l = omega (arith, sinks-long S) in
       let m = length-map l (tapOf R) in
       List·getD-append (map (tapOf R) l) (replicate (maxSinks - length l) noTap) noTap i (omega (arith, m))
-      ∙ mapped-at (tapOf R) l i noEndpoint noTap b
-      ∙ ap (tapOf R) (getD-take (k .count) (k .ends) i noEndpoint h)
+      ∙ mapped-at (tapOf R) l i noSink noTap b
+      ∙ ap (tapOf R) (getD-take (k .count) (k .ends) i noSink h)
 
 module _ {R : Room} (source : Endpoint) {k : Sinks} (w : Within R (source .at)) (S : SinkList R k) (good : faultOf R source (sinksIn k) ≡ Good) where
-  none : (number : ℕ) → firstDue number 0 (endsAt R source (sinksIn k)) ≡ 0 → (i : ℕ) → i < k .count → dueFor (sinkEnd R (getD (k .ends) i noEndpoint)) ≢ number
+  none : (number : ℕ) → firstDue number 0 (endsAt R source (sinksIn k)) ≡ 0 → (i : ℕ) → i < k .count → dueFor (sinkEnd R (getD (k .ends) i noSink)) ≢ number
   none number e i h q =
       let l = sinksIn k in
       let b : i < length l = omega (arith, sinks-long S) in
-      let a : getD l i noEndpoint ≡ getD (k .ends) i noEndpoint = getD-take (k .count) (k .ends) i noEndpoint h in
+      let a : getD l i noSink ≡ getD (k .ends) i noSink = getD-take (k .count) (k .ends) i noSink h in
       let m = length-map l (sinkEnd R) in
       none-due number 0 (endsAt R source l) e (suc i) (omega (arith, m)) Realized.Outside
-      (ap dueFor (mapped-at (sinkEnd R) l i noEndpoint Realized.Outside b ∙ ap (sinkEnd R) a) ∙ q)
+      (ap dueFor (mapped-at (sinkEnd R) l i noSink Realized.Outside b ∙ ap (sinkEnd R) a) ∙ q)
 
   pub net-in : NetInside R (terminalIn (sourceEnd R source)) (tapsOf R (sinksIn k))
   unfolding faultOf
@@ -213,7 +214,7 @@ module _ {R : Room} (source : Endpoint) {k : Sinks} (w : Within R (source .at)) 
       let l = sinksIn k in
       let n = sinks-long S in
       let z = by-good _ _ good in
-      let inside : (i : ℕ) → i < length l → (tapOf R (getD (k .ends) i noEndpoint) .terminal < volume R) × (tapOf R (getD (k .ends) i noEndpoint) .approach < volume R) =
+      let inside : (i : ℕ) → i < length l → (tapOf R (getD (k .ends) i noSink) .terminal < volume R) × (tapOf R (getD (k .ends) i noSink) .approach < volume R) =
       λ i h. tap-inside R _ (S .within i (omega (arith, n))) (none portFacingNumber (z .0) i (omega (arith, n))) (none endOutsideNumber (z .1) i (omega (arith, n))) in
       record {
         source-in = source-inside R source w (none-due portFacingNumber 0 (endsAt R source l) (z .0) 0 (omega arith) Realized.Outside) (none-due endOutsideNumber 0 (endsAt R source l) (z .1) 0 (omega arith) Realized.Outside);

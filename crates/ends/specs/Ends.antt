@@ -15,6 +15,7 @@ use Rattle.port_realization.specs.declared.Terminal.{Terminal}
 use Rattle.port_realization.specs.declared.Realized.{Realized}
 use Rattle.port_realization.specs.Ports.{terminalOf, realizedOf}
 use Rattle.job_sheet.specs.declared.Endpoint.{Endpoint}
+use Rattle.job_sheet.specs.declared.Sink.{Sink}
 use Rattle.job_sheet.specs.declared.Sinks.{Sinks}
 use Rattle.job_sheet.specs.Sheet.{maxSinks}
 use Rattle.ends.specs.declared.Tap.{Tap}
@@ -24,7 +25,7 @@ use Rattle.ends.specs.declared.Fault.{Fault}
 use Rattle.ends.specs.declared.Fault.the-variants.{Good, NoFacing, Outside}
 
 -- the sinks in use, of those that travel as one value
-abbrev pub sinksIn : Sinks → List Endpoint
+abbrev pub sinksIn : Sinks → List Sink
 sinksIn k = take (k .count) (k .ends)
 
 -- a source has no approach: its terminal stands for both
@@ -38,8 +39,8 @@ unfoldable pub sourceEnd : Room → Endpoint → Realized
 sourceEnd R e = withoutApproach (terminalOf R (e .at) (e .port) (e .facing))
 
 -- a sink as the wire meets it
-unfoldable pub sinkEnd : Room → Endpoint → Realized
-sinkEnd R e = realizedOf R (e .at) (e .port) (e .facing)
+unfoldable pub sinkEnd : Room → Sink → Realized
+sinkEnd R k = let e = k .end in realizedOf R (e .at) (e .port) (e .facing)
 
 -- the number that is due for an end, 0 for none
 abbrev pub dueFor : Realized → ℕ
@@ -53,7 +54,7 @@ firstDue number place [] = 0
 firstDue number place (r ∷ rs) = either (eqb (dueFor r) number) (suc place) (firstDue number (suc place) rs)
 
 -- the source, then the sinks in sheet order
-abbrev pub endsAt : Room → Endpoint → List Endpoint → List Realized
+abbrev pub endsAt : Room → Endpoint → List Sink → List Realized
 endsAt R source sinks = sourceEnd R source ∷ map (sinkEnd R) sinks
 
 -- what stands in a place of `Taps` that no sink takes
@@ -67,15 +68,15 @@ tapFrom isWire Realized.NoFacing = noTap
 tapFrom isWire Realized.Outside = noTap
 
 -- a sink's tap: its terminal and approach, and whether its port is Wire
-unfoldable pub tapOf : Room → Endpoint → Tap
-tapOf R e = tapFrom (eqb (e .port) wire) (sinkEnd R e)
+unfoldable pub tapOf : Room → Sink → Tap
+tapOf R k = tapFrom (eqb (k .end .port) wire) (sinkEnd R k)
 
 -- the taps in use, one a sink
 abbrev pub tapsIn : Taps → List Tap
 tapsIn k = take (k .count) (k .taps)
 
 -- one tap a sink, then places that hold nothing
-abbrev pub tapsOf : Room → List Endpoint → Taps
+abbrev pub tapsOf : Room → List Sink → Taps
 tapsOf R sinks = record { count = length sinks; taps = map (tapOf R) sinks ++ replicate (maxSinks - length sinks) noTap }
 
 -- the terminal of a source, 0 where a number is due for it
@@ -91,11 +92,11 @@ faultBy zero (suc place) = Outside place
 faultBy zero zero = Good
 
 -- number 8 or 9 with its detail, or neither
-unfoldable pub faultOf : Room → Endpoint → List Endpoint → Fault
+unfoldable pub faultOf : Room → Endpoint → List Sink → Fault
 faultOf R source sinks = faultBy (firstDue portFacingNumber 0 (endsAt R source sinks)) (firstDue endOutsideNumber 0 (endsAt R source sinks))
 
 -- the ends of one net: what `realize_ends` promises
-unfoldable pub endsOf : Room → Endpoint → List Endpoint → Ends
+unfoldable pub endsOf : Room → Endpoint → List Sink → Ends
 endsOf R source sinks = record { fault = faultOf R source sinks; source = terminalIn (sourceEnd R source); taps = tapsOf R sinks }
 
 -- ---- what the functions ask

@@ -1,6 +1,7 @@
 // The ends of one net: numbers 8 and 9, else the source's terminal, and each sink's terminal and approach.
 use job_sheet::Endpoint;
 use job_sheet::MAX_SINKS;
+use job_sheet::Sink;
 use job_sheet::Sinks;
 use port_realization::Realized;
 use port_realization::Terminal;
@@ -53,12 +54,13 @@ fn source_end(room: Room, source: Endpoint) -> Realized
     }
 }
 
-fn sink_end(room: Room, sink: Endpoint) -> Realized
+fn sink_end(room: Room, sink: Sink) -> Realized
     requires { ⌜ Good room ⌝ }
-    requires { ⌜ Within room (sink .at) ⌝ }
+    requires { ⌜ Within room (sink .end .at) ⌝ }
     ensures { λ r. ⌜ r ≡ sinkEnd room sink ⌝ }
 {
-    port_realization::realize_sink_endpoint(room, sink.at, sink.port, sink.facing)
+    let end = sink.end;
+    port_realization::realize_sink_endpoint(room, end.at, end.port, end.facing)
 }
 
 // The number that is due for an end, 0 for none.
@@ -105,16 +107,16 @@ fn no_tap() -> Tap
     }
 }
 
-fn tap_of(room: Room, sink: Endpoint) -> Tap
+fn tap_of(room: Room, sink: Sink) -> Tap
     requires { ⌜ Good room ⌝ }
-    requires { ⌜ Within room (sink .at) ⌝ }
+    requires { ⌜ Within room (sink .end .at) ⌝ }
     ensures { λ r. ⌜ r ≡ tapOf room sink ⌝ }
 {
     match sink_end(room, sink) {
         Realized::At { terminal, approach } => Tap {
             terminal,
             approach,
-            wire: sink.port == room::WIRE,
+            wire: sink.end.port == room::WIRE,
         },
         Realized::NoFacing => no_tap(),
         Realized::Outside => no_tap(),

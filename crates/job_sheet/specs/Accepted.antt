@@ -13,32 +13,33 @@ use Rattle.job_sheet.specs.declared.Part.{Part}
 use Rattle.job_sheet.specs.declared.Sinks.{Sinks}
 use Rattle.job_sheet.specs.declared.Job.{Job}
 use Rattle.job_sheet.specs.declared.Judgement.the-variants.{Good}
-use Rattle.job_sheet.specs.Sheet.{Contents, Means, judged, maxSinks, blockSize, positionSize, behind, noEndpoint, jobOf}
+use Rattle.job_sheet.specs.Version.{versionIn}
+use Rattle.job_sheet.specs.Sheet.{Contents, Means, judged, maxSinks, behind, noSink, jobOf}
 use Rattle.job_sheet.specs.Places.{noBlock, noPosition, blocksIn, positionsIn}
 
 -- the sheet is accepted as this job
 pub record Accepted (sheet : List ℕ) (job : Job) : Type 0 where
   pub contents : Contents
   pub means : Means sheet contents
-  pub good : judged contents ≡ Good
-  pub is : job ≡ jobOf contents
+  pub good : judged (versionIn sheet) contents ≡ Good
+  pub is : job ≡ jobOf (versionIn sheet) contents
 
 -- ---- the lists: where they stand, what they are, and that each record's position is in the room
 
 pub record BlockList (sheet : List ℕ) (R : Room) (p : Part) (bs : List Block) : Type 0 where
-  pub inside : behind blockSize p ≤ length sheet
+  pub inside : behind p ≤ length sheet
   pub are : blocksIn sheet p ≡ bs
   pub within : (i : ℕ) → i < p .count → Within R (getD (blocksIn sheet p) i noBlock .at)
 
 pub record PositionList (sheet : List ℕ) (R : Room) (p : Part) (ps : List Pos) : Type 0 where
-  pub inside : behind positionSize p ≤ length sheet
+  pub inside : behind p ≤ length sheet
   pub are : positionsIn sheet p ≡ ps
   pub within : (i : ℕ) → i < p .count → Within R (getD (positionsIn sheet p) i noPosition)
 
 pub record SinkList (R : Room) (k : Sinks) : Type 0 where
   pub few : k .count ≤ maxSinks
   pub whole : length (k .ends) ≡ maxSinks
-  pub within : (i : ℕ) → i < k .count → Within R (getD (k .ends) i noEndpoint .at)
+  pub within : (i : ℕ) → i < k .count → Within R (getD (k .ends) i noSink .end .at)
 
 pub record Usable (sheet : List ℕ) (job : Job) (J : Contents) : Type 0 where
   pub room-is : job .room ≡ J .room

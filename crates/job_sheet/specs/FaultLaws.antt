@@ -9,17 +9,19 @@ use Rattle.basics.specs.Lists.{every, every-map, every-all, joined, every-joine
 use Rattle.room.specs.declared.Room.{Room}
 use Rattle.room.specs.declared.Pos.{Pos}
 use Rattle.room.specs.declared.RouterConfig.{RouterConfig}
-use Rattle.room.specs.Room.{sidesGood, within}
-use Rattle.room.specs.Units.{configGood}
+use Rattle.room.specs.Room.{within}
 use Rattle.job_sheet.specs.declared.Block.{Block}
 use Rattle.job_sheet.specs.declared.Endpoint.{Endpoint}
 use Rattle.job_sheet.specs.declared.places.Layout.{Layout}
 use Rattle.job_sheet.specs.declared.Part.{Part}
-use Rattle.job_sheet.specs.declared.faults.Records.the-variants.{Blocks, Positions, Endpoints}
+use Rattle.job_sheet.specs.declared.Sink.{Sink}
+use Rattle.job_sheet.specs.declared.Version.{Version}
+use Rattle.job_sheet.specs.declared.faults.Records.the-variants.{Blocks, Positions, Endpoints, Sinks}
 use Rattle.job_sheet.specs.declared.Judgement.{Judgement}
 use Rattle.job_sheet.specs.declared.Judgement.the-variants.{Good, Sheet, Sides, Config, Position, Code}
-use Rattle.job_sheet.specs.Sheet.{Contents, isGood, firstFault, sidesFault, configFault, positionFault, blockFault, endpointFault, faultsOf, judged, blockSize, positionSize, endpointSize, sidesPlace, configPlace}
-use Rattle.job_sheet.specs.Places.{roomIn, configIn, many, blocksIn, positionsIn, endpointsIn, faultsIn, headFault, layoutIn, contentsIn}
+use Rattle.job_sheet.specs.Version.{sidesPlace, configPlace, sidesWithin, configWithin}
+use Rattle.job_sheet.specs.Sheet.{Contents, isGood, firstFault, sidesFault, configFault, positionFault, blockFault, endpointFault, sinkFault, faultsOf, judged}
+use Rattle.job_sheet.specs.Places.{roomIn, configIn, many, blocksIn, positionsIn, sinksIn, faultsIn, headFault, listAt, layoutIn, contentsIn}
 
 pub good-is : (v : Judgement) → isGood v ≡ true → v ≡ Good
 good-is Good e = refl
@@ -29,7 +31,7 @@ good-is Config e = cc
 good-is Position e = cc
 good-is Code e = cc
 
-first-none : firstFault [] ≡ Good
+pub first-none : firstFault [] ≡ Good
 unfolding firstFault
 first-none = refl
 
@@ -44,88 +46,94 @@ good-first v vs e = rw e
 pub only-first : (v : Judgement) → firstFault (v ∷ []) ≡ v
 only-first v = ask (isGood v) (λ e. good-first v [] e ∙ first-none ∙ sym (good-is v e)) (λ e. fault-first v [] e)
 
-first-on : (l m : List Judgement) → firstFault (l ++ m) ≡ firstFault (firstFault l ∷ m)
+pub first-on : (l m : List Judgement) → firstFault (l ++ m) ≡ firstFault (firstFault l ∷ m)
 unfolding firstFault
 first-on [] m = refl
 first-on (v ∷ l) m = ask (isGood v) (λ e. rw (e, first-on l m)) (λ e. rw (e, e))
 
 -- the fault so far, carried from list to list
-carried : Judgement → List (List Judgement) → Judgement
+unfoldable pub carried : Judgement → List (List Judgement) → Judgement
 carried v [] = v
 carried v (l ∷ ls) = carried (firstFault (v ∷ l)) ls
 
-carried-is : (v : Judgement) (ls : List (List Judgement)) → carried v ls ≡ firstFault (v ∷ joined ls)
+pub carried-is : (v : Judgement) (ls : List (List Judgement)) → carried v ls ≡ firstFault (v ∷ joined ls)
 unfolding carried
 carried-is v [] = sym (only-first v)
 carried-is v (l ∷ ls) = carried-is (firstFault (v ∷ l)) ls ∙ sym (first-on (v ∷ l) (joined ls))
 
 -- ---- the faults of a sheet's records
 
-many-map : {X Y : Type 0} (f : X → Y) (value : List ℕ → X) (size n : ℕ) (l : List ℕ) → many (λ m. f (value m)) size n l ≡ map f (many value size n l)
+pub many-map : {X Y : Type 0} (f : X → Y) (value : List ℕ → X) (size n : ℕ) (l : List ℕ) → many (λ m. f (value m)) size n l ≡ map f (many value size n l)
 many-map f value size zero l = refl
 many-map f value size (suc n) l = ap (λ r. f (value l) ∷ r) (many-map f value size n (drop size l))
 
-module _ (R : Room) (s : List ℕ) (p : Part) where
-  blocks-faults : faultsIn R Blocks s p ≡ map (blockFault R) (blocksIn s p)
+module _ (v : Version) (R : Room) (s : List ℕ) (p : Part) where
+  blocks-faults : p .long ≡ v .long → faultsIn v R Blocks s p ≡ map (blockFault R) (blocksIn s p)
   unfolding blocksIn
-  blocks-faults = many-map (blockFault R) _ blockSize (p .count) (drop (p .from) s)
+  blocks-faults e = rw (← e) (many-map (blockFault R) _ (p .size) (p .count) (drop (p .from) s))
 
-  positions-faults : faultsIn R Positions s p ≡ map (positionFault R) (positionsIn s p)
+  positions-faults : p .long ≡ v .long → faultsIn v R Positions s p ≡ map (positionFault R) (positionsIn s p)
   unfolding positionsIn
-  positions-faults = many-map (positionFault R) _ positionSize (p .count) (drop (p .from) s)
+  positions-faults e = rw (← e) (many-map (positionFault R) _ (p .size) (p .count) (drop (p .from) s))
 
-  endpoints-faults : faultsIn R Endpoints s p ≡ map (endpointFault R) (endpointsIn s p)
-  unfolding endpointsIn
-  endpoints-faults = many-map (endpointFault R) _ endpointSize (p .count) (drop (p .from) s)
+  sinks-faults : faultsIn v R Sinks s p ≡ map (sinkFault R) (sinksIn v s p)
+  unfolding sinksIn
+  sinks-faults = many-map (sinkFault R) _ (p .size) (p .count) (drop (p .from) s)
 
 -- the faults of the records, list by list in the sheet's order
-abbrev recordFaults : List ℕ → Room → Layout → List (List Judgement)
-recordFaults s R L =
-    faultsIn R Blocks s (L .blocks)
-    ∷ faultsIn R Positions s (L .conductors)
-    ∷ faultsIn R Positions s (L .clearances)
-    ∷ faultsIn R Positions s (L .terminals)
-    ∷ faultsIn R Positions s (L .reserved)
-    ∷ faultsIn R Endpoints s (L .source)
-    ∷ faultsIn R Endpoints s (L .sinks)
+abbrev recordFaults : Version → List ℕ → Room → Layout → List (List Judgement)
+recordFaults v s R L =
+    faultsIn v R Blocks s (L .blocks)
+    ∷ faultsIn v R Positions s (L .conductors)
+    ∷ faultsIn v R Positions s (L .clearances)
+    ∷ faultsIn v R Positions s (L .terminals)
+    ∷ faultsIn v R Positions s (L .reserved)
+    ∷ faultsIn v R Endpoints s (L .source)
+    ∷ faultsIn v R Sinks s (L .sinks)
     ∷ []
 
--- what the code carries is the judgement
-judged-carried : (s : List ℕ) → carried (headFault (roomIn (drop sidesPlace s)) (configIn (drop configPlace s))) (recordFaults s (roomIn (drop sidesPlace s)) (layoutIn s)) ≡ judged (contentsIn s)
-unfolding judged contentsIn layoutIn
-judged-carried s =
-    let R = roomIn (drop sidesPlace s) in
-    let L = layoutIn s in
-    let head : List Judgement = sidesFault R ∷ configFault (configIn (drop configPlace s)) ∷ [] in
-    carried-is (firstFault head) (recordFaults s R L)
-    ∙ sym (first-on head (joined (recordFaults s R L)))
-    ∙ λ i. firstFault (
-    joined (
-    head
-    ∷ blocks-faults R s (L .blocks) i
-    ∷ positions-faults R s (L .conductors) i
-    ∷ positions-faults R s (L .clearances) i
-    ∷ positions-faults R s (L .terminals) i
-    ∷ positions-faults R s (L .reserved) i
-    ∷ faultsIn R Endpoints s (L .source)
-    ∷ endpoints-faults R s (L .sinks) i
-    ∷ []
-    )
-    )
+module _ (v : Version) (s : List ℕ) where
+  abbrev R₀ : Room
+  R₀ = roomIn (v .long) (drop sidesPlace s)
 
-module _ (s : List ℕ) (R : Room) (C : RouterConfig) (L : Layout) (r : R ≡ roomIn (drop sidesPlace s)) (c : C ≡ configIn (drop configPlace s)) (l : L ≡ layoutIn s) where
-  pub judged-steps : (v₀ v₁ v₂ v₃ v₄ v₅ v₆ v₇ : Judgement)
-      → v₀ ≡ headFault R C
-      → v₁ ≡ firstFault (v₀ ∷ faultsIn R Blocks s (L .blocks))
-      → v₂ ≡ firstFault (v₁ ∷ faultsIn R Positions s (L .conductors))
-      → v₃ ≡ firstFault (v₂ ∷ faultsIn R Positions s (L .clearances))
-      → v₄ ≡ firstFault (v₃ ∷ faultsIn R Positions s (L .terminals))
-      → v₅ ≡ firstFault (v₄ ∷ faultsIn R Positions s (L .reserved))
-      → v₆ ≡ firstFault (v₅ ∷ faultsIn R Endpoints s (L .source))
-      → v₇ ≡ firstFault (v₆ ∷ faultsIn R Endpoints s (L .sinks))
-      → v₇ ≡ judged (contentsIn s)
-  unfolding carried
-  judged-steps v₀ v₁ v₂ v₃ v₄ v₅ v₆ v₇ e₀ e₁ e₂ e₃ e₄ e₅ e₆ e₇ = rw (e₇, e₆, e₅, e₄, e₃, e₂, e₁, e₀, r, c, l) (judged-carried s)
+  abbrev C₀ : RouterConfig
+  C₀ = configIn (drop (configPlace v) s)
+
+  -- what the code carries is the judgement
+  judged-carried : carried (headFault (v .ranges) R₀ C₀) (recordFaults v s R₀ (layoutIn v s)) ≡ judged v (contentsIn v s)
+  unfolding judged contentsIn layoutIn listAt
+  judged-carried =
+      let L = layoutIn v s in
+      let head : List Judgement = sidesFault (v .ranges) R₀ ∷ configFault (v .ranges) C₀ ∷ [] in
+      carried-is (firstFault head) (recordFaults v s R₀ L)
+      ∙ sym (first-on head (joined (recordFaults v s R₀ L)))
+      ∙ λ i. firstFault (
+      joined (
+      head
+      ∷ blocks-faults v R₀ s (L .blocks) refl i
+      ∷ positions-faults v R₀ s (L .conductors) refl i
+      ∷ positions-faults v R₀ s (L .clearances) refl i
+      ∷ positions-faults v R₀ s (L .terminals) refl i
+      ∷ positions-faults v R₀ s (L .reserved) refl i
+      ∷ faultsIn v R₀ Endpoints s (L .source)
+      ∷ sinks-faults v R₀ s (L .sinks) i
+      ∷ []
+      )
+      )
+
+  module _ (R : Room) (C : RouterConfig) (L : Layout) (r : R ≡ R₀) (c : C ≡ C₀) (l : L ≡ layoutIn v s) where
+    pub judged-steps : (v₀ v₁ v₂ v₃ v₄ v₅ v₆ v₇ : Judgement)
+        → v₀ ≡ headFault (v .ranges) R C
+        → v₁ ≡ firstFault (v₀ ∷ faultsIn v R Blocks s (L .blocks))
+        → v₂ ≡ firstFault (v₁ ∷ faultsIn v R Positions s (L .conductors))
+        → v₃ ≡ firstFault (v₂ ∷ faultsIn v R Positions s (L .clearances))
+        → v₄ ≡ firstFault (v₃ ∷ faultsIn v R Positions s (L .terminals))
+        → v₅ ≡ firstFault (v₄ ∷ faultsIn v R Positions s (L .reserved))
+        → v₆ ≡ firstFault (v₅ ∷ faultsIn v R Endpoints s (L .source))
+        → v₇ ≡ firstFault (v₆ ∷ faultsIn v R Sinks s (L .sinks))
+        → v₇ ≡ judged v (contentsIn v s)
+    unfolding carried
+    judged-steps v₀ v₁ v₂ v₃ v₄ v₅ v₆ v₇ e₀ e₁ e₂ e₃ e₄ e₅ e₆ e₇ = rw (e₇, e₆, e₅, e₄, e₃, e₂, e₁, e₀, r, c, l) judged-carried
 
 -- ---- number 1 is no judgement of contents
 
@@ -160,22 +168,26 @@ module _ (R : Room) where
   unfolding endpointFault notSheet
   endpoint-not e = first-not _ (search (and-both, test-not) depth 8)
 
+  sink-not : (k : Sink) → notSheet (sinkFault R k) ≡ true
+  unfolding sinkFault
+  sink-not k = endpoint-not (k .end)
+
 all-not : {X : Type 0} (fault : X → Judgement) → ((x : X) → notSheet (fault x) ≡ true) → (xs : List X) → every notSheet (map fault xs) ≡ true
 all-not fault f xs = rw every-map (every-all (λ x. notSheet (fault x)) f xs)
 
-pub judged-not : (J : Contents) → judged J ≡ Sheet → ⊥
+pub judged-not : (v : Version) (J : Contents) → judged v J ≡ Sheet → ⊥
 unfolding judged notSheet
-judged-not J e =
+judged-not v J e =
     let R = J .room in
-    let all : every (every notSheet) (faultsOf J) ≡ true =
-    and-both (and-both (test-not (sidesGood R) Sides refl) (and-both (test-not (configGood (J .config)) Config refl) refl))
+    let all : every (every notSheet) (faultsOf v J) ≡ true =
+    and-both (and-both (test-not (sidesWithin (v .ranges) R) Sides refl) (and-both (test-not (configWithin (v .ranges) (J .config)) Config refl) refl))
     (and-both (all-not (blockFault R) (block-not R) (J .blocks))
     (and-both (all-not (positionFault R) (position-not R) (J .conductors))
     (and-both (all-not (positionFault R) (position-not R) (J .clearances))
     (and-both (all-not (positionFault R) (position-not R) (J .terminals))
     (and-both (all-not (positionFault R) (position-not R) (J .reserved))
     (and-both (and-both (endpoint-not R (J .source)) refl)
-    (and-both (all-not (endpointFault R) (endpoint-not R) (J .sinks)) refl)))))))
+    (and-both (all-not (sinkFault R) (sink-not R) (J .sinks)) refl)))))))
     in
-    let q : notSheet (judged J) ≡ true = first-not _ (rw every-joined all) in
+    let q : notSheet (judged v J) ≡ true = first-not _ (rw every-joined all) in
     never (cc (ap notSheet e))

@@ -1,3 +1,5 @@
+pub mod Version
+pub mod VersionLaws
 pub mod Sheet
 pub mod Places
 pub mod RecordLaws

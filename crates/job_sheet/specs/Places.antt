@@ -1,7 +1,7 @@
 -- What stands at a place of a sheet, and where its parts stand: the encoding of Sheet.antt read backwards, as the code does it. Past the end every
 -- byte is taken for 0, so that each of these is defined; whether a sheet means anything is asked of the whole.
 use mathlib.Core.Path.{_≡_}
-use mathlib.Core.Bool.{Bool, _&&_}
+use mathlib.Core.Bool.{Bool, true, false, _&&_}
 use mathlib.Core.List.{List, [], _∷_}
 use Prim.Native.Nat.{ℕ, suc, zero, _+_, _*_, _^_, _≤_, _<_}
 use lib.Dec.{leb, eqb}
@@ -13,11 +13,15 @@ use Rattle.room.specs.Room.{at}
 use Rattle.job_sheet.specs.declared.Block.{Block}
 use Rattle.job_sheet.specs.declared.Endpoint.{Endpoint}
 use Rattle.job_sheet.specs.declared.Part.{Part}
+use Rattle.job_sheet.specs.declared.Ranges.{Ranges}
+use Rattle.job_sheet.specs.declared.Sink.{Sink}
+use Rattle.job_sheet.specs.declared.Version.{Version}
 use Rattle.job_sheet.specs.declared.places.Layout.{Layout}
 use Rattle.job_sheet.specs.declared.faults.Records.{Records}
-use Rattle.job_sheet.specs.declared.faults.Records.the-variants.{Blocks, Positions, Endpoints}
+use Rattle.job_sheet.specs.declared.faults.Records.the-variants.{Blocks, Positions, Endpoints, Sinks}
 use Rattle.job_sheet.specs.declared.Judgement.{Judgement}
-use Rattle.job_sheet.specs.Sheet.{Contents, version, maxBytes, maxSinks, blockSize, positionSize, endpointSize, listsPlace, listed, behind, firstFault, sidesFault, configFault, positionFault, blockFault, endpointFault, sidesPlace, configPlace}
+use Rattle.job_sheet.specs.Version.{width, positionSize, blockSize, mostSize, sidesPlace, configPlace, listsPlace}
+use Rattle.job_sheet.specs.Sheet.{Contents, maxBytes, maxSinks, listed, sourceAt, sinksListed, behind, firstFault, sidesFault, configFault, positionFault, blockFault, endpointFault, sinkFault}
 
 -- ---- at byte k of what begins at a place
 
@@ -27,11 +31,16 @@ twoIn l k = getD l k 0 * 256 + getD l (k + 1) 0
 abbrev pub fourIn : List ℕ → ℕ → ℕ
 fourIn l k = twoIn l k * 65536 + twoIn l (k + 2)
 
-abbrev pub positionIn : List ℕ → ℕ → Pos
-positionIn l k = at (getD l k 0) (getD l (k + 1) 0) (getD l (k + 2) 0)
+-- of two bytes where it is long
+abbrev pub coordinateIn : Bool → List ℕ → ℕ → ℕ
+coordinateIn false l k = getD l k 0
+coordinateIn true l k = twoIn l k
 
-abbrev pub roomIn : List ℕ → Room
-roomIn l = record { wide = getD l 0 0; high = getD l 1 0; deep = getD l 2 0 }
+abbrev pub positionIn : Bool → List ℕ → ℕ → Pos
+positionIn long l k = at (coordinateIn long l k) (coordinateIn long l (k + width long)) (coordinateIn long l (k + width long + width long))
+
+abbrev pub roomIn : Bool → List ℕ → Room
+roomIn long l = let p = positionIn long l 0 in record { wide = p .x; high = p .y; deep = p .z }
 
 abbrev pub configIn : List ℕ → RouterConfig
 configIn l = record {
@@ -43,16 +52,19 @@ configIn l = record {
 
 -- ---- records
 
-abbrev pub blockIn : List ℕ → Block
-blockIn l = record { node = twoIn l 0; at = positionIn l 2; kind = getD l 5 0; facing = getD l 6 0 }
+abbrev pub blockIn : Bool → List ℕ → Block
+blockIn long l = record {
+  node = twoIn l 0;
+  at = positionIn long l 2;
+  kind = getD l (2 + positionSize long) 0;
+  facing = getD l (3 + positionSize long) 0;
+}
 
-abbrev pub endpointIn : List ℕ → Endpoint
-endpointIn l = record { at = positionIn l 0; port = getD l 3 0; facing = getD l 4 0 }
+abbrev pub endpointIn : Bool → List ℕ → Endpoint
+endpointIn long l = record { at = positionIn long l 0; port = getD l (positionSize long) 0; facing = getD l (positionSize long + 1) 0 }
 
-abbrev pub sizeOf : Records → ℕ
-sizeOf Blocks = blockSize
-sizeOf Positions = positionSize
-sizeOf Endpoints = endpointSize
+abbrev pub sinkIn : Version → List ℕ → Sink
+sinkIn v l = record { end = endpointIn (v .long) l }
 
 -- n records, each of the same size, from the front
 abbrev pub many : {X : Type 0} → (List ℕ → X) → ℕ → ℕ → List ℕ → List X
@@ -67,101 +79,120 @@ noBlock = record { node = 0; at = noPosition; kind = 0; facing = 0 }
 
 -- the records of a part of the sheet
 unfoldable pub blocksIn : List ℕ → Part → List Block
-blocksIn s p = many blockIn blockSize (p .count) (drop (p .from) s)
+blocksIn s p = many (blockIn (p .long)) (p .size) (p .count) (drop (p .from) s)
 
 unfoldable pub positionsIn : List ℕ → Part → List Pos
-positionsIn s p = many (λ l. positionIn l 0) positionSize (p .count) (drop (p .from) s)
+positionsIn s p = many (λ l. positionIn (p .long) l 0) (p .size) (p .count) (drop (p .from) s)
 
-unfoldable pub endpointsIn : List ℕ → Part → List Endpoint
-endpointsIn s p = many endpointIn endpointSize (p .count) (drop (p .from) s)
+unfoldable pub sinksIn : Version → List ℕ → Part → List Sink
+sinksIn v s p = many (sinkIn v) (p .size) (p .count) (drop (p .from) s)
 
 -- what is wrong with the record at the front, and with each record of a part
-abbrev pub faultIn : Room → Records → List ℕ → Judgement
-faultIn R Blocks l = blockFault R (blockIn l)
-faultIn R Positions l = positionFault R (positionIn l 0)
-faultIn R Endpoints l = endpointFault R (endpointIn l)
+abbrev pub faultIn : Version → Room → Records → List ℕ → Judgement
+faultIn v R Blocks l = blockFault R (blockIn (v .long) l)
+faultIn v R Positions l = positionFault R (positionIn (v .long) l 0)
+faultIn v R Endpoints l = endpointFault R (endpointIn (v .long) l)
+faultIn v R Sinks l = sinkFault R (sinkIn v l)
 
-abbrev pub faultsIn : Room → Records → List ℕ → Part → List Judgement
-faultsIn R k s p = many (faultIn R k) (sizeOf k) (p .count) (drop (p .from) s)
+abbrev pub faultsIn : Version → Room → Records → List ℕ → Part → List Judgement
+faultsIn v R k s p = many (faultIn v R k) (p .size) (p .count) (drop (p .from) s)
 
 -- numbers 2 and 3
-abbrev pub headFault : Room → RouterConfig → Judgement
-headFault R C = firstFault (sidesFault R ∷ configFault C ∷ [])
+abbrev pub headFault : Ranges → Room → RouterConfig → Judgement
+headFault g R C = firstFault (sidesFault g R ∷ configFault g C ∷ [])
 
 -- ---- the whole sheet
 
--- the list whose count stands at a place
-unfoldable pub listAt : List ℕ → ℕ → Part
-listAt s place = listed place (twoIn (drop place s) 0)
+-- the list whose count stands at a place, of records of a size, with long coordinates or not
+unfoldable pub listAt : List ℕ → Bool → ℕ → ℕ → Part
+listAt s long size place = listed long size place (twoIn (drop place s) 0)
 
 -- "one-byte sink count": the sinks whose count stands at a place
-unfoldable pub sinksAt : List ℕ → ℕ → Part
-sinksAt s place = record { from = place + 1; count = getD (drop place s) 0 0 }
+unfoldable pub sinksAt : Version → List ℕ → ℕ → Part
+sinksAt v s place = sinksListed v place (getD (drop place s) 0 0)
 
-unfoldable pub layoutIn : List ℕ → Layout
-layoutIn s =
-    let b = listAt s listsPlace in
-    let c = listAt s (behind blockSize b) in
-    let l = listAt s (behind positionSize c) in
-    let t = listAt s (behind positionSize l) in
-    let r = listAt s (behind positionSize t) in
+unfoldable pub layoutIn : Version → List ℕ → Layout
+layoutIn v s =
+    let long = v .long in
+    let b = listAt s long (blockSize long) (listsPlace v) in
+    let c = listAt s long (positionSize long) (behind b) in
+    let l = listAt s long (positionSize long) (behind c) in
+    let t = listAt s long (positionSize long) (behind l) in
+    let r = listAt s long (positionSize long) (behind t) in
+    let e = sourceAt v (behind r) in
     record {
       blocks = b;
       conductors = c;
       clearances = l;
       terminals = t;
       reserved = r;
-      source = record { from = behind positionSize r; count = 1 };
-      sinks = sinksAt s (behind positionSize r + endpointSize);
+      source = e;
+      sinks = sinksAt v s (behind e);
     }
 
-unfoldable pub contentsIn : List ℕ → Contents
-contentsIn s =
-    let L = layoutIn s in
+unfoldable pub contentsIn : Version → List ℕ → Contents
+contentsIn v s =
+    let L = layoutIn v s in
     record {
-      room = roomIn (drop sidesPlace s);
-      config = configIn (drop configPlace s);
+      room = roomIn (v .long) (drop sidesPlace s);
+      config = configIn (drop (configPlace v) s);
       blocks = blocksIn s (L .blocks);
       conductors = positionsIn s (L .conductors);
       clearances = positionsIn s (L .clearances);
       terminals = positionsIn s (L .terminals);
       reserved = positionsIn s (L .reserved);
-      source = endpointIn (drop (L .source .from) s);
-      sinks = endpointsIn s (L .sinks);
+      source = endpointIn (v .long) (drop (L .source .from) s);
+      sinks = sinksIn v s (L .sinks);
     }
 
--- none of the reasons for number 1: of how many bytes a sheet has, its version, its "length of the rest", its sink count, and whether its parts end
--- where it does
-unfoldable pub shapeHolds : ℕ → ℕ → ℕ → ℕ → Bool → Bool
-shapeHolds bytes first rest sinks whole = leb bytes maxBytes && (eqb first version && (eqb (rest + sidesPlace) bytes && (leb sinks maxSinks && whole)))
+-- none of the reasons for number 1: of how many bytes a sheet has, its first byte, the number of the version that it is read in, its "length of the
+-- rest", its sink count, and whether its parts end where it does
+unfoldable pub shapeHolds : ℕ → ℕ → ℕ → ℕ → ℕ → Bool → Bool
+shapeHolds bytes first number rest sinks whole =
+    leb bytes maxBytes && (eqb first number && (eqb (rest + sidesPlace) bytes && (leb sinks maxSinks && whole)))
 
-unfoldable pub shaped : List ℕ → Bool
-shaped s =
-    let sinks = layoutIn s .sinks in
-    shapeHolds (length s) (getD s 0 0) (fourIn (drop 1 s) 0) (sinks .count) (eqb (behind endpointSize sinks) (length s))
+unfoldable pub shaped : Version → List ℕ → Bool
+shaped v s =
+    let sinks = layoutIn v s .sinks in
+    shapeHolds (length s) (getD s 0 0) (v .number) (fourIn (drop 1 s) 0) (sinks .count) (eqb (behind sinks) (length s))
 
 -- none of the reasons for number 1, one by one
-pub record Shaped (s : List ℕ) : Type 0 where
+pub record Shaped (v : Version) (s : List ℕ) : Type 0 where
   pub short : length s ≤ maxBytes
-  pub of-version : getD s 0 0 ≡ version
+  pub of-version : getD s 0 0 ≡ v .number
   pub rest-long : fourIn (drop 1 s) 0 + sidesPlace ≡ length s
-  pub few-sinks : layoutIn s .sinks .count ≤ maxSinks
-  pub whole : behind endpointSize (layoutIn s .sinks) ≡ length s
+  pub few-sinks : layoutIn v s .sinks .count ≤ maxSinks
+  pub whole : behind (layoutIn v s .sinks) ≡ length s
 
--- the layout of a sheet; its sinks' place and count are small enough for the sums behind them
-pub record LaidOut (s : List ℕ) (L : Layout) : Type 0 where
-  pub is : L ≡ layoutIn s
+-- the place behind a part; it is small enough for the sums behind it
+pub record Behind (p : Part) (place : ℕ) : Type 0 where
+  pub is : place ≡ behind p
+  pub near : place ≤ p .from + mostSize * 65536
+
+-- the layout of a sheet; its sinks' place, count and size are small enough for the sums behind them
+pub record LaidOut (v : Version) (s : List ℕ) (L : Layout) : Type 0 where
+  pub is : L ≡ layoutIn v s
   pub sinks-near : L .sinks .from < 2 ^ 32
   pub sinks-most : L .sinks .count < 256
+  pub size-most : L .sinks .size ≤ mostSize
 
 -- the list whose count stands at a place, and what that count can be
-pub record Listed (s : List ℕ) (place : ℕ) (r : Part) : Type 0 where
-  pub is : r ≡ listAt s place
+pub record Listed (s : List ℕ) (long : Bool) (size place : ℕ) (r : Part) : Type 0 where
+  pub is : r ≡ listAt s long size place
   pub from-is : r .from ≡ place + 2
+  pub size-is : r .size ≡ size
   pub count-most : r .count < 2 ^ 16
 
+-- the source, which is one record
+pub record SourceListed (v : Version) (place : ℕ) (r : Part) : Type 0 where
+  pub is : r ≡ sourceAt v place
+  pub from-is : r .from ≡ place
+  pub size-most : r .size ≤ mostSize
+  pub count-is : r .count ≡ 1
+
 -- the sinks whose count stands at a place, and what that count can be
-pub record SinksListed (s : List ℕ) (place : ℕ) (r : Part) : Type 0 where
-  pub is : r ≡ sinksAt s place
+pub record SinksListed (v : Version) (s : List ℕ) (place : ℕ) (r : Part) : Type 0 where
+  pub is : r ≡ sinksAt v s place
   pub from-is : r .from ≡ place + 1
+  pub size-most : r .size ≤ mostSize
   pub count-most : r .count < 256

@@ -13,46 +13,48 @@ use Rattle.job_sheet.specs.declared.places.Layout.{Layout}
 use Rattle.job_sheet.specs.declared.Sinks.{Sinks}
 use Rattle.job_sheet.specs.declared.Job.{Job}
 use Rattle.job_sheet.specs.declared.Reading.{Reading}
+use Rattle.job_sheet.specs.declared.Version.{Version}
 use Rattle.job_sheet.specs.declared.Judgement.{Judgement}
 use Rattle.job_sheet.specs.declared.Judgement.the-variants.{Sheet}
-use Rattle.job_sheet.specs.Sheet.{Contents, Means, isGood, judged, endpointSize, sinksOf, layoutOf, jobOf, refused, Read, meaning, means-nothing, sidesPlace, configPlace}
-use Rattle.job_sheet.specs.Places.{roomIn, configIn, endpointIn, endpointsIn, layoutIn, contentsIn, shapeHolds, shaped, Shaped}
+use Rattle.job_sheet.specs.Version.{versionIn, sidesPlace, configPlace}
+use Rattle.job_sheet.specs.Sheet.{Contents, MeansBy, isGood, judged, sinksOf, layoutOf, jobOf, refused, Read, meaning, means-nothing}
+use Rattle.job_sheet.specs.Places.{roomIn, configIn, endpointIn, sinkIn, sinksIn, layoutIn, contentsIn, shapeHolds, shaped, Shaped}
 use Rattle.job_sheet.specs.RecordLaws.{Bytes, many-long}
 use Rattle.job_sheet.specs.LayoutLaws.{layout-back, shaped-back, bytes-forth}
 use Rattle.job_sheet.specs.FaultLaws.{good-is}
 
-pub shaped-is : (s : List ℕ) → shaped s ≡ true → Shaped s
+pub shaped-is : (v : Version) (s : List ℕ) → shaped v s ≡ true → Shaped v s
 unfolding shaped shapeHolds
-shaped-is s e = record { short = search passed; of-version = search passed; rest-long = search passed; few-sinks = search passed; whole = search passed }
+shaped-is v s e = record { short = search passed; of-version = search passed; rest-long = search passed; few-sinks = search passed; whole = search passed }
 
-shaped-passes : (s : List ℕ) → Shaped s → shaped s ≡ true
+shaped-passes : (v : Version) (s : List ℕ) → Shaped v s → shaped v s ≡ true
 unfolding shaped shapeHolds
-shaped-passes s S =
+shaped-passes v s S =
     and-both (le-leb _ _ (S .short))
     (and-both (eq-eqb _ _ (S .of-version)) (and-both (eq-eqb _ _ (S .rest-long)) (and-both (le-leb _ _ (S .few-sinks)) (eq-eqb _ _ (S .whole)))))
 
-means-shaped : (s : List ℕ) (J : Contents) → Means s J → Shaped s
-means-shaped s J m = rw (m .bytes) at (shaped-back J (rw (m .bytes) (m .short)) (m .few-sinks))
+means-shaped : (v : Version) (s : List ℕ) (J : Contents) → MeansBy v s J → Shaped v s
+means-shaped v s J m = rw (m .bytes) at (shaped-back v J (rw (m .bytes) (m .short)) (m .few-sinks))
 
-module _ (s : List ℕ) (b : Bytes s) (S : Shaped s) where
-  shaped-means : Means s (contentsIn s)
-  unfolding contentsIn endpointsIn
+module _ (v : Version) (s : List ℕ) (b : Bytes s) (S : Shaped v s) where
+  shaped-means : MeansBy v s (contentsIn v s)
+  unfolding contentsIn sinksIn
   shaped-means = record {
-    bytes = bytes-forth s b S;
+    bytes = bytes-forth v s b S;
     short = S .short;
-    few-sinks = rw (many-long endpointIn endpointSize (layoutIn s .sinks .count) (drop (layoutIn s .sinks .from) s)) (S .few-sinks);
+    few-sinks = rw (many-long (sinkIn v) (layoutIn v s .sinks .size) (layoutIn v s .sinks .count) (drop (layoutIn v s .sinks .from) s)) (S .few-sinks);
   }
 
-  layout-forth : layoutOf (contentsIn s) ≡ layoutIn s
-  layout-forth = sym (layout-back (contentsIn s)) ∙ ap layoutIn (bytes-forth s b S)
+  layout-forth : layoutOf v (contentsIn v s) ≡ layoutIn v s
+  layout-forth = sym (layout-back v (contentsIn v s)) ∙ ap (layoutIn v) (bytes-forth v s b S)
 
   -- the job that is put together from the parts
   pub job-forth : (R : Room) (C : RouterConfig) (L : Layout) (e : Endpoint) (k : Sinks)
-      → R ≡ roomIn (drop sidesPlace s)
-      → C ≡ configIn (drop configPlace s)
-      → L ≡ layoutIn s
-      → e ≡ endpointIn (drop (L .source .from) s)
-      → k ≡ sinksOf (endpointsIn s (L .sinks))
+      → R ≡ roomIn (v .long) (drop sidesPlace s)
+      → C ≡ configIn (drop (configPlace v) s)
+      → L ≡ layoutIn v s
+      → e ≡ endpointIn (v .long) (drop (L .source .from) s)
+      → k ≡ sinksOf (sinksIn v s (L .sinks))
       → _≡_ {A = Job} (record {
         room = R;
         config = C;
@@ -63,12 +65,12 @@ module _ (s : List ℕ) (b : Bytes s) (S : Shaped s) where
         reserved = L .reserved;
         source = e;
         sinks = k;
-      }) (jobOf (contentsIn s))
+      }) (jobOf v (contentsIn v s))
   unfolding jobOf contentsIn
   job-forth R C L e k r c l p q =
-      let f : L ≡ layoutOf (contentsIn s) = l ∙ sym layout-forth in
-      let source : e ≡ endpointIn (drop (layoutIn s .source .from) s) = p ∙ ap (λ M. endpointIn (drop (M .source .from) s)) l in
-      let sinks : k ≡ sinksOf (endpointsIn s (layoutIn s .sinks)) = q ∙ ap (λ M. sinksOf (endpointsIn s (M .sinks))) l in
+      let f : L ≡ layoutOf v (contentsIn v s) = l ∙ sym layout-forth in
+      let source : e ≡ endpointIn (v .long) (drop (layoutIn v s .source .from) s) = p ∙ ap (λ M. endpointIn (v .long) (drop (M .source .from) s)) l in
+      let sinks : k ≡ sinksOf (sinksIn v s (layoutIn v s .sinks)) = q ∙ ap (λ M. sinksOf (sinksIn v s (M .sinks))) l in
       λ i. record {
         room = r i;
         config = c i;
@@ -81,12 +83,16 @@ module _ (s : List ℕ) (b : Bytes s) (S : Shaped s) where
         sinks = sinks i;
       }
 
-  pub read-refused : (v : Judgement) → v ≡ judged (contentsIn s) → isGood v ≡ false → (r : Reading) → r ≡ refused v → Read s r
-  read-refused v j f r e = meaning (contentsIn s) shaped-means (rw (← j, f) e)
+  -- in the version of the sheet's first byte
+  module _ (n : v ≡ versionIn s) where
+    pub read-refused : (f : Judgement) → f ≡ judged v (contentsIn v s) → isGood f ≡ false → (r : Reading) → r ≡ refused f → Read s r
+    read-refused f j g r e = meaning (contentsIn v s) (rw (← n) shaped-means) (rw (← n, ← j, g) e)
 
-  pub read-accepted : (v : Judgement) → v ≡ judged (contentsIn s) → isGood v ≡ true → (job : Job) → job ≡ jobOf (contentsIn s)
-      → Read s (record { judgement = v; job = job })
-  read-accepted v j g job e = meaning (contentsIn s) shaped-means (rw (← j, g) (λ i. record { judgement = good-is v g i; job = e i }))
+    pub read-accepted : (f : Judgement) → f ≡ judged v (contentsIn v s) → isGood f ≡ true → (job : Job) → job ≡ jobOf v (contentsIn v s)
+        → Read s (record { judgement = f; job = job })
+    read-accepted f j g job e =
+        meaning (contentsIn v s) (rw (← n) shaped-means) (rw (← n, ← j, g) (λ i. record { judgement = good-is f g i; job = e i }))
 
-pub read-nothing : (s : List ℕ) → shaped s ≡ false → (r : Reading) → r ≡ refused Sheet → Read s r
-read-nothing s f r e = means-nothing (λ J m. let p : shaped s ≡ true = shaped-passes s (means-shaped s J m) in never (cc)) e
+pub read-nothing : (v : Version) (s : List ℕ) → v ≡ versionIn s → shaped v s ≡ false → (r : Reading) → r ≡ refused Sheet → Read s r
+read-nothing v s n f r e =
+    means-nothing (λ J m. let p : shaped v s ≡ true = shaped-passes v s (means-shaped v s J (rw n m)) in never (cc)) e

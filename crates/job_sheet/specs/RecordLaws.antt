@@ -1,18 +1,22 @@
 -- Records are read back as they were written, and written as they were read: first one record of each sort, then lists of them.
 use mathlib.Core.Path.{_≡_, refl, sym, ap, _∙_}
+use mathlib.Core.Bool.{Bool, true, false}
 use mathlib.Core.List.{List, [], _∷_, _++_, map, append-assoc}
 use Prim.Native.Nat.{ℕ, suc, zero, _+_, _*_, _/_, _%_, _≤_, _<_}
-use native.Mathlib.Nat.{div-add-mod', mul-suc, mul-zero, add-zero, add-suc, suc-add, add-comm}
+use native.Mathlib.Nat.{div-add-mod', le-of-lt, mul-le-mul-left, mul-suc, mul-zero, add-zero, add-suc, suc-add, add-comm}
 use native.Mathlib.Omega.{arith}
 use lib.Arith.{digits-div, digits-mod}
 use lib.ListN.{length, getD, drop, length-append, length-drop}
 use lib.Seq.{drop-cons, drop-at, drop-drop, getD-drop}
 use Rattle.basics.specs.Lists.{joined}
 use Rattle.room.specs.declared.Pos.{Pos}
+use Rattle.room.specs.Room.{at}
 use Rattle.job_sheet.specs.declared.Block.{Block}
 use Rattle.job_sheet.specs.declared.Part.{Part}
-use Rattle.job_sheet.specs.Sheet.{two, four, sides, costs, position, block, endpoint, blockSize, positionSize, endpointSize}
-use Rattle.job_sheet.specs.Places.{twoIn, fourIn, roomIn, configIn, positionIn, blockIn, endpointIn, many, noBlock, noPosition, blocksIn, positionsIn}
+use Rattle.job_sheet.specs.declared.Version.{Version}
+use Rattle.job_sheet.specs.Version.{positionSize, blockSize, endpointSize, sinkSize, configSize}
+use Rattle.job_sheet.specs.Sheet.{two, four, sides, costs, position, block, endpoint, sink, behind}
+use Rattle.job_sheet.specs.Places.{twoIn, fourIn, coordinateIn, roomIn, configIn, positionIn, blockIn, endpointIn, sinkIn, many, noBlock, noPosition, blocksIn, positionsIn}
 
 -- ---- bytes
 
@@ -46,6 +50,11 @@ module _ (l : List ℕ) (b : Bytes l) (k : ℕ) where
   two-small : twoIn l k < 65536
   two-small = omega (arith, b k, b (k + 1))
 
+-- a coordinate of one byte or two
+pub coordinate-small : (long : Bool) (l : List ℕ) → Bytes l → (k : ℕ) → coordinateIn long l k < 65536
+coordinate-small false l b k = omega (arith, b k)
+coordinate-small true l b k = two-small l b k
+
 four-forth : (l : List ℕ) → Bytes l → (k : ℕ) → four (fourIn l k) ≡ (getD l k 0 ∷ getD l (k + 1) 0 ∷ []) ++ (getD l (k + 2) 0 ∷ getD l (k + 2 + 1) 0 ∷ [])
 four-forth l b k =
     let h = two-small l b (k + 2) in
@@ -60,10 +69,15 @@ pub record Coding {X : Type 0} (bytes : X → List ℕ) (value : List ℕ → X)
 pub fours : Coding four (λ l. fourIn l 0) 4
 fours = record { sized = λ x. refl; back = four-back; forth = λ l b h. (λ i. four-forth l b 0 i ++ drop 4 l) ∙ span-drop 4 0 l h }
 
-pub rooms : Coding sides roomIn 3
-rooms = record { sized = λ x. refl; back = λ x l. refl; forth = λ l b h. span-drop 3 0 l h }
+pub rooms : (long : Bool) → Coding (sides long) (roomIn long) (positionSize long)
+rooms false = record { sized = λ x. refl; back = λ x l. refl; forth = λ l b h. span-drop 3 0 l h }
+rooms true = record {
+  sized = λ x. refl;
+  back = λ x l i. record { wide = div-add-mod' (x .wide) 256 i; high = div-add-mod' (x .high) 256 i; deep = div-add-mod' (x .deep) 256 i };
+  forth = λ l b h. (λ i. joined (two-forth l b 0 i ∷ two-forth l b 2 i ∷ two-forth l b 4 i ∷ []) ++ drop 6 l) ∙ span-drop 6 0 l h;
+}
 
-pub configs : Coding costs configIn 16
+pub configs : Coding costs configIn configSize
 configs = record {
   sized = λ x. refl;
   back = λ x l i. record {
@@ -75,25 +89,49 @@ configs = record {
   forth = λ l b h. (λ i. joined (four-forth l b 0 i ∷ four-forth l b 4 i ∷ four-forth l b 8 i ∷ four-forth l b 12 i ∷ []) ++ drop 16 l) ∙ span-drop 16 0 l h;
 }
 
-pub positions : Coding position (λ l. positionIn l 0) positionSize
-positions = record { sized = λ x. refl; back = λ x l. refl; forth = λ l b h. span-drop 3 0 l h }
+long-back : (p : Pos) → _≡_ {A = Pos} (at (p .x / 256 * 256 + p .x % 256) (p .y / 256 * 256 + p .y % 256) (p .z / 256 * 256 + p .z % 256)) p
+long-back p i = at (div-add-mod' (p .x) 256 i) (div-add-mod' (p .y) 256 i) (div-add-mod' (p .z) 256 i)
 
-pub endpoints : Coding endpoint endpointIn endpointSize
-endpoints = record { sized = λ x. refl; back = λ x l. refl; forth = λ l b h. span-drop 5 0 l h }
+pub positions : (long : Bool) → Coding (position long) (λ l. positionIn long l 0) (positionSize long)
+positions false = record { sized = λ x. refl; back = λ x l. refl; forth = λ l b h. span-drop 3 0 l h }
+positions true = record {
+  sized = λ x. refl;
+  back = λ x l. long-back x;
+  forth = λ l b h. (λ i. joined (two-forth l b 0 i ∷ two-forth l b 2 i ∷ two-forth l b 4 i ∷ []) ++ drop 6 l) ∙ span-drop 6 0 l h;
+}
 
-pub blocks : Coding block blockIn blockSize
-blocks = record {
+pub endpoints : (long : Bool) → Coding (endpoint long) (endpointIn long) (endpointSize long)
+endpoints false = record { sized = λ x. refl; back = λ x l. refl; forth = λ l b h. span-drop 5 0 l h }
+endpoints true = record {
+  sized = λ x. refl;
+  back = λ x l i. record { at = long-back (x .at) i; port = x .port; facing = x .facing };
+  forth = λ l b h. (λ i. joined (two-forth l b 0 i ∷ two-forth l b 2 i ∷ two-forth l b 4 i ∷ []) ++ (span 2 6 l ++ drop 8 l)) ∙ span-drop 8 0 l h;
+}
+
+pub sinks : (v : Version) → Coding (sink v) (sinkIn v) (sinkSize v)
+sinks v =
+    let K = endpoints (v .long) in
+    record { sized = λ x. K .sized (x .end); back = λ x l i. record { end = K .back (x .end) l i }; forth = λ l b h. K .forth l b h }
+
+pub blocks : (long : Bool) → Coding (block long) (blockIn long) (blockSize long)
+blocks false = record {
   sized = λ x. refl;
   back = λ x l i. record { node = div-add-mod' (x .node) 256 i; at = x .at; kind = x .kind; facing = x .facing };
   forth = λ l b h. (λ i. two-forth l b 0 i ++ (span 5 2 l ++ drop 7 l)) ∙ span-drop 7 0 l h;
 }
+blocks true = record {
+  sized = λ x. refl;
+  back = λ x l i. record { node = div-add-mod' (x .node) 256 i; at = long-back (x .at) i; kind = x .kind; facing = x .facing };
+  forth = λ l b h.
+      (λ i. joined (two-forth l b 0 i ∷ two-forth l b 2 i ∷ two-forth l b 4 i ∷ two-forth l b 6 i ∷ []) ++ (span 2 8 l ++ drop 10 l)) ∙ span-drop 10 0 l h;
+}
 
 -- ---- lists of records
 
-next-size : (size n : ℕ) → size * suc n ≡ size + size * n
+pub next-size : (size n : ℕ) → size * suc n ≡ size + size * n
 next-size size n = rw mul-suc (add-comm (size * n) size)
 
-next-drop : (size n : ℕ) (l : List ℕ) → drop (size * suc n) l ≡ drop (size * n) (drop size l)
+pub next-drop : (size n : ℕ) (l : List ℕ) → drop (size * suc n) l ≡ drop (size * n) (drop size l)
 next-drop size n l = rw (next-size size n, ← drop-drop (size * n) size l)
 
 module _ {X : Type 0} (value : List ℕ → X) (size : ℕ) where
@@ -131,17 +169,22 @@ module _ {X : Type 0} {bytes : X → List ℕ} {value : List ℕ → X} {size : 
 module _ (sheet : List ℕ) (p : Part) where
   pub blocks-long : length (blocksIn sheet p) ≡ p .count
   unfolding blocksIn
-  blocks-long = many-long blockIn blockSize (p .count) (drop (p .from) sheet)
+  blocks-long = many-long (blockIn (p .long)) (p .size) (p .count) (drop (p .from) sheet)
 
   pub positions-long : length (positionsIn sheet p) ≡ p .count
   unfolding positionsIn
-  positions-long = many-long (λ l. positionIn l 0) positionSize (p .count) (drop (p .from) sheet)
+  positions-long = many-long (λ l. positionIn (p .long) l 0) (p .size) (p .count) (drop (p .from) sheet)
 
   module _ (i : ℕ) (h : i < p .count) where
-    pub block-at : (r : Block) → r ≡ blockIn (drop (p .from + blockSize * i) sheet) → r ≡ getD (blocksIn sheet p) i noBlock
-    unfolding blocksIn
-    block-at r e = rw (many-at blockIn blockSize (p .count) i (drop (p .from) sheet) noBlock h, drop-drop (blockSize * i) (p .from) sheet) e
+    -- record i begins before the part's end
+    pub record-near : behind p ≤ length sheet → p .from + p .size * i ≤ length sheet
+    record-near inside = omega (arith, inside, mul-le-mul-left (p .size) (le-of-lt h))
 
-    pub position-at : (r : Pos) → r ≡ positionIn (drop (p .from + positionSize * i) sheet) 0 → r ≡ getD (positionsIn sheet p) i noPosition
+    pub block-at : (r : Block) → r ≡ blockIn (p .long) (drop (p .from + p .size * i) sheet) → r ≡ getD (blocksIn sheet p) i noBlock
+    unfolding blocksIn
+    block-at r e = rw (many-at (blockIn (p .long)) (p .size) (p .count) i (drop (p .from) sheet) noBlock h, drop-drop (p .size * i) (p .from) sheet) e
+
+    pub position-at : (r : Pos) → r ≡ positionIn (p .long) (drop (p .from + p .size * i) sheet) 0 → r ≡ getD (positionsIn sheet p) i noPosition
     unfolding positionsIn
-    position-at r e = rw (many-at (λ l. positionIn l 0) positionSize (p .count) i (drop (p .from) sheet) noPosition h, drop-drop (positionSize * i) (p .from) sheet) e
+    position-at r e =
+        rw (many-at (λ l. positionIn (p .long) l 0) (p .size) (p .count) i (drop (p .from) sheet) noPosition h, drop-drop (p .size * i) (p .from) sheet) e

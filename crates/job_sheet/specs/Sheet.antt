@@ -12,38 +12,30 @@ use Rattle.basics.specs.Lists.{joined}
 use Rattle.room.specs.declared.Room.{Room}
 use Rattle.room.specs.declared.Pos.{Pos}
 use Rattle.room.specs.declared.RouterConfig.{RouterConfig}
-use Rattle.room.specs.Room.{at, sidesGood, within}
-use Rattle.room.specs.Units.{air, kindKnown, facingKnown, portKnown, configGood}
+use Rattle.room.specs.Room.{at, within}
+use Rattle.room.specs.Units.{air, kindKnown, facingKnown, portKnown}
 use Rattle.job_sheet.specs.declared.Block.{Block}
 use Rattle.job_sheet.specs.declared.Endpoint.{Endpoint}
 use Rattle.job_sheet.specs.declared.Part.{Part}
 use Rattle.job_sheet.specs.declared.places.Layout.{Layout}
+use Rattle.job_sheet.specs.declared.Ranges.{Ranges}
+use Rattle.job_sheet.specs.declared.Sink.{Sink}
 use Rattle.job_sheet.specs.declared.Sinks.{Sinks}
+use Rattle.job_sheet.specs.declared.Version.{Version}
 use Rattle.job_sheet.specs.declared.Job.{Job}
 use Rattle.job_sheet.specs.declared.Reading.{Reading}
 use Rattle.job_sheet.specs.declared.Judgement.{Judgement}
 use Rattle.job_sheet.specs.declared.Judgement.the-variants.{Good, Sheet, Sides, Config, Position, Code}
+use Rattle.job_sheet.specs.Version.{versionOne, versionIn, positionSize, blockSize, endpointSize, sinkSize, listsPlace, sidesWithin, configWithin}
 
--- ---- the version of a sheet and its limits
+-- ---- the limits of a sheet, in every version
 
--- the version byte of a sheet and its two limits
-pub record Limits : Type 0 where
-  pub version : ℕ
-  pub maxBytes : ℕ
-  pub maxSinks : ℕ
-
--- "version byte 1", "At most 60,000 bytes in all", "0 to 16" sinks
-abbrev pub limits : Limits
-limits = record { version = 1; maxBytes = 60000; maxSinks = 16 }
-
-abbrev pub version : ℕ
-version = limits .version
-
+-- "At most 60,000 bytes in all", "0 to 16" sinks
 abbrev pub maxBytes : ℕ
-maxBytes = limits .maxBytes
+maxBytes = 60000
 
 abbrev pub maxSinks : ℕ
-maxSinks = limits .maxSinks
+maxSinks = 16
 
 -- ---- what a sheet says
 
@@ -56,7 +48,7 @@ pub record Contents : Type 0 where
   pub terminals : List Pos
   pub reserved : List Pos
   pub source : Endpoint
-  pub sinks : List Endpoint
+  pub sinks : List Sink
 
 -- ---- the bytes that say it
 
@@ -67,65 +59,77 @@ two n = n / 256 ∷ n % 256 ∷ []
 abbrev pub four : ℕ → List ℕ
 four n = two (n / 65536) ++ two (n % 65536)
 
+-- a side or a coordinate, of two bytes where it is long
+abbrev pub coordinate : Bool → ℕ → List ℕ
+coordinate false n = n ∷ []
+coordinate true n = two n
+
 -- "X, Y, Z"
-abbrev pub sides : Room → List ℕ
-sides R = R .wide ∷ R .high ∷ R .deep ∷ []
+abbrev pub sides : Bool → Room → List ℕ
+sides long R = joined (coordinate long (R .wide) ∷ coordinate long (R .high) ∷ coordinate long (R .deep) ∷ [])
 
 -- "node limit, horizontal, stair, support cost (four bytes each)"
 abbrev pub costs : RouterConfig → List ℕ
 costs C = joined (four (C .limit .0) ∷ four (C .horizontal .0) ∷ four (C .stair .0) ∷ four (C .support .0) ∷ [])
 
 -- "x, y, z"
-abbrev pub position : Pos → List ℕ
-position p = p .x ∷ p .y ∷ p .z ∷ []
+abbrev pub position : Bool → Pos → List ℕ
+position long p = joined (coordinate long (p .x) ∷ coordinate long (p .y) ∷ coordinate long (p .z) ∷ [])
 
 -- "node two bytes, x, y, z, kind, facing"
-abbrev pub block : Block → List ℕ
-block b = joined (two (b .node) ∷ position (b .at) ∷ (b .kind ∷ b .facing ∷ []) ∷ [])
+abbrev pub block : Bool → Block → List ℕ
+block long b = joined (two (b .node) ∷ position long (b .at) ∷ (b .kind ∷ b .facing ∷ []) ∷ [])
 
 -- "x, y, z, port kind, facing"
-abbrev pub endpoint : Endpoint → List ℕ
-endpoint e = position (e .at) ++ (e .port ∷ e .facing ∷ [])
+abbrev pub endpoint : Bool → Endpoint → List ℕ
+endpoint long e = position long (e .at) ++ (e .port ∷ e .facing ∷ [])
+
+-- "sinks as the source"
+abbrev pub sink : Version → Sink → List ℕ
+sink v k = endpoint (v .long) (k .end)
 
 -- "lists with two-byte counts"
 abbrev pub counted : {X : Type 0} → (X → List ℕ) → List X → List ℕ
 counted bytes xs = two (length xs) ++ joined (map bytes xs)
 
--- "one-byte sink count", "sinks as the source"
-abbrev pub sinkBytes : List Endpoint → List ℕ
-sinkBytes es = length es ∷ joined (map endpoint es)
+-- "one-byte sink count", then the sinks
+abbrev pub sinkBytes : Version → List Sink → List ℕ
+sinkBytes v ks = length ks ∷ joined (map (sink v) ks)
 
 -- "then X, Y, Z; node limit, ..": all that stands behind the length
-unfoldable pub rest : Contents → List ℕ
-rest J =
+unfoldable pub rest : Version → Contents → List ℕ
+rest v J =
+    let long = v .long in
     joined (
-    sides (J .room)
+    sides long (J .room)
     ∷ costs (J .config)
-    ∷ counted block (J .blocks)
-    ∷ counted position (J .conductors)
-    ∷ counted position (J .clearances)
-    ∷ counted position (J .terminals)
-    ∷ counted position (J .reserved)
-    ∷ endpoint (J .source)
-    ∷ sinkBytes (J .sinks)
+    ∷ counted (block long) (J .blocks)
+    ∷ counted (position long) (J .conductors)
+    ∷ counted (position long) (J .clearances)
+    ∷ counted (position long) (J .terminals)
+    ∷ counted (position long) (J .reserved)
+    ∷ endpoint long (J .source)
+    ∷ sinkBytes v (J .sinks)
     ∷ []
     )
 
--- "version byte 1, four-byte length of the rest"
-unfoldable pub bytesBy : Limits → Contents → List ℕ
-bytesBy L J = L .version ∷ (four (length (rest J)) ++ rest J)
+-- "version byte, four-byte length of the rest"
+unfoldable pub bytesBy : Version → Contents → List ℕ
+bytesBy v J = v .number ∷ (four (length (rest v J)) ++ rest v J)
 
+-- those of version 1
 abbrev pub bytesOf : Contents → List ℕ
-bytesOf J = bytesBy limits J
+bytesOf J = bytesBy versionOne J
 
--- the sheet means J. Where it means nothing, number 1 is due: "sheet length, version, count past the end, bytes left over, over 16 sinks"
-pub record MeansBy (L : Limits) (sheet : List ℕ) (J : Contents) : Type 0 where
-  pub bytes : bytesBy L J ≡ sheet
-  pub short : length sheet ≤ L .maxBytes
-  pub few-sinks : length (J .sinks) ≤ L .maxSinks
+-- the sheet means J in a version
+pub record MeansBy (v : Version) (sheet : List ℕ) (J : Contents) : Type 0 where
+  pub bytes : bytesBy v J ≡ sheet
+  pub short : length sheet ≤ maxBytes
+  pub few-sinks : length (J .sinks) ≤ maxSinks
 
+-- and in that of its first byte. Where it means nothing, number 1 is due: "sheet length, version, count past the end, bytes left over, over 16 sinks"
 abbrev pub Means : List ℕ → Contents → Type 0
-Means sheet J = MeansBy limits sheet J
+Means sheet J = MeansBy (versionIn sheet) sheet J
 
 -- ---- how it is judged: numbers 2 and 3, "then record by record 4 before 5". The first fault decides
 
@@ -143,11 +147,12 @@ unfoldable pub firstFault : List Judgement → Judgement
 firstFault [] = Good
 firstFault (v ∷ vs) = either (isGood v) (firstFault vs) v
 
-abbrev pub sidesFault : Room → Judgement
-sidesFault R = either (sidesGood R) Good Sides
+-- at the ranges of the sheet's version
+abbrev pub sidesFault : Ranges → Room → Judgement
+sidesFault g R = either (sidesWithin g R) Good Sides
 
-abbrev pub configFault : RouterConfig → Judgement
-configFault C = either (configGood C) Good Config
+abbrev pub configFault : Ranges → RouterConfig → Judgement
+configFault g C = either (configWithin g C) Good Config
 
 -- "a position outside the room"
 abbrev pub positionFault : Room → Pos → Judgement
@@ -166,22 +171,25 @@ blockFault R b =
 unfoldable pub endpointFault : Room → Endpoint → Judgement
 endpointFault R e = firstFault (positionFault R (e .at) ∷ codeFault (portKnown (e .port)) ∷ codeFault (facingKnown (e .facing)) ∷ [])
 
+unfoldable pub sinkFault : Room → Sink → Judgement
+sinkFault R k = endpointFault R (k .end)
+
 -- what is judged, in its order: 2, 3, then the records as the sheet has them
-abbrev pub faultsOf : Contents → List (List Judgement)
-faultsOf J =
+abbrev pub faultsOf : Version → Contents → List (List Judgement)
+faultsOf v J =
     let R = J .room in
-    (sidesFault R ∷ configFault (J .config) ∷ [])
+    (sidesFault (v .ranges) R ∷ configFault (v .ranges) (J .config) ∷ [])
     ∷ map (blockFault R) (J .blocks)
     ∷ map (positionFault R) (J .conductors)
     ∷ map (positionFault R) (J .clearances)
     ∷ map (positionFault R) (J .terminals)
     ∷ map (positionFault R) (J .reserved)
     ∷ (endpointFault R (J .source) ∷ [])
-    ∷ map (endpointFault R) (J .sinks)
+    ∷ map (sinkFault R) (J .sinks)
     ∷ []
 
-unfoldable pub judged : Contents → Judgement
-judged J = firstFault (joined (faultsOf J))
+unfoldable pub judged : Version → Contents → Judgement
+judged v J = firstFault (joined (faultsOf v J))
 
 -- the numbers that come back
 abbrev pub numberOf : Judgement → ℕ
@@ -194,64 +202,57 @@ numberOf Code = codeNumber
 
 -- ---- what the reading answers
 
--- what stands in a place of `Sinks` that no sink takes
 abbrev pub noEndpoint : Endpoint
 noEndpoint = record { at = at 0 0 0; port = 0; facing = 0 }
 
+-- what stands in a place of `Sinks` that no sink takes
+abbrev pub noSink : Sink
+noSink = record { end = noEndpoint }
+
 -- "The sixteen sinks with their count travel as one value": those of the sheet, then places that hold nothing
-abbrev pub sinksOf : List Endpoint → Sinks
-sinksOf es = record { count = length es; ends = es ++ replicate (maxSinks - length es) noEndpoint }
-
--- where the sides, the config and the first list begin
-abbrev pub sidesPlace : ℕ
-sidesPlace = 5
-
-abbrev pub configPlace : ℕ
-configPlace = 8
-
-abbrev pub listsPlace : ℕ
-listsPlace = 24
-
--- the bytes of a record
-abbrev pub blockSize : ℕ
-blockSize = 7
-
-abbrev pub positionSize : ℕ
-positionSize = 3
-
-abbrev pub endpointSize : ℕ
-endpointSize = 5
+abbrev pub sinksOf : List Sink → Sinks
+sinksOf ks = record { count = length ks; ends = ks ++ replicate (maxSinks - length ks) noSink }
 
 -- Where the parts of a sheet stand. A list's records begin at `from`, behind its count, which stands right behind the part before it
-abbrev pub listed : ℕ → ℕ → Part
-listed place n = record { from = place + 2; count = n }
+abbrev pub listed : Bool → ℕ → ℕ → ℕ → Part
+listed long size place n = record { from = place + 2; count = n; size = size; long = long }
+
+-- the source is one record
+abbrev pub sourceAt : Version → ℕ → Part
+sourceAt v place = record { from = place; count = 1; size = endpointSize (v .long); long = v .long }
+
+-- the sinks' records begin behind their count of one byte
+abbrev pub sinksListed : Version → ℕ → ℕ → Part
+sinksListed v place n = record { from = place + 1; count = n; size = sinkSize v; long = v .long }
 
 -- the place right behind a part
-abbrev pub behind : ℕ → Part → ℕ
-behind size p = p .from + size * p .count
+abbrev pub behind : Part → ℕ
+behind p = p .from + p .size * p .count
 
 -- the parts in the sheet's order, from the first list on
-unfoldable pub layoutOf : Contents → Layout
-layoutOf J =
-    let b = listed listsPlace (length (J .blocks)) in
-    let c = listed (behind blockSize b) (length (J .conductors)) in
-    let l = listed (behind positionSize c) (length (J .clearances)) in
-    let t = listed (behind positionSize l) (length (J .terminals)) in
-    let r = listed (behind positionSize t) (length (J .reserved)) in
+unfoldable pub layoutOf : Version → Contents → Layout
+layoutOf v J =
+    let long = v .long in
+    let b = listed long (blockSize long) (listsPlace v) (length (J .blocks)) in
+    let c = listed long (positionSize long) (behind b) (length (J .conductors)) in
+    let l = listed long (positionSize long) (behind c) (length (J .clearances)) in
+    let t = listed long (positionSize long) (behind l) (length (J .terminals)) in
+    let r = listed long (positionSize long) (behind t) (length (J .reserved)) in
+    let e = sourceAt v (behind r) in
     record {
       blocks = b;
       conductors = c;
       clearances = l;
       terminals = t;
       reserved = r;
-      source = record { from = behind positionSize r; count = 1 };
-      sinks = record { from = behind positionSize r + endpointSize + 1; count = length (J .sinks) };
+      source = e;
+      sinks = sinksListed v (behind e) (length (J .sinks));
     }
 
 -- the lists stay in the sheet's bytes
-unfoldable pub jobOf : Contents → Job
-jobOf J =
-    let L = layoutOf J in
+unfoldable pub jobOf : Version → Contents → Job
+jobOf v J =
+    let L = layoutOf v J in
     record {
       room = J .room;
       config = J .config;
@@ -266,7 +267,7 @@ jobOf J =
 
 -- on a refusal
 abbrev pub noPart : Part
-noPart = record { from = 0; count = 0 }
+noPart = record { from = 0; count = 0; size = 0; long = false }
 
 unfoldable pub noJob : Job
 noJob = record {
@@ -281,17 +282,17 @@ noJob = record {
   sinks = sinksOf [];
 }
 
-abbrev pub accepted : Contents → Reading
-accepted J = record { judgement = Good; job = jobOf J }
+abbrev pub accepted : Version → Contents → Reading
+accepted v J = record { judgement = Good; job = jobOf v J }
 
 abbrev pub refused : Judgement → Reading
-refused v = record { judgement = v; job = noJob }
+refused f = record { judgement = f; job = noJob }
 
 -- the job where no number is due, else that number
-abbrev pub answer : Contents → Reading
-answer J = either (isGood (judged J)) (accepted J) (refused (judged J))
+abbrev pub answer : Version → Contents → Reading
+answer v J = either (isGood (judged v J)) (accepted v J) (refused (judged v J))
 
 -- r is right for the sheet: it answers what the sheet means, or number 1 where it means nothing
 pub data Read (sheet : List ℕ) (r : Reading) : Type 0 where
-  meaning : (J : Contents) → Means sheet J → r ≡ answer J → Read sheet r
+  meaning : (J : Contents) → Means sheet J → r ≡ answer (versionIn sheet) J → Read sheet r
   means-nothing : ((J : Contents) → Means sheet J → ⊥) → r ≡ refused Sheet → Read sheet r

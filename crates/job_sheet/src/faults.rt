@@ -3,12 +3,17 @@ ghost use mathlib.Core.Path.{_≡_};
 ghost use mathlib.Core.List.{_∷_};
 ghost use Prim.Native.Nat.{_+_, _^_, _≤_, _<_};
 ghost use lib.ListN.{length, drop};
-ghost use Rattle.job_sheet.specs.Sheet.{firstFault, positionFault, blockFault, endpointFault, judged, behind};
-ghost use Rattle.job_sheet.specs.Places.{sizeOf, faultIn, faultsIn, headFault, layoutIn, contentsIn, Shaped};
+ghost use Rattle.room.specs.Room.{between};
+ghost use Rattle.job_sheet.specs.Version.{sidesWithin, configWithin, Searchable};
+ghost use Rattle.job_sheet.specs.Sheet.{firstFault, positionFault, blockFault, endpointFault, sinkFault, judged, behind};
+ghost use Rattle.job_sheet.specs.Places.{faultIn, faultsIn, headFault, layoutIn, contentsIn, Shaped};
 use crate::Block;
 use crate::Endpoint;
 use crate::Judgement;
 use crate::Part;
+use crate::Ranges;
+use crate::Sink;
+use crate::Version;
 use crate::places;
 use crate::places::Layout;
 use room::Pos;
@@ -20,9 +25,10 @@ enum Records {
     Blocks,
     Positions,
     Endpoints,
+    Sinks,
 }
 
-fn position_fault(room: Room, p: Pos) -> Judgement
+pub fn position_fault(room: Room, p: Pos) -> Judgement
     ensures { λ r. ⌜ r ≡ positionFault room p ⌝ }
 {
     if room.within(p) {
@@ -32,7 +38,7 @@ fn position_fault(room: Room, p: Pos) -> Judgement
     }
 }
 
-fn block_fault(room: Room, block: Block) -> Judgement
+pub fn block_fault(room: Room, block: Block) -> Judgement
     ensures { λ r. ⌜ r ≡ blockFault room block ⌝ }
 {
     if !room.within(block.at) {
@@ -51,7 +57,7 @@ fn block_fault(room: Room, block: Block) -> Judgement
     }
 }
 
-fn endpoint_fault(room: Room, endpoint: Endpoint) -> Judgement
+pub fn endpoint_fault(room: Room, endpoint: Endpoint) -> Judgement
     ensures { λ r. ⌜ r ≡ endpointFault room endpoint ⌝ }
 {
     if !room.within(endpoint.at) {
@@ -67,28 +73,29 @@ fn endpoint_fault(room: Room, endpoint: Endpoint) -> Judgement
     }
 }
 
-impl Records {
-    // How many bytes each takes.
-    fn size(self) -> usize
-        ensures { λ r. ⌜ r ≡ sizeOf self ⌝ }
-    {
-        match self {
-            Records::Blocks => crate::BLOCK_SIZE,
-            Records::Positions => crate::POSITION_SIZE,
-            Records::Endpoints => crate::ENDPOINT_SIZE,
-        }
-    }
+pub fn sink_fault(room: Room, sink: Sink) -> Judgement
+    ensures { λ r. ⌜ r ≡ sinkFault room sink ⌝ }
+{
+    endpoint_fault(room, sink.end)
 }
 
 // What is wrong with the record at a place.
-fn record_fault(sheet: &[u8], room: Room, records: Records, place: usize) -> Judgement
-    requires { ⌜ place + 6 < 2 ^ 64 ⌝ }
-    ensures { λ r. ⌜ r ≡ faultIn room records (drop place (now (sheet .entry))) ⌝ }
+fn record_fault(
+    sheet: &[u8],
+    version: Version,
+    room: Room,
+    records: Records,
+    place: usize,
+) -> Judgement
+    requires { ⌜ place + 9 < 2 ^ 64 ⌝ }
+    ensures { λ r. ⌜ r ≡ faultIn version room records (drop place (now (sheet .entry))) ⌝ }
 {
+    let long = version.long;
     match records {
-        Records::Blocks => block_fault(room, places::block_from(sheet, place)),
-        Records::Positions => position_fault(room, places::position_from(sheet, place, 0)),
-        Records::Endpoints => endpoint_fault(room, places::endpoint_from(sheet, place)),
+        Records::Blocks => block_fault(room, places::block_from(sheet, long, place)),
+        Records::Positions => position_fault(room, places::position_from(sheet, long, place, 0)),
+        Records::Endpoints => endpoint_fault(room, places::endpoint_from(sheet, long, place)),
+        Records::Sinks => sink_fault(room, places::sink_from(sheet, version, place)),
     }
 }
 
@@ -96,13 +103,15 @@ fn record_fault(sheet: &[u8], room: Room, records: Records, place: usize) -> Jud
 fn first_fault(
     found: Judgement,
     sheet: &[u8],
+    version: Version,
     room: Room,
     records: Records,
     part: Part,
 ) -> Judgement
-    requires { ⌜ behind (sizeOf records) part ≤ length (now sheet) ⌝ }
-    ensures { λ r. ⌜ r ≡ firstFault (found ∷ faultsIn room records (now (sheet .entry)) part) ⌝ }
+    requires { ⌜ behind part ≤ length (now sheet) ⌝ }
+    ensures { λ r. ⌜ r ≡ firstFault (found ∷ faultsIn version room records (now (sheet .entry)) part) ⌝ }
 {
+    let size = part.size;
     let mut fault = found;
     let mut place = part.from;
     let mut left = part.count;
@@ -110,39 +119,123 @@ fn first_fault(
         if !fault.is_good() {
             return fault;
         }
-        fault = record_fault(sheet, room, records, place);
-        place += records.size();
+        fault = record_fault(sheet, version, room, records, place);
+        place += size;
         left -= 1;
     }
     fault
 }
 
-// Number 2, then 3.
-fn head_fault(room: Room, config: RouterConfig) -> Judgement
-    ensures { λ r. ⌜ r ≡ headFault room config ⌝ }
+// Whether a side is from 1 to the longest.
+fn side_within(side: usize, longest: usize) -> bool
+    ensures { λ r. ⌜ r ≡ between 1 side longest ⌝ }
 {
-    if !room.good() {
-        return Judgement::Sides;
+    if side < 1 {
+        return false;
     }
-    if config.good() {
-        Judgement::Good
-    } else {
-        Judgement::Config
+    side <= longest
+}
+
+impl Ranges {
+    // Number 2 is due where this is false.
+    fn sides_within(self, room: Room) -> bool
+        requires { ⌜ Searchable self ⌝ }
+        ensures { λ r. ⌜ r ≡ sidesWithin self room ⌝ }
+    {
+        if !side_within(room.wide, self.side) {
+            return false;
+        }
+        if !side_within(room.high, self.side) {
+            return false;
+        }
+        if !side_within(room.deep, self.side) {
+            return false;
+        }
+        room.wide * room.high * room.deep <= self.cells
+    }
+
+    // Number 3 is due where this is false.
+    fn config_within(self, config: RouterConfig) -> bool
+        ensures { λ r. ⌜ r ≡ configWithin self config ⌝ }
+    {
+        if self.nodes < config.limit.0 {
+            return false;
+        }
+        if self.cost < config.horizontal.0 {
+            return false;
+        }
+        if self.cost < config.stair.0 {
+            return false;
+        }
+        config.support.0 <= self.cost
+    }
+
+    // Number 2, then 3.
+    pub fn head_fault(self, room: Room, config: RouterConfig) -> Judgement
+        requires { ⌜ Searchable self ⌝ }
+        ensures { λ r. ⌜ r ≡ headFault self room config ⌝ }
+    {
+        if !self.sides_within(room) {
+            return Judgement::Sides;
+        }
+        if self.config_within(config) {
+            Judgement::Good
+        } else {
+            Judgement::Config
+        }
     }
 }
 
 // Numbers 2 and 3, then 4 and 5 "record by record".
-pub fn judge(sheet: &[u8], layout: Layout) -> Judgement
-    requires { ⌜ (layout ≡ layoutIn (now sheet)) × Shaped (now sheet) ⌝ }
-    ensures { λ r. ⌜ r ≡ judged (contentsIn (now (sheet .entry))) ⌝ }
+pub fn judge(sheet: &[u8], version: Version, layout: Layout) -> Judgement
+    requires { ⌜ (layout ≡ layoutIn version (now sheet)) × Shaped version (now sheet) ⌝ }
+    requires { ⌜ Searchable (version .ranges) ⌝ }
+    ensures { λ r. ⌜ r ≡ judged version (contentsIn version (now (sheet .entry))) ⌝ }
 {
-    let room = places::room_from(sheet);
-    let mut fault = head_fault(room, places::config_from(sheet));
-    fault = first_fault(fault, sheet, room, Records::Blocks, layout.blocks);
-    fault = first_fault(fault, sheet, room, Records::Positions, layout.conductors);
-    fault = first_fault(fault, sheet, room, Records::Positions, layout.clearances);
-    fault = first_fault(fault, sheet, room, Records::Positions, layout.terminals);
-    fault = first_fault(fault, sheet, room, Records::Positions, layout.reserved);
-    fault = first_fault(fault, sheet, room, Records::Endpoints, layout.source);
-    first_fault(fault, sheet, room, Records::Endpoints, layout.sinks)
+    let room = places::room_from(sheet, version.long);
+    let mut fault = version
+        .ranges
+        .head_fault(room, places::config_from(sheet, version));
+    fault = first_fault(fault, sheet, version, room, Records::Blocks, layout.blocks);
+    fault = first_fault(
+        fault,
+        sheet,
+        version,
+        room,
+        Records::Positions,
+        layout.conductors,
+    );
+    fault = first_fault(
+        fault,
+        sheet,
+        version,
+        room,
+        Records::Positions,
+        layout.clearances,
+    );
+    fault = first_fault(
+        fault,
+        sheet,
+        version,
+        room,
+        Records::Positions,
+        layout.terminals,
+    );
+    fault = first_fault(
+        fault,
+        sheet,
+        version,
+        room,
+        Records::Positions,
+        layout.reserved,
+    );
+    fault = first_fault(
+        fault,
+        sheet,
+        version,
+        room,
+        Records::Endpoints,
+        layout.source,
+    );
+    first_fault(fault, sheet, version, room, Records::Sinks, layout.sinks)
 }

@@ -2,12 +2,13 @@
 // stay in the sheet's bytes and are read there, record by record.
 pub mod faults; // faults.rt: numbers 2 to 5
 pub mod places; // places.rt: what stands at a place of a sheet, and number 1
+pub mod versions; // versions.rt: what a sheet's first byte says of its records
 
 ghost use mathlib.Core.Path.{_≡_};
 ghost use Prim.Native.Nat.{_≤_, _<_};
 ghost use lib.ListN.{length, getD};
-ghost use Rattle.job_sheet.specs.Sheet.{maxSinks, blockSize, positionSize, endpointSize, isGood, numberOf, noEndpoint, sinksOf, behind, jobOf, refused, Read};
-ghost use Rattle.job_sheet.specs.Places.{noBlock, noPosition, blocksIn, positionsIn, endpointsIn, layoutIn, contentsIn, Shaped};
+ghost use Rattle.job_sheet.specs.Sheet.{maxSinks, isGood, numberOf, noEndpoint, noSink, noPart, sinksOf, behind, jobOf, refused, Read};
+ghost use Rattle.job_sheet.specs.Places.{noBlock, noPosition, blocksIn, positionsIn, sinksIn, layoutIn, contentsIn, Shaped};
 use places::Layout;
 use room::Cost;
 use room::Nodes;
@@ -15,24 +16,34 @@ use room::Pos;
 use room::Room;
 use room::RouterConfig;
 
-// The limits of this version.
-pub const VERSION: u8 = 1;
-
+// The limits of a sheet, in every version.
 pub const MAX_BYTES: usize = 60000;
 
 pub const MAX_SINKS: usize = 16;
 
-// The bytes of a record.
-pub const BLOCK_SIZE: usize = 7;
+// What the version of a sheet means: its number, whether sides and coordinates are long, that is of two bytes and not one,
+// and the ranges that its job is judged at.
+pub struct Version {
+    pub number: u8,
+    pub long: bool,
+    pub ranges: Ranges,
+}
 
-pub const POSITION_SIZE: usize = 3;
+// The longest side, the most cells, the highest node limit and the highest cost.
+pub struct Ranges {
+    pub side: usize,
+    pub cells: usize,
+    pub nodes: u32,
+    pub cost: u32,
+}
 
-pub const ENDPOINT_SIZE: usize = 5;
-
-// A list that stays in the sheet's bytes: its first record begins at `from`.
+// A list that stays in the sheet's bytes: its first record begins at `from`, and each takes `size` bytes, with long
+// coordinates or not.
 pub struct Part {
     pub from: usize,
     pub count: usize,
+    pub size: usize,
+    pub long: bool,
 }
 
 // "node two bytes, x, y, z, kind, facing".
@@ -43,17 +54,22 @@ pub struct Block {
     pub facing: u8,
 }
 
-// The source or a sink.
+// Where the source or a sink stands, and how it is joined.
 pub struct Endpoint {
     pub at: Pos,
     pub port: u8,
     pub facing: u8,
 }
 
+// A sink is an endpoint; its record need not be as long as the source's.
+pub struct Sink {
+    pub end: Endpoint,
+}
+
 // "The sixteen sinks with their count travel as one value."
 pub struct Sinks {
     pub count: usize,
-    pub ends: [Endpoint; MAX_SINKS],
+    pub ends: [Sink; MAX_SINKS],
 }
 
 // What a sheet says. Its lists are told by where they stand.
@@ -115,8 +131,7 @@ impl Judgement {
     }
 }
 
-// What stands in a place of `Sinks` that no sink takes.
-fn no_endpoint() -> Endpoint
+pub fn no_endpoint() -> Endpoint
     ensures { λ r. ⌜ r ≡ noEndpoint ⌝ }
 {
     Endpoint {
@@ -126,26 +141,46 @@ fn no_endpoint() -> Endpoint
     }
 }
 
+// What stands in a place of `Sinks` that no sink takes.
+pub fn no_sink() -> Sink
+    ensures { λ r. ⌜ r ≡ noSink ⌝ }
+{
+    Sink { end: no_endpoint() }
+}
+
+// A list of none.
+pub fn no_part() -> Part
+    ensures { λ r. ⌜ r ≡ noPart ⌝ }
+{
+    Part {
+        from: 0,
+        count: 0,
+        size: 0,
+        long: false,
+    }
+}
+
 // The sinks of a part, with their count.
-pub fn sinks_from(sheet: &[u8], part: Part) -> Sinks
-    requires { ⌜ (part .count ≤ maxSinks) × (behind endpointSize part ≤ length (now sheet)) ⌝ }
-    ensures { λ r. ⌜ r ≡ sinksOf (endpointsIn (now (sheet .entry)) part) ⌝ }
+pub fn sinks_from(sheet: &[u8], version: Version, part: Part) -> Sinks
+    requires { ⌜ (part .count ≤ maxSinks) × (behind part ≤ length (now sheet)) ⌝ }
+    ensures { λ r. ⌜ r ≡ sinksOf (sinksIn version (now (sheet .entry)) part) ⌝ }
 {
     let from = part.from;
     let count = part.count;
-    let mut ends = [no_endpoint(); MAX_SINKS];
+    let size = part.size;
+    let mut ends = [no_sink(); MAX_SINKS];
     let mut k = 0;
     while k < count {
-        let end = places::endpoint_from(sheet, from + ENDPOINT_SIZE * k);
-        ends[k] = end;
+        let sink = places::sink_from(sheet, version, from + size * k);
+        ends[k] = sink;
         k += 1;
     }
     Sinks { count, ends }
 }
 
-fn job_from(sheet: &[u8], layout: Layout) -> Job
-    requires { ⌜ (layout ≡ layoutIn (now sheet)) × Shaped (now sheet) ⌝ }
-    ensures { λ r. ⌜ r ≡ jobOf (contentsIn (now (sheet .entry))) ⌝ }
+fn job_from(sheet: &[u8], version: Version, layout: Layout) -> Job
+    requires { ⌜ (layout ≡ layoutIn version (now sheet)) × Shaped version (now sheet) ⌝ }
+    ensures { λ r. ⌜ r ≡ jobOf version (contentsIn version (now (sheet .entry))) ⌝ }
 {
     let blocks = layout.blocks;
     let conductors = layout.conductors;
@@ -153,15 +188,15 @@ fn job_from(sheet: &[u8], layout: Layout) -> Job
     let terminals = layout.terminals;
     let reserved = layout.reserved;
     Job {
-        room: places::room_from(sheet),
-        config: places::config_from(sheet),
+        room: places::room_from(sheet, version.long),
+        config: places::config_from(sheet, version),
         blocks,
         conductors,
         clearances,
         terminals,
         reserved,
-        source: places::endpoint_from(sheet, layout.source.from),
-        sinks: sinks_from(sheet, layout.sinks),
+        source: places::endpoint_from(sheet, version.long, layout.source.from),
+        sinks: sinks_from(sheet, version, layout.sinks),
     }
 }
 
@@ -169,8 +204,7 @@ fn job_from(sheet: &[u8], layout: Layout) -> Job
 pub fn refusal(judgement: Judgement) -> Reading
     ensures { λ r. ⌜ r ≡ refused judgement ⌝ }
 {
-    let none = Part { from: 0, count: 0 };
-    let end = no_endpoint();
+    let none = no_part();
     Reading {
         judgement,
         job: Job {
@@ -190,45 +224,46 @@ pub fn refusal(judgement: Judgement) -> Reading
             clearances: none,
             terminals: none,
             reserved: none,
-            source: end,
+            source: no_endpoint(),
             sinks: Sinks {
                 count: 0,
-                ends: [end; MAX_SINKS],
+                ends: [no_sink(); MAX_SINKS],
             },
         },
     }
 }
 
-// Reads a sheet: what it means, judged, or number 1 where it means nothing.
+// Reads a sheet in the version of its first byte: what it means, judged, or number 1 where it means nothing.
 pub fn read_sheet(sheet: &[u8]) -> Reading
     ensures { λ r. ⌜ Read (now (sheet .entry)) r ⌝ }
 {
-    let layout = places::layout_from(sheet);
-    if !places::shaped(sheet, layout) {
+    let version = versions::version_in(sheet);
+    let layout = places::layout_from(sheet, version);
+    if !places::shaped(sheet, version, layout) {
         return refusal(Judgement::Sheet);
     }
-    let judgement = faults::judge(sheet, layout);
+    let judgement = faults::judge(sheet, version, layout);
     if !judgement.is_good() {
         return refusal(judgement);
     }
     Reading {
         judgement,
-        job: job_from(sheet, layout),
+        job: job_from(sheet, version, layout),
     }
 }
 
 // Record i of a list of blocks.
 pub fn block_at(sheet: &[u8], part: Part, i: usize) -> Block
-    requires { ⌜ (i < part .count) × (behind blockSize part ≤ length (now sheet)) ⌝ }
+    requires { ⌜ (i < part .count) × (behind part ≤ length (now sheet)) ⌝ }
     ensures { λ r. ⌜ r ≡ getD (blocksIn (now (sheet .entry)) part) i noBlock ⌝ }
 {
-    places::block_from(sheet, part.from + BLOCK_SIZE * i)
+    places::block_from(sheet, part.long, part.from + part.size * i)
 }
 
 // Record i of a list of positions.
 pub fn position_at(sheet: &[u8], part: Part, i: usize) -> Pos
-    requires { ⌜ (i < part .count) × (behind positionSize part ≤ length (now sheet)) ⌝ }
+    requires { ⌜ (i < part .count) × (behind part ≤ length (now sheet)) ⌝ }
     ensures { λ r. ⌜ r ≡ getD (positionsIn (now (sheet .entry)) part) i noPosition ⌝ }
 {
-    places::position_from(sheet, part.from + POSITION_SIZE * i, 0)
+    places::position_from(sheet, part.long, part.from + part.size * i, 0)
 }

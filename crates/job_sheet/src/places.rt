@@ -2,23 +2,19 @@
 ghost use mathlib.Core.Path.{_≡_};
 ghost use Prim.Native.Nat.{_+_, _^_, _≤_, _<_};
 ghost use lib.ListN.{getD, drop};
-ghost use Rattle.job_sheet.specs.Sheet.{blockSize, sidesPlace, configPlace, behind};
-ghost use Rattle.job_sheet.specs.Places.{twoIn, fourIn, positionIn, roomIn, configIn, blockIn, endpointIn, shapeHolds, shaped, LaidOut, Listed, SinksListed};
+ghost use Rattle.job_sheet.specs.Version.{mostSize, sidesPlace, configPlace};
+ghost use Rattle.job_sheet.specs.Places.{twoIn, fourIn, coordinateIn, positionIn, roomIn, configIn, blockIn, endpointIn, sinkIn, shapeHolds, shaped, Behind, LaidOut, Listed, SourceListed, SinksListed};
 use crate::Block;
 use crate::Endpoint;
 use crate::Part;
+use crate::Sink;
+use crate::Version;
+use crate::versions;
 use room::Cost;
 use room::Nodes;
 use room::Pos;
 use room::Room;
 use room::RouterConfig;
-
-// Where the sides, the config and the first list begin.
-const SIDES: usize = 5;
-
-const CONFIG: usize = 8;
-
-pub const LISTS: usize = 24;
 
 // Where the parts of a sheet stand.
 pub struct Layout {
@@ -56,48 +52,73 @@ pub fn four_bytes(sheet: &[u8], place: usize, k: usize) -> u32
     two_bytes(sheet, place, k) as u32 * 65536 + two_bytes(sheet, place, k + 2) as u32
 }
 
-// "x, y, z", from byte k on of what begins at a place.
-pub fn position_from(sheet: &[u8], place: usize, k: usize) -> Pos
-    requires { ⌜ place + k + 2 < 2 ^ 64 ⌝ }
-    ensures { λ r. ⌜ r ≡ positionIn (drop place (now (sheet .entry))) k ⌝ }
+// A side or a coordinate, from byte k on of what begins at a place.
+fn coordinate(sheet: &[u8], long: bool, place: usize, k: usize) -> usize
+    requires { ⌜ place + k + 1 < 2 ^ 64 ⌝ }
+    ensures { λ r. ⌜ r ≡ coordinateIn long (drop place (now (sheet .entry))) k ⌝ }
 {
+    if long {
+        two_bytes(sheet, place, k) as usize
+    } else {
+        byte(sheet, place, k) as usize
+    }
+}
+
+// "x, y, z", from byte k on of what begins at a place.
+pub fn position_from(sheet: &[u8], long: bool, place: usize, k: usize) -> Pos
+    requires { ⌜ place + k + 5 < 2 ^ 64 ⌝ }
+    ensures { λ r. ⌜ r ≡ positionIn long (drop place (now (sheet .entry))) k ⌝ }
+{
+    let width = versions::width(long);
     Pos {
-        x: byte(sheet, place, k) as usize,
-        y: byte(sheet, place, k + 1) as usize,
-        z: byte(sheet, place, k + 2) as usize,
+        x: coordinate(sheet, long, place, k),
+        y: coordinate(sheet, long, place, k + width),
+        z: coordinate(sheet, long, place, k + width + width),
     }
 }
 
 // "node two bytes, x, y, z, kind, facing".
-pub fn block_from(sheet: &[u8], place: usize) -> Block
-    requires { ⌜ place + 6 < 2 ^ 64 ⌝ }
-    ensures { λ r. ⌜ r ≡ blockIn (drop place (now (sheet .entry))) ⌝ }
+pub fn block_from(sheet: &[u8], long: bool, place: usize) -> Block
+    requires { ⌜ place + 9 < 2 ^ 64 ⌝ }
+    ensures { λ r. ⌜ r ≡ blockIn long (drop place (now (sheet .entry))) ⌝ }
 {
+    let position = versions::position_size(long);
     Block {
         node: two_bytes(sheet, place, 0),
-        at: position_from(sheet, place, 2),
-        kind: byte(sheet, place, 5),
-        facing: byte(sheet, place, 6),
+        at: position_from(sheet, long, place, 2),
+        kind: byte(sheet, place, 2 + position),
+        facing: byte(sheet, place, 3 + position),
     }
 }
 
 // "x, y, z, port kind, facing".
-pub fn endpoint_from(sheet: &[u8], place: usize) -> Endpoint
-    requires { ⌜ place + 4 < 2 ^ 64 ⌝ }
-    ensures { λ r. ⌜ r ≡ endpointIn (drop place (now (sheet .entry))) ⌝ }
+pub fn endpoint_from(sheet: &[u8], long: bool, place: usize) -> Endpoint
+    requires { ⌜ place + 7 < 2 ^ 64 ⌝ }
+    ensures { λ r. ⌜ r ≡ endpointIn long (drop place (now (sheet .entry))) ⌝ }
 {
+    let position = versions::position_size(long);
     Endpoint {
-        at: position_from(sheet, place, 0),
-        port: byte(sheet, place, 3),
-        facing: byte(sheet, place, 4),
+        at: position_from(sheet, long, place, 0),
+        port: byte(sheet, place, position),
+        facing: byte(sheet, place, position + 1),
+    }
+}
+
+// "sinks as the source".
+pub fn sink_from(sheet: &[u8], version: Version, place: usize) -> Sink
+    requires { ⌜ place + 7 < 2 ^ 64 ⌝ }
+    ensures { λ r. ⌜ r ≡ sinkIn version (drop place (now (sheet .entry))) ⌝ }
+{
+    Sink {
+        end: endpoint_from(sheet, version.long, place),
     }
 }
 
 // "X, Y, Z".
-pub fn room_from(sheet: &[u8]) -> Room
-    ensures { λ r. ⌜ r ≡ roomIn (drop sidesPlace (now (sheet .entry))) ⌝ }
+pub fn room_from(sheet: &[u8], long: bool) -> Room
+    ensures { λ r. ⌜ r ≡ roomIn long (drop sidesPlace (now (sheet .entry))) ⌝ }
 {
-    let sides = position_from(sheet, SIDES, 0);
+    let sides = position_from(sheet, long, versions::SIDES, 0);
     Room {
         wide: sides.x,
         high: sides.y,
@@ -106,84 +127,115 @@ pub fn room_from(sheet: &[u8]) -> Room
 }
 
 // "node limit, horizontal, stair, support cost (four bytes each)".
-pub fn config_from(sheet: &[u8]) -> RouterConfig
-    ensures { λ r. ⌜ r ≡ configIn (drop configPlace (now (sheet .entry))) ⌝ }
+pub fn config_at(sheet: &[u8], place: usize) -> RouterConfig
+    requires { ⌜ place + 15 < 2 ^ 64 ⌝ }
+    ensures { λ r. ⌜ r ≡ configIn (drop place (now (sheet .entry))) ⌝ }
 {
     RouterConfig {
-        limit: Nodes(four_bytes(sheet, CONFIG, 0)),
-        horizontal: Cost(four_bytes(sheet, CONFIG, 4)),
-        stair: Cost(four_bytes(sheet, CONFIG, 8)),
-        support: Cost(four_bytes(sheet, CONFIG, 12)),
+        limit: Nodes(four_bytes(sheet, place, 0)),
+        horizontal: Cost(four_bytes(sheet, place, 4)),
+        stair: Cost(four_bytes(sheet, place, 8)),
+        support: Cost(four_bytes(sheet, place, 12)),
     }
 }
 
-// The list whose count stands at a place.
-pub fn list_at(sheet: &[u8], place: usize) -> Part
+// The config of a sheet.
+pub fn config_from(sheet: &[u8], version: Version) -> RouterConfig
+    ensures { λ r. ⌜ r ≡ configIn (drop (configPlace version) (now (sheet .entry))) ⌝ }
+{
+    config_at(sheet, versions::config_place(version))
+}
+
+// The list whose count stands at a place, of records of `size` bytes, with long coordinates or not.
+pub fn list_at(sheet: &[u8], long: bool, size: usize, place: usize) -> Part
     requires { ⌜ place + 2 < 2 ^ 64 ⌝ }
-    ensures { λ r. ⌜ Listed (now (sheet .entry)) place r ⌝ }
+    ensures { λ r. ⌜ Listed (now (sheet .entry)) long size place r ⌝ }
 {
     Part {
         from: place + 2,
         count: two_bytes(sheet, place, 0) as usize,
+        size,
+        long,
+    }
+}
+
+// The source is one record.
+pub fn source_at(version: Version, place: usize) -> Part
+    ensures { λ r. ⌜ SourceListed version place r ⌝ }
+{
+    Part {
+        from: place,
+        count: 1,
+        size: versions::endpoint_size(version.long),
+        long: version.long,
     }
 }
 
 // The sinks whose one-byte count stands at a place.
-pub fn sinks_at(sheet: &[u8], place: usize) -> Part
+pub fn sinks_at(sheet: &[u8], version: Version, place: usize) -> Part
     requires { ⌜ place + 1 < 2 ^ 64 ⌝ }
-    ensures { λ r. ⌜ SinksListed (now (sheet .entry)) place r ⌝ }
+    ensures { λ r. ⌜ SinksListed version (now (sheet .entry)) place r ⌝ }
 {
     Part {
         from: place + 1,
         count: byte(sheet, place, 0) as usize,
+        size: versions::sink_size(version),
+        long: version.long,
     }
 }
 
 // The place right behind a part.
-fn behind(size: usize, part: Part) -> usize
-    requires { ⌜ (size ≤ blockSize) × (part .from < 2 ^ 32) × (part .count < 2 ^ 16) ⌝ }
-    ensures { λ r. ⌜ r ≡ behind size part ⌝ }
+fn behind(part: Part) -> usize
+    requires { ⌜ (part .size ≤ mostSize) × (part .from < 2 ^ 32) × (part .count < 2 ^ 16) ⌝ }
+    ensures { λ r. ⌜ Behind part r ⌝ }
 {
-    part.from + size * part.count
+    part.from + part.size * part.count
 }
 
 // Where the parts of a sheet stand.
-pub fn layout_from(sheet: &[u8]) -> Layout
-    ensures { λ r. ⌜ LaidOut (now (sheet .entry)) r ⌝ }
+pub fn layout_from(sheet: &[u8], version: Version) -> Layout
+    ensures { λ r. ⌜ LaidOut version (now (sheet .entry)) r ⌝ }
 {
-    let blocks = list_at(sheet, LISTS);
-    let conductors = list_at(sheet, behind(crate::BLOCK_SIZE, blocks));
-    let clearances = list_at(sheet, behind(crate::POSITION_SIZE, conductors));
-    let terminals = list_at(sheet, behind(crate::POSITION_SIZE, clearances));
-    let reserved = list_at(sheet, behind(crate::POSITION_SIZE, terminals));
-    let place = behind(crate::POSITION_SIZE, reserved);
+    let long = version.long;
+    let position = versions::position_size(long);
+    let block = versions::block_size(long);
+    let blocks = list_at(sheet, long, block, versions::lists_place(version));
+    let conductors = list_at(sheet, long, position, behind(blocks));
+    let clearances = list_at(sheet, long, position, behind(conductors));
+    let terminals = list_at(sheet, long, position, behind(clearances));
+    let reserved = list_at(sheet, long, position, behind(terminals));
+    let source = source_at(version, behind(reserved));
     Layout {
         blocks,
         conductors,
         clearances,
         terminals,
         reserved,
-        source: Part {
-            from: place,
-            count: 1,
-        },
-        sinks: sinks_at(sheet, place + crate::ENDPOINT_SIZE),
+        source,
+        sinks: sinks_at(sheet, version, behind(source)),
     }
 }
 
 // Number 1: "sheet length, version, count past the end, bytes left over, over 16 sinks". Of a sheet of so many bytes its
-// version, the length of the rest, its sink count, and whether its parts end where it does: past the end and left over are
-// one question.
-pub fn shape_holds(bytes: usize, version: u8, rest: u32, sinks: usize, whole: bool) -> bool
-    ensures { λ r. ⌜ r ≡ shapeHolds bytes version rest sinks whole ⌝ }
+// first byte, its version's number, the length of the rest, its sink count, and whether its parts end where it does: past the
+// end and left over are one question.
+pub fn shape_holds(
+    bytes: usize,
+    first: u8,
+    number: u8,
+    rest: u32,
+    sinks: usize,
+    whole: bool,
+) -> bool
+    ensures { λ r. ⌜ r ≡ shapeHolds bytes first number rest sinks whole ⌝ }
 {
     if crate::MAX_BYTES < bytes {
         return false;
     }
-    if version != crate::VERSION {
+    if first != number {
         return false;
     }
-    if rest as usize + SIDES != bytes {
+    if rest as usize + versions::SIDES != bytes {
         return false;
     }
     if crate::MAX_SINKS < sinks {
@@ -193,14 +245,15 @@ pub fn shape_holds(bytes: usize, version: u8, rest: u32, sinks: usize, whole: bo
 }
 
 // Whether a sheet means anything: all of number 1, over the whole sheet.
-pub fn shaped(sheet: &[u8], layout: Layout) -> bool
-    requires { ⌜ LaidOut (now sheet) layout ⌝ }
-    ensures { λ r. ⌜ r ≡ shaped (now (sheet .entry)) ⌝ }
+pub fn shaped(sheet: &[u8], version: Version, layout: Layout) -> bool
+    requires { ⌜ LaidOut version (now sheet) layout ⌝ }
+    ensures { λ r. ⌜ r ≡ shaped version (now (sheet .entry)) ⌝ }
 {
-    let end = behind(crate::ENDPOINT_SIZE, layout.sinks);
+    let end = behind(layout.sinks);
     shape_holds(
         sheet.len(),
         byte(sheet, 0, 0),
+        version.number,
         four_bytes(sheet, 1, 0),
         layout.sinks.count,
         end == sheet.len(),

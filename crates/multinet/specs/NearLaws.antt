@@ -15,6 +15,7 @@ use Rattle.port_realization.specs.declared.Realized.{Realized}
 use Rattle.port_realization.specs.Ports.{approachOf}
 use Rattle.port_realization.specs.PortLaws.{sink-inside}
 use Rattle.job_sheet.specs.declared.Endpoint.{Endpoint}
+use Rattle.job_sheet.specs.declared.Sink.{Sink}
 use Rattle.job_sheet.specs.declared.Sinks.{Sinks}
 use Rattle.job_sheet.specs.Accepted.{SinkList}
 use Rattle.ends.specs.Ends.{sinksIn, sinkEnd, noTap, tapFrom, tapOf, tapsOf}
@@ -32,11 +33,14 @@ module _ {R : Room} (G : Good R) where
       (λ f. inr (step-back (record { from-in = h; move = facingMove facing; listed = facing-in facing; leads = rw f at e }) G))
       (λ n. inl (same-cell t a (rw n at e)))
 
-  tap-near : (e : Endpoint) → Within R (e .at) → Near R (tapOf R e)
+  tap-near : (k : Sink) → Within R (k .end .at) → Near R (tapOf R k)
   unfolding tapOf sinkEnd
-  tap-near e w = go (sinkEnd R e) refl
+  tap-near k w = go (sinkEnd R k) refl
     where
-      go : (r : Realized) → sinkEnd R e ≡ r → Near R (tapFrom (eqb (e .port) wire) r)
+      e : Endpoint
+      e = k .end
+
+      go : (r : Realized) → sinkEnd R k ≡ r → Near R (tapFrom (eqb (e .port) wire) r)
       go (Realized.At t a) q = let E = sink-inside R (e .at) w (e .port) (e .facing) t a q in faced (e .facing) t a (eqb (e .port) wire) (E .terminal-below) (E .approach-is)
       go Realized.NoFacing q = inl refl
       go Realized.Outside q = inl refl

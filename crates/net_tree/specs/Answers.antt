@@ -15,6 +15,7 @@ use Rattle.room.specs.Room.{volume}
 use Rattle.ground.specs.declared.Mode.{Mode}
 use Rattle.job_sheet.specs.declared.Reading.{Reading}
 use Rattle.job_sheet.specs.declared.Judgement.the-variants as judgement
+use Rattle.job_sheet.specs.Version.{versionIn}
 use Rattle.job_sheet.specs.Sheet.{Contents, Means, Read, judged, isGood, numberOf}
 use Rattle.outset.specs.declared.Outset.{Outset}
 use Rattle.outset.specs.SetOut.{ready, numberBy, detailBy, OutsetOf}
@@ -97,8 +98,8 @@ jobOutcome mode J L O kinds blocked =
 -- "A tree checks 1, 2, 3, then record by record 4 before 5, then 6, 7, ..": what comes of a sheet
 pub data Comes (mode : Mode) (sheet : List ℕ) (L : Lengths) (o : TreeOutcome) : Type 0 where
   unread : (r : Reading) → Read sheet r → isGood (r .judgement) ≡ false → o ≡ no-tree (numberOf (r .judgement)) 0 → Comes mode sheet L o
-  unlent : (J : Contents) → Means sheet J → judged J ≡ judgement.Good → buffersGood (J .room) L ≡ false → o ≡ no-tree bufferNumber 0 → Comes mode sheet L o
-  set-out : (J : Contents) → Means sheet J → judged J ≡ judgement.Good → buffersGood (J .room) L ≡ true
+  unlent : (J : Contents) → Means sheet J → judged (versionIn sheet) J ≡ judgement.Good → buffersGood (J .room) L ≡ false → o ≡ no-tree bufferNumber 0 → Comes mode sheet L o
+  set-out : (J : Contents) → Means sheet J → judged (versionIn sheet) J ≡ judgement.Good → buffersGood (J .room) L ≡ true
       → (O : Outset) (kinds nodes blocked : List ℕ) → OutsetOf J O kinds nodes blocked → o ≡ jobOutcome mode J L O kinds blocked
       → Comes mode sheet L o
 

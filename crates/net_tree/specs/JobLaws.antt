@@ -13,6 +13,7 @@ use Rattle.routing_resources.specs.MarkLaws.{with-length, marks-none, marks-wit
 use Rattle.ground.specs.declared.Mode.{Mode}
 use Rattle.job_sheet.specs.declared.Job.{Job}
 use Rattle.job_sheet.specs.declared.Judgement.the-variants.{Good}
+use Rattle.job_sheet.specs.Version.{versionIn}
 use Rattle.job_sheet.specs.Sheet.{Contents, Means, judged, jobOf}
 use Rattle.job_sheet.specs.Accepted.{Accepted}
 use Rattle.job_sheet.specs.Theorems.{one-meaning}
@@ -115,10 +116,10 @@ module _ {sheet : List ℕ} {job : Job} (A : Accepted sheet job) {O : Outset} {k
     contents-outcome = rw r (ap (λ Q. outcomeOf Q (growthOf Q blocked)) same-plot)
 
 -- a plot over which a tree grows is sound
-pub plot-sound : (mode : Mode) {sheet : List ℕ} (J : Contents) → Means sheet J → judged J ≡ Good → (L : Lengths) → buffersGood (J .room) L ≡ true
+pub plot-sound : (mode : Mode) {sheet : List ℕ} (J : Contents) → Means sheet J → judged (versionIn sheet) J ≡ Good → (L : Lengths) → buffersGood (J .room) L ≡ true
     → {O : Outset} {kinds nodes blocked : List ℕ} → OutsetOf J O kinds nodes blocked → ready O ≡ true → SoundPlot (plotFor mode J L O kinds)
-plot-sound mode J m g L b S r =
-    let A : Accepted _ (jobOf J) = record { contents = J; means = m; good = g; is = refl } in
+plot-sound mode {sheet} J m g L b S r =
+    let A : Accepted sheet (jobOf (versionIn sheet) J) = record { contents = J; means = m; good = g; is = refl } in
     subst SoundPlot (sym (same-plot A S r mode L)) (job-sound A S r mode L (long-enough (J .room) L b .places-some))
 
 -- ---- the same, over work memory of exactly V cells

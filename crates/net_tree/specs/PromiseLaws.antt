@@ -8,6 +8,7 @@ use Rattle.basics.specs.Promises.{Determines}
 use Rattle.ground.specs.declared.Mode.{Mode}
 use Rattle.job_sheet.specs.declared.Reading.{Reading}
 use Rattle.job_sheet.specs.declared.Judgement.the-variants as judgement
+use Rattle.job_sheet.specs.Version.{versionIn}
 use Rattle.job_sheet.specs.Sheet.{Contents, Means, Read, judged, isGood}
 use Rattle.job_sheet.specs.Theorems.{one-meaning, coincide as one-reading, answers-meaning}
 use Rattle.outset.specs.declared.Outset.{Outset}
@@ -18,7 +19,7 @@ use Rattle.net_tree.specs.declared.Answer.{Answer}
 use Rattle.net_tree.specs.Answers.{Lent, TreeOutcome, jobOutcome, Comes, unread, unlent, set-out, answerOf, lentAfter, Promise}
 
 -- a sheet that is accepted is not refused by its reading
-pub read-good : {sheet : List ℕ} {r : Reading} {J : Contents} → Read sheet r → Means sheet J → judged J ≡ judgement.Good → isGood (r .judgement) ≡ true
+pub read-good : {sheet : List ℕ} {r : Reading} {J : Contents} → Read sheet r → Means sheet J → judged (versionIn sheet) J ≡ judgement.Good → isGood (r .judgement) ≡ true
 read-good {sheet = sheet} {r = r} {J = J} p m g = rw (answers-meaning sheet J r m p, g)
 
 module _ (mode : Mode) {sheet : List ℕ} (L : Lengths) where

@@ -6,6 +6,7 @@ use mathlib.Core.List.{List}
 use Prim.Native.Nat.{ℕ}
 use Rattle.ground.specs.declared.Mode.{Mode}
 use Rattle.job_sheet.specs.declared.Judgement.the-variants.{Good}
+use Rattle.job_sheet.specs.Version.{versionIn}
 use Rattle.job_sheet.specs.Sheet.{Contents, Means, judged}
 use Rattle.outset.specs.declared.Outset.{Outset}
 use Rattle.outset.specs.SetOut.{ready, OutsetOf}
@@ -17,7 +18,7 @@ use Rattle.net_tree.specs.Answers.{buffersGood, plotFor}
 -- no number from 1 to 9 is due: the sheet has these contents, they are good, the lent buffers are long enough, and the contents are set out so
 pub record TreeUnrefused (sheet : List ℕ) (L : Lengths) (J : Contents) (O : Outset) (kinds nodes blocked : List ℕ) : Type 0 where
   pub means : Means sheet J
-  pub contents-good : judged J ≡ Good
+  pub contents-good : judged (versionIn sheet) J ≡ Good
   pub lengths-good : buffersGood (J .room) L ≡ true
   pub is-set : OutsetOf J O kinds nodes blocked
   pub is-ready : ready O ≡ true

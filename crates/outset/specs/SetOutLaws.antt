@@ -12,6 +12,7 @@ use Rattle.room.specs.declared.Room.{Room}
 use Rattle.room.specs.Room.{Good, Within, volume}
 use Rattle.routing_resources.specs.Marks.{noMarks}
 use Rattle.job_sheet.specs.declared.Endpoint.{Endpoint}
+use Rattle.job_sheet.specs.declared.Sink.{Sink}
 use Rattle.job_sheet.specs.declared.Job.{Job}
 use Rattle.job_sheet.specs.Sheet.{Contents, sinksOf, jobOf}
 use Rattle.job_sheet.specs.Accepted.{Accepted, BlockList, SinkList, Usable}
@@ -40,7 +41,7 @@ ready-good Placement.Placed (Fault.NoFacing place) e = never (cc)
 ready-good Placement.Placed (Fault.Outside place) e = never (cc)
 ready-good (Placement.RepeatAt cell) f e = never (cc)
 
-pub same-ends : {R R′ : Room} {e e′ : Endpoint} {es es′ : List Endpoint} → R ≡ R′ → e ≡ e′ → es ≡ es′ → endsOf R e es ≡ endsOf R′ e′ es′
+pub same-ends : {R R′ : Room} {e e′ : Endpoint} {es es′ : List Sink} → R ≡ R′ → e ≡ e′ → es ≡ es′ → endsOf R e es ≡ endsOf R′ e′ es′
 same-ends p q r = λ i. endsOf (p i) (q i) (r i)
 
 -- ---- what may be handed on

@@ -11,8 +11,8 @@ use Rattle.branches.specs.Branches.{sum, lengthsIn, cutInto, branchesOf, Branch
 use Rattle.branches.specs.BranchLaws.{lengths-count}
 use Rattle.route.specs.Lines.{netLine, branchLine, branchLines, repeatersLine, treeText}
 use Rattle.route.specs.Marked.{marked}
-use Rattle.route.specs.Putting.{Put, Fits, PutSoFar}
-use Rattle.route.specs.PutLaws.{both, then-fits, first-fits, putting-begun, putting-on, putting-done, putting-fits}
+use Rattle.putting.specs.Putting.{Put, Fits, PutSoFar}
+use Rattle.putting.specs.PutLaws.{both, then-fits, first-fits, putting-begun, putting-on, putting-done, putting-fits}
 
 -- the branches of the first k sinks are put: those left stand from `from` on
 pub record Branching (out : List ℕ) (at : ℕ) (whole cells lengths : List ℕ) (from k : ℕ) (out′ : List ℕ) (end : ℕ) : Type 0 where

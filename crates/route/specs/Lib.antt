@@ -1,7 +1,5 @@
 pub mod Marked
 pub mod Lines
-pub mod Putting
-pub mod PutLaws
 pub mod LineLaws
 pub mod BranchLineLaws
 pub mod Printed

@@ -11,8 +11,8 @@ use Rattle.basics.specs.Tests.{askLess, never}
 use Rattle.basics.specs.Lists.{drop-next}
 use Rattle.io.specs.Digits.{digits, glyph, Fewest}
 use Rattle.route.specs.Lines.{decimalWithin, decimal, spaced, spacedAll, line}
-use Rattle.route.specs.Putting.{Put, Fits, PutSoFar}
-use Rattle.route.specs.PutLaws.{both, then-fits, first-fits, putting-on, putting-done, putting-fits}
+use Rattle.putting.specs.Putting.{Put, Fits, PutSoFar}
+use Rattle.putting.specs.PutLaws.{both, then-fits, first-fits, putting-on, putting-done, putting-fits}
 use Rattle.route.specs.Marked.{ifMarked, markedFrom}
 
 -- ---- numbers

@@ -2,10 +2,11 @@
 use mathlib.Core.Path.{_≡_, refl, sym, ap, _∙_}
 use mathlib.Core.Bool.{Bool, true, false}
 use mathlib.Core.List.{List, [], _∷_, _++_, map}
-use Prim.Native.Nat.{ℕ, zero, suc, _+_, _-_, _*_, _/_, _%_, _≤_}
+use Prim.Native.Nat.{ℕ, zero, suc, _+_, _-_, _*_, _/_, _%_, _^_, _≤_, _<_}
+use native.Mathlib.Nat.{le-of-lt, mul-le-mul}
 use native.Mathlib.Omega.{arith}
 use lib.Dec.{ltb, eqb}
-use lib.ListN.{length, take, drop, getD, replicate, length-append, length-map, length-take, length-replicate}
+use lib.ListN.{length, take, drop, replicate, length-append, length-map, length-take, length-replicate}
 use lib.Seq.{take-at}
 use borrow.Author.Tests.{ltb-true, ltb-false}
 use Rattle.numbers.specs.Refusals.{sheetNumber, sidesNumber}
@@ -14,14 +15,18 @@ use Rattle.basics.specs.Promises.{Determines}
 use Rattle.basics.specs.Padding.{padded-long}
 use Rattle.basics.specs.Lists.{joined}
 use Rattle.lent.specs.Lent.{filled}
+use Rattle.room.specs.declared.Room.{Room}
 use Rattle.room.specs.Room.{volume}
 use Rattle.ground.specs.declared.Mode.{Mode}
 use Rattle.ground.specs.declared.Mode.the-variants.{Published}
 use Rattle.job_sheet.specs.declared.Reading.{Reading}
 use Rattle.job_sheet.specs.declared.Judgement.{Judgement}
 use Rattle.job_sheet.specs.declared.Judgement.the-variants.{Good, Sheet, Sides, Config, Position, Code}
-use Rattle.job_sheet.specs.Sheet.{Contents, Means, Read, meaning, means-nothing, bytesBy, rest, numberOf, maxSinks}
-use Rattle.job_sheet.specs.Theorems.{number-one}
+use Rattle.job_sheet.specs.Version.{versionIn, sidesPlace}
+use Rattle.job_sheet.specs.Sheet.{Contents, Means, Read, meaning, means-nothing, numberOf, maxSinks}
+use Rattle.job_sheet.specs.Places.{roomIn}
+use Rattle.job_sheet.specs.RecordLaws.{Bytes, coordinate-small}
+use Rattle.job_sheet.specs.Theorems.{number-one, room-stands}
 use Rattle.branches.specs.declared.BranchLengths.{BranchLengths}
 use Rattle.branches.specs.Branches.{sum, branchLengths, lengthsIn, cutInto, branchesOf, Branched}
 use Rattle.branches.specs.BranchLaws.{lengths-theirs, lengths-sum, cut-joined}
@@ -33,17 +38,20 @@ use Rattle.net_tree.specs.Answers.{Lent, TreeOutcome, routed, no-tree, Comes, P
 use Rattle.net_tree.specs.PromiseLaws.{comes-one}
 use Rattle.route.specs.Lines.{decimalWithin, spaced, spacedAll, line, netWord, branchWord, repeatersWord, refusedWord, netLine, branchLine, branchLines, repeatersLine, refusedLine, treeText, endedText, answerText}
 use Rattle.route.specs.Marked.{ifMarked, markedFrom, marked}
-use Rattle.route.specs.Putting.{Put, Fits}
+use Rattle.putting.specs.Putting.{Put, Fits}
 use Rattle.route.specs.BranchCountLaws.{few-branches}
 use Rattle.route.specs.Printed.{maxCells, maxBranchCells, queueNumbers, programLengths, ComesHere, over-limit, within-limit, printed, Shown, Printed, SizeJudged, is-over, is-not, longestText}
 
 -- ---- the limit at 2's place
 
--- a sheet that means something has its room's sides in bytes 5 to 7
-pub sides-stand : {sheet : List ℕ} {J : Contents} → Means sheet J
-    → (8 ≤ length sheet) × (getD sheet 5 0 * getD sheet 6 0 * getD sheet 7 0 ≡ volume (J .room))
-unfolding bytesBy rest
-sides-stand {J = J} m = rw (← m .bytes) (omega arith, refl)
+-- a side is of one byte or two, so that a product of three fits
+pub cells-fit : (R : Room) (long : Bool) (l : List ℕ) → Bytes l → R ≡ roomIn long l → (R .wide * R .high < 2 ^ 64) × (R .wide * R .high * R .deep < 2 ^ 64)
+cells-fit R long l b e =
+    let x : R .wide < 65536 = rw e (coordinate-small long l b _) in
+    let y : R .high < 65536 = rw e (coordinate-small long l b _) in
+    let z : R .deep < 65536 = rw e (coordinate-small long l b _) in
+    let xy = mul-le-mul (le-of-lt x) (le-of-lt y) in
+    (omega (arith, xy), omega (arith, mul-le-mul xy (le-of-lt z)))
 
 number-is-one : (v : Judgement) → numberOf v ≡ sheetNumber → v ≡ Sheet
 number-is-one Good e = never (cc)
@@ -63,10 +71,10 @@ pub has-meaning : {sheet : List ℕ} {r : Reading} {n : ℕ} → Read sheet r �
 has-meaning (meaning J m e) d not-one = (J, m)
 has-meaning (means-nothing none e) d not-one = absurd (not-one (d ∙ ap (λ x. numberOf (x .judgement)) e))
 
-pub size-judged : {sheet : List ℕ} (M : (J : Contents) × Means sheet J) {cells : ℕ} → cells ≡ getD sheet 5 0 * getD sheet 6 0 * getD sheet 7 0
+pub size-judged : {sheet : List ℕ} (M : (J : Contents) × Means sheet J) {cells : ℕ} → cells ≡ volume (roomIn (versionIn sheet .long) (drop sidesPlace sheet))
     → SizeJudged sheet (ltb maxCells cells)
 size-judged {sheet} M {cells} e =
-    let at : (K : Contents) → Means sheet K → cells ≡ volume (K .room) = λ K m. e ∙ sides-stand m .1 in
+    let at : (K : Contents) → Means sheet K → cells ≡ volume (K .room) = λ K m. e ∙ ap volume (room-stands sheet K m) in
     ask (ltb maxCells cells) (λ t. is-over (M .0) (M .1) (omega (arith, ltb-true maxCells cells t, at (M .0) (M .1))) t)
     (λ f. is-not (λ K m. omega (arith, ltb-false maxCells cells f, at K m)) f)
 

@@ -2,24 +2,12 @@
 use branches::BranchLengths;
 use net_tree::Answer;
 use net_tree::Ended;
+use putting::put_bytes;
 use room::as_long;
 ghost use Rattle.branches.specs.Branches.{branchesOf, Branched};
 ghost use Rattle.route.specs.Lines.{spaced, spacedAll, netLine, branchLine, branchLines, repeatersLine, refusedLine, treeText, answerText};
-ghost use Rattle.route.specs.Putting.{Put, Fits};
+ghost use Rattle.putting.specs.Putting.{Put, Fits};
 ghost use Rattle.route.specs.Marked.{ifMarked, marked};
-
-// Puts bytes at a place, and answers the place behind them.
-fn put_bytes(out: &mut [u8], at: usize, bytes: &[u8]) -> usize
-    requires { ⌜ Fits (now out) at (now bytes) ⌝ }
-    ensures { λ r. ⌜ Put (now (out .entry)) at (now (bytes .entry)) (now (out .exit)) r ⌝ }
-{
-    let mut i: usize = 0;
-    while i < bytes.len() {
-        out[at + i] = bytes[i];
-        i += 1;
-    }
-    at + bytes.len()
-}
 
 // A space, then a number in decimal.
 fn put_number(out: &mut [u8], at: usize, n: u64) -> usize

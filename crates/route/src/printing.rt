@@ -2,9 +2,14 @@
 use crate::lines::put_answer;
 use crate::lines::put_refused;
 use ground::Mode;
+use job_sheet::places;
+use job_sheet::versions;
 ghost use mathlib.Core.Path.{_≡_};
-ghost use Prim.Native.Nat.{_*_, _≤_};
-ghost use lib.ListN.{length, getD};
+ghost use Prim.Native.Nat.{_≤_};
+ghost use lib.ListN.{length, drop};
+ghost use Rattle.room.specs.Room.{volume};
+ghost use Rattle.job_sheet.specs.Version.{versionIn, sidesPlace};
+ghost use Rattle.job_sheet.specs.Places.{roomIn};
 ghost use Rattle.ground.specs.declared.Mode.the-variants.{Published};
 ghost use Rattle.route.specs.Printed.{programLengths, SizeJudged, Shown, Printed, longestText};
 ghost use Rattle.net_tree.specs.Answers.{Comes};
@@ -17,19 +22,12 @@ const MAX_BRANCH_CELLS: usize = 16384;
 
 const QUEUE_NUMBERS: usize = 24576;
 
-// A byte of the sheet as a number of cells.
-fn side(byte: u8) -> usize
-    ensures { λ r. ⌜ (r ≡ byte) × (r ≤ 255) ⌝ }
-{
-    byte as usize
-}
-
-// How many cells the sheet's room has: its sides are bytes 5 to 7.
+// How many cells the sheet's room has.
 fn cells_in(sheet: &[u8]) -> usize
-    requires { ⌜ 8 ≤ length (now sheet) ⌝ }
-    ensures { λ r. ⌜ r ≡ getD (now (sheet .entry)) 5 0 * getD (now (sheet .entry)) 6 0 * getD (now (sheet .entry)) 7 0 ⌝ }
+    ensures { λ r. ⌜ r ≡ volume (roomIn (versionIn (now (sheet .entry)) .long) (drop sidesPlace (now (sheet .entry)))) ⌝ }
 {
-    side(sheet[5]) * side(sheet[6]) * side(sheet[7])
+    let room = places::room_from(sheet, versions::version_in(sheet).long);
+    room.wide * room.high * room.deep
 }
 
 // Whether a sheet that means something has a room over this program's limit.

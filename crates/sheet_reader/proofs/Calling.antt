@@ -204,7 +204,7 @@ module _ {M : Type 1} (𝓤 : URA M) (H : Heap 𝓤) (A : Atoms 𝓤) (W : Given
   moved h n fits = qed W (‵ (Held κ h) ∷ []) ∵ owned ! usize (Is usize) (uint-makes 𝓤 H A W w64) n _ (refl, fits) $ move ! (1 ∷ 0 ∷ []) $ by ! (own-put 𝓤 H A W (type-at κ) (laws-at κ) 1 (h .sheet, (h .place, tt)) n (ReaderLaws.lowered h))
 
   -- a slice has fewer than 2 ^ 63 bytes, so that nothing wraps near its end
-  pub place-fits : (h : Reader) → LawfulReader κ h → Stands (now (h .sheet)) (h .place) → h .place + 4 < 2 ^ 64
+  pub place-fits : (h : Reader) → LawfulReader κ h → Stands (now (h .sheet)) (h .place) → h .place + 16 < 2 ^ 64
   place-fits h is ok =
       let few : length (now (h .sheet)) * 1 < 2 ^ 63 = LL.owed (type-at κ) (laws-at κ) h _ is .0 .0 .1 .1 in
       omega (arith, few, ok)

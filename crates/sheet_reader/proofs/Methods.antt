@@ -27,6 +27,8 @@ use denote.Struct.Laws as LL
 use denote.Triple.Statement.{Triple}
 use Rattle.room.proofs.Pos as Pos′
 use Rattle.room.proofs.Pos.Laws as PosLaws
+use Rattle.room.proofs.RouterConfig as RouterConfig′
+use Rattle.room.proofs.RouterConfig.Laws as RouterConfigLaws
 use Rattle.job_sheet.specs.declared.Part.{Part}
 use Rattle.job_sheet.proofs.Endpoint as Endpoint′
 use Rattle.job_sheet.proofs.Endpoint.Laws as EndpointLaws
@@ -34,9 +36,9 @@ use Rattle.job_sheet.proofs.Part as Part′
 use Rattle.job_sheet.proofs.Part.Laws as PartLaws
 use Rattle.job_sheet.proofs.Sinks as Sinks′
 use Rattle.job_sheet.proofs.Sinks.Laws as SinksLaws
-use Rattle.job_sheet.specs.Sheet.{listsPlace}
-use Rattle.job_sheet.specs.Places.{fourIn, positionIn, endpointIn, Listed, SinksListed}
-use Rattle.sheet_reader.specs.Reader.{Stands, onward, sinksFound, PartsFound}
+use Rattle.job_sheet.specs.Version.{versionIn, positionSize, blockSize, listsPlace}
+use Rattle.job_sheet.specs.Places.{fourIn, positionIn, configIn, endpointIn, Listed, SourceListed, SinksListed}
+use Rattle.sheet_reader.specs.Reader.{Stands, onward, SidesListed, sinksFound, PartsFound}
 use Rattle.sheet_reader.specs.ReaderLaws.{onward-stands}
 use Rattle.sheet_reader.specs.declared.Reader.{Reader}
 use Rattle.sheet_reader.proofs.Body as Body′
@@ -66,13 +68,22 @@ byte = record { type = u8; mir = tyInt w8; typed = λ 𝓤 H A W. uint-lawful �
 abbrev pub four : ReadingMethod
 four = record { type = u32; mir = tyInt w32; typed = λ 𝓤 H A W. uint-lawful 𝓤 H A W w32 .typed; requires = standing; Tells = λ h r. r ≡ fourIn (drop (h .place) (now (h .sheet))) 0 }
 
+abbrev pub config : ReadingMethod
+config = record {
+  type = RouterConfig′.the-row;
+  mir = RouterConfigLaws.mir;
+  typed = λ 𝓤 H A W. LL.lawful RouterConfig′.the-type RouterConfigLaws.the-laws 𝓤 H A W .typed;
+  requires = standing;
+  Tells = λ h r. r ≡ configIn (drop (h .place) (now (h .sheet)));
+}
+
 abbrev pub position : ReadingMethod
 position = record {
   type = Pos′.the-row;
   mir = PosLaws.mir;
   typed = λ 𝓤 H A W. LL.lawful Pos′.the-type PosLaws.the-laws 𝓤 H A W .typed;
   requires = standing;
-  Tells = λ h r. r ≡ positionIn (drop (h .place) (now (h .sheet))) 0;
+  Tells = λ h r. r ≡ positionIn (versionIn (now (h .sheet)) .long) (drop (h .place) (now (h .sheet))) 0;
 }
 
 abbrev pub endpoint : ReadingMethod
@@ -81,18 +92,27 @@ endpoint = record {
   mir = EndpointLaws.mir;
   typed = λ 𝓤 H A W. LL.lawful Endpoint′.the-type EndpointLaws.the-laws 𝓤 H A W .typed;
   requires = standing;
-  Tells = λ h r. r ≡ endpointIn (drop (h .place) (now (h .sheet)));
+  Tells = λ h r. r ≡ endpointIn (versionIn (now (h .sheet)) .long) (drop (h .place) (now (h .sheet)));
 }
 
 -- one that gives a part of the sheet
-abbrev a-part : (Reader → Part → Type 0) → ReadingMethod
-a-part tells = record { type = Part′.the-row; mir = PartLaws.mir; typed = λ 𝓤 H A W. LL.lawful Part′.the-type PartLaws.the-laws 𝓤 H A W .typed; requires = standing; Tells = tells }
+abbrev a-part : (Reader → Require) → (Reader → Part → Type 0) → ReadingMethod
+a-part required tells = record { type = Part′.the-row; mir = PartLaws.mir; typed = λ 𝓤 H A W. LL.lawful Part′.the-type PartLaws.the-laws 𝓤 H A W .typed; requires = required; Tells = tells }
 
-abbrev pub list : ReadingMethod
-list = a-part (λ h. Listed (now (h .sheet)) (h .place))
+abbrev pub sides-list : ReadingMethod
+sides-list = a-part (λ _. no-fact) (λ h. SidesListed (versionIn (now (h .sheet))) (h .place))
+
+abbrev pub block-list : ReadingMethod
+block-list = a-part standing (λ h. Listed (now (h .sheet)) (versionIn (now (h .sheet)) .long) (blockSize (versionIn (now (h .sheet)) .long)) (h .place))
+
+abbrev pub position-list : ReadingMethod
+position-list = a-part standing (λ h. Listed (now (h .sheet)) (versionIn (now (h .sheet)) .long) (positionSize (versionIn (now (h .sheet)) .long)) (h .place))
+
+abbrev pub source-list : ReadingMethod
+source-list = a-part (λ _. no-fact) (λ h. SourceListed (versionIn (now (h .sheet))) (h .place))
 
 abbrev pub sinks-list : ReadingMethod
-sinks-list = a-part (λ h. SinksListed (now (h .sheet)) (h .place))
+sinks-list = a-part standing (λ h. SinksListed (versionIn (now (h .sheet))) (now (h .sheet)) (h .place))
 
 abbrev pub sinks : ReadingMethod
 sinks = record {
@@ -108,7 +128,7 @@ at-end = record { type = bool; mir = tyBool; typed = λ 𝓤 H A W. bool-lawful 
 
 -- `read_body` takes a reader that has come to the lists, and reads as a method does
 abbrev pub AtLists : Reader → Type 0
-AtLists h = h .place ≡ onward (now (h .sheet)) 0 listsPlace
+AtLists h = h .place ≡ onward (now (h .sheet)) 0 (listsPlace (versionIn (now (h .sheet))))
 
 pub at-lists-stands : (h : Reader) → AtLists h → Stands (now (h .sheet)) (h .place)
 at-lists-stands h e = subst (Stands (now (h .sheet))) (sym e) (onward-stands _ _ _)
@@ -131,8 +151,8 @@ new-at s = record { sheet = s; place = 0 }
 abbrev pub past-at : Reader → ℕ → Reader
 past-at h n = gone h (onward (now (h .sheet)) (h .place) n)
 
-abbrev pub behind-at : Reader → ℕ → ℕ → Part → Reader
-behind-at h m n b = gone h (onward (now (h .sheet)) (h .place) (m + n * b .count))
+abbrev pub behind-at : Reader → ℕ → Part → Reader
+behind-at h m b = gone h (onward (now (h .sheet)) (h .place) (m + b .size * b .count))
 
 -- what one requires, and the reader that it makes
 pub record Making (ps : List (Slot 1)) : Type 2 where
@@ -155,10 +175,10 @@ abbrev pub past : Making past-params
 past = record { requires = λ _ _. no-fact; made = λ _ a. past-at (a .0) (a .1 .0) }
 
 abbrev pub behind-params : List (Slot 1)
-behind-params = reader ∷ plain (λ _. usize) ∷ plain (λ _. usize) ∷ plain (λ _. Part′.the-row) ∷ []
+behind-params = reader ∷ plain (λ _. usize) ∷ plain (λ _. Part′.the-row) ∷ []
 
 abbrev pub behind : Making behind-params
-behind = record { requires = λ _ a. this (a .1 .0 + a .1 .1 .0 * a .1 .1 .1 .0 .count < 2 ^ 64); made = λ _ a. behind-at (a .0) (a .1 .0) (a .1 .1 .0) (a .1 .1 .1 .0) }
+behind = record { requires = λ _ a. this (a .1 .0 + a .1 .1 .0 .size * a .1 .1 .0 .count < 2 ^ 64); made = λ _ a. behind-at (a .0) (a .1 .0) (a .1 .1 .0) }
 
 -- ---- the steps
 
@@ -202,9 +222,9 @@ module _ {M : Type 1} {𝓤 : URA M} {H : Heap 𝓤} {A : Atoms 𝓤} {K : Type 
       → Seq K W (Token 𝓤 A κ q ∷ ‵ (Held κ h) ∷ Γ) (runs C Λ E (seq (call f xs d) rest) p)
   past-call t fm known κ q h n ok os k = makes-reader t fm past known κ q h (ReaderLaws.lowered h ∷ []) (uint-makes 𝓤 H A W w64, tt) (n, tt) (vint w64 n ∷ [], tt) ((refl, ok), tt) tt os k
 
-  pub behind-call : K → FmC 𝓤 H (W .laws) C → Triple 𝓤 (C f) (ContractOf 𝓤 H A (making behind)) → (κ : Lft) (q : Share) (h : Reader) (m : ℕ) → m < 2 ^ 64 → (n : ℕ) → n < 2 ^ 64 → (b : Part) (u : Val) → Is Part′.the-row b (u ∷ []) → m + n * b .count < 2 ^ 64
-      → Opds K W (Sought 𝓤 H A (making behind) (κ, tt) (q, tt) (h, (m, (n, (b, tt)))) (ReaderLaws.lowered h ∷ [], (vint w64 m ∷ [], (vint w64 n ∷ [], (u ∷ [], tt)))) ∷ Γ) E xs (ReaderLaws.lowered h ∷ vint w64 m ∷ vint w64 n ∷ u ∷ [])
-      → (LawfulReader κ (behind-at h m n b) → Seq K W (Token 𝓤 A κ q ∷ ‵ (Held κ (behind-at h m n b)) ∷ Γ) (lands C Λ E d (ReaderLaws.lowered (behind-at h m n b)) rest p))
+  pub behind-call : K → FmC 𝓤 H (W .laws) C → Triple 𝓤 (C f) (ContractOf 𝓤 H A (making behind)) → (κ : Lft) (q : Share) (h : Reader) (m : ℕ) → m < 2 ^ 64 → (b : Part) (u : Val) → Is Part′.the-row b (u ∷ []) → m + b .size * b .count < 2 ^ 64
+      → Opds K W (Sought 𝓤 H A (making behind) (κ, tt) (q, tt) (h, (m, (b, tt))) (ReaderLaws.lowered h ∷ [], (vint w64 m ∷ [], (u ∷ [], tt))) ∷ Γ) E xs (ReaderLaws.lowered h ∷ vint w64 m ∷ u ∷ [])
+      → (LawfulReader κ (behind-at h m b) → Seq K W (Token 𝓤 A κ q ∷ ‵ (Held κ (behind-at h m b)) ∷ Γ) (lands C Λ E d (ReaderLaws.lowered (behind-at h m b)) rest p))
       → Seq K W (Token 𝓤 A κ q ∷ ‵ (Held κ h) ∷ Γ) (runs C Λ E (seq (call f xs d) rest) p)
-  behind-call t fm known κ q h m ok-m n ok-n b u is small os k =
-      makes-reader t fm behind known κ q h (ReaderLaws.lowered h ∷ []) (uint-makes 𝓤 H A W w64, (uint-makes 𝓤 H A W w64, (LL.makes Part′.the-type PartLaws.the-plain 𝓤 H A, tt))) (m, (n, (b, tt))) (vint w64 m ∷ [], (vint w64 n ∷ [], (u ∷ [], tt))) ((refl, ok-m), ((refl, ok-n), (is, tt))) small os k
+  behind-call t fm known κ q h m ok-m b u is small os k =
+      makes-reader t fm behind known κ q h (ReaderLaws.lowered h ∷ []) (uint-makes 𝓤 H A W w64, (LL.makes Part′.the-type PartLaws.the-plain 𝓤 H A, tt)) (m, (b, tt)) (vint w64 m ∷ [], (u ∷ [], tt)) ((refl, ok-m), (is, tt)) small os k

@@ -8,13 +8,16 @@ use lib.Dec.{leb, eqb}
 use lib.ListN.{length, getD, drop}
 use Rattle.basics.specs.Tests.{either}
 use Rattle.room.specs.declared.Pos.{Pos}
+use Rattle.room.specs.declared.RouterConfig.{RouterConfig}
 use Rattle.job_sheet.specs.declared.Job.{Job}
 use Rattle.job_sheet.specs.declared.Part.{Part}
 use Rattle.job_sheet.specs.declared.Endpoint.{Endpoint}
 use Rattle.job_sheet.specs.declared.places.Layout.{Layout}
 use Rattle.job_sheet.specs.declared.Sinks.{Sinks}
-use Rattle.job_sheet.specs.Sheet.{maxSinks, endpointSize, behind, noPart, sinksOf, sidesPlace, configPlace}
-use Rattle.job_sheet.specs.Places.{fourIn, roomIn, configIn, endpointIn, endpointsIn, sinksAt, layoutIn}
+use Rattle.job_sheet.specs.declared.Version.{Version}
+use Rattle.job_sheet.specs.Version.{versionIn, positionSize, mostSize, sidesPlace, configPlace}
+use Rattle.job_sheet.specs.Sheet.{maxSinks, behind, noPart, sinksOf}
+use Rattle.job_sheet.specs.Places.{fourIn, roomIn, configIn, endpointIn, sinksIn, sinksAt, layoutIn}
 use Rattle.sheet_reader.specs.declared.Head.{Head}
 use Rattle.sheet_reader.specs.declared.Body.{Body}
 use Rattle.sheet_reader.specs.declared.Found.{Found}
@@ -34,47 +37,71 @@ listCountSize = 2
 abbrev pub sinksCountSize : ℕ
 sinksCountSize = 1
 
--- at most sixteen endpoints that the sheet has whole, or none
+-- the sides and the source have no count
+abbrev pub noCountSize : ℕ
+noCountSize = 0
+
+-- the sides are one record, as long as a position
+abbrev pub sidesAt : Version → ℕ → Part
+sidesAt v place = record { from = place; count = 1; size = positionSize (v .long); long = v .long }
+
+pub record SidesListed (v : Version) (place : ℕ) (r : Part) : Type 0 where
+  pub is : r ≡ sidesAt v place
+  pub size-most : r .size ≤ mostSize
+  pub count-is : r .count ≡ 1
+
+-- at most sixteen sinks that the sheet has whole, or none
 unfoldable pub wholeSinks : List ℕ → Part → Part
-wholeSinks s p = either (leb (p .count) maxSinks && leb (behind endpointSize p) (length s)) p noPart
+wholeSinks s p = either (leb (p .count) maxSinks && leb (behind p) (length s)) p noPart
 
 abbrev pub sinksFound : List ℕ → ℕ → Sinks
-sinksFound s place = sinksOf (endpointsIn s (wholeSinks s (sinksAt s place)))
+sinksFound s place = let v = versionIn s in sinksOf (sinksIn v s (wholeSinks s (sinksAt v s place)))
 
 -- ---- what a reader finds from the front of a sheet to its end
 
-abbrev pub headOf : ℕ → ℕ → Pos → ℕ → ℕ → ℕ → ℕ → Head
-headOf version rest sides limit horizontal stair support = record {
+abbrev pub headOf : ℕ → ℕ → Pos → RouterConfig → Head
+headOf version rest sides config = record {
   version = version;
   rest = rest;
   room = record { wide = sides .x; high = sides .y; deep = sides .z };
-  config = record { limit = record { 0 = limit }; horizontal = record { 0 = horizontal }; stair = record { 0 = stair }; support = record { 0 = support } };
+  config = config;
 }
 
 abbrev pub headIn : List ℕ → Head
-headIn s = record { version = getD s 0 0; rest = fourIn (drop 1 s) 0; room = roomIn (drop sidesPlace s); config = configIn (drop configPlace s) }
+headIn s =
+    let v = versionIn s in
+    record {
+      version = getD s 0 0;
+      rest = fourIn (drop 1 s) 0;
+      room = roomIn (v .long) (drop sidesPlace s);
+      config = configIn (drop (configPlace v) s);
+    }
 
-abbrev pub layoutFound : Part → Part → Part → Part → Part → ℕ → Part → Layout
+abbrev pub layoutFound : Part → Part → Part → Part → Part → Part → Part → Layout
 layoutFound blocks conductors clearances terminals reserved source sinks = record {
   blocks = blocks;
   conductors = conductors;
   clearances = clearances;
   terminals = terminals;
   reserved = reserved;
-  source = record { from = source; count = 1 };
+  source = source;
   sinks = sinks;
 }
 
 abbrev pub bodyOf : Layout → Endpoint → Sinks → Bool → Body
 bodyOf layout source sinks whole = record { layout = layout; source = source; sinks = sinks; whole = whole }
 
+-- where the parts of the sheet stand, in its version
+abbrev pub layoutAt : List ℕ → Layout
+layoutAt s = layoutIn (versionIn s) s
+
 -- It is at the end exactly where the sheet's parts end there, and then it found them where they stand.
 pub record PartsFound (s : List ℕ) (b : Body) : Type 0 where
-  pub whole-is : b .whole ≡ eqb (behind endpointSize (layoutIn s .sinks)) (length s)
-  pub count-is : b .layout .sinks .count ≡ layoutIn s .sinks .count
-  pub layout-is : b .whole ≡ true → b .layout ≡ layoutIn s
-  pub source-is : b .whole ≡ true → b .source ≡ endpointIn (drop (layoutIn s .source .from) s)
-  pub sinks-are : b .whole ≡ true → layoutIn s .sinks .count ≤ maxSinks → b .sinks ≡ sinksOf (endpointsIn s (layoutIn s .sinks))
+  pub whole-is : b .whole ≡ eqb (behind (layoutAt s .sinks)) (length s)
+  pub count-is : b .layout .sinks .count ≡ layoutAt s .sinks .count
+  pub layout-is : b .whole ≡ true → b .layout ≡ layoutAt s
+  pub source-is : b .whole ≡ true → b .source ≡ endpointIn (versionIn s .long) (drop (layoutAt s .source .from) s)
+  pub sinks-are : b .whole ≡ true → layoutAt s .sinks .count ≤ maxSinks → b .sinks ≡ sinksOf (sinksIn (versionIn s) s (layoutAt s .sinks))
 
 -- all of it: what stands before the lists, and the parts
 abbrev pub foundOf : Head → Body → Found

@@ -2,26 +2,29 @@
 use mathlib.Core.Path.{_≡_, refl, sym, ap, _∙_}
 use mathlib.Core.Bool.{Bool, true}
 use mathlib.Core.List.{List}
-use Prim.Native.Nat.{ℕ, _+_, _*_, _≤_, _<_}
-use native.Mathlib.Nat.{le-of-lt}
+use Prim.Native.Nat.{ℕ, _+_, _*_, _^_, _≤_, _<_}
+use native.Mathlib.Nat.{le-of-lt, le-refl, le-trans, mul-le-mul}
 use native.Mathlib.Omega.{arith}
 use borrow.Author.Tests.{eqb-true, le-leb, lt-leb, eq-eqb, ne-eqb}
 use lib.Dec.{eqb}
 use lib.ListN.{length, getD, drop, drop-of-length-le}
-use lib.Seq.{getD-drop}
 use Rattle.basics.specs.Tests.{askLess}
 use Rattle.room.specs.declared.Pos.{Pos}
+use Rattle.room.specs.declared.RouterConfig.{RouterConfig}
 use Rattle.job_sheet.specs.declared.Endpoint.{Endpoint}
 use Rattle.job_sheet.specs.declared.Part.{Part}
 use Rattle.job_sheet.specs.declared.Sinks.{Sinks}
-use Rattle.job_sheet.specs.Sheet.{maxSinks, blockSize, positionSize, endpointSize, listsPlace, behind, noPart, sinksOf, jobOf}
-use Rattle.job_sheet.specs.Places.{twoIn, fourIn, positionIn, endpointIn, endpointsIn, listAt, sinksAt, layoutIn, contentsIn, Shaped}
+use Rattle.job_sheet.specs.declared.Version.{Version}
+use Rattle.job_sheet.specs.Version.{versionIn, width, positionSize, blockSize, endpointSize, sinkSize, mostSize, sidesPlace, configPlace, configSize, listsPlace}
+use Rattle.job_sheet.specs.VersionLaws.{width-few}
+use Rattle.job_sheet.specs.Sheet.{maxSinks, sourceAt, behind, noPart, sinksOf, jobOf}
+use Rattle.job_sheet.specs.Places.{twoIn, fourIn, positionIn, configIn, endpointIn, sinksIn, listAt, sinksAt, layoutIn, contentsIn, Listed, SourceListed, SinksListed, Shaped}
 use Rattle.job_sheet.specs.RecordLaws.{Bytes}
 use Rattle.job_sheet.specs.ReadLaws.{job-forth}
 use Rattle.sheet_reader.specs.declared.Head.{Head}
 use Rattle.sheet_reader.specs.declared.Body.{Body}
 use Rattle.sheet_reader.specs.declared.Found.{Found}
-use Rattle.sheet_reader.specs.Reader.{Stands, onward, listCountSize, sinksCountSize, wholeSinks, sinksFound, headOf, headIn, layoutFound, bodyOf, PartsFound, foundOf, AllFound, jobFound}
+use Rattle.sheet_reader.specs.Reader.{Stands, onward, listCountSize, sinksCountSize, noCountSize, sidesAt, SidesListed, wholeSinks, sinksFound, headOf, headIn, layoutFound, bodyOf, PartsFound, foundOf, AllFound, jobFound}
 
 -- ---- where a reader stands
 
@@ -57,7 +60,7 @@ onward-twice s place m n =
 -- ---- the sinks that can be read
 
 module _ (s : List ℕ) (p : Part) where
-  pub whole-some : p .count ≤ maxSinks → behind endpointSize p ≤ length s → wholeSinks s p ≡ p
+  pub whole-some : p .count ≤ maxSinks → behind p ≤ length s → wholeSinks s p ≡ p
   unfolding wholeSinks
   whole-some few inside = rw (le-leb _ _ few, le-leb _ _ inside)
 
@@ -65,26 +68,26 @@ module _ (s : List ℕ) (p : Part) where
   unfolding wholeSinks
   whole-over many = rw (lt-leb _ _ many)
 
-  pub whole-short : p .count ≤ maxSinks → length s < behind endpointSize p → wholeSinks s p ≡ noPart
+  pub whole-short : p .count ≤ maxSinks → length s < behind p → wholeSinks s p ≡ noPart
   unfolding wholeSinks
   whole-short few short = rw (le-leb _ _ few, lt-leb _ _ short)
 
-  holds : (q : Part) → q ≡ wholeSinks s p → (q .count ≤ maxSinks) × (behind endpointSize q ≤ length s)
+  holds : (q : Part) → q ≡ wholeSinks s p → (q .count ≤ maxSinks) × (behind q ≤ length s)
   holds q e =
       askLess maxSinks (p .count)
       (λ many. none (whole-over many))
-      (λ few. askLess (length s) (behind endpointSize p) (λ short. none (whole-short few short)) (λ inside. whole few inside))
+      (λ few. askLess (length s) (behind p) (λ short. none (whole-short few short)) (λ inside. whole few inside))
     where
-      whole : p .count ≤ maxSinks → behind endpointSize p ≤ length s → (q .count ≤ maxSinks) × (behind endpointSize q ≤ length s)
+      whole : p .count ≤ maxSinks → behind p ≤ length s → (q .count ≤ maxSinks) × (behind q ≤ length s)
       whole few inside = rw (e, whole-some few inside) (few, inside)
 
-      none : wholeSinks s p ≡ noPart → (q .count ≤ maxSinks) × (behind endpointSize q ≤ length s)
+      none : wholeSinks s p ≡ noPart → (q .count ≤ maxSinks) × (behind q ≤ length s)
       none z = rw (e, z) (omega arith, omega arith)
 
   pub whole-few : wholeSinks s p .count ≤ maxSinks
   whole-few = holds (wholeSinks s p) refl .0
 
-  pub whole-inside : behind endpointSize (wholeSinks s p) ≤ length s
+  pub whole-inside : behind (wholeSinks s p) ≤ length s
   whole-inside = holds (wholeSinks s p) refl .1
 
 -- ---- a reader beside the places of the definitions, which run on past the end: it stands where they do, or both are off the sheet
@@ -118,155 +121,194 @@ module _ (s : List ℕ) where
   along-end a p (read-same e h) = ap (λ x. eqb x (length s)) e
   along-end a p (read-off h k) = ne-eqb a (length s) (λ e. omega (arith, h, e)) ∙ sym (ne-eqb p (length s) (λ e. omega (arith, k, e)))
 
+-- ---- the bytes of a part are few enough for a sum
+
+few-bytes : (width size count : ℕ) → width ≤ 2 → size ≤ mostSize → count < 2 ^ 16 → width + size * count < 2 ^ 64
+few-bytes width size count w h k = omega (arith, w, mul-le-mul h (le-of-lt k))
+
+module _ {s : List ℕ} {place : ℕ} {r : Part} where
+  pub blocks-small : {long : Bool} → Listed s long (blockSize long) place r → listCountSize + r .size * r .count < 2 ^ 64
+  blocks-small {long} L = few-bytes listCountSize (r .size) (r .count) (omega arith) (omega (arith, L .size-is, width-few long)) (L .count-most)
+
+  pub positions-small : {long : Bool} → Listed s long (positionSize long) place r → listCountSize + r .size * r .count < 2 ^ 64
+  positions-small {long} L = few-bytes listCountSize (r .size) (r .count) (omega arith) (omega (arith, L .size-is, width-few long)) (L .count-most)
+
+  pub sinks-small : {v : Version} → SinksListed v s place r → sinksCountSize + r .size * r .count < 2 ^ 64
+  sinks-small L = few-bytes sinksCountSize (r .size) (r .count) (omega arith) (L .size-most) (omega (arith, L .count-most))
+
+module _ {v : Version} {place : ℕ} {r : Part} where
+  pub source-small : SourceListed v place r → noCountSize + r .size * r .count < 2 ^ 64
+  source-small L = few-bytes noCountSize (r .size) (r .count) (omega arith) (L .size-most) (omega (arith, L .count-is))
+
+  pub sides-small : SidesListed v place r → noCountSize + r .size * r .count < 2 ^ 64
+  sides-small L = few-bytes noCountSize (r .size) (r .count) (omega arith) (L .size-most) (omega (arith, L .count-is))
+
 -- ---- from the front to the lists
 
-abbrev restAt : List ℕ → ℕ
-restAt s = onward s 0 1
+-- the place that a reader at a place reaches behind the part that stands there
+abbrev after : List ℕ → ℕ → ℕ → Part → ℕ
+after s width a x = onward s a (width + x .size * x .count)
 
-abbrev sidesAt : List ℕ → ℕ
-sidesAt s = onward s (restAt s) 4
+module _ (s : List ℕ) where
+  abbrev v₀ : Version
+  v₀ = versionIn s
 
-abbrev limitAt : List ℕ → ℕ
-limitAt s = onward s (sidesAt s) positionSize
+  abbrev restPlace : ℕ
+  restPlace = onward s 0 1
 
-abbrev horizontalAt : List ℕ → ℕ
-horizontalAt s = onward s (limitAt s) 4
+  abbrev sidesAfter : ℕ
+  sidesAfter = onward s restPlace 4
 
-abbrev stairAt : List ℕ → ℕ
-stairAt s = onward s (horizontalAt s) 4
+  module _ (d : Part) where
+    abbrev configAfter : ℕ
+    configAfter = after s noCountSize sidesAfter d
 
-abbrev supportAt : List ℕ → ℕ
-supportAt s = onward s (stairAt s) 4
+    abbrev listsAfter : ℕ
+    listsAfter = onward s configAfter configSize
 
-abbrev listsAt : List ℕ → ℕ
-listsAt s = onward s (supportAt s) 4
+    -- the steps through the head are one step to the lists
+    pub lists-reached : d ≡ sidesAt v₀ sidesAfter → listsAfter ≡ onward s 0 (listsPlace v₀)
+    lists-reached e =
+        let m : ℕ = noCountSize + d .size * d .count in
+        let n : m ≡ noCountSize + positionSize (v₀ .long) * 1 = ap (λ x. noCountSize + x .size * x .count) e in
+        let sum : 1 + 4 + m + configSize ≡ listsPlace v₀ = omega (arith, n) in
+        rw (onward-twice s 0 1 4, onward-twice s 0 (1 + 4) m, onward-twice s 0 (1 + 4 + m) configSize, sum)
 
--- the steps through the head are one step to the lists
-pub lists-reached : (s : List ℕ) → listsAt s ≡ onward s 0 listsPlace
-lists-reached s = rw (onward-twice s 0 1 4, onward-twice s 0 5 positionSize, onward-twice s 0 8 4, onward-twice s 0 12 4, onward-twice s 0 16 4, onward-twice s 0 20 4)
-
-pub head-read : (s : List ℕ) (version rest : ℕ) (sides : Pos) (limit horizontal stair support : ℕ)
+pub head-read : (s : List ℕ) (version rest : ℕ) (sides : Pos) (d : Part) (config : RouterConfig)
     → version ≡ getD (drop 0 s) 0 0
-    → rest ≡ fourIn (drop (restAt s) s) 0
-    → sides ≡ positionIn (drop (sidesAt s) s) 0
-    → limit ≡ fourIn (drop (limitAt s) s) 0
-    → horizontal ≡ fourIn (drop (horizontalAt s) s) 0
-    → stair ≡ fourIn (drop (stairAt s) s) 0
-    → support ≡ fourIn (drop (supportAt s) s) 0
-    → headOf version rest sides limit horizontal stair support ≡ headIn s
-head-read s version rest sides limit horizontal stair support e₀ e₁ e₂ e₃ e₄ e₅ e₆ =
-    let a₁ = along-past s 1 0 0 (along-start s) in
-    let a₂ = along-past s 4 (restAt s) 1 a₁ in
-    let a₃ = along-past s positionSize (sidesAt s) 5 a₂ in
-    let a₄ = along-past s 4 (limitAt s) 8 a₃ in
-    let a₅ = along-past s 4 (horizontalAt s) 12 a₄ in
-    let a₆ = along-past s 4 (stairAt s) 16 a₅ in
-    let d₁ : drop (restAt s) s ≡ drop 1 s = along-drop s _ _ a₁ in
-    let d₂ : drop (sidesAt s) s ≡ drop 5 s = along-drop s _ _ a₂ in
-    let d₃ : drop (limitAt s) s ≡ drop 8 s = along-drop s _ _ a₃ in
-    let d₄ : drop (horizontalAt s) s ≡ drop 12 s = along-drop s _ _ a₄ in
-    let d₅ : drop (stairAt s) s ≡ drop 16 s = along-drop s _ _ a₅ in
-    let d₆ : drop (supportAt s) s ≡ drop 20 s = along-drop s _ _ a₆ in
-    rw (e₀, e₁, e₂, e₃, e₄, e₅, e₆, d₁, d₂, d₃, d₄, d₅, d₆) (simp getD-drop)
+    → rest ≡ fourIn (drop (restPlace s) s) 0
+    → sides ≡ positionIn (versionIn s .long) (drop (sidesAfter s) s) 0
+    → d ≡ sidesAt (versionIn s) (sidesAfter s)
+    → config ≡ configIn (drop (configAfter s d) s)
+    → headOf version rest sides config ≡ headIn s
+head-read s version rest sides d config e₀ e₁ e₂ ed e₃ =
+    let v : Version = versionIn s in
+    let m : ℕ = noCountSize + d .size * d .count in
+    let z : m ≡ noCountSize + positionSize (v .long) * 1 = ap (λ x. noCountSize + x .size * x .count) ed in
+    let n : sidesPlace + m ≡ configPlace v = omega (arith, z) in
+    let a₁ : ReadAlong s (restPlace s) 1 = along-past s 1 0 0 (along-start s) in
+    let a₂ : ReadAlong s (sidesAfter s) sidesPlace = along-past s 4 (restPlace s) 1 a₁ in
+    let a₃ : ReadAlong s (configAfter s d) (configPlace v) = rw n at (along-past s m (sidesAfter s) sidesPlace a₂) in
+    let f₁ : rest ≡ fourIn (drop 1 s) 0 = e₁ ∙ ap (λ l. fourIn l 0) (along-drop s _ 1 a₁) in
+    let f₂ : sides ≡ positionIn (v .long) (drop sidesPlace s) 0 = e₂ ∙ ap (λ l. positionIn (v .long) l 0) (along-drop s _ sidesPlace a₂) in
+    let f₃ : config ≡ configIn (drop (configPlace v) s) = e₃ ∙ ap configIn (along-drop s _ (configPlace v) a₃) in
+    λ i. headOf (e₀ i) (f₁ i) (f₂ i) (f₃ i)
 
 -- ---- from the lists to the end
-
--- the place that a reader at a place reaches behind the part that stands there
-abbrev after : List ℕ → ℕ → ℕ → ℕ → Part → ℕ
-after s width size a x = onward s a (width + size * x .count)
 
 module _ (s : List ℕ) where
   -- the places of the definitions begin behind the count
   along-behind : (width n a p : ℕ) → ReadAlong s a p → ReadAlong s (onward s a (width + n)) (p + width + n)
   along-behind width n a p A = let assoc : p + width + n ≡ p + (width + n) = omega arith in rw assoc (along-past s (width + n) a p A)
 
-  list-along : (size : ℕ) (x : Part) (a p : ℕ) → x ≡ listAt s a → ReadAlong s a p → ReadAlong s (after s listCountSize size a x) (behind size (listAt s p))
+  list-along : (long : Bool) (size : ℕ) (x : Part) (a p : ℕ) → x ≡ listAt s long size a → ReadAlong s a p
+      → ReadAlong s (after s listCountSize a x) (behind (listAt s long size p))
   unfolding listAt
-  list-along size x a p e A = rw (e, along-drop s a p A) (along-behind listCountSize (size * twoIn (drop p s) 0) a p A)
+  list-along long size x a p e A = rw (e, along-drop s a p A) (along-behind listCountSize (size * twoIn (drop p s) 0) a p A)
 
-  behind-on : (size p : ℕ) → p ≤ behind size (listAt s p)
+  behind-on : (long : Bool) (size p : ℕ) → p ≤ behind (listAt s long size p)
   unfolding listAt
-  behind-on size p = omega arith
+  behind-on long size p = omega arith
 
-  sinks-along : (a p : ℕ) → ReadAlong s a p → ReadAlong s (after s sinksCountSize endpointSize a (sinksAt s a)) (behind endpointSize (sinksAt s p))
-  unfolding sinksAt
-  sinks-along a p A = rw (along-drop s a p A) (along-behind sinksCountSize (endpointSize * getD (drop p s) 0 0) a p A)
+  module _ (v : Version) where
+    source-along : (x : Part) (a p : ℕ) → x ≡ sourceAt v a → ReadAlong s a p → ReadAlong s (after s noCountSize a x) (behind (sourceAt v p))
+    source-along x a p e A =
+        let none : p + noCountSize + endpointSize (v .long) * 1 ≡ p + endpointSize (v .long) * 1 = omega arith in
+        rw e (rw none at (along-behind noCountSize (endpointSize (v .long) * 1) a p A))
 
-  sinks-count : (a p : ℕ) → ReadAlong s a p → sinksAt s a .count ≡ sinksAt s p .count
-  unfolding sinksAt
-  sinks-count a p A = ap (λ l. getD l 0 0) (along-drop s a p A)
+    source-on : (p : ℕ) → p ≤ behind (sourceAt v p)
+    source-on p = omega arith
 
-  sinks-on : (p : ℕ) → p ≤ behind endpointSize (sinksAt s p)
-  unfolding sinksAt
-  sinks-on p = omega arith
+    sinks-along : (a p : ℕ) → ReadAlong s a p → ReadAlong s (after s sinksCountSize a (sinksAt v s a)) (behind (sinksAt v s p))
+    unfolding sinksAt
+    sinks-along a p A = rw (along-drop s a p A) (along-behind sinksCountSize (sinkSize v * getD (drop p s) 0 0) a p A)
+
+    sinks-count : (a p : ℕ) → ReadAlong s a p → sinksAt v s a .count ≡ sinksAt v s p .count
+    unfolding sinksAt
+    sinks-count a p A = ap (λ l. getD l 0 0) (along-drop s a p A)
+
+    sinks-on : (p : ℕ) → p ≤ behind (sinksAt v s p)
+    unfolding sinksAt
+    sinks-on p = omega arith
 
   -- a₁ to a₇ are the places of the reader, q₁ to q₈ those of the definitions
-  pub body-read : (a₁ : ℕ) (b c l t r k : Part) (e : Endpoint) (n : Sinks) (w : Bool)
-      → let a₂ = after s listCountSize blockSize a₁ b in
-      let a₃ = after s listCountSize positionSize a₂ c in
-      let a₄ = after s listCountSize positionSize a₃ l in
-      let a₅ = after s listCountSize positionSize a₄ t in
-      let a₆ = after s listCountSize positionSize a₅ r in
-      let a₇ = onward s a₆ endpointSize in
-      a₁ ≡ onward s 0 listsPlace
-      → b ≡ listAt s a₁
-      → c ≡ listAt s a₂
-      → l ≡ listAt s a₃
-      → t ≡ listAt s a₄
-      → r ≡ listAt s a₅
-      → e ≡ endpointIn (drop a₆ s)
-      → k ≡ sinksAt s a₇
+  pub body-read : (a₁ : ℕ) (b c l t r o k : Part) (e : Endpoint) (n : Sinks) (w : Bool)
+      → let v = versionIn s in
+      let g = v .long in
+      let a₂ = after s listCountSize a₁ b in
+      let a₃ = after s listCountSize a₂ c in
+      let a₄ = after s listCountSize a₃ l in
+      let a₅ = after s listCountSize a₄ t in
+      let a₆ = after s listCountSize a₅ r in
+      let a₇ = after s noCountSize a₆ o in
+      a₁ ≡ onward s 0 (listsPlace v)
+      → b ≡ listAt s g (blockSize g) a₁
+      → c ≡ listAt s g (positionSize g) a₂
+      → l ≡ listAt s g (positionSize g) a₃
+      → t ≡ listAt s g (positionSize g) a₄
+      → r ≡ listAt s g (positionSize g) a₅
+      → o ≡ sourceAt v a₆
+      → e ≡ endpointIn g (drop a₆ s)
+      → k ≡ sinksAt v s a₇
       → n ≡ sinksFound s a₇
-      → w ≡ eqb (after s sinksCountSize endpointSize a₇ k) (length s)
-      → PartsFound s (bodyOf (layoutFound b c l t r a₆ k) e n w)
+      → w ≡ eqb (after s sinksCountSize a₇ k) (length s)
+      → PartsFound s (bodyOf (layoutFound b c l t r o k) e n w)
   unfolding layoutIn
-  body-read a₁ b c l t r k e n w ea eb ec el et er ee ek en ew =
-      let a₂ : ℕ = after s listCountSize blockSize a₁ b in
-      let a₃ : ℕ = after s listCountSize positionSize a₂ c in
-      let a₄ : ℕ = after s listCountSize positionSize a₃ l in
-      let a₅ : ℕ = after s listCountSize positionSize a₄ t in
-      let a₆ : ℕ = after s listCountSize positionSize a₅ r in
-      let a₇ : ℕ = onward s a₆ endpointSize in
-      let q₁ : ℕ = listsPlace in
-      let q₂ : ℕ = behind blockSize (listAt s q₁) in
-      let q₃ : ℕ = behind positionSize (listAt s q₂) in
-      let q₄ : ℕ = behind positionSize (listAt s q₃) in
-      let q₅ : ℕ = behind positionSize (listAt s q₄) in
-      let q₆ : ℕ = behind positionSize (listAt s q₅) in
-      let q₇ : ℕ = q₆ + endpointSize in
-      let q₈ : ℕ = behind endpointSize (sinksAt s q₇) in
-      let A₁ : ReadAlong s a₁ q₁ = rw ea (along-past s listsPlace 0 0 (along-start s)) in
-      let A₂ : ReadAlong s a₂ q₂ = list-along blockSize b a₁ q₁ eb A₁ in
-      let A₃ : ReadAlong s a₃ q₃ = list-along positionSize c a₂ q₂ ec A₂ in
-      let A₄ : ReadAlong s a₄ q₄ = list-along positionSize l a₃ q₃ el A₃ in
-      let A₅ : ReadAlong s a₅ q₅ = list-along positionSize t a₄ q₄ et A₄ in
-      let A₆ : ReadAlong s a₆ q₆ = list-along positionSize r a₅ q₅ er A₅ in
-      let A₇ : ReadAlong s a₇ q₇ = along-past s endpointSize a₆ q₆ A₆ in
-      let A₈ : ReadAlong s (after s sinksCountSize endpointSize a₇ k) q₈ = rw ek (sinks-along a₇ q₇ A₇) in
+  body-read a₁ b c l t r o k e n w ea eb ec el et er eo ee ek en ew =
+      let v : Version = versionIn s in
+      let g : Bool = v .long in
+      let m : ℕ = positionSize g in
+      let a₂ : ℕ = after s listCountSize a₁ b in
+      let a₃ : ℕ = after s listCountSize a₂ c in
+      let a₄ : ℕ = after s listCountSize a₃ l in
+      let a₅ : ℕ = after s listCountSize a₄ t in
+      let a₆ : ℕ = after s listCountSize a₅ r in
+      let a₇ : ℕ = after s noCountSize a₆ o in
+      let q₁ : ℕ = listsPlace v in
+      let q₂ : ℕ = behind (listAt s g (blockSize g) q₁) in
+      let q₃ : ℕ = behind (listAt s g m q₂) in
+      let q₄ : ℕ = behind (listAt s g m q₃) in
+      let q₅ : ℕ = behind (listAt s g m q₄) in
+      let q₆ : ℕ = behind (listAt s g m q₅) in
+      let q₇ : ℕ = behind (sourceAt v q₆) in
+      let q₈ : ℕ = behind (sinksAt v s q₇) in
+      let none : 0 + listsPlace v ≡ listsPlace v = omega arith in
+      let A₁ : ReadAlong s a₁ q₁ = rw ea (rw none at (along-past s (listsPlace v) 0 0 (along-start s))) in
+      let A₂ : ReadAlong s a₂ q₂ = list-along g (blockSize g) b a₁ q₁ eb A₁ in
+      let A₃ : ReadAlong s a₃ q₃ = list-along g m c a₂ q₂ ec A₂ in
+      let A₄ : ReadAlong s a₄ q₄ = list-along g m l a₃ q₃ el A₃ in
+      let A₅ : ReadAlong s a₅ q₅ = list-along g m t a₄ q₄ et A₄ in
+      let A₆ : ReadAlong s a₆ q₆ = list-along g m r a₅ q₅ er A₅ in
+      let A₇ : ReadAlong s a₇ q₇ = source-along v o a₆ q₆ eo A₆ in
+      let A₈ : ReadAlong s (after s sinksCountSize a₇ k) q₈ = rw ek (sinks-along v a₇ q₇ A₇) in
       let whole : w ≡ eqb q₈ (length s) = ew ∙ along-end s _ q₈ A₈ in
       let ends : w ≡ true → q₈ ≡ length s = λ z. eqb-true _ _ (sym whole ∙ z) in
-      let on₂ = behind-on blockSize q₁ in
-      let on₃ = behind-on positionSize q₂ in
-      let on₄ = behind-on positionSize q₃ in
-      let on₅ = behind-on positionSize q₄ in
-      let on₆ = behind-on positionSize q₅ in
-      let on₈ = sinks-on q₇ in
-      let p₁ : w ≡ true → a₁ ≡ q₁ = λ z. along-near s _ q₁ A₁ (omega (arith, ends z, on₂, on₃, on₄, on₅, on₆, on₈)) in
-      let p₂ : w ≡ true → a₂ ≡ q₂ = λ z. along-near s _ q₂ A₂ (omega (arith, ends z, on₃, on₄, on₅, on₆, on₈)) in
-      let p₃ : w ≡ true → a₃ ≡ q₃ = λ z. along-near s _ q₃ A₃ (omega (arith, ends z, on₄, on₅, on₆, on₈)) in
-      let p₄ : w ≡ true → a₄ ≡ q₄ = λ z. along-near s _ q₄ A₄ (omega (arith, ends z, on₅, on₆, on₈)) in
-      let p₅ : w ≡ true → a₅ ≡ q₅ = λ z. along-near s _ q₅ A₅ (omega (arith, ends z, on₆, on₈)) in
-      let p₆ : w ≡ true → a₆ ≡ q₆ = λ z. along-near s _ q₆ A₆ (omega (arith, ends z, on₈)) in
-      let p₇ : w ≡ true → a₇ ≡ q₇ = λ z. along-near s _ q₇ A₇ (omega (arith, ends z, on₈)) in
-      let k-is : w ≡ true → k ≡ sinksAt s q₇ = λ z. ek ∙ ap (sinksAt s) (p₇ z) in
+      let on₂ = behind-on g (blockSize g) q₁ in
+      let on₃ = behind-on g m q₂ in
+      let on₄ = behind-on g m q₃ in
+      let on₅ = behind-on g m q₄ in
+      let on₆ = behind-on g m q₅ in
+      let on₇ = source-on v q₆ in
+      let on₈ = sinks-on v q₇ in
+      let p₇ : w ≡ true → a₇ ≡ q₇ = λ z. along-near s _ q₇ A₇ (le-eq on₈ (ends z)) in
+      let p₆ : w ≡ true → a₆ ≡ q₆ = λ z. along-near s _ q₆ A₆ (le-trans on₇ (le-eq on₈ (ends z))) in
+      let p₅ : w ≡ true → a₅ ≡ q₅ = λ z. along-near s _ q₅ A₅ (le-trans on₆ (le-trans on₇ (le-eq on₈ (ends z)))) in
+      let p₄ : w ≡ true → a₄ ≡ q₄ = λ z. along-near s _ q₄ A₄ (le-trans on₅ (le-trans on₆ (le-trans on₇ (le-eq on₈ (ends z))))) in
+      let p₃ : w ≡ true → a₃ ≡ q₃ = λ z. along-near s _ q₃ A₃ (le-trans on₄ (le-trans on₅ (le-trans on₆ (le-trans on₇ (le-eq on₈ (ends z)))))) in
+      let p₂ : w ≡ true → a₂ ≡ q₂ = λ z. along-near s _ q₂ A₂ (le-trans on₃ (le-trans on₄ (le-trans on₅ (le-trans on₆ (le-trans on₇ (le-eq on₈ (ends z))))))) in
+      let p₁ : w ≡ true → a₁ ≡ q₁ = λ z. along-near s _ q₁ A₁ (le-trans on₂ (le-trans on₃ (le-trans on₄ (le-trans on₅ (le-trans on₆ (le-trans on₇ (le-eq on₈ (ends z)))))))) in
+      let k-is : w ≡ true → k ≡ sinksAt v s q₇ = λ z. ek ∙ ap (sinksAt v s) (p₇ z) in
       record {
         whole-is = whole;
-        count-is = ap (λ x. x .count) ek ∙ sinks-count a₇ q₇ A₇;
-        layout-is = λ z i. layoutFound ((eb ∙ ap (listAt s) (p₁ z)) i) ((ec ∙ ap (listAt s) (p₂ z)) i) ((el ∙ ap (listAt s) (p₃ z)) i) ((et ∙ ap (listAt s) (p₄ z)) i) ((er ∙ ap (listAt s) (p₅ z)) i) (p₆ z i) (k-is z i);
-        source-is = λ z. ee ∙ ap (λ x. endpointIn (drop x s)) (p₆ z);
+        count-is = ap (λ x. x .count) ek ∙ sinks-count v a₇ q₇ A₇;
+        layout-is = λ z i. layoutFound ((eb ∙ ap (listAt s g (blockSize g)) (p₁ z)) i) ((ec ∙ ap (listAt s g m) (p₂ z)) i) ((el ∙ ap (listAt s g m) (p₃ z)) i) ((et ∙ ap (listAt s g m) (p₄ z)) i) ((er ∙ ap (listAt s g m) (p₅ z)) i) ((eo ∙ ap (sourceAt v) (p₆ z)) i) (k-is z i);
+        source-is = λ z. ee ∙ ap (λ x. endpointIn g (drop x s)) (p₆ z);
         sinks-are = λ z few.
-            en ∙ ap (λ x. sinksOf (endpointsIn s (wholeSinks s (sinksAt s x)))) (p₇ z) ∙ ap (λ x. sinksOf (endpointsIn s x)) (whole-some s (sinksAt s q₇) few (omega (arith, ends z)));
+            en ∙ ap (λ x. sinksOf (sinksIn v s (wholeSinks s (sinksAt v s x)))) (p₇ z) ∙ ap (λ x. sinksOf (sinksIn v s x)) (whole-some s (sinksAt v s q₇) few (le-eq (le-refl q₈) (ends z)));
       }
+    where
+      le-eq : {x y z : ℕ} → x ≤ y → y ≡ z → x ≤ z
+      le-eq h f = rw (← f) h
 
   pub found-as : (x y : Body) → x ≡ y → PartsFound s y → PartsFound s x
   found-as x y e F = rw e F
@@ -276,15 +318,20 @@ module _ (s : List ℕ) where
 
 -- ---- what was found is the job of the sheet's contents
 
-module _ (s : List ℕ) (f : Found) (F : AllFound s f) (S : Shaped s) where
+module _ (s : List ℕ) (v : Version) (n : v ≡ versionIn s) (f : Found) (F : AllFound s f) (S : Shaped v s) where
   found-whole : f .body .whole ≡ true
-  found-whole = F .parts .whole-is ∙ eq-eqb _ _ (S .whole)
+  found-whole = F .parts .whole-is ∙ rw (← n) (eq-eqb _ _ (S .whole))
 
-  pub found-layout : f .body .layout ≡ layoutIn s
-  found-layout = F .parts .layout-is found-whole
+  pub found-layout : f .body .layout ≡ layoutIn v s
+  found-layout = rw n (F .parts .layout-is found-whole)
 
-  pub found-job : Bytes s → jobFound f ≡ jobOf (contentsIn s)
+  found-source : f .body .source ≡ endpointIn (v .long) (drop (f .body .layout .source .from) s)
+  found-source = rw (found-layout, n) (F .parts .source-is found-whole)
+
+  found-sinks : f .body .sinks ≡ sinksOf (sinksIn v s (f .body .layout .sinks))
+  found-sinks = rw (found-layout, n) (F .parts .sinks-are found-whole (rw n at (S .few-sinks)))
+
+  pub found-job : Bytes s → jobFound f ≡ jobOf v (contentsIn v s)
   found-job bytes =
-      job-forth s bytes S (f .head .room) (f .head .config) (f .body .layout) (f .body .source) (f .body .sinks) (ap (λ h. h .room) (F .head-is)) (ap (λ h. h .config) (F .head-is)) found-layout
-      (F .parts .source-is found-whole ∙ ap (λ L. endpointIn (drop (L .source .from) s)) (sym found-layout))
-      (F .parts .sinks-are found-whole (S .few-sinks) ∙ ap (λ L. sinksOf (endpointsIn s (L .sinks))) (sym found-layout))
+      job-forth v s bytes S (f .head .room) (f .head .config) (f .body .layout) (f .body .source) (f .body .sinks)
+      (rw n (ap (λ h. h .room) (F .head-is))) (rw n (ap (λ h. h .config) (F .head-is))) found-layout found-source found-sinks

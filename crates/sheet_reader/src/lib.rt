@@ -8,20 +8,21 @@ ghost use mathlib.Core.Path.{_≡_};
 ghost use Prim.Native.Nat.{_+_, _*_, _<_, _^_};
 ghost use lib.Dec.{eqb};
 ghost use lib.ListN.{length, getD, drop};
-ghost use Rattle.job_sheet.specs.Sheet.{listsPlace, Read};
-ghost use Rattle.job_sheet.specs.Places.{fourIn, positionIn, endpointIn, Listed, SinksListed, shaped};
-ghost use Rattle.sheet_reader.specs.Reader.{Stands, onward, sinksFound, headOf, layoutFound, bodyOf, PartsFound, foundOf, AllFound, jobFound};
+ghost use Rattle.job_sheet.specs.Version.{versionIn, positionSize, blockSize, listsPlace};
+ghost use Rattle.job_sheet.specs.Sheet.{Read};
+ghost use Rattle.job_sheet.specs.Places.{fourIn, positionIn, configIn, endpointIn, Listed, SourceListed, SinksListed, shaped};
+ghost use Rattle.sheet_reader.specs.Reader.{Stands, onward, SidesListed, sinksFound, headOf, layoutFound, bodyOf, PartsFound, foundOf, AllFound, jobFound};
 use job_sheet::Endpoint;
 use job_sheet::Job;
 use job_sheet::Judgement;
 use job_sheet::Part;
 use job_sheet::Reading;
 use job_sheet::Sinks;
+use job_sheet::Version;
 use job_sheet::faults;
 use job_sheet::places;
 use job_sheet::places::Layout;
-use room::Cost;
-use room::Nodes;
+use job_sheet::versions;
 use room::Pos;
 use room::Room;
 use room::RouterConfig;
@@ -32,6 +33,9 @@ const LIST_COUNT_SIZE: usize = 2;
 // The bytes of the sinks' count.
 const SINKS_COUNT_SIZE: usize = 1;
 
+// The sides and the source have no count.
+const NO_COUNT_SIZE: usize = 0;
+
 // It stands on the sheet, at its end, or just off it. What is too short for a step leads it off, from where no step leads
 // back: so it is not at the end, which refuses the sheet. What it reads past the end is 0, and is not used.
 pub struct Reader<'a> {
@@ -39,7 +43,7 @@ pub struct Reader<'a> {
     pub place: usize,
 }
 
-// What stands before the lists: "version byte 1, four-byte length of the rest, then X, Y, Z; node limit, horizontal, stair,
+// What stands before the lists: "version byte, four-byte length of the rest, then X, Y, Z; node limit, horizontal, stair,
 // support cost".
 struct Head {
     version: u8,
@@ -86,36 +90,66 @@ impl<'a> Reader<'a> {
         places::four_bytes(self.sheet, self.place, 0)
     }
 
+    // "node limit, horizontal, stair, support cost (four bytes each)".
+    pub fn config(self) -> RouterConfig
+        requires { ⌜ Stands (now (self .sheet)) (self .place) ⌝ }
+        ensures { λ r. ⌜ r ≡ configIn (drop (self .entry .place) (now (self .entry .sheet))) ⌝ }
+    {
+        places::config_at(self.sheet, self.place)
+    }
+
     // "X, Y, Z" or "x, y, z".
     pub fn position(self) -> Pos
         requires { ⌜ Stands (now (self .sheet)) (self .place) ⌝ }
-        ensures { λ r. ⌜ r ≡ positionIn (drop (self .entry .place) (now (self .entry .sheet))) 0 ⌝ }
+        ensures { λ r. ⌜ r ≡ positionIn (versionIn (now (self .entry .sheet)) .long) (drop (self .entry .place) (now (self .entry .sheet))) 0 ⌝ }
     {
-        places::position_from(self.sheet, self.place, 0)
+        steps::position(self.sheet, self.place)
+    }
+
+    // Where the sides stand, that begin here.
+    pub fn sides_list(self) -> Part
+        ensures { λ r. ⌜ SidesListed (versionIn (now (self .entry .sheet))) (self .entry .place) r ⌝ }
+    {
+        steps::sides_list(self.sheet, self.place)
     }
 
     // The source.
     pub fn endpoint(self) -> Endpoint
         requires { ⌜ Stands (now (self .sheet)) (self .place) ⌝ }
-        ensures { λ r. ⌜ r ≡ endpointIn (drop (self .entry .place) (now (self .entry .sheet))) ⌝ }
+        ensures { λ r. ⌜ r ≡ endpointIn (versionIn (now (self .entry .sheet)) .long) (drop (self .entry .place) (now (self .entry .sheet))) ⌝ }
     {
-        places::endpoint_from(self.sheet, self.place)
+        steps::endpoint(self.sheet, self.place)
     }
 
-    // The list whose two-byte count stands here.
-    pub fn list(self) -> Part
-        requires { ⌜ Stands (now (self .sheet)) (self .place) ⌝ }
-        ensures { λ r. ⌜ Listed (now (self .entry .sheet)) (self .entry .place) r ⌝ }
+    // Where the source stands, that begins here.
+    pub fn source_list(self) -> Part
+        ensures { λ r. ⌜ SourceListed (versionIn (now (self .entry .sheet))) (self .entry .place) r ⌝ }
     {
-        places::list_at(self.sheet, self.place)
+        steps::source_list(self.sheet, self.place)
+    }
+
+    // The list of blocks whose two-byte count stands here.
+    pub fn block_list(self) -> Part
+        requires { ⌜ Stands (now (self .sheet)) (self .place) ⌝ }
+        ensures { λ r. ⌜ Listed (now (self .entry .sheet)) (versionIn (now (self .entry .sheet)) .long) (blockSize (versionIn (now (self .entry .sheet)) .long)) (self .entry .place) r ⌝ }
+    {
+        steps::block_list(self.sheet, self.place)
+    }
+
+    // The list of positions whose two-byte count stands here.
+    pub fn position_list(self) -> Part
+        requires { ⌜ Stands (now (self .sheet)) (self .place) ⌝ }
+        ensures { λ r. ⌜ Listed (now (self .entry .sheet)) (versionIn (now (self .entry .sheet)) .long) (positionSize (versionIn (now (self .entry .sheet)) .long)) (self .entry .place) r ⌝ }
+    {
+        steps::position_list(self.sheet, self.place)
     }
 
     // The sinks whose one-byte count stands here: where they stand.
     pub fn sinks_list(self) -> Part
         requires { ⌜ Stands (now (self .sheet)) (self .place) ⌝ }
-        ensures { λ r. ⌜ SinksListed (now (self .entry .sheet)) (self .entry .place) r ⌝ }
+        ensures { λ r. ⌜ SinksListed (versionIn (now (self .entry .sheet))) (now (self .entry .sheet)) (self .entry .place) r ⌝ }
     {
-        places::sinks_at(self.sheet, self.place)
+        steps::sinks_list(self.sheet, self.place)
     }
 
     // The sinks whose one-byte count stands here: none where they are over sixteen, or the sheet is too short for them.
@@ -136,15 +170,15 @@ impl<'a> Reader<'a> {
         }
     }
 
-    // Moved on behind the part that stands here: its count, of `width` bytes, and its records, of `size` bytes each; off the
-    // sheet where it has too few.
-    pub fn behind(self, width: usize, size: usize, part: Part) -> Reader<'a>
-        requires { ⌜ width + size * part .count < 2 ^ 64 ⌝ }
-        ensures { λ r. ⌜ (r .sheet ≡ self .entry .sheet) × (r .place ≡ onward (now (self .entry .sheet)) (self .entry .place) (width + size * part .count)) ⌝ }
+    // Moved on behind the part that stands here: its count, of `width` bytes, and its records; off the sheet where it has too
+    // few.
+    pub fn behind(self, width: usize, part: Part) -> Reader<'a>
+        requires { ⌜ width + part .size * part .count < 2 ^ 64 ⌝ }
+        ensures { λ r. ⌜ (r .sheet ≡ self .entry .sheet) × (r .place ≡ onward (now (self .entry .sheet)) (self .entry .place) (width + part .size * part .count)) ⌝ }
     {
         Reader {
             sheet: self.sheet,
-            place: steps::behind(self.sheet, self.place, width, size, part),
+            place: steps::behind(self.sheet, self.place, width, part),
         }
     }
 
@@ -157,16 +191,8 @@ impl<'a> Reader<'a> {
 }
 
 // What was read, put together: apart from `read_through`, whose proof by hand needs to know of it no more than its contract.
-fn head_of(
-    version: u8,
-    rest: u32,
-    sides: Pos,
-    limit: u32,
-    horizontal: u32,
-    stair: u32,
-    support: u32,
-) -> Head
-    ensures { λ r. ⌜ r ≡ headOf version rest sides limit horizontal stair support ⌝ }
+fn head_of(version: u8, rest: u32, sides: Pos, config: RouterConfig) -> Head
+    ensures { λ r. ⌜ r ≡ headOf version rest sides config ⌝ }
 {
     Head {
         version,
@@ -176,23 +202,18 @@ fn head_of(
             high: sides.y,
             deep: sides.z,
         },
-        config: RouterConfig {
-            limit: Nodes(limit),
-            horizontal: Cost(horizontal),
-            stair: Cost(stair),
-            support: Cost(support),
-        },
+        config,
     }
 }
 
-// Where the parts were found. The source is one record.
+// Where the parts were found.
 fn layout_found(
     blocks: Part,
     conductors: Part,
     clearances: Part,
     terminals: Part,
     reserved: Part,
-    source: usize,
+    source: Part,
     sinks: Part,
 ) -> Layout
     ensures { λ r. ⌜ r ≡ layoutFound blocks conductors clearances terminals reserved source sinks ⌝ }
@@ -203,10 +224,7 @@ fn layout_found(
         clearances,
         terminals,
         reserved,
-        source: Part {
-            from: source,
-            count: 1,
-        },
+        source,
         sinks,
     }
 }
@@ -225,25 +243,25 @@ fn body_of(layout: Layout, source: Endpoint, sinks: Sinks, whole: bool) -> Body
 
 // From a sheet's lists to its end, with the reader that has come to them.
 fn read_body<'a>(reader: Reader<'a>) -> Body
-    requires { ⌜ reader .place ≡ onward (now (reader .sheet)) 0 listsPlace ⌝ }
+    requires { ⌜ reader .place ≡ onward (now (reader .sheet)) 0 (listsPlace (versionIn (now (reader .sheet)))) ⌝ }
     ensures { λ r. ⌜ PartsFound (now (reader .entry .sheet)) r ⌝ }
 {
-    let blocks = reader.list();
-    let reader = reader.behind(LIST_COUNT_SIZE, job_sheet::BLOCK_SIZE, blocks);
-    let conductors = reader.list();
-    let reader = reader.behind(LIST_COUNT_SIZE, job_sheet::POSITION_SIZE, conductors);
-    let clearances = reader.list();
-    let reader = reader.behind(LIST_COUNT_SIZE, job_sheet::POSITION_SIZE, clearances);
-    let terminals = reader.list();
-    let reader = reader.behind(LIST_COUNT_SIZE, job_sheet::POSITION_SIZE, terminals);
-    let reserved = reader.list();
-    let reader = reader.behind(LIST_COUNT_SIZE, job_sheet::POSITION_SIZE, reserved);
-    let from = reader.place;
+    let blocks = reader.block_list();
+    let reader = reader.behind(LIST_COUNT_SIZE, blocks);
+    let conductors = reader.position_list();
+    let reader = reader.behind(LIST_COUNT_SIZE, conductors);
+    let clearances = reader.position_list();
+    let reader = reader.behind(LIST_COUNT_SIZE, clearances);
+    let terminals = reader.position_list();
+    let reader = reader.behind(LIST_COUNT_SIZE, terminals);
+    let reserved = reader.position_list();
+    let reader = reader.behind(LIST_COUNT_SIZE, reserved);
+    let stands = reader.source_list();
     let source = reader.endpoint();
-    let reader = reader.past(job_sheet::ENDPOINT_SIZE);
+    let reader = reader.behind(NO_COUNT_SIZE, stands);
     let listed = reader.sinks_list();
     let sinks = reader.sinks();
-    let reader = reader.behind(SINKS_COUNT_SIZE, job_sheet::ENDPOINT_SIZE, listed);
+    let reader = reader.behind(SINKS_COUNT_SIZE, listed);
     let whole = reader.at_end();
     let layout = layout_found(
         blocks,
@@ -251,7 +269,7 @@ fn read_body<'a>(reader: Reader<'a>) -> Body
         clearances,
         terminals,
         reserved,
-        from,
+        stands,
         listed,
     );
     body_of(layout, source, sinks, whole)
@@ -274,28 +292,24 @@ fn read_through(sheet: &[u8]) -> Found
     let rest = reader.four();
     let reader = reader.past(4);
     let sides = reader.position();
-    let reader = reader.past(job_sheet::POSITION_SIZE);
-    let limit = reader.four();
-    let reader = reader.past(4);
-    let horizontal = reader.four();
-    let reader = reader.past(4);
-    let stair = reader.four();
-    let reader = reader.past(4);
-    let support = reader.four();
-    let reader = reader.past(4);
+    let stands = reader.sides_list();
+    let reader = reader.behind(NO_COUNT_SIZE, stands);
+    let config = reader.config();
+    let reader = reader.past(versions::CONFIG_SIZE);
     let body = read_body(reader);
-    let head = head_of(version, rest, sides, limit, horizontal, stair, support);
+    let head = head_of(version, rest, sides, config);
     found_of(head, body)
 }
 
 // Number 1, over the whole sheet. A count past the end has led the reader off the sheet, so that it is not at the end.
-fn shaped(sheet: &[u8], found: Found) -> bool
-    requires { ⌜ AllFound (now sheet) found ⌝ }
-    ensures { λ r. ⌜ r ≡ shaped (now (sheet .entry)) ⌝ }
+fn shaped(sheet: &[u8], version: Version, found: Found) -> bool
+    requires { ⌜ (version ≡ versionIn (now sheet)) × AllFound (now sheet) found ⌝ }
+    ensures { λ r. ⌜ r ≡ shaped version (now (sheet .entry)) ⌝ }
 {
     places::shape_holds(
         sheet.len(),
         found.head.version,
+        version.number,
         found.head.rest,
         found.body.layout.sinks.count,
         found.body.whole,
@@ -334,11 +348,12 @@ fn job_found(found: Found) -> Job
 pub fn read_sheet(sheet: &[u8]) -> Reading
     ensures { λ r. ⌜ Read (now (sheet .entry)) r ⌝ }
 {
+    let version = versions::version_in(sheet);
     let found = read_through(sheet);
-    if !shaped(sheet, found) {
+    if !shaped(sheet, version, found) {
         return job_sheet::refusal(Judgement::Sheet);
     }
-    let judgement = faults::judge(sheet, found.body.layout);
+    let judgement = faults::judge(sheet, version, found.body.layout);
     if !judgement.is_good() {
         return job_sheet::refusal(judgement);
     }

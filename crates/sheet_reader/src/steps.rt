@@ -2,11 +2,16 @@
 ghost use mathlib.Core.Path.{_≡_};
 ghost use Prim.Native.Nat.{_+_, _*_, _≤_, _<_, _^_};
 ghost use lib.Dec.{eqb};
-ghost use lib.ListN.{length};
-ghost use Rattle.sheet_reader.specs.Reader.{Stands, onward, wholeSinks, sinksFound};
+ghost use lib.ListN.{length, drop};
+ghost use Rattle.job_sheet.specs.Version.{versionIn, positionSize, blockSize, mostSize};
+ghost use Rattle.job_sheet.specs.Places.{positionIn, endpointIn, Listed, SourceListed, SinksListed};
+ghost use Rattle.sheet_reader.specs.Reader.{Stands, onward, SidesListed, wholeSinks, sinksFound};
+use job_sheet::Endpoint;
 use job_sheet::Part;
 use job_sheet::Sinks;
 use job_sheet::places;
+use job_sheet::versions;
+use room::Pos;
 
 // The place behind `size` more bytes. Where the sheet has too few it is the one just off the sheet, and no step leads back.
 pub fn onward(sheet: &[u8], place: usize, size: usize) -> usize
@@ -23,13 +28,13 @@ pub fn onward(sheet: &[u8], place: usize, size: usize) -> usize
     }
 }
 
-// The place behind a part's count, of `width` bytes, and its records, of `size` bytes each. It goes on from the reader's own
-// place, which may be off the sheet, and not from where the part's records would begin.
-pub fn behind(sheet: &[u8], place: usize, width: usize, size: usize, part: Part) -> usize
-    requires { ⌜ width + size * part .count < 2 ^ 64 ⌝ }
-    ensures { λ r. ⌜ r ≡ onward (now (sheet .entry)) place (width + size * part .count) ⌝ }
+// The place behind a part's count, of `width` bytes, and its records. It goes on from the reader's own place, which may be
+// off the sheet, and not from where the part's records would begin.
+pub fn behind(sheet: &[u8], place: usize, width: usize, part: Part) -> usize
+    requires { ⌜ width + part .size * part .count < 2 ^ 64 ⌝ }
+    ensures { λ r. ⌜ r ≡ onward (now (sheet .entry)) place (width + part .size * part .count) ⌝ }
 {
-    onward(sheet, place, width + size * part.count)
+    onward(sheet, place, width + part.size * part.count)
 }
 
 // Whether nothing is left over and nothing was too short.
@@ -39,17 +44,78 @@ pub fn at_end(sheet: &[u8], place: usize) -> bool
     place == sheet.len()
 }
 
-// The part itself where it is of at most sixteen endpoints that the sheet has whole, else a part of none.
+// "X, Y, Z" or "x, y, z", in the sheet's version.
+pub fn position(sheet: &[u8], place: usize) -> Pos
+    requires { ⌜ Stands (now sheet) place ⌝ }
+    ensures { λ r. ⌜ r ≡ positionIn (versionIn (now (sheet .entry)) .long) (drop place (now (sheet .entry))) 0 ⌝ }
+{
+    places::position_from(sheet, versions::version_in(sheet).long, place, 0)
+}
+
+// The source, in the sheet's version.
+pub fn endpoint(sheet: &[u8], place: usize) -> Endpoint
+    requires { ⌜ Stands (now sheet) place ⌝ }
+    ensures { λ r. ⌜ r ≡ endpointIn (versionIn (now (sheet .entry)) .long) (drop place (now (sheet .entry))) ⌝ }
+{
+    places::endpoint_from(sheet, versions::version_in(sheet).long, place)
+}
+
+// Where the sides stand: one record, as long as a position.
+pub fn sides_list(sheet: &[u8], place: usize) -> Part
+    ensures { λ r. ⌜ SidesListed (versionIn (now (sheet .entry))) place r ⌝ }
+{
+    let long = versions::version_in(sheet).long;
+    Part {
+        from: place,
+        count: 1,
+        size: versions::position_size(long),
+        long,
+    }
+}
+
+// The list of blocks whose count stands at a place.
+pub fn block_list(sheet: &[u8], place: usize) -> Part
+    requires { ⌜ Stands (now sheet) place ⌝ }
+    ensures { λ r. ⌜ Listed (now (sheet .entry)) (versionIn (now (sheet .entry)) .long) (blockSize (versionIn (now (sheet .entry)) .long)) place r ⌝ }
+{
+    let long = versions::version_in(sheet).long;
+    places::list_at(sheet, long, versions::block_size(long), place)
+}
+
+// The list of positions whose count stands at a place.
+pub fn position_list(sheet: &[u8], place: usize) -> Part
+    requires { ⌜ Stands (now sheet) place ⌝ }
+    ensures { λ r. ⌜ Listed (now (sheet .entry)) (versionIn (now (sheet .entry)) .long) (positionSize (versionIn (now (sheet .entry)) .long)) place r ⌝ }
+{
+    let long = versions::version_in(sheet).long;
+    places::list_at(sheet, long, versions::position_size(long), place)
+}
+
+// Where the source stands.
+pub fn source_list(sheet: &[u8], place: usize) -> Part
+    ensures { λ r. ⌜ SourceListed (versionIn (now (sheet .entry))) place r ⌝ }
+{
+    places::source_at(versions::version_in(sheet), place)
+}
+
+// Where the sinks stand, whose one-byte count stands at a place.
+pub fn sinks_list(sheet: &[u8], place: usize) -> Part
+    requires { ⌜ Stands (now sheet) place ⌝ }
+    ensures { λ r. ⌜ SinksListed (versionIn (now (sheet .entry))) (now (sheet .entry)) place r ⌝ }
+{
+    places::sinks_at(sheet, versions::version_in(sheet), place)
+}
+
+// The part itself where it is of at most sixteen sinks that the sheet has whole, else a part of none.
 fn whole_sinks(sheet: &[u8], part: Part) -> Part
-    requires { ⌜ part .from ≤ length (now sheet) + 2 ⌝ }
+    requires { ⌜ (part .from ≤ length (now sheet) + 2) × (part .size ≤ mostSize) ⌝ }
     ensures { λ r. ⌜ r ≡ wholeSinks (now (sheet .entry)) part ⌝ }
 {
-    let none = Part { from: 0, count: 0 };
     if job_sheet::MAX_SINKS < part.count {
-        return none;
+        return job_sheet::no_part();
     }
-    if sheet.len() < part.from + job_sheet::ENDPOINT_SIZE * part.count {
-        none
+    if sheet.len() < part.from + part.size * part.count {
+        job_sheet::no_part()
     } else {
         part
     }
@@ -60,5 +126,6 @@ pub fn sinks(sheet: &[u8], place: usize) -> Sinks
     requires { ⌜ Stands (now sheet) place ⌝ }
     ensures { λ r. ⌜ r ≡ sinksFound (now (sheet .entry)) place ⌝ }
 {
-    job_sheet::sinks_from(sheet, whole_sinks(sheet, places::sinks_at(sheet, place)))
+    let version = versions::version_in(sheet);
+    job_sheet::sinks_from(sheet, version, whole_sinks(sheet, sinks_list(sheet, place)))
 }

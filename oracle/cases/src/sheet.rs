@@ -3,7 +3,7 @@
 use crate::Refusal;
 use crate::room::{Config, Place, Room, facing, kind, port};
 
-const VERSION: u8 = 1;
+pub const VERSION: u8 = 1;
 pub const MOST_BYTES: usize = 60_000;
 pub const MOST_SINKS: usize = 16;
 /// The version byte and the four-byte length of the rest.
@@ -93,7 +93,7 @@ impl Job {
             let kind = (kind::AIR + 1..=kind::LAST).contains(&block.kind);
             known(kind && block.facing <= facing::LAST)?;
         }
-        for at in self.positions() {
+        for at in self.position_lists().into_iter().flatten() {
             inside(&room, *at)?;
         }
         for port in std::iter::once(&self.source).chain(&self.sinks) {
@@ -104,12 +104,13 @@ impl Job {
     }
 
     /// The four lists of bare positions, in sheet order.
-    fn positions(&self) -> impl Iterator<Item = &[u8; 3]> {
-        self.conductors
-            .iter()
-            .chain(&self.clearances)
-            .chain(&self.terminals)
-            .chain(&self.reserved)
+    pub fn position_lists(&self) -> [&Vec<[u8; 3]>; 4] {
+        [
+            &self.conductors,
+            &self.clearances,
+            &self.terminals,
+            &self.reserved,
+        ]
     }
 
     /// The sheet's bytes. Lists are at most 65,535 long, sinks at most 255.
@@ -138,12 +139,7 @@ impl Job {
             rest.extend(block.at);
             rest.extend([block.kind, block.facing]);
         }
-        for list in [
-            &self.conductors,
-            &self.clearances,
-            &self.terminals,
-            &self.reserved,
-        ] {
+        for list in self.position_lists() {
             rest.extend((list.len() as u16).to_be_bytes());
             rest.extend(list.concat());
         }

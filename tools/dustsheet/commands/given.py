@@ -3,6 +3,8 @@ from __future__ import annotations
 
 from typing import NamedTuple, Optional
 
+import dustroute
+
 from .. import files, job as jobs, text as texts
 from . import sheet as sheets
 
@@ -29,4 +31,4 @@ def read(path: str, is_hex: bool = False) -> Given:
     if jobs.is_sheet(content):
         return Given(content, None)
     draft = sheets.read_draft(files.text_of(content, path), files.shown(path))
-    return Given(jobs.to_bytes(texts.job_of(draft)), draft)
+    return Given(dustroute.sheet_made(texts.job_of(draft)), draft)

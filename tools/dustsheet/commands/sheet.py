@@ -5,6 +5,8 @@ import argparse
 import sys
 from typing import List
 
+import dustroute
+
 from .. import files, job as jobs, rules, text as texts
 
 ABOUT = "make a job sheet from a text, or show a sheet as its text"
@@ -32,8 +34,8 @@ def make(args: argparse.Namespace) -> None:
         raise files.Stop(listed(draft, problems) + "\nno sheet was made; --any makes it all the same")
     for warning in [listed(draft, problems)] if problems else size_warning(job):
         print("sheet: warning: " + warning, file=sys.stderr)
-    content = jobs.to_hex(job).encode() if args.hex else jobs.to_bytes(job)
-    files.write(args.out, content, is_text=args.hex)
+    sheet = dustroute.sheet_made(job)
+    files.write(args.out, jobs.to_hex(job, sheet).encode() if args.hex else sheet, is_text=args.hex)
 
 
 def read_draft(text: str, path: str) -> texts.Draft:

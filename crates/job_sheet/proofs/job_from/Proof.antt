@@ -13,15 +13,15 @@ config-from-requires : tie.Need-config-from-requires
 config-from-requires c κs = search needs
 
 endpoint-from-requires : tie.Need-endpoint-from-requires
-endpoint-from-requires c κs = omega (arith, parts-in _ (c .before .before .before .before .before .before .before .before .pre .1) _ (c .before .before .before .before .before .before .before .before .pre .0) .source, c .before .before .before .before .before .before .before .before .good)
+endpoint-from-requires c κs = omega (arith, parts-in _ _ (c .before .before .before .before .before .before .before .before .pre .1) _ (c .before .before .before .before .before .before .before .before .pre .0) .source, c .before .before .before .before .before .before .before .before .good)
 
 sinks-from-requires : tie.Need-sinks-from-requires
 sinks-from-requires c κs =
     let pre = c .before .before .before .before .before .before .before .before .before .pre in
-    (rw (pre .0) (pre .1 .few-sinks), parts-in _ (pre .1) _ (pre .0) .sinks)
+    (rw (pre .0) (pre .1 .few-sinks), parts-in _ _ (pre .1) _ (pre .0) .sinks)
 
 returns : tie.Need-returns
-returns c = job-forth _ (λ i. omega (arith, c .before .before .before .before .before .before .before .before .before .shared-slice-known .given i)) (c .before .before .before .before .before .before .before .before .before .before .pre .1) _ _ _ _ _ (c .before .before .before .room-from .ensures) (c .before .before .config-from .ensures) (c .before .before .before .before .before .before .before .before .before .before .pre .0) (c .before .endpoint-from .ensures) (c .sinks-from .ensures)
+returns c = job-forth _ _ (λ i. omega (arith, c .before .before .before .before .before .before .before .before .before .shared-slice-known .given i)) (c .before .before .before .before .before .before .before .before .before .before .pre .1) _ _ _ _ _ (c .before .before .before .room-from .ensures) (c .before .before .config-from .ensures) (c .before .before .before .before .before .before .before .before .before .before .pre .0) (c .before .endpoint-from .ensures) (c .sinks-from .ensures)
 
 pub job-from-spec : {M : Type 1} → statement M
 job-from-spec =

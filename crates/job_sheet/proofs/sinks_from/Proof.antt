@@ -1,31 +1,31 @@
 -- `sinks_from` meets its contract: what is gathered so far stands before places that hold nothing.
-use native.Mathlib.Omega.{arith}
 use Prim.Native.Nat.{_-_}
+use native.Mathlib.Omega.{arith}
+use Rattle.job_sheet.specs.ScanLaws.{SinksGathered, gather-on, gather-near, gather-done}
 use borrow.Author.Needs.{needs}
-use Rattle.job_sheet.specs.ScanLaws.{EndpointsRead, gather-on, gather-done}
 use Rattle.job_sheet.proofs.sinks_from.Statement.{statement}
 use Rattle.job_sheet.proofs.sinks_from.Tie as tie
 
 abbrev Inv-loop : tie.InvT-loop
-Inv-loop sheet from count ends₀ k₀ ends k = EndpointsRead sheet from count ends k
+Inv-loop sheet version from count size ends₀ k₀ ends k = SinksGathered version sheet from count size ends k
 
 abbrev μ-loop : tie.MeasureT-loop
-μ-loop sheet from count ends₀ k₀ ends k = count - k
+μ-loop sheet version from count size ends₀ k₀ ends k = count - k
 
-no-endpoint-requires : tie.Need-no-endpoint-requires Inv-loop μ-loop
-no-endpoint-requires c κs = search needs
+no-sink-requires : tie.Need-no-sink-requires Inv-loop μ-loop
+no-sink-requires c κs = search needs
 
 loop-holds : tie.Need-loop-holds Inv-loop μ-loop
-loop-holds c = record { same = rw (c .no-endpoint .ensures); so-far = omega arith }
+loop-holds c = record { same = rw (c .no-sink .ensures); so-far = omega arith }
 
-mul-endpoint-from : tie.Need-mul-endpoint-from Inv-loop μ-loop
-mul-endpoint-from c = omega (arith, c .before .before .before .before .pre)
+mul-sink-from : tie.Need-mul-sink-from Inv-loop μ-loop
+mul-sink-from c = omega (arith, gather-near (c .before .loop .inv) (c .loop-test .taken) (c .before .before .before .before .pre .1), c .before .before .before .before .good)
 
-add-endpoint-from : tie.Need-add-endpoint-from Inv-loop μ-loop
-add-endpoint-from c = omega (arith, c .before .before .before .before .pre, c .before .before .before .before .good)
+add-sink-from : tie.Need-add-sink-from Inv-loop μ-loop
+add-sink-from c = omega (arith, gather-near (c .before .loop .inv) (c .loop-test .taken) (c .before .before .before .before .pre .1), c .before .before .before .before .good)
 
-endpoint-from-requires : tie.Need-endpoint-from-requires Inv-loop μ-loop
-endpoint-from-requires c κs = omega (arith, c .before .before .before .before .pre, c .before .before .before .before .good)
+sink-from-requires : tie.Need-sink-from-requires Inv-loop μ-loop
+sink-from-requires c κs = omega (arith, gather-near (c .before .loop .inv) (c .loop-test .taken) (c .before .before .before .before .pre .1), c .before .before .before .before .good)
 
 mul-ends : tie.Need-mul-ends Inv-loop μ-loop
 mul-ends c = omega (arith, c .before .before .before .before .before .pre)
@@ -40,10 +40,10 @@ loop-less : tie.Need-loop-less Inv-loop μ-loop
 loop-less c = omega arith
 
 loop-again : tie.Need-loop-again Inv-loop μ-loop
-loop-again c = gather-on (c .before .before .loop .inv) (c .before .loop-test .taken) (c .before .before .before .before .before .pre .0) _ (c .endpoint-from .ensures)
+loop-again c = gather-on (c .before .before .loop .inv) (c .before .loop-test .taken) (c .before .before .before .before .before .pre .0) _ (c .sink-from .ensures)
 
 returns : tie.Need-returns Inv-loop μ-loop
-returns c = gather-done _ (c .before .before .before .before .args .part) _ _ (c .before .loop .inv) (c .loop-test .left)
+returns c = gather-done _ _ (c .before .before .before .before .args .part) _ _ (c .before .loop .inv) (c .loop-test .left)
 
 pub sinks-from-spec : {M : Type 1} → statement M
 sinks-from-spec =
@@ -51,11 +51,11 @@ sinks-from-spec =
     (tie.spec
     Inv-loop
     μ-loop
-    no-endpoint-requires
+    no-sink-requires
     loop-holds
-    mul-endpoint-from
-    add-endpoint-from
-    endpoint-from-requires
+    mul-sink-from
+    add-sink-from
+    sink-from-requires
     mul-ends
     array-set-from-ends
     add-k

@@ -3,6 +3,7 @@ use mathlib.Core.Path.{_∙_}
 use Rattle.basics.specs.Tests.{test-fails, test-passes}
 use native.Mathlib.Omega.{arith}
 use denote.Ref.{now}
+use Rattle.job_sheet.specs.VersionLaws.{searchable}
 use Rattle.job_sheet.specs.RecordLaws.{Bytes}
 use Rattle.job_sheet.specs.ReadLaws.{shaped-is, read-nothing, read-refused, read-accepted}
 use Rattle.sheet_reader.specs.ReaderLaws.{found-layout, found-job}
@@ -10,22 +11,25 @@ use borrow.Author.Needs.{needs}
 use Rattle.sheet_reader.proofs.read_sheet.Statement.{statement}
 use Rattle.sheet_reader.proofs.read_sheet.Tie as tie
 
+version-in-requires : tie.Need-version-in-requires
+version-in-requires c κs = search needs
+
 read-through-requires : tie.Need-read-through-requires
 read-through-requires c κs = search needs
 
 shaped-requires : tie.Need-shaped-requires
-shaped-requires c κs = search needs
+shaped-requires c κs = (c .before .version-in .ensures, c .read-through .ensures)
 
 refusal-requires : tie.Need-refusal-requires
 refusal-requires c κs = search needs
 
 returns : tie.Need-returns
-returns c = read-nothing _ (test-fails (c .before .before .shaped .ensures) (c .before .if1 .taken)) _ (c .refusal .ensures)
+returns c = read-nothing _ _ (c .before .before .before .before .version-in .ensures) (test-fails (c .before .before .shaped .ensures) (c .before .if1 .taken)) _ (c .refusal .ensures)
 
 judge-requires : tie.Need-judge-requires
 judge-requires c κs =
-    let S = shaped-is _ (test-passes (c .before .shaped .ensures) (c .if1 .left)) in
-    (found-layout _ _ (c .before .before .read-through .ensures) S, S)
+    let S = shaped-is _ _ (test-passes (c .before .shaped .ensures) (c .if1 .left)) in
+    ((found-layout _ _ (c .before .before .before .version-in .ensures) _ (c .before .before .read-through .ensures) S, S), rw (c .before .before .before .version-in .ensures) (searchable _))
 
 is-good-requires : tie.Need-is-good-requires
 is-good-requires c κs = search needs
@@ -35,23 +39,24 @@ refusal-requires-2 c κs = search needs
 
 returns-2 : tie.Need-returns-2
 returns-2 c =
-    let S = shaped-is _ (test-passes (c .before .before .before .before .before .shaped .ensures) (c .before .before .before .before .if1 .left)) in
-    read-refused _ (λ i. omega (arith, c .before .before .before .before .before .before .before .shared-slice-known .given i)) S _ (c .before .before .before .judge .ensures) (test-fails (c .before .before .is-good .ensures) (c .before .if2 .taken)) _ (c .refusal2 .ensures)
+    let S = shaped-is _ _ (test-passes (c .before .before .before .before .before .shaped .ensures) (c .before .before .before .before .if1 .left)) in
+    read-refused _ _ (λ i. omega (arith, c .before .before .before .before .before .before .before .before .shared-slice-known .given i)) S (c .before .before .before .before .before .before .before .version-in .ensures) _ (c .before .before .before .judge .ensures) (test-fails (c .before .before .is-good .ensures) (c .before .if2 .taken)) _ (c .refusal2 .ensures)
 
 job-found-requires : tie.Need-job-found-requires
 job-found-requires c κs = search needs
 
 returns-3 : tie.Need-returns-3
 returns-3 c =
-    let S = shaped-is _ (test-passes (c .before .before .before .before .before .shaped .ensures) (c .before .before .before .before .if1 .left)) in
-    let bytes : Bytes (now (c .before .before .before .before .before .before .before .before .args .sheet)) = λ i. omega (arith, c .before .before .before .before .before .before .before .shared-slice-known .given i) in
-    read-accepted _ bytes S _ (c .before .before .before .judge .ensures) (test-passes (c .before .before .is-good .ensures) (c .before .if2 .left)) _
-    (c .job-found .ensures ∙ found-job _ _ (c .before .before .before .before .before .before .read-through .ensures) S bytes)
+    let S = shaped-is _ _ (test-passes (c .before .before .before .before .before .shaped .ensures) (c .before .before .before .before .if1 .left)) in
+    let bytes : Bytes (now (c .before .before .before .before .before .before .before .before .before .args .sheet)) = λ i. omega (arith, c .before .before .before .before .before .before .before .before .shared-slice-known .given i) in
+    read-accepted _ _ bytes S (c .before .before .before .before .before .before .before .version-in .ensures) _ (c .before .before .before .judge .ensures) (test-passes (c .before .before .is-good .ensures) (c .before .if2 .left)) _
+    (c .job-found .ensures ∙ found-job _ _ (c .before .before .before .before .before .before .before .version-in .ensures) _ (c .before .before .before .before .before .before .read-through .ensures) S bytes)
 
 pub read-sheet-spec : {M : Type 1} → statement M
 read-sheet-spec =
     tie.close
     (tie.spec
+    version-in-requires
     read-through-requires
     shaped-requires
     refusal-requires

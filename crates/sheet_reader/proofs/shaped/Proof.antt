@@ -9,7 +9,7 @@ shape-holds-requires c κs = search needs
 
 returns : tie.Need-returns
 unfolding shaped
-returns c = let pre = c .before .before .pre in rw (pre .head-is, pre .parts .count-is, pre .parts .whole-is) at (c .shape-holds .ensures)
+returns c = let pre = c .before .before .pre in rw (pre .0) (rw (pre .1 .head-is, pre .1 .parts .count-is, pre .1 .parts .whole-is, pre .0) at (c .shape-holds .ensures))
 
 pub shaped-spec : {M : Type 1} → statement M
 shaped-spec = tie.close (tie.spec shape-holds-requires returns)

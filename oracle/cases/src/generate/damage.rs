@@ -43,7 +43,7 @@ fn damage_search_once(rng: &mut Rng, room: &Room, case: &mut Search) {
     }
 }
 
-fn damage_config(rng: &mut Rng, config: &mut crate::room::Config) {
+pub fn damage_config(rng: &mut Rng, config: &mut crate::room::Config) {
     let over = rng.pick(&[MOST_COST + 1, u32::MAX]);
     match rng.below(4) {
         0 => config.node_limit = rng.pick(&[MOST_NODES + 1, u32::MAX]),

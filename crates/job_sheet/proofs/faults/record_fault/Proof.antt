@@ -30,6 +30,15 @@ endpoint-from-requires c κs = search needs
 endpoint-fault-requires : tie.Need-endpoint-fault-requires
 endpoint-fault-requires c κs = search needs
 
+enum-told-4 : tie.Need-enum-told-4
+enum-told-4 c = search needs
+
+sink-from-requires : tie.Need-sink-from-requires
+sink-from-requires c κs = search needs
+
+sink-fault-requires : tie.Need-sink-fault-requires
+sink-fault-requires c κs = search needs
+
 returns : tie.Need-returns
 returns c = rw (c .block-fault .ensures, c .before .block-from .ensures, c .before .before .enum-told .given .1)
 
@@ -38,6 +47,9 @@ returns-2 c = rw (c .position-fault .ensures, c .before .position-from .ensures,
 
 returns-3 : tie.Need-returns-3
 returns-3 c = rw (c .endpoint-fault .ensures, c .before .endpoint-from .ensures, c .before .before .enum-told3 .given .1)
+
+returns-4 : tie.Need-returns-4
+returns-4 c = rw (c .sink-fault .ensures, c .before .sink-from .ensures, c .before .before .enum-told4 .given .1)
 
 pub record-fault-spec : {M : Type 1} → statement M
 record-fault-spec =
@@ -52,6 +64,10 @@ record-fault-spec =
     enum-told-3
     endpoint-from-requires
     endpoint-fault-requires
+    enum-told-4
+    sink-from-requires
+    sink-fault-requires
     returns
     returns-2
-    returns-3)
+    returns-3
+    returns-4)

@@ -1,7 +1,7 @@
 -- `behind` meets its contract: sizes and counts are small, so nothing wraps.
+use mathlib.Core.Path.{refl}
 use native.Mathlib.Nat.{le-of-lt, mul-le-mul}
 use native.Mathlib.Omega.{arith}
-use borrow.Author.Needs.{needs}
 use Rattle.job_sheet.proofs.places.behind.Statement.{statement}
 use Rattle.job_sheet.proofs.places.behind.Tie as tie
 
@@ -12,7 +12,7 @@ add-result : tie.Need-add-result
 add-result c = record { fits = omega (arith, mul-le-mul (c .before .before .pre .0) (le-of-lt (c .before .before .pre .2)), c .before .before .pre) }
 
 returns : tie.Need-returns
-returns c = search needs
+returns c = record { is = refl; near = omega (arith, mul-le-mul (c .before .before .pre .0) (le-of-lt (c .before .before .pre .2))) }
 
 pub behind-spec : {M : Type 1} → statement M
 behind-spec = tie.close (tie.spec mul-result add-result returns)

@@ -1,34 +1,16 @@
--- `config_from` meets its contract: each part is four bytes.
+-- `config_from` meets its contract: the config stands where the version says.
 use borrow.Author.Needs.{needs}
 use Rattle.job_sheet.proofs.places.config_from.Statement.{statement}
 use Rattle.job_sheet.proofs.places.config_from.Tie as tie
 
-four-bytes-requires : tie.Need-four-bytes-requires
-four-bytes-requires c κs = search needs
+config-place-requires : tie.Need-config-place-requires
+config-place-requires c κs = search needs
 
-four-bytes-requires-2 : tie.Need-four-bytes-requires-2
-four-bytes-requires-2 c κs = search needs
-
-four-bytes-requires-3 : tie.Need-four-bytes-requires-3
-four-bytes-requires-3 c κs = search needs
-
-four-bytes-requires-4 : tie.Need-four-bytes-requires-4
-four-bytes-requires-4 c κs = search needs
+config-at-requires : tie.Need-config-at-requires
+config-at-requires c κs = search needs
 
 returns : tie.Need-returns
-returns c = λ i. record {
-  limit = record { 0 = c .before .before .before .four-bytes .ensures i };
-  horizontal = record { 0 = c .before .before .four-bytes2 .ensures i };
-  stair = record { 0 = c .before .four-bytes3 .ensures i };
-  support = record { 0 = c .four-bytes4 .ensures i };
-}
+returns c = rw (c .config-at .ensures, c .before .config-place .ensures .0)
 
 pub config-from-spec : {M : Type 1} → statement M
-config-from-spec =
-    tie.close
-    (tie.spec
-    four-bytes-requires
-    four-bytes-requires-2
-    four-bytes-requires-3
-    four-bytes-requires-4
-    returns)
+config-from-spec = tie.close (tie.spec config-place-requires config-at-requires returns)

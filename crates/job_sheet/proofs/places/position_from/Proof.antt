@@ -1,45 +1,41 @@
--- `position_from` meets its contract: each part is a byte.
+-- `position_from` meets its contract: each part is a coordinate.
 use borrow.Author.Needs.{needs}
 use Rattle.job_sheet.proofs.places.position_from.Statement.{statement}
 use Rattle.job_sheet.proofs.places.position_from.Tie as tie
 
-byte-requires : tie.Need-byte-requires
-byte-requires c κs = search needs
+width-requires : tie.Need-width-requires
+width-requires c κs = search needs
 
-cast-t5 : tie.Need-cast-t5
-cast-t5 c = search needs
+coordinate-requires : tie.Need-coordinate-requires
+coordinate-requires c κs = search needs
 
-add-byte : tie.Need-add-byte
-add-byte c = search needs
+add-coordinate : tie.Need-add-coordinate
+add-coordinate c = search needs
 
-byte-requires-2 : tie.Need-byte-requires-2
-byte-requires-2 c κs = search needs
+coordinate-requires-2 : tie.Need-coordinate-requires-2
+coordinate-requires-2 c κs = search needs
 
-cast-t8 : tie.Need-cast-t8
-cast-t8 c = search needs
+add-coordinate-2 : tie.Need-add-coordinate-2
+add-coordinate-2 c = search needs
 
-add-byte-2 : tie.Need-add-byte-2
-add-byte-2 c = search needs
+add-coordinate-3 : tie.Need-add-coordinate-3
+add-coordinate-3 c = search needs
 
-byte-requires-3 : tie.Need-byte-requires-3
-byte-requires-3 c κs = search needs
-
-cast-t11 : tie.Need-cast-t11
-cast-t11 c = search needs
+coordinate-requires-3 : tie.Need-coordinate-requires-3
+coordinate-requires-3 c κs = search needs
 
 returns : tie.Need-returns
-returns c = λ i. record { x = c .before .before .byte .ensures i; y = c .before .byte2 .ensures i; z = c .byte3 .ensures i }
+returns c = rw (c .coordinate3 .ensures, c .before .coordinate2 .ensures, c .before .before .coordinate .ensures, c .before .before .before .width .ensures .0)
 
 pub position-from-spec : {M : Type 1} → statement M
 position-from-spec =
     tie.close
     (tie.spec
-    byte-requires
-    cast-t5
-    add-byte
-    byte-requires-2
-    cast-t8
-    add-byte-2
-    byte-requires-3
-    cast-t11
+    width-requires
+    coordinate-requires
+    add-coordinate
+    coordinate-requires-2
+    add-coordinate-2
+    add-coordinate-3
+    coordinate-requires-3
     returns)

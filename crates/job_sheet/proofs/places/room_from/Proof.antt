@@ -1,4 +1,4 @@
--- `room_from` meets its contract: the sides are three bytes, as a position is.
+-- `room_from` meets its contract: the sides are written as a position is.
 use borrow.Author.Needs.{needs}
 use Rattle.job_sheet.proofs.places.room_from.Statement.{statement}
 use Rattle.job_sheet.proofs.places.room_from.Tie as tie

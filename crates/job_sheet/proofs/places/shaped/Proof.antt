@@ -6,7 +6,7 @@ use Rattle.job_sheet.proofs.places.shaped.Statement.{statement}
 use Rattle.job_sheet.proofs.places.shaped.Tie as tie
 
 behind-requires : tie.Need-behind-requires
-behind-requires c κs = omega (arith, c .before .pre)
+behind-requires c κs = (c .before .pre .size-most, c .before .pre .sinks-near, omega (arith, c .before .pre .sinks-most))
 
 byte-requires : tie.Need-byte-requires
 byte-requires c κs = search needs
@@ -19,7 +19,7 @@ shape-holds-requires c κs = search needs
 
 returns : tie.Need-returns
 unfolding shaped
-returns c = rw (c .before .before .byte .ensures, c .before .four-bytes .ensures, c .before .before .before .behind .ensures, c .before .before .before .before .before .pre .is) at (c .shape-holds .ensures)
+returns c = rw (c .before .before .byte .ensures, c .before .four-bytes .ensures, c .before .before .before .behind .ensures .is, c .before .before .before .before .before .pre .is) at (c .shape-holds .ensures)
 
 pub shaped-spec : {M : Type 1} → statement M
 shaped-spec =

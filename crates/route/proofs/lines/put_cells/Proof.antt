@@ -3,8 +3,8 @@ use borrow.Author.Needs.{needs}
 use Prim.Native.Nat.{_-_}
 use lib.ListN.{length, drop}
 use Rattle.route.specs.Lines.{spacedAll}
-use Rattle.route.specs.Putting.{PutSoFar}
-use Rattle.route.specs.PutLaws.{putting-begun}
+use Rattle.putting.specs.Putting.{PutSoFar}
+use Rattle.putting.specs.PutLaws.{putting-begun}
 use Rattle.route.specs.LineLaws.{cell-fits, cells-on, cells-done}
 use Rattle.route.proofs.lines.put_cells.Statement.{statement}
 use Rattle.route.proofs.lines.put_cells.Tie as tie

@@ -1,7 +1,7 @@
 -- `put_if_marked` meets its contract: a number, or nothing.
 use borrow.Author.Needs.{needs}
 use Rattle.route.specs.LineLaws.{if-unmarked, if-marked}
-use Rattle.route.specs.PutLaws.{put-nothing}
+use Rattle.putting.specs.PutLaws.{put-nothing}
 use Rattle.route.proofs.lines.put_if_marked.Statement.{statement}
 use Rattle.route.proofs.lines.put_if_marked.Tie as tie
 

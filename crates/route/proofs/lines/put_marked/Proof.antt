@@ -4,8 +4,8 @@ use Prim.Native.Nat.{_-_}
 use lib.ListN.{length, drop}
 use Rattle.route.specs.Lines.{spacedAll}
 use Rattle.route.specs.Marked.{markedFrom, marked}
-use Rattle.route.specs.Putting.{PutSoFar}
-use Rattle.route.specs.PutLaws.{putting-begun}
+use Rattle.putting.specs.Putting.{PutSoFar}
+use Rattle.putting.specs.PutLaws.{putting-begun}
 use Rattle.route.specs.LineLaws.{mark-fits, marks-on, marks-done}
 use Rattle.route.proofs.lines.put_marked.Statement.{statement}
 use Rattle.route.proofs.lines.put_marked.Tie as tie

@@ -1,7 +1,7 @@
 -- `too_large` meets its contract: number 1 first, then the room of what the sheet means.
 use borrow.Author.Needs.{needs}
 use mathlib.Core.Path.{refl}
-use Rattle.route.specs.PrintedLaws.{sides-stand, size-unread, has-meaning, size-judged}
+use Rattle.route.specs.PrintedLaws.{size-unread, has-meaning, size-judged}
 use Rattle.route.proofs.printing.too_large.Statement.{statement}
 use Rattle.route.proofs.printing.too_large.Tie as tie
 
@@ -15,7 +15,7 @@ returns : tie.Need-returns
 returns c = size-unread (c .before .before .read-sheet .ensures) (c .before .number .ensures) (c .if1 .taken) refl
 
 cells-in-requires : tie.Need-cells-in-requires
-cells-in-requires c κs = sides-stand (has-meaning (c .before .before .read-sheet .ensures) (c .before .number .ensures) (search needs) .1) .0
+cells-in-requires c κs = search needs
 
 returns-2 : tie.Need-returns-2
 returns-2 c = size-judged (has-meaning (c .before .before .before .read-sheet .ensures) (c .before .before .number .ensures) (search needs)) (c .cells-in .ensures)

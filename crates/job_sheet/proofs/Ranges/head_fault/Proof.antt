@@ -1,0 +1,29 @@
+-- `Ranges::head_fault` meets its contract: its tests are the definition's, in the same order.
+use mathlib.Core.Path.{sym, _∙_}
+use Rattle.basics.specs.Tests.{test-fails, test-passes}
+use Rattle.job_sheet.specs.Sheet.{firstFault}
+use borrow.Author.Needs.{needs}
+use Rattle.job_sheet.proofs.Ranges.head_fault.Statement.{statement}
+use Rattle.job_sheet.proofs.Ranges.head_fault.Tie as tie
+
+sides-within-requires : tie.Need-sides-within-requires
+sides-within-requires c κs = search needs
+
+returns : tie.Need-returns
+unfolding firstFault
+returns c = rw (test-fails (c .before .sides-within .ensures) (c .if1 .taken))
+
+config-within-requires : tie.Need-config-within-requires
+config-within-requires c κs = search needs
+
+returns-2 : tie.Need-returns-2
+unfolding firstFault
+returns-2 c = rw (test-passes (c .before .before .before .sides-within .ensures) (c .before .before .if1 .left), sym (c .before .config-within .ensures) ∙ c .if2 .taken)
+
+returns-3 : tie.Need-returns-3
+unfolding firstFault
+returns-3 c = rw (test-passes (c .before .before .before .sides-within .ensures) (c .before .before .if1 .left), sym (c .before .config-within .ensures) ∙ c .if2 .left)
+
+pub head-fault-spec : {M : Type 1} → statement M
+head-fault-spec =
+    tie.close (tie.spec sides-within-requires returns config-within-requires returns-2 returns-3)

@@ -1,0 +1,37 @@
+-- `put_position` meets its contract.
+use borrow.Author.Needs.{needs}
+use Rattle.sheet_writer.proofs.puts.put_position.Statement.{statement}
+use Rattle.sheet_writer.proofs.puts.put_position.Tie as tie
+
+low-byte-requires : tie.Need-low-byte-requires
+low-byte-requires c κs = search needs
+
+low-byte-requires-2 : tie.Need-low-byte-requires-2
+low-byte-requires-2 c κs = search needs
+
+low-byte-requires-3 : tie.Need-low-byte-requires-3
+low-byte-requires-3 c κs = search needs
+
+slice-aggregate-put-bytes : tie.Need-slice-aggregate-put-bytes
+slice-aggregate-put-bytes c = search needs
+
+put-bytes-requires : tie.Need-put-bytes-requires
+put-bytes-requires c κs = search needs
+
+same-length : tie.Need-same-length
+same-length c = search needs
+
+returns : tie.Need-returns
+returns c = rw (c .before .before .before .before .before .before .before .low-byte .ensures, c .before .before .before .before .before .before .low-byte2 .ensures, c .before .before .before .before .before .low-byte3 .ensures) at (c .before .before .put-bytes .ensures)
+
+pub put-position-spec : {M : Type 1} → statement M
+put-position-spec =
+    tie.close
+    (tie.spec
+    low-byte-requires
+    low-byte-requires-2
+    low-byte-requires-3
+    slice-aggregate-put-bytes
+    put-bytes-requires
+    same-length
+    returns)
