@@ -88,28 +88,31 @@ class Refused(unittest.TestCase):
         self.told("limit 200001\n" + SMALL, (3, 0), "a node limit of 200001; at most 200000 is allowed")
 
     def test_no_way(self):
-        said = self.told("room 11 2 5\nblock solid 9 0 0 to 9 1 4\nsource 0 1 4\nsink 10 1 4\n", (14, 109), "no way was found to sink 1 at (10, 1, 4): ")
-        self.assertIn("the node limit 30000 is ample", said)
+        said = self.told("room 11 2 5\nblock solid 9 0 0 to 9 1 4\nsource 0 1 4\nsink 10 1 4\n", (14, 109), "no way was found to sink 1 at (10, 1, 4)\n")
+        self.assertIn("dustroute: Sink 1 at (10, 1, 4) can't be reached, at any costs.\ndustroute: From (10, 1, 4) wire gets to 10 cells and no further. "
+                      "Round them stand 10 Solid and the room's edge.\n", said)
 
     def test_it_never_says_that_there_is_no_way(self):
         """A tree's searches can miss one: in an empty room of 2x3x2 there is a way from cell 0 to cell 4."""
         said = self.told("room 2 3 2\nsource 0 0 0\nsink 0 2 0\n", (14, 4), "no way was found to sink 1 at (0, 2, 0)")
         self.assertNotIn("there is no way", said)
+        self.assertNotIn("can't be reached", said)
+        self.assertIn("There may be another way.", said)
 
     def test_the_limit_is_told_where_it_is_to_blame(self):
         room = "room 20 1 20\nlimit %d\nsource 0 0 0\nsink 19 0 19\n"
-        said = self.told(room % 3, (14, 399), "the node limit 3 was passed; a limit of 4800 suffices")
-        self.assertEqual(routed(room % 4800)[0], 0)
-        said = self.told(room % 3 + "block solid 10 0 0 to 10 0 19\n", (14, 399), "a node limit of 4800 doesn't help")
+        said = self.told(room % 3, (14, 399), "the node limit 3 was passed; a limit of 1996 suffices")
+        self.assertEqual(routed(room % 1996)[0], 0)
+        said = self.told(room % 3 + "block solid 10 0 0 to 10 0 19\n", (14, 399), "can't be reached, at any costs")
         self.assertNotIn("was passed", said)
         two = "room 9 1 1\nlimit 3\nblock solid 7 0 0\nsource 0 0 0\nsink 5 0 0\nsink 8 0 0\n"
-        self.told(two, (14, 5), "the node limit 3 was passed; a limit of 108 suffices for it, and then no way was found to sink 2 at (8, 0, 0)")
+        self.told(two, (14, 5), "the node limit 3 was passed; a limit of 41 suffices for it, and then no way was found to sink 2 at (8, 0, 0)")
 
     def test_low_costs(self):
         self.told("costs 0 0 0\nlimit 2\nroom 9 1 1\nsource 0 0 0\nsink 8 0 0\n", (14, 8), "the node limit 2 was passed; a limit of 200000 suffices")
-        walled = "costs 0 0 0\nlimit %d\nroom 9 1 1\nblock solid 4 0 0\nsource 0 0 0\nsink 8 0 0\n"
-        self.told(walled % 200_000, (14, 8), "the node limit 200000 is the highest there is")
-        self.told(walled % 100, (14, 8), "a node limit of 200000 doesn't help")
+        shelf = "costs 0 0 0\nlimit %d\nroom 2 2 2\nblock solid 0 1 0\nsource 0 0 0\nsink 0 1 1\n"
+        self.told(shelf % 200_000, (14, 3), "the node limit 200000 is the highest there is")
+        self.told(shelf % 100, (14, 3), "a node limit of 200000 doesn't help")
 
 
 class Json(unittest.TestCase):
@@ -129,14 +132,17 @@ class Json(unittest.TestCase):
         told = json.loads(printed)
         self.assertEqual((status, told["refused"]["number"], told["refused"]["detail"]), (3, 14, 4))
         self.assertIn("no way was found to sink 1", told["refused"]["words"])
-        self.assertIn(told["refused"]["words"], said)
+        for line in told["refused"]["words"].split("\n"):
+            self.assertIn("dustroute: %s\n" % line, said)
+        why = told["refused"]["why"]
+        self.assertEqual((why["sink"], why["approach"], why["verdict"], why["impossible"], why["reached"]), (1, [0, 2, 0], "conflicts", False, []))
         self.assertIsNone(json.loads(routed(b"\1", "--json")[1])["room"])
 
     def test_every_key_is_in_the_document(self):
         document = (ROOT / "tools" / "README.md").read_text(encoding="utf-8")
         net = json.loads(run("route", "--json", os.path.join(EXAMPLES, "lane.txt"))[1])
         refused = json.loads(run("route", "--json", os.path.join(EXAMPLES, "walled-in.txt"))[1])
-        for key in {*net, *net["branches"][0], *refused, *refused["refused"]}:
+        for key in {*net, *net["branches"][0], *refused, *refused["refused"], *refused["refused"]["why"]}:
             self.assertIn("`%s`" % key, document)
 
     def test_warnings(self):
@@ -166,7 +172,7 @@ class Strict(unittest.TestCase):
         self.assertEqual(routed(over % 1, "--strict")[1], "refused 14 5\n")
         # the published mode has a way at a limit that suffices; strict mode has none
         self.assertIn("the node limit 1 was passed", routed(over % 1)[2])
-        self.assertIn("doesn't help", routed(over % 1, "--strict")[2])
+        self.assertIn("Sink 1 at (0, 1, 2) can't be reached, at any costs.", routed(over % 1, "--strict")[2])
 
     def test_the_page_says_which_mode(self):
         with tempfile.TemporaryDirectory() as folder:
@@ -259,7 +265,9 @@ class LongWork(unittest.TestCase):
         cls.folder = tempfile.TemporaryDirectory()
         cls.addClassCleanup(cls.folder.cleanup)
         names = header.read(HEADER).functions
-        code = "unsigned sleep(unsigned);\n" + "".join("unsigned %s(void) { sleep(%d); return 13; }\n" % (name, SLEEPS) for name in names)
+        # 13 without a word more; no reason is told then
+        code = "unsigned sleep(unsigned);\n" + "".join("unsigned %s(void) { sleep(%d); return %d; }\n" % (name, SLEEPS, 0 if "why" in name else 13)
+                                                       for name in names)
         library = os.path.join(cls.folder.name, "libdustroute.so")
         subprocess.run(["cc", "-shared", "-fPIC", "-x", "c", "-", "-o", library], input=code.encode(), check=True)
 

@@ -177,7 +177,7 @@ class Drawing:
             colour = COLOURS[place % len(COLOURS)]
             parts += ['<circle cx="%d" cy="%d" r="5" fill="%s"/>' % (*centre(at), colour) for at in dict.fromkeys(branch) if at[1] == level]
         source = terminal(self.job.source) if self.sound else None
-        starts = {branch[0] for branch in self.answer.branches} - {source}
+        starts = {branch[0] for branch in self.answer.branches if branch} - {source}
         joints = sorted(at for at in starts if at[1] == level)
         return parts + ['<circle class="joint" cx="%d" cy="%d" r="7"/>' % centre(at) for at in joints]
 

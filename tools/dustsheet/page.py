@@ -206,7 +206,7 @@ def net_items(drawing: Drawing) -> List[Tuple[str, str]]:
     if "stair-up" in drawing.used:
         items.append((sign(use("stair-up", 20, 20)), "the wire goes on one floor up, in the cell across this edge"))
         items.append((sign(use("stair-down", 20, 20)), "the wire goes on one floor down, in the cell across this edge"))
-    if len({branch[0] for branch in drawing.answer.branches}) > 1:
+    if len({branch[0] for branch in drawing.answer.branches if branch}) > 1:
         items.append((sign('<circle class="joint" cx="20" cy="20" r="7"/>'), "a branch begins on another one"))
     if drawing.sound and any(end.port == BLOCK_POWER for end in [drawing.job.source, *drawing.job.sinks]):
         items.append((sign('<path class="power" d="M2 20H38"/>' + use("power", 20, 20)), "power into or out of a block"))

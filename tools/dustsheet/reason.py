@@ -5,8 +5,9 @@ from __future__ import annotations
 
 from collections import Counter
 from html import escape
-from typing import Dict, Iterable, List, NamedTuple, Optional, Set, Tuple
+from typing import Dict, Iterable, List, NamedTuple, Optional, Sequence, Set, Tuple
 
+from .answer import Answer
 from .drawing import HOVER_CELLS, Drawing, centre, corner
 from .job import KINDS, Job, Pos, spell
 from .page import MODES, count, document, floor_figures, heading, legend, reading_help, sign
@@ -16,10 +17,15 @@ from .symbols import CELL, KIND_NAMES
 from .window import Window, window
 
 OUTSIDE, TAKEN, BAD_SUPPORT = 1, 2, 3
+KEPT_FREE, SUPPORT_KEPT_FREE = 4, 5  # of a net's sinks alone: dustsheet/sinks.py
 # the line of each reason: they differ in dashes, not in colour alone
 LINES = {OUTSIDE: 'stroke="#444" stroke-dasharray="13 7"', TAKEN: 'stroke="#a8201a"',
-         BAD_SUPPORT: 'stroke="#0072b2" stroke-dasharray="0.1 9.9" stroke-linecap="round"'}
-LINE_WORDS = {OUTSIDE: "the room's edge", TAKEN: "a block is in the way", BAD_SUPPORT: "nothing beneath would bear the wire"}
+         BAD_SUPPORT: 'stroke="#0072b2" stroke-dasharray="0.1 9.9" stroke-linecap="round"',
+         KEPT_FREE: 'stroke="#8a5a00" stroke-dasharray="5 5"', SUPPORT_KEPT_FREE: 'stroke="#6a3d9a" stroke-dasharray="14 4 3 4"'}
+LINE_WORDS = {OUTSIDE: "the room's edge", TAKEN: "a block is in the way", BAD_SUPPORT: "nothing beneath would bear the wire",
+              KEPT_FREE: "the cell behind is kept free", SUPPORT_KEPT_FREE: "the cell beneath is kept free: no wire may rest on it"}
+NOTES = {TAKEN: "a block stands there", BAD_SUPPORT: "nothing beneath bears it", KEPT_FREE: "the cell is kept free",
+         SUPPORT_KEPT_FREE: "the cell beneath is kept free"}
 THICK, THIN = 7.0, 3.5
 TINT = '<rect x="%d" y="%d" width="%d" height="40" fill="#cfe6f5"/>'
 DOTS = '<path class="dots" d="%s" fill="none" stroke="#1b4965" stroke-width="7" stroke-linecap="round"/>'
@@ -72,8 +78,8 @@ def no_way(asked: Question) -> str:
     return "No wire can get from %s to %s, at any costs." % (spell(asked.start), spell(asked.goal))
 
 
-def sentence(told: Surroundings) -> str:
-    """How many cells were reached, and what stands round them: cells are counted, not moves."""
+def sentence(told: Surroundings, more: Sequence[str] = ()) -> str:
+    """How many cells were reached, and what stands round them, with more of it behind: cells are counted, not moves."""
     alone = len(told.reached) == 1
     gets = "gets to no other cell" if alone else "gets to %s and no further" % count(len(told.reached), "cell")
     things = ["%d %s" % (number, name) for name, number in told.standing()] + (["the room's edge"] if told.at_edge else [])
@@ -82,7 +88,7 @@ def sentence(told: Surroundings) -> str:
     unborne = len(told.unborne())
     if unborne:
         parts.append("%s nothing beneath that bears" % ("1 cell has" if unborne == 1 else "%d cells have" % unborne))
-    rest = "; ".join(parts)
+    rest = "; ".join([*parts, *more])
     return "From %s wire %s. %s%s." % (spell(told.asked.start), gets, rest[:1].upper(), rest[1:])
 
 
@@ -105,9 +111,9 @@ def page(name: str, told: Surroundings) -> str:
 class ReasonDrawing(Drawing):
     """The room's blocks and ends, the cells that wire gets to, and a thick edge at each wall."""
 
-    def __init__(self, told: Surroundings) -> None:
+    def __init__(self, told: Surroundings, net: Optional[Answer] = None) -> None:
         self.told = told
-        super().__init__(told.asked.job, None)
+        super().__init__(told.asked.job, net)
         self.drawn: Set[Tuple[float, int]] = set()  # the lines of the floors drawn so far, by width and reason
         # a floor of one kind throughout is told in a line, unless wire gets there
         self.told_floors = {level: self._alike(level) for level in range(self.job.sides[1])}
@@ -115,9 +121,14 @@ class ReasonDrawing(Drawing):
             self._put(at, "wire gets here")
         for at, reason in sorted(told.round.items()):
             if self.told_floors[at[1]] is None:
-                self._put(at, "wire can't get in here: " + ("a block stands there" if reason == TAKEN else "nothing beneath bears it"))
-        self._put(told.asked.start, "the search begins here")
-        self._put(told.asked.goal, "the search is to end here")
+                self._put(at, "wire can't get in here: " + NOTES[reason])
+        for at, _, says in self._labels():
+            self._put(at, says)
+
+    def _labels(self) -> List[Tuple[Pos, str, str]]:
+        """The cells that have a label: the word that is drawn, and what is said of them."""
+        asked = self.told.asked
+        return [(asked.start, "from", "the search begins here"), (asked.goal, "to", "the search is to end here")]
 
     def _survey(self, answer: object) -> Tuple[list, Window]:
         """Nothing is warned of, since no net is asked for. All that stands round the cells is drawn."""
@@ -143,8 +154,7 @@ class ReasonDrawing(Drawing):
         return ['<g class="reached">', *reached, "</g>", *super()._cells(level), '<g class="over">', *unborne, "</g>"]
 
     def _ends(self, level: int) -> List[str]:
-        asked = self.told.asked
-        labels = [label(at, word) for at, word in ((asked.start, "from"), (asked.goal, "to")) if at[1] == level]
+        labels = [label(at, word) for at, word, _ in self._labels() if at[1] == level]
         return self._edges(level) + super()._ends(level) + labels
 
     def _edges(self, level: int) -> List[str]:
@@ -187,7 +197,7 @@ def label(at: Pos, word: str) -> str:
 def reason_legend(told: Surroundings, drawing: ReasonDrawing) -> str:
     """What the signs of the floors that are drawn mean."""
     here = TINT % (0, 0, CELL) + DOTS % "M20 20h0"
-    items = [(sign(here), "wire gets here")]
+    items = [(sign(here), "wire gets here")] if told.reached else []
     items += [(line_sign(THICK, reason), words) for reason, words in LINE_WORDS.items() if (THICK, reason) in drawing.drawn]
     if told.unborne():
         items.append((sign(UNBORNE % (0, 0)), "a free cell, but nothing beneath bears a wire"))

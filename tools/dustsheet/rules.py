@@ -22,10 +22,10 @@ def approach(sink: End) -> Pos:
 
 
 def ample_limit(job: Job) -> Optional[int]:
-    """A node limit that no search of this job passes: twelve for each cell, at a flat step of at least 10 and a stair of at least 20. At lower
-    costs none is known."""
+    """The least node limit that is known to suffice for each search of this job: five for each cell but one, and one more. At a flat step
+    below 10 or a stair below 20 none is known."""
     flat, stair, _ = job.costs
-    return 12 * job.cells() if flat >= 10 and stair >= 20 else None
+    return 5 * (job.cells() - 1) + 1 if flat >= 10 and stair >= 20 else None
 
 
 def end_name(place: int) -> str:
@@ -83,15 +83,19 @@ def blocked(job: Job) -> Set[Pos]:
     cells: Set[Pos] = {*job.conductors, *job.clearances, *job.terminals, *job.reserved}
     for at in job.conductors:
         cells.update(keepout(at))
-    solids = {(block.node, block.at) for block in job.blocks if block.kind == SOLID}
-    for block in job.blocks:
-        live = _live_cell(block, solids)
-        if live is not None:
-            cells.update(keepout(live))
+    for _, live in live_cells(job):
+        cells.update(keepout(live))
     for end in _own_cells(job):
         cells.discard(end)
         cells.discard(step(end, (0, -1, 0)))
     return {at for at in cells if job.holds(at)}
+
+
+def live_cells(job: Job) -> List[Tuple[Block, Pos]]:
+    """Each block that makes a cell live, round which no wire may lie, with that cell."""
+    solids = {(block.node, block.at) for block in job.blocks if block.kind == SOLID}
+    found = [(block, _live_cell(block, solids)) for block in job.blocks]
+    return [(block, cell) for block, cell in found if cell is not None]
 
 
 def _live_cell(block: Block, solids: Set[Tuple[int, Pos]]) -> Optional[Pos]:

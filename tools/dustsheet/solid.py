@@ -3,7 +3,7 @@ up. Wires have the colours and dashes of their branches, so that it can be read 
 from __future__ import annotations
 
 from itertools import groupby
-from typing import Dict, Iterator, List, Optional, Sequence, Set, Tuple
+from typing import Dict, Iterable, Iterator, List, Optional, Sequence, Set, Tuple
 
 from .answer import Answer, directions, marked_cells
 from .check import Remark
@@ -22,6 +22,7 @@ STONE, STONE_EDGE = ("#cfcfcf", "#b7b7b7", "#e9e9e9"), 'stroke="#999" stroke-wid
 BOXES = {LEVER: (0.3, 0.45), BUTTON: (0.3, 0.2), PLATE: (0.08, 0.1), TORCH: (0.36, 0.6), REPEATER: (0.06, 0.18), COMPARATOR: (0.06, 0.18),
          WIRE: (0.2, 0.06)}
 SUPPORT = (("#f2e8b8", "#e6d898", "#fbf6dc"), 'fill-opacity=".6" stroke="#9b8a3a" stroke-dasharray="3 2"')
+REACHED = 'fill="#cfe6f5" fill-opacity=".85" stroke="#1b4965" stroke-width="1.4"'
 ARROW = [(-0.4, 0.08), (0.02, 0.08), (0.02, 0.26), (0.42, 0.0), (0.02, -0.26), (0.02, -0.08), (-0.4, -0.08)]  # along, across
 WHOLE = (SOLID, TRANSPARENT, LAMP, REDSTONE_BLOCK, PISTON)
 
@@ -30,14 +31,16 @@ class Picture(Canvas):
     """The parts of the picture are drawn from the back to the front, so that what is nearer covers what is behind it: by rows along x, these
     from north to south, floor upon floor. The wires come last; what stands before one is drawn as glass."""
 
-    def __init__(self, job: Job, given: Optional[Answer], found: Sequence[Remark] = ()) -> None:
+    def __init__(self, job: Job, given: Optional[Answer], found: Sequence[Remark] = (), reached: Iterable[Pos] = ()) -> None:
+        """`reached` are cells that wire gets to though there is no way: a reason's."""
         answer = given or Answer()
+        self.reached = set(reached)
         self.job, self.answer, self.remarks = job, answer, found
         self.kinds = {block.at: block.kind for block in job.blocks}
         self.wires = {at for branch in answer.branches for at in branch}
         self.supports: Set[Pos] = set().union(*supports(answer, job)) if answer.branches else set()
         self.facing = directions(answer, job) if answer.branches else {}
-        self.window = window(job, given, [remark.at for remark in found])
+        self.window = window(job, given, [*(remark.at for remark in found), *self.reached])
         super().__init__(self.window)
         self.others = set(job.conductors)
         self.glass = self._before_wires()
@@ -46,7 +49,7 @@ class Picture(Canvas):
         """The cells through which the eye sees a wire: on the way from it towards the eye, a step along each axis."""
         found = set()
         deepest = max(self.job.sides)
-        for x, y, z in self.wires:
+        for x, y, z in self.wires | self.reached:
             for k in range(deepest):
                 found.update((x + k + a, y + k + b, z + k + c) for a, b, c in ((1, 0, 0), (0, 0, 1), (1, 0, 1), (1, 1, 1)))
         return found
@@ -113,6 +116,8 @@ class Picture(Canvas):
         parts = [self.block(at, kind)] if kind not in (AIR, SOLID) else []
         if at in self.supports:
             parts.append(self.small_box(at, 0, 1, *SUPPORT))
+        if at in self.reached and step(at, (0, -1, 0)) not in self.reached:  # of cells one above another the lowest
+            parts.append(self.plate(at, 0.08, REACHED) + self.plate(at, 0.42, 'fill="#1b4965"'))
         if at in self.others:
             parts.append(self.plate(at, 0.22, 'fill="#6b4a2b" stroke="#2b1a0a"'))
         return "".join(parts)
@@ -128,7 +133,7 @@ class Picture(Canvas):
 
     def branches(self) -> Iterator[str]:
         for place, branch in enumerate(self.answer.branches):
-            points = [middle(branch[0])]
+            points = [middle(at) for at in branch[:1]]
             for one, other in zip(branch, branch[1:]):
                 points += step_points(one, other)
             if len(points) > 1:

@@ -81,6 +81,8 @@ th, td { text-align: left; padding: .15em .8em .15em 0; border-bottom: 1px solid
 .legend { display: flex; flex-wrap: wrap; gap: .35em 1.6em; }
 .legend span { display: inline-flex; align-items: center; gap: .5em; }
 .refused { border: 3px solid #a8201a; padding: .5em .9em; margin: .8em 0; font-size: 1.1em; }
+.tries { border-left: 6px solid #009e73; padding: 0 .9em .2em; margin: .8em 0; font-size: 1.1em; }
+.tries ul { margin: .2em 0; padding-left: 1.3em; }
 .note { color: #444; }
 .help { display: flex; gap: 1em; align-items: center; color: #444; }
 .help svg { flex: none; }
@@ -100,6 +102,9 @@ th, td { text-align: left; padding: .15em .8em .15em 0; border-bottom: 1px solid
 .other-dot { fill: #6b4a2b; }
 .reserved { fill: none; stroke: #444; stroke-width: 2; stroke-dasharray: 3 3; }
 .blocked { stroke: #9a9a9a; stroke-width: 2; }
+.kept { stroke: #8a5a00; stroke-width: 2.2; fill: none; }
+.kept-box { fill: #fff; stroke: #8a5a00; stroke-width: 1.5; }
+.kept-letter { font-size: 20px; font-weight: bold; text-anchor: middle; fill: #111; }
 .support { fill: #fbf6dc; stroke: #9b8a3a; stroke-width: 1.5; stroke-dasharray: 5 3; }
 .marked { fill: none; stroke: #a8201a; stroke-width: 4; }
 .flag { fill: #a8201a; }

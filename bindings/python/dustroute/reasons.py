@@ -22,6 +22,8 @@ class Reason(IntEnum):
     OUTSIDE = 1  # out of the room
     TAKEN = 2  # the cell holds a block; redstone wire at the start or the goal doesn't count
     BAD_SUPPORT = 3  # what is right beneath the cell bears no wire
+    KEPT_FREE = 4  # the cell is blocked Air; of a tree alone, as the next
+    SUPPORT_KEPT_FREE = 5  # what is right beneath the cell is blocked Air; in strict mode alone
 
 
 class Wall(NamedTuple):
@@ -46,10 +48,16 @@ class WalledIn(NamedTuple):
 
     def walls(self) -> Iterator[Wall]:
         """Each move of a cell that is reached and that is not allowed, by cell and then by move."""
-        for cell in self.reached:
-            for move in range(len(MOVES)):
-                if self.reason(cell, move):
-                    yield Wall(cell, move, neighbour(self.room, cell, move), self.reason(cell, move))
+        return walls_of(self.room, self.reached, self.moves)
+
+
+def walls_of(room: Room, reached: Sequence[int], moves: bytes) -> Iterator[Wall]:
+    """The moves of these cells that are not allowed, by the reasons of all, twelve a cell."""
+    for cell in reached:
+        for move in range(len(MOVES)):
+            reason = Reason(moves[len(MOVES) * cell + move])
+            if reason:
+                yield Wall(cell, move, neighbour(room, cell, move), reason)
 
 
 def neighbour(room: Room, cell: int, move: int) -> Optional[int]:

@@ -40,6 +40,10 @@ pub enum Reason {
     Taken = 2,
     /// Right beneath the cell is none of Air, Solid, Transparent and RedstoneBlock.
     BadSupport = 3,
+    /// The cell is blocked Air. Of a tree alone, as the next.
+    KeptFree = 4,
+    /// Right beneath the cell is blocked Air; in strict mode alone.
+    SupportKeptFree = 5,
 }
 
 impl Reason {
@@ -50,6 +54,8 @@ impl Reason {
             1 => Some(Self::Outside),
             2 => Some(Self::Taken),
             3 => Some(Self::BadSupport),
+            4 => Some(Self::KeptFree),
+            5 => Some(Self::SupportKeptFree),
             _ => unreachable!("the router has no reason {byte}"),
         }
     }
@@ -70,23 +76,13 @@ pub struct Wall {
 /// The cells to which lawful steps lead from the start. They hold the start and lack the goal, and no lawful step leaves them.
 #[derive(Clone, Debug, Eq, PartialEq)]
 pub struct WalledIn {
-    room: Room,
     expanded: Nodes,
-    /// A byte for each cell.
-    reached: Vec<u8>,
-    /// Twelve for each cell.
-    walls: Vec<u8>,
+    cells: Walled,
 }
 
 impl WalledIn {
-    pub(crate) fn new(room: Room, expanded: Nodes, reached: &[u8], walls: &[u8]) -> Self {
-        let cells = room.cells().expect("a room that is not refused");
-        Self {
-            room,
-            expanded,
-            reached: reached[..cells].to_vec(),
-            walls: walls[..MOVES.len() * cells].to_vec(),
-        }
+    pub(crate) fn new(expanded: Nodes, cells: Walled) -> Self {
+        Self { expanded, cells }
     }
 
     /// How many cells the search expanded: the detail of number 11.
@@ -96,24 +92,62 @@ impl WalledIn {
 
     /// Whether a cell is reached.
     pub fn is_reached(&self, cell: usize) -> bool {
-        self.reached.get(cell) == Some(&1)
+        self.cells.is_reached(cell)
     }
 
     /// The cells reached, ascending.
     pub fn reached(&self) -> impl Iterator<Item = usize> {
-        (0..self.reached.len()).filter(|cell| self.is_reached(*cell))
+        self.cells.reached()
     }
 
     /// What stands against a move of a cell that is reached; none if it is allowed, and for any other cell or move.
     pub fn reason(&self, cell: usize, step: usize) -> Option<Reason> {
+        self.cells.reason(cell, step)
+    }
+
+    /// Each move of a cell that is reached and that is not allowed, by cell and then by move.
+    pub fn walls(&self) -> impl Iterator<Item = Wall> {
+        self.cells.walls()
+    }
+}
+
+/// Cells that are reached, and what stands round them, as the router tells them.
+#[derive(Clone, Debug, Eq, PartialEq)]
+pub(crate) struct Walled {
+    room: Room,
+    /// A byte for each cell.
+    reached: Vec<u8>,
+    /// Twelve for each cell.
+    walls: Vec<u8>,
+}
+
+impl Walled {
+    /// Of a room that is not refused.
+    pub(crate) fn new(room: Room, reached: &[u8], walls: &[u8]) -> Self {
+        let cells = room.cells().expect("a room that is not refused");
+        Self {
+            room,
+            reached: reached[..cells].to_vec(),
+            walls: walls[..MOVES.len() * cells].to_vec(),
+        }
+    }
+
+    pub(crate) fn is_reached(&self, cell: usize) -> bool {
+        self.reached.get(cell) == Some(&1)
+    }
+
+    pub(crate) fn reached(&self) -> impl Iterator<Item = usize> {
+        (0..self.reached.len()).filter(|cell| self.is_reached(*cell))
+    }
+
+    pub(crate) fn reason(&self, cell: usize, step: usize) -> Option<Reason> {
         if step >= MOVES.len() || !self.is_reached(cell) {
             return None;
         }
         Reason::of(self.walls[MOVES.len() * cell + step])
     }
 
-    /// Each move of a cell that is reached and that is not allowed, by cell and then by move.
-    pub fn walls(&self) -> impl Iterator<Item = Wall> {
+    pub(crate) fn walls(&self) -> impl Iterator<Item = Wall> {
         let moves = |from| (0..MOVES.len()).map(move |step| (from, step));
         self.reached().flat_map(moves).filter_map(|(from, step)| {
             let reason = self.reason(from, step)?;

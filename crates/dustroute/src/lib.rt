@@ -5,6 +5,7 @@ mod function_export; // function_export.rt: a function file
 mod plain_export; // plain_export.rt: the plain engine
 mod sheet_export; // sheet_export.rt: a sheet written
 mod tree_export; // tree_export.rt: the tree
+mod tree_why_export; // tree_why_export.rt: why a sink couldn't be reached
 mod why_export; // why_export.rt: why a search found no route
 
 pub use drawing_export::dustroute_insert_repeaters;
@@ -15,6 +16,7 @@ pub use plain_export::dustroute_plain;
 pub use sheet_export::dustroute_write_sheet;
 pub use tree_export::dustroute_tree;
 pub use tree_export::dustroute_tree_mode;
+pub use tree_why_export::dustroute_tree_why;
 pub use why_export::dustroute_why;
 ghost use Rattle.routing.specs.Answers.{input, lengthsOf};
 ghost use Rattle.exports.specs.Export.{roomOf, configOf, Exported};

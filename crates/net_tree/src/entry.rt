@@ -51,7 +51,7 @@ fn clear_outputs(branches: &mut [u32], occupied: &mut [u8], repeaters: &mut [u8]
 }
 
 // Work memory is cleared, to its very end.
-fn clear_work(
+pub fn clear_work(
     kinds: &mut [u8],
     blocked: &mut [u8],
     classes: &mut [u8],

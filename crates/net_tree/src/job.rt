@@ -30,7 +30,7 @@ pub fn refuse(number: u32, detail: usize) -> Answer
 }
 
 // Only the source is joinable at the outset.
-fn plant(source: usize, joinable: &mut [u8])
+pub fn plant(source: usize, joinable: &mut [u8])
     requires { ⌜ source < length (now joinable) ⌝ }
     ensures { λ _. ⌜ now (joinable .exit) ≡ markedBy (eqb source) (noMarks (length (now (joinable .entry)))) ⌝ }
 {

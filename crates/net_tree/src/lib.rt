@@ -2,7 +2,10 @@
 mod entry; // entry.rt: the order of judgement, and what is lent
 mod job; // job.rt: an accepted job, over work memory of exactly V cells
 
+pub use entry::clear_work;
 pub use entry::route_net_tree;
+pub use job::plant;
+pub use job::refuse;
 
 // How a tree has ended: routed, with the number of cells that it occupies and of its repeaters; or refused, by its number.
 pub enum Ended {

@@ -1,2 +1,4 @@
 pub mod WhyTree
 pub mod ShutInLaws
+pub mod Telling
+pub mod TellingLaws

@@ -159,21 +159,60 @@ fn route(
     }
     let mut tree = Tree::new(job, room, &ends, limits, mode, reading);
     let order = sink_order(room, &ends);
-    let branches = tree.join_all(&ends, &order)?;
+    tree.join_all(&ends, &order)?;
     let laid = Laid {
         job,
         room,
         ends: &ends,
-        branches: &branches,
+        branches: &tree.branches,
         order: &order,
         reading,
     };
     let repeaters = place_repeaters(&laid);
     Ok(Net {
-        branches,
+        branches: tree.branches,
         occupied: tree.occupied,
         repeaters,
         most_waiting: tree.most_waiting,
+    })
+}
+
+/// The sink that a tree stops at with 13 or 14, and the tree as it is at that sink's turn.
+pub struct Stopped {
+    pub refusal: Refusal,
+    /// The sink's index in the sheet.
+    pub sink: usize,
+    pub ends: Ends,
+    /// The unblocked room.
+    pub kinds: Vec<u8>,
+    pub blocked: Vec<bool>,
+    pub joinable: BTreeSet<usize>,
+    /// The branches so far, in sheet order; empty for sinks whose turn has not come.
+    pub branches: Vec<Vec<usize>>,
+}
+
+impl Stopped {
+    pub fn approach(&self) -> usize {
+        self.ends.sinks[self.sink].approach
+    }
+}
+
+/// Where the tree of a judged job stops, if it does with 13 or 14.
+pub fn stopped_in_mode(job: &Job, room: &Room, limits: Limits, mode: Mode) -> Option<Stopped> {
+    if overlap(job, room).is_some() {
+        return None;
+    }
+    let ends = realize(job, room).ok()?;
+    let mut tree = Tree::new(job, room, &ends, limits, mode, Reading::PUBLISHED);
+    let refusal = tree.join_all(&ends, &sink_order(room, &ends)).err()?;
+    matches!(refusal.number, 13 | 14).then_some(Stopped {
+        refusal,
+        sink: tree.now,
+        ends,
+        kinds: tree.kinds,
+        blocked: tree.blocked,
+        joinable: tree.joinable,
+        branches: tree.branches,
     })
 }
 
@@ -286,6 +325,10 @@ struct Tree<'a> {
     joinable: BTreeSet<usize>,
     occupied: BTreeSet<usize>,
     most_waiting: usize,
+    /// The index of the sink whose turn it is.
+    now: usize,
+    /// The branches so far, in sheet order.
+    branches: Vec<Vec<usize>>,
 }
 
 impl<'a> Tree<'a> {
@@ -310,22 +353,24 @@ impl<'a> Tree<'a> {
             joinable: BTreeSet::from([ends.source]),
             occupied: BTreeSet::from([ends.source]),
             most_waiting: 0,
+            now: 0,
+            branches: vec![Vec::new(); ends.sinks.len()],
         }
     }
 
-    /// Joins sink after sink in this order, and answers the branches in sheet order.
-    fn join_all(&mut self, ends: &Ends, order: &[usize]) -> Result<Vec<Vec<usize>>, Refusal> {
-        let mut branches = vec![Vec::new(); ends.sinks.len()];
+    /// Joins sink after sink in this order.
+    fn join_all(&mut self, ends: &Ends, order: &[usize]) -> Result<(), Refusal> {
         let mut used = 0;
         for &index in order {
+            self.now = index;
             let branch = self.join(ends.sinks[index])?;
             used += branch.len();
             if used > self.limits.branch {
                 return Err(Refusal::new(15, index as u32 + 1));
             }
-            branches[index] = branch;
+            self.branches[index] = branch;
         }
-        Ok(branches)
+        Ok(())
     }
 
     /// Joins one sink to the tree and answers its branch, from the tree to the terminal.

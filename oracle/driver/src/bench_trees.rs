@@ -272,6 +272,21 @@ fn growth(side: u8, count: usize) {
 
 /// The same where the last of sixteen sinks stands in a closet: each goal is searched for, and number 14 said.
 fn in_a_closet(side: u8) {
+    growth_line(&closet_name(side), &closet_job(side), 14);
+}
+
+fn closet_name(side: u8) -> String {
+    format!("the last in a closet {side}x{side}x{side}")
+}
+
+/// Trees that stop at a sink in a closet.
+pub fn closets() -> Vec<(String, Job)> {
+    [8, 12, 20]
+        .map(|side| (closet_name(side), closet_job(side)))
+        .into()
+}
+
+fn closet_job(side: u8) -> Job {
     let mut job = open([side; 3], 0);
     let at = job.sinks[15].at;
     let round = |i: usize| at[i].saturating_sub(1)..=(at[i] + 1).min(side - 1);
@@ -281,11 +296,7 @@ fn in_a_closet(side: u8) {
             job.blocks.extend(walls.map(|z| solid(0, [x, y, z])));
         }
     }
-    growth_line(
-        &format!("the last in a closet {side}x{side}x{side}"),
-        &job,
-        14,
-    );
+    job
 }
 
 fn growth_line(name: &str, job: &Job, number: u32) {

@@ -1,7 +1,7 @@
 //! The proved search, the plain engine and the proved tree, through the wrapper of bindings/rust, and memory of any lengths for them.
 
-use checks::{config_of, dirty_search, dirty_tree, dirty_why, room_of};
-use dustroute::lent::{PlainMemory, SearchMemory, TreeMemory, WhyMemory};
+use checks::{config_of, dirty_search, dirty_tree, dirty_tree_why, dirty_why, room_of};
+use dustroute::lent::{PlainMemory, SearchMemory, TreeMemory, TreeWhyMemory, WhyMemory};
 use oracle::Search;
 
 /// Memory of a search of such lengths, with `byte` in every byte. A place of the queue takes two numbers.
@@ -38,6 +38,18 @@ pub fn tree_memory(
         ..TreeMemory::new(cells, 0, branch)
     };
     dirty_tree(memory, byte)
+}
+
+/// The memory of a tree, and three outputs of such lengths for its reason, with `byte` in every byte.
+pub fn tree_why_memory(tree: TreeMemory, outputs: [usize; 3], byte: u8) -> TreeWhyMemory {
+    let [reached, walls, causes] = outputs.map(|length| vec![0; length]);
+    let memory = TreeWhyMemory {
+        tree,
+        reached,
+        walls,
+        causes,
+    };
+    dirty_tree_why(memory, byte)
 }
 
 pub fn search(case: &Search, memory: &mut SearchMemory) -> u32 {

@@ -14,8 +14,8 @@ def configure(parser: argparse.ArgumentParser) -> None:
     parser.add_argument("file", metavar="FILE", help="a job sheet, or the text of one, or - for standard input")
     parser.add_argument("answer", metavar="ANSWER", nargs="?", help="what the router printed for it, or - for standard input")
     parser.add_argument("-o", dest="out", metavar="PAGE.html", help="where to write the page; standard output if left out")
-    parser.add_argument("--strict", action="store_true", help="the answer was routed in strict mode")
-    parser.add_argument("--why", action="store_true", help="draw instead why no wire gets from sink 1 to the source; asks the proved library")
+    parser.add_argument("--strict", action="store_true", help="the answer was routed in strict mode; with --why, the net is")
+    parser.add_argument("--why", action="store_true", help="draw instead why a sink wasn't reached, and the net so far; asks the proved library")
     parser.add_argument("--hex", action="store_true", help="the sheet is written as hex digits")
     parser.set_defaults(run=draw)
 
@@ -23,10 +23,10 @@ def configure(parser: argparse.ArgumentParser) -> None:
 def draw(args: argparse.Namespace) -> None:
     if args.file == "-" and args.answer == "-":
         raise files.Stop("view: sheet and answer can't both come from standard input")
-    if args.strict and args.answer is None:
-        raise files.Stop("view: --strict is for an answer, and none was given")
     if args.why:
         return draw_why(args)
+    if args.strict and args.answer is None:
+        raise files.Stop("view: --strict is for an answer, and none was given")
     said = None if args.answer is None else files.read_text(args.answer)
     try:
         content = page_of(files.title(args.file), read(args.file, args.hex).sheet, said, files.shown(args.file), strict=args.strict)
@@ -36,11 +36,11 @@ def draw(args: argparse.Namespace) -> None:
 
 
 def draw_why(args: argparse.Namespace) -> None:
-    """The reason of the search from sink 1 to the source: `why` has more to ask."""
+    """The page of `why`, which has more to ask."""
     if args.answer is not None or args.hex:
         raise files.Stop("view: --why takes a job alone")
     from . import why  # it needs the library, which drawing alone doesn't
-    files.write(args.out, why.page_of(args.file).encode(), is_text=True)
+    files.write(args.out, why.page_of(args.file, args.strict).encode(), is_text=True)
 
 
 def page_of(name: str, sheet: bytes, said: Optional[str], shown: str, reason: Optional[str] = None, strict: bool = False) -> str:

@@ -1,4 +1,4 @@
-"""`why FILE` says why no wire can get from one cell to another, and draws it: tools/README.md."""
+"""`why FILE` says why a sink of a net wasn't reached, or why no wire can get from one cell to another, and draws it: tools/README.md."""
 from __future__ import annotations
 
 import argparse
@@ -8,23 +8,28 @@ from typing import Optional, Tuple, Union
 
 import dustroute
 
-from .. import files, job as jobs, reason as reasons
+from .. import files, job as jobs, reason as reasons, report, sink_page, tries
 from ..job import Job, Pos, spell
 from ..page import count
 from ..progress import Progress
 from ..rules import approach, late_faults, terminal
 from ..supports import kinds_of
 from ..words import sentence
+from . import unreached
 from .given import read
 
-ABOUT = "say why no wire can get from one cell of a room to another, and draw it"
+ABOUT = "say why a sink wasn't reached, or why no wire can get from one cell to another, and draw it"
 NOT_BUILT, REFUSED = 1, 3
 
 
 def configure(parser: argparse.ArgumentParser) -> None:
-    parser.add_argument("file", metavar="FILE", help="the text of a job, or a job sheet, or - for standard input; its blocks alone count")
-    parser.add_argument("--from", dest="start", type=position, metavar="X,Y,Z", help="where wire begins; where sink 1 is approached if left out")
-    parser.add_argument("--to", dest="goal", type=position, metavar="X,Y,Z", help="where it should get to; the source's wire if left out")
+    parser.add_argument("file", metavar="FILE", help="the text of a job, or a job sheet, or - for standard input")
+    parser.add_argument("--strict", action="store_true", help="the net in strict mode, as of `route`")
+    parser.add_argument("--search", action="store_true", help="instead one search past the blocks alone, from where sink 1 is approached to the "
+                        "source's wire; so with --from and --to")
+    parser.add_argument("--from", dest="start", type=position, metavar="X,Y,Z", help="where that search begins")
+    parser.add_argument("--to", dest="goal", type=position, metavar="X,Y,Z", help="where it should get to")
+    parser.add_argument("--json", action="store_true", help="print it as JSON instead")
     parser.add_argument("-o", dest="out", metavar="PAGE.html", help="also draw it as a page for a browser")
     parser.add_argument("-q", "--quiet", action="store_true", help="tell nothing of progress")
     parser.set_defaults(run=explain)
@@ -38,17 +43,59 @@ def position(word: str) -> Pos:
 
 
 def explain(args: argparse.Namespace) -> int:
+    if not (args.search or args.start or args.goal):
+        return explain_net(args)
+    if args.strict:
+        raise files.Stop("why: --strict is for a net; a search past the blocks alone has no mode")
+    return explain_search(args)
+
+
+# ---- the net
+
+def explain_net(args: argparse.Namespace) -> int:
+    job, progress = read_job(args.file), Progress("why", args.quiet)
+    told = explained(job, args.strict, progress, files.shown(args.file))
+    if isinstance(told, dustroute.Tree):
+        said = reached_words(told)
+        print(report.of_reached(job, said, args.strict) if args.json else said + "\n", end="")
+        if args.out:
+            print("why: every sink is reached, so no page was drawn", file=sys.stderr)
+        return 0
+    if args.out:
+        files.write(args.out, net_page(args.file, told).encode(), is_text=True)
+    print(report.of_unreached(told.unreached, told.tried, told.lines()) if args.json else "".join(line + "\n" for line in told.lines()), end="")
+    return 0
+
+
+def explained(job: Job, strict: bool, progress: Progress, shown: str) -> Union[dustroute.Tree, unreached.Explained]:
+    usual_ends(job, shown)  # a net has an end at least, and each of them its wire in the room
+    load(progress)
+    return progress.watch("looking for the reason", lambda: unreached.explain(job, strict))
+
+
+def net_page(path: str, told: unreached.Explained) -> str:
+    return sink_page.page(files.title(path), told.unreached, tries.helpful(told.unreached, told.tried))
+
+
+def reached_words(tree: dustroute.Tree) -> str:
+    return "Every sink is reached: %s, %s occupied. `route` draws them." % (count(len(tree.branches), "branch"), count(len(tree.occupied), "cell"))
+
+
+# ---- one search
+
+def explain_search(args: argparse.Namespace) -> int:
     asked = question(read_job(args.file), args.start, args.goal, files.shown(args.file))
     told = answer_of(asked, Progress("why", args.quiet))
     if isinstance(told, dustroute.Route):
-        print(way_words(asked, told))
+        said = way_words(asked, told)
+        print(report.of_way(asked, [asked.job.place(cell) for cell in told.path], said) if args.json else said + "\n", end="")
         if args.out:
             print("why: there is a way, so no page was drawn", file=sys.stderr)
         return 0
     if args.out:
         files.write(args.out, reasons.page(files.title(args.file), told).encode(), is_text=True)
-    print(reasons.no_way(asked))
-    print(reasons.sentence(told))
+    said = [reasons.no_way(asked), reasons.sentence(told)]
+    print(report.of_search(told, said) if args.json else "".join(line + "\n" for line in said), end="")
     return 0
 
 
@@ -66,13 +113,13 @@ def answer_of(asked: reasons.Question, progress: Progress) -> Union[dustroute.Ro
     return reasons.Surroundings(asked, answer.reached, ((wall.cell, dustroute.MOVES[wall.move], wall.reason) for wall in answer.walls()))
 
 
-def page_of(path: str) -> str:
-    """The page that draws why no wire can get from where sink 1 is approached to the source's wire."""
-    asked = question(read_job(path), None, None, files.shown(path))
-    told = answer_of(asked, Progress("view", True))
-    if isinstance(told, dustroute.Route):
-        raise files.Stop("view: there is no reason to draw. " + way_words(asked, told))
-    return reasons.page(files.title(path), told)
+def page_of(path: str, strict: bool) -> str:
+    """The page that draws why a sink wasn't reached."""
+    job = read_job(path)
+    told = explained(job, strict, Progress("view", True), files.shown(path))
+    if isinstance(told, dustroute.Tree):
+        raise files.Stop("view: there is no reason to draw. " + reached_words(told))
+    return net_page(path, told)
 
 
 def way_words(asked: reasons.Question, route: dustroute.Route) -> str:

@@ -74,7 +74,7 @@ fn sheet_terrain(rng: &mut Rng, room: &Room) -> Vec<u8> {
     }
 }
 
-fn random_job(rng: &mut Rng, room: &Room) -> Job {
+pub(super) fn random_job(rng: &mut Rng, room: &Room) -> Job {
     let kinds = sheet_terrain(rng, room);
     let mut job = Job {
         config: random_config(rng, room),

@@ -40,7 +40,7 @@ fn damage_why(rng: &mut Rng, room: &Room, case: &mut Why) {
 
 /// What a column of a wall is made of.
 #[derive(Clone, Copy)]
-enum Fill {
+pub(super) enum Fill {
     Solid,
     /// Blocks of every kind but Air.
     Any,
@@ -80,7 +80,7 @@ fn shut_off(rng: &mut Rng, room: &Room, kinds: &mut [u8], ends: [usize; 2]) {
     }
 }
 
-fn block_of(rng: &mut Rng, fill: Fill, y: i32) -> u8 {
+pub(super) fn block_of(rng: &mut Rng, fill: Fill, y: i32) -> u8 {
     match fill {
         Fill::Solid => kind::SOLID,
         Fill::Any => rng.between(1, usize::from(kind::LAST)) as u8,
@@ -97,7 +97,7 @@ fn put(room: &Room, kinds: &mut [u8], ends: [usize; 2], place: Place, block: u8)
 }
 
 /// The columns that stand round an end, one to three cells away.
-fn closet(rng: &mut Rng, room: &Room, end: usize) -> Vec<(i32, i32)> {
+pub(super) fn closet(rng: &mut Rng, room: &Room, end: usize) -> Vec<(i32, i32)> {
     let away: i32 = rng.pick(&[1, 1, 2, 3]);
     let Place { x, z, .. } = room.place(end);
     let square = (-away..=away).flat_map(|dx| (-away..=away).map(move |dz| (dx, dz)));

@@ -1,0 +1,10 @@
+pub mod Statements
+pub mod BitLaws
+pub mod TreeWallLaws
+pub mod ConflictLaws
+pub mod SomeWayLaws
+pub mod VerdictLaws
+pub mod CauseTrueLaws
+pub mod AnswerStatements
+pub mod Theorems
+pub mod Samples

@@ -1,0 +1,2 @@
+pub mod SinkReply
+pub mod SinkReplyLaws
