@@ -140,11 +140,12 @@ class Projector(unittest.TestCase):
 
 
 class Kept(unittest.TestCase):
-    def test_the_picture_of_the_readme_is_there(self):
-        with open(os.path.join(ROOT, "docs", "lane-page.png"), "rb") as file:
-            self.assertEqual(file.read(8), b"\x89PNG\r\n\x1a\n")
-        with open(os.path.join(ROOT, "README.md"), encoding="utf-8") as file:
-            self.assertIn("(docs/lane-page.png)", file.read())
+    def test_the_pictures_of_the_documents_are_there(self):
+        for document, link, picture in (("tools/README.md", "(../docs/%s)", "lane-page.png"), ("README.md", "(docs/%s)", "router-page.png")):
+            with open(os.path.join(ROOT, "docs", picture), "rb") as file:
+                self.assertEqual(file.read(8), b"\x89PNG\r\n\x1a\n")
+            with open(os.path.join(ROOT, document), encoding="utf-8") as file:
+                self.assertIn(link % picture, file.read())
 
     @unittest.skipUnless(browser.find(), "no Chromium on this machine")
     def test_its_script_makes_it(self):

@@ -1,0 +1,138 @@
+"""cases.py OUT.json: what Python's modules say of texts and sheets, for the page's scripts to say the same. Texts are the examples, whole and
+with random slips; sheets are the oracle's, with their answers, whole and damaged; reasons are those of its searches without a route and of its trees that stopped
+at a sink, the latter in their file's order."""
+import json
+import os
+import random
+import re
+import sys
+
+sys.dont_write_bytecode = True
+HERE = os.path.dirname(os.path.abspath(__file__))
+sys.path[:0] = [os.path.join(HERE, "..", "..", "tools"), os.path.join(HERE, "..", "tools")]
+from common import content, examples, stored  # noqa: E402
+import test_sinks  # noqa: E402
+from dustsheet import answer as answers, check, job as jobs, net, reason as reasons, rules, sinks, text as texts, words  # noqa: E402
+
+ROOT = os.path.join(HERE, "..", "..")
+MOVES = [(x, up, z) for x, z in ((1, 0), (-1, 0), (0, 1), (0, -1)) for up in (-1, 0, 1)]
+
+SEED, SLIPS, DAMAGED = 1, 1500, 400
+STRANGE = ["soild", "lamb", "blok", "sinks", "north", "up", "code-13", "node", "to", "at", "facing", "99", "300", "-1", "1.5", "(3,", "ä", "\u00b2",
+           "x" * 60, "#", "Redstone_Wire", "CLEAR", "limit", "costs", "4294967296", "1234567890123", "block-power", "wire", "\u2028", "torches"]
+
+
+def slipped(text, chance):
+    """The text with a few words changed, left out, repeated or put in, or lines lost."""
+    lines = text.split("\n")
+    for _ in range(chance.randrange(1, 4)):
+        place = chance.randrange(len(lines))
+        parts = re.split(r"( +)", lines[place])
+        at = chance.randrange(len(parts))
+        how = chance.randrange(6)
+        if how == 0:
+            parts[at] = chance.choice(STRANGE)
+        elif how == 1:
+            parts[at] = ""
+        elif how == 2:
+            parts[at] = parts[at] * 2
+        elif how == 3:
+            parts.insert(at, " %s " % chance.choice(STRANGE))
+        elif how == 4:
+            letters = list(parts[at])
+            chance.shuffle(letters)
+            parts[at] = "".join(letters)
+        lines[place] = "".join(parts)
+        if how == 5:
+            lines[place:place + 1] = chance.choice([[], [lines[place]] * 2])
+    return "\n".join(lines)
+
+
+def told_of_text(text):
+    draft = texts.read(text, "text")
+    told = {"text": text, "problems": [[problem.line, problem.words] for problem in draft.problems]}
+    if draft.problems:
+        return told
+    job = texts.job_of(draft)
+    told["late"] = [[problem.line, problem.words] for problem in texts.problems_of(draft, job)]
+    told["sheet"] = jobs.to_bytes(job).hex()
+    told["canonical"] = texts.write(job)
+    if jobs.first_fault(job) is None and next(rules.late_faults(job), None) is None:
+        told["blocked"] = sorted(job.number(at) for at in rules.blocked(job))
+        told["remarks"] = [[list(remark.at), remark.words] for remark in check.remarks(job, None)]
+    return told
+
+
+def told_of_sheet(sheet, number, detail, printed):
+    told = {"sheet": sheet.hex(), "number": number, "detail": detail}
+    try:
+        job = jobs.from_bytes(sheet)
+    except jobs.Refused as refused:
+        told["refused"] = str(refused)
+        return told
+    fault = jobs.first_fault(job)
+    told["fault"] = None if fault is None else [fault.number, fault.part, fault.index, fault.words]
+    if number:
+        told["words"] = words.of_sheet(number, detail, sheet)
+    elif number == 0:
+        answer = answers.read(printed, job)
+        told["printed"] = printed
+        told["remarks"] = [[list(remark.at), remark.words] for remark in check.remarks(job, answer)]
+        told["signals"] = sorted([job.number(at), strength] for at, strength in net.signals(answer, job).items())
+        told["branches"] = [[one.steps, one.stairs, len(one.supports), len(one.repeaters), one.signal] for one in net.branches(answer, job)]
+        told["supports"] = sorted({job.number(at) for one in net.branches(answer, job) for at in one.supports})
+    return told
+
+
+def told_of_reasons():
+    """Of the oracle's searches without a route: the room as a text, and what is said of it."""
+    with open(os.path.join(ROOT, "tests", "bindings", "whys.bin"), "rb") as file:
+        data = file.read()
+    place = 4
+
+    def value(size=4):
+        nonlocal place
+        place += size
+        return int.from_bytes(data[place - size:place], "big")
+
+    for _ in range(value()):
+        sides = (value(1), value(1), value(1))
+        limit, flat, stair, support, start, goal = (value() for _ in range(6))
+        place += 8
+        kinds = [value(1) for _ in range(value())]
+        place += 8
+        number = value(1)
+        place += 12
+        length = value()
+        place += 2 * length
+        told = [(value(2), [value(1) for _ in range(12)]) for _ in range(value())]
+        if number == 11:
+            job = jobs.Job(sides, limit, (flat, stair, support), jobs.End((0, 0, 0), 0, 0))
+            job.blocks = [jobs.Block(0, job.place(cell), kind, 0) for cell, kind in enumerate(kinds) if kind]
+            asked = reasons.Question(job, job.place(start), job.place(goal))
+            walls = [(cell, MOVES[move], why) for cell, moves in told for move, why in enumerate(moves) if why]
+            said = [reasons.no_way(asked), reasons.sentence(reasons.Surroundings(asked, [cell for cell, _ in told], walls))]
+            yield {"text": texts.write(job), "start": asked.start, "goal": asked.goal, "words": said}
+
+
+def damaged(sheet, chance):
+    bytes_ = bytearray(sheet)
+    if chance.randrange(2):
+        bytes_[chance.randrange(len(bytes_))] = chance.randrange(256)
+        return bytes(bytes_)
+    return bytes(bytes_[:chance.randrange(len(bytes_) + 1)]) + bytes(chance.randrange(2))
+
+
+def main():
+    chance = random.Random(SEED)
+    whole = [content(name + ".txt").decode() for name in examples()]
+    listed = whole + [slipped(chance.choice(whole), chance) for _ in range(SLIPS)]
+    sheets = list(stored())
+    told = [told_of_sheet(one.sheet, one.number, one.detail, one.printed()) for one in sheets if one.number != 6]
+    told += [told_of_sheet(damaged(chance.choice(sheets).sheet, chance), None, 0, "") for _ in range(DAMAGED)]
+    with open(sys.argv[1], "w", encoding="utf-8") as out:
+        json.dump({"texts": [told_of_text(text) for text in listed], "sheets": told, "reasons": list(told_of_reasons()),
+                   "unreached": [sinks.words(one) for one in test_sinks.STORED]}, out)
+
+
+main()

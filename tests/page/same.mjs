@@ -1,0 +1,95 @@
+// node same.mjs SCRIPTS.mjs MODULE.wasm CASES.json ROOT: the page's scripts say of texts, sheets, searches and sinks that weren't reached what
+// Python's modules say (cases.py), word for word.
+import { readFileSync } from "node:fs";
+import { pathToFileURL } from "node:url";
+import { treeWhys } from "./stored.mjs";
+
+const [, , scripts, moduleFile, cases, root] = process.argv;
+const page = await import(pathToFileURL(scripts).href);
+const router = await page.Router.load(readFileSync(moduleFile), page.TABLES.FUNCTIONS);
+const { texts, sheets, reasons, unreached } = JSON.parse(readFileSync(cases, "utf8"));
+let failures = 0;
+
+function expect(what, found, due) {
+    if (JSON.stringify(found) === JSON.stringify(due)) return;
+    failures++;
+    if (failures <= 10) console.log(`page: ${what}: ${JSON.stringify(found).slice(0, 600)}\n  due: ${JSON.stringify(due).slice(0, 600)}`);
+}
+
+const lines = (problems) => problems.map(({ line, words }) => [line, words]);
+const hex = (bytes) => Buffer.from(bytes).toString("hex");
+const remarked = (found) => found.map(({ at, words }) => [at, words]);
+const ascending = (cells) => [...cells].sort((one, other) => one - other);
+
+function checkText(told) {
+    const draft = page.readText(told.text);
+    expect(`the problems of ${JSON.stringify(told.text)}`, lines(draft.problems), told.problems);
+    if (told.problems.length || draft.problems.length) return;
+    const job = page.jobOf(draft);
+    expect("what the router refuses", lines(page.problemsOf(draft, job)), told.late);
+    expect("the sheet", hex(page.sheetOf(job)), told.sheet);
+    expect("the canonical text", page.writeText(job), told.canonical);
+    expect("the job read from its sheet", page.writeText(page.jobOfSheet(page.sheetOf(job))), told.canonical);
+    if (!told.blocked) return;
+    expect("what is blocked at the outset", ascending(page.blocked(job)), told.blocked);
+    expect("the remarks", remarked(page.remarks(job, null, null)), told.remarks);
+    const again = page.drawn(job, { does: "block", kind: 1 }, [job.source.at], { facing: 0, node: 0 });
+    const redrawn = page.jobOf(page.readText(page.writeText(again)));
+    expect("a room that is drawn on, as text and back", hex(page.sheetOf(redrawn)), hex(page.sheetOf(again)));
+}
+
+function answerOf({ printed, number, detail }) {
+    const rows = printed.trim().split("\n").map((row) => row.split(" ").slice(1).map(Number));
+    return { number, detail, occupied: rows[0][1], branches: rows.slice(1, -1), repeaters: rows[rows.length - 1] };
+}
+
+function checkSheet(told) {
+    const sheet = Uint8Array.from(Buffer.from(told.sheet, "hex"));
+    let job;
+    try {
+        job = page.jobOfSheet(sheet);
+    } catch (refused) {
+        return expect("why the bytes are no sheet", refused.message, told.refused);
+    }
+    const fault = page.firstFault(job);
+    expect("the first fault", fault && [fault.number, fault.part, fault.index, fault.words], told.fault);
+    if (told.words) expect("the words of a refusal", page.refusalWords(told.number, told.detail, job), told.words);
+    if (!told.printed) return undefined;
+    const answer = answerOf(told);
+    expect("what is printed", page.printed(answer), told.printed);
+    const net = page.netOf(answer, job);
+    expect("the remarks", remarked(page.remarks(job, answer, net)), told.remarks);
+    expect("the signals", [...net.strength].sort((one, other) => one[0] - other[0]), told.signals);
+    expect("the branches", net.branches.map((one) => [one.steps, one.stairs, one.supports, one.repeaters, one.signal]), told.branches);
+    return expect("the supports", ascending(net.supports), told.supports);
+}
+
+function checkReason({ text, start, goal, words }) {
+    expect("the reason of a search", page.searchTold(router, page.jobOf(page.readText(text)), start, goal).words, words);
+}
+
+// By the stored reason and, where it isn't a short queue's, by the module's own.
+function checkUnreached(one, words) {
+    const job = page.jobOfSheet(one.sheet);
+    const strict = one.strict === 1;
+    const walls = one.told.flatMap(({ cell, reasons: why }) => why.flatMap((reason, move) => (reason ? [[cell, move, reason]] : [])));
+    const causes = new Uint8Array(page.cellCount(job));
+    for (const { cell, bits } of one.causes) causes[cell] = bits;
+    const stored = { ...one, job, strict, reached: one.told.map(({ cell }) => cell), walls, causes: [...causes] };
+    const due = page.treeReason(stored);
+    expect("why a sink wasn't reached", due.words, words);
+    if (one.number !== page.NO_WAY) return;
+    const [found, limit] = page.treeReasons(router, { sheet: one.sheet, strict }, page.treeOf(router, one.sheet, strict));
+    expect("why a sink wasn't reached, by the module", found, due);
+    expect("whether the limit is to blame is told", limit !== undefined, one.verdict === page.CUT_SHORT);
+}
+
+texts.forEach(checkText);
+sheets.forEach(checkSheet);
+reasons.forEach(checkReason);
+const stopped = [...treeWhys(`${root}/tests/bindings/treewhys.bin`)].filter(({ verdict }) => verdict);
+expect("how many sinks weren't reached", stopped.length, unreached.length);
+stopped.forEach((one, index) => checkUnreached(one, unreached[index]));
+const looked = `${texts.length} texts, ${sheets.length} sheets, ${reasons.length} searches and ${stopped.length} sinks that weren't reached`;
+console.log(`page: ${looked}: ${failures} things said otherwise than Python says them`);
+process.exit(failures ? 1 : 0);

@@ -1,0 +1,200 @@
+// The room that is drawn and its answer: what changes it, and what is told of each change. The page's parts hang on here.
+import { KINDS, firstFault, holds, numberOf, step } from "../job/job.mjs";
+import { jobOf, problemsOf, readText } from "../job/text.mjs";
+import { writeText } from "../job/write.mjs";
+import { netOf } from "../job/net.mjs";
+import { remarks } from "../job/check.mjs";
+import { sheetOf } from "../job/sheet.mjs";
+import { TABLES } from "../job/tables.mjs";
+import { cellWords, drawn, resized } from "../room/edit.mjs";
+import { History } from "../room/history.mjs";
+import { TOOLS } from "../room/tools.mjs";
+import { sceneOf } from "../view/scene.mjs";
+import { causeWords, netWords } from "../view/told.mjs";
+
+const TYPING = 1500; // milliseconds within which typed letters are one step back
+const KIND_NAMES = KINDS.map((name) => TABLES.KIND_NAMES[name]);
+
+export class App {
+    // `shows` has what is called when something is to be shown or asked (main.mjs).
+    constructor(text, shows) {
+        Object.assign(this, { shows, tool: TOOLS[0], how: { facing: 0, node: 0, port: 0, high: 1 }, isStrict: false });
+        Object.assign(this, { asked: 0, answer: null, net: null, reasons: [], remarks: [], box: [], strokeText: null, typedAt: 0 });
+        this.history = new History(text);
+        this.read(text);
+        this.cursor = [...this.job.source.at];
+    }
+
+    // ---- the text
+
+    // Takes a text over; false where it is none of a room that can be drawn.
+    read(text) {
+        const draft = readText(text);
+        this.text = text;
+        this.problems = draft.problems;
+        if (draft.problems.length) return false;
+        const job = jobOf(draft);
+        this.problems = problemsOf(draft, job);
+        if (firstFault(job) !== null) return false;
+        this.job = job;
+        return true;
+    }
+
+    show(text, goesOn = false) {
+        this.changedAt ??= performance.now();
+        const isRead = this.read(text);
+        this.history.put(text, goesOn);
+        this.told(isRead);
+        this.changedAt = null;
+        return isRead;
+    }
+
+    typed(text) {
+        const now = performance.now();
+        this.show(text, now - this.typedAt < TYPING);
+        this.typedAt = now;
+    }
+
+    opened(text) {
+        this.typedAt = 0;
+        this.shows.text(text);
+        if (!this.show(text)) return;
+        this.moveCursor([...this.job.source.at]);
+    }
+
+    undo() {
+        this.restore(this.history.undo());
+    }
+
+    redo() {
+        this.restore(this.history.redo());
+    }
+
+    restore(text) {
+        this.shows.text(text);
+        this.told(this.read(text));
+    }
+
+    told(isRead) {
+        this.shows.problems(this.problems, isRead);
+        this.shows.history();
+        if (isRead) this.ask();
+    }
+
+    // ---- drawing
+
+    // The comment at the head of a text stays when the room is drawn on.
+    headOfText() {
+        const lines = this.text.split(/\r\n|\n|\r/);
+        const end = lines.findIndex((line) => line.trim() && !line.trim().startsWith("#"));
+        return lines.slice(0, Math.max(end, 0)).join("\n").trimEnd();
+    }
+
+    change(job) {
+        if (job === this.job) return;
+        this.changedAt = performance.now();
+        const head = this.headOfText();
+        const text = (head ? head + "\n" : "") + writeText(job);
+        if (text === this.text) return;
+        this.typedAt = 0;
+        this.shows.text(text);
+        this.show(text, this.strokeText !== null && this.history.now() !== this.strokeText);
+    }
+
+    // All changes from a press to its release are one step back.
+    beginStroke() {
+        this.strokeText = this.history.now();
+    }
+
+    endStroke() {
+        this.strokeText = null;
+    }
+
+    draw(cells, tool = this.tool) {
+        const floors = tool.does === "block" || tool.does === "place" || tool.does === "erase" ? this.how.high : 1;
+        const all = cells.flatMap((at) => Array.from({ length: floors }, (_, up) => step(at, [0, up, 0])));
+        this.change(drawn(this.job, tool, all, this.how));
+    }
+
+    resize(sides) {
+        this.change(resized(this.job, sides));
+        this.moveCursor(this.cursor.map((place, axis) => Math.min(place, sides[axis] - 1)));
+    }
+
+    choose(tool) {
+        this.tool = tool;
+        this.shows.tool();
+    }
+
+    // The hand on a cell: the lever, or what else drives the source, is switched.
+    press(at) {
+        const kind = KINDS[this.scene.kinds[numberOf(this.job, at)]];
+        const isSource = String(this.job.source.at) === String(at);
+        if (isSource || ["lever", "button", "pressure-plate"].includes(kind)) this.shows.switched();
+    }
+
+    // ---- the cursor
+
+    moveCursor(at) {
+        this.cursor = at;
+        this.tell(at);
+        this.shows.room();
+    }
+
+    moveCursorBy(by) {
+        const at = step(this.cursor, by);
+        if (!holds(this.job, at)) return;
+        this.moveCursor(at);
+        this.shows.inSight(at);
+    }
+
+    markBox(cells) {
+        this.box = cells;
+        this.shows.room();
+    }
+
+    tell(at) {
+        const cell = numberOf(this.job, at);
+        const words = [...cellWords(this.job, at, KIND_NAMES), ...netWords(this.answer, this.net, cell), ...causeWords(this.scene?.causes, cell)];
+        if (this.scene?.net?.supports.has(cell)) words.push("a support is laid here");
+        if (this.scene?.blocked.has(cell)) words.push("kept free at the outset");
+        this.shows.status(words.join(" · "));
+    }
+
+    // ---- the answer
+
+    ask() {
+        this.asked++;
+        this.begunAt = this.changedAt ?? performance.now();
+        this.shows.ask({ id: this.asked, sheet: sheetOf(this.job), strict: this.isStrict });
+    }
+
+    answered({ id, answer, reasons, took }) {
+        if (id !== this.asked) return;
+        Object.assign(this, { answer, reasons, took });
+        this.net = answer.number ? null : netOf(answer, this.job);
+        this.remarks = remarks(this.job, answer, this.net);
+        this.scene = sceneOf(this.job, answer, this.net, this.remarks, reasons.find((reason) => reason.reached));
+        this.shows.answer();
+    }
+
+    // A tool that asks, drawn from a cell to another.
+    between(tool, from, to) {
+        this.askFor({ asks: tool.asks, from, to });
+    }
+
+    askFor(question) {
+        this.shows.askAlso({ id: this.asked, sheet: sheetOf(this.job), strict: this.isStrict, ...question });
+    }
+
+    toldOf(reason) {
+        this.scene = sceneOf(this.job, this.answer, this.net, this.remarks, reason);
+        this.shows.reason(reason);
+    }
+
+    // No answer came: the room is shown as it was drawn.
+    unanswered() {
+        Object.assign(this, { answer: null, net: null, reasons: [], remarks: [] });
+        this.scene = sceneOf(this.job, null, null, [], null);
+    }
+}

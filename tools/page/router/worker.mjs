@@ -1,0 +1,29 @@
+// The worker: the module is loaded once, then asked. A question is {id, sheet, strict}; what comes back is {id, answer, reasons, took}. A
+// question that `asks` something else comes back as {id, told}.
+import { Router } from "./calls.mjs";
+import { treeOf } from "./answers.mjs";
+import { QUESTIONS, REASONS } from "./reasons.mjs";
+
+let loaded = null;
+
+async function answerTo(question) {
+    if (question.module) {
+        loaded = Router.load(question.module, question.functions);
+        return { names: (await loaded).names() };
+    }
+    const router = await loaded;
+    if (question.asks) return { told: { end: question.end, ...QUESTIONS[question.asks](router, question) } };
+    const begun = performance.now();
+    const answer = treeOf(router, question.sheet, question.strict);
+    const took = performance.now() - begun;
+    const reasons = REASONS.flatMap((reason) => reason(router, question, answer) ?? []);
+    return { answer, reasons, took };
+}
+
+globalThis.onmessage = async ({ data }) => {
+    try {
+        globalThis.postMessage({ id: data.id, ...(await answerTo(data)) });
+    } catch (error) {
+        globalThis.postMessage({ id: data.id, failed: String(error) });
+    }
+};

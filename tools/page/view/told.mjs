@@ -1,0 +1,94 @@
+// What is told of the answer: the numbers of each branch, a refusal with its reason, warnings.
+import { spell } from "../job/job.mjs";
+import { counted, said, sentence } from "../job/said.mjs";
+import { TABLES } from "../job/tables.mjs";
+import { refusalWords } from "../job/words.mjs";
+import { printed } from "../router/answers.mjs";
+import { branchColour, branchDashes } from "./signs.mjs";
+import { WALL_LINES } from "./floor.mjs";
+
+export function element(name, content = "", attributes = {}) {
+    const made = document.createElement(name);
+    if (Array.isArray(content)) made.append(...content);
+    else made.textContent = content;
+    for (const [key, value] of Object.entries(attributes)) made.setAttribute(key, value);
+    return made;
+}
+
+// A piece of a line, as it is drawn.
+function sample(colour, dashes, width = 5) {
+    const made = document.createElementNS("http://www.w3.org/2000/svg", "svg");
+    made.setAttribute("viewBox", "0 0 36 8");
+    made.setAttribute("class", "sample");
+    made.setAttribute("aria-hidden", "true");
+    const path = document.createElementNS("http://www.w3.org/2000/svg", "path");
+    for (const [key, value] of Object.entries({ d: "M0 4H36", stroke: colour, "stroke-width": width, "stroke-dasharray": dashes.join(" ") }))
+        path.setAttribute(key, value);
+    made.append(path);
+    return made;
+}
+
+export function answerParts(job, answer, net, reasons, remarks) {
+    const parts = answer.number ? refusalParts(job, answer, reasons) : netParts(job, answer, net);
+    if (remarks.length) {
+        const listed = remarks.map(({ words }) => element("li", sentence(words)));
+        const inside = [element("h3", "To look at before building"), element("ol", listed)];
+        parts.push(element("section", inside, { class: "warnings", title: TABLES.NOT_KNOWN }));
+    }
+    const lines = element("pre", printed(answer), { id: "printed" });
+    parts.push(element("details", [element("summary", "The router's own lines"), lines]));
+    return parts;
+}
+
+function netParts(job, answer, net) {
+    const total = { steps: 0, stairs: 0, supports: 0, repeaters: answer.repeaters.length };
+    const rows = net.branches.map((branch, index) => {
+        for (const name of ["steps", "stairs", "supports"]) total[name] += branch[name];
+        const cells = [branch.steps, branch.stairs, branch.supports, branch.repeaters, branch.signal].map((number) => element("td", String(number)));
+        const name = element("th", [sample(branchColour(index), branchDashes(index)), ` ${index + 1} at ${spell(branch.sink.at)}`], { scope: "row" });
+        return element("tr", [name, ...cells]);
+    });
+    const titles = ["Sink", "Steps", "Stairs", "Supports", "Repeaters", "Signal"].map((word) => element("th", word, { scope: "col" }));
+    const sums = [total.steps, total.stairs, total.supports, total.repeaters, ""].map((number) => element("td", String(number)));
+    const foot = net.branches.length > 1 ? [element("tfoot", [element("tr", [element("th", "In all", { scope: "row" }), ...sums])])] : [];
+    const table = element("table", [element("thead", [element("tr", titles)]), element("tbody", rows), ...foot]);
+    const fetch = `To fetch: ${answer.occupied - answer.repeaters.length} dust, ${counted(answer.repeaters.length, "repeater")}, ` +
+        `${counted(net.supports.size, "support")}.`;
+    const head = net.branches.length ? "A way to every sink" : "No sink yet: put one down";
+    return [element("h2", head, { class: "good" }), ...(rows.length ? [table, element("p", fetch)] : [])];
+}
+
+function refusalParts(job, answer, reasons) {
+    const words = sentence(refusalWords(answer.number, answer.detail, job));
+    const parts = [element("h2", `Refused, number ${answer.number}`, { class: "bad" }), element("p", words, { id: "refusal", class: "refused" })];
+    return [...parts, ...reasons.flatMap(reasonParts)];
+}
+
+export function reasonParts(reason) {
+    return [...reason.words.map((line) => element("p", line, { class: "reason" })), ...(reason.walls ? [wallLegend(reason)] : [])];
+}
+
+function wallLegend(reason) {
+    const used = [...new Set(reason.walls.map(([, , why]) => why))].sort();
+    const items = used.map((why) => element("li", [sample(...WALL_LINES[why]), ` ${TABLES.LINE_WORDS[why]}`]));
+    const dot = element("li", [element("span", "●", { class: "dot" }), " wire gets here"]);
+    const letters = new Set((reason.kept ?? []).map(([, { letter }]) => letter));
+    const causes = TABLES.CAUSES.filter(({ letter }) => letters.has(letter)).map(({ letter, words }) =>
+        element("li", [element("span", letter, { class: "kept" }), ` ${said("kept free: ")}${words}`]));
+    return element("ul", [dot, ...items, ...causes], { class: "legend" });
+}
+
+// Why a cell is kept free, in words; none where the module doesn't tell.
+export function causeWords(causes, cell) {
+    const found = TABLES.CAUSES.filter(({ bit }) => causes?.[cell] & bit).map(({ words }) => words);
+    return found.length ? [said("kept free: ") + found.join(", ")] : [];
+}
+
+// What a wire's cell tells when it is pointed at.
+export function netWords(answer, net, cell) {
+    if (!net || !net.strength.has(cell)) return [];
+    const on = answer.branches.flatMap((branch, index) => (branch.includes(cell) ? [index + 1] : []));
+    const words = [`wire to sink ${on.join(", ")}`, `signal ${net.strength.get(cell)}`];
+    if (answer.repeaters.includes(cell)) words.push("repeater");
+    return on.length ? words : [`signal ${net.strength.get(cell)}`];
+}
