@@ -1,5 +1,7 @@
 /* DustRoute's router for one net, proved: one search over a room of kinds, why such a search finds no route, a plain engine to
- * check a search against, and the tree of one job sheet, in the published router's way or in strict mode.
+ * check a search against, the job sheet of a job's parts, the tree of one, in the published router's way or in strict mode, and why
+ * a sink wasn't reached. One route drawn into a room of kinds. And a room as a function file: the text of `setblock` commands that
+ * lays it in the game, written and read.
  *
  * Link with libdustroute.a, which `tools/native-archive dustroute` makes; it needs memset and memcpy of the C library and
  * nothing else. The functions allocate nothing, keep nothing between calls and may be called from several threads at once,
@@ -9,18 +11,20 @@
  * HOW A BUFFER IS PASSED: as a pointer to its first element and then its length, counted in elements and not in bytes. The
  * caller sees to three things, which no function can see for itself:
  *   - the buffer has that many elements; with length 0 any pointer will do, NULL too;
- *   - the pointer is aligned as its type asks (4 bytes for uint32_t, 8 for uint64_t);
+ *   - the pointer is aligned as its type asks (2 bytes for uint16_t, 4 for uint32_t, 8 for uint64_t);
  *   - no two buffers of a call overlap.
- * What a buffer holds when the function is called is of no account, but for `kinds` of a search or of the plain engine and `sheet` of
- * a tree.
+ * What a buffer holds when the function is called is of no account, but for `kinds` of a search, of the plain engine or of a drawing,
+ * `path` of a drawing, the lists of a sheet that is written, `sheet` of a tree, `kinds` and `facings` where a function file is
+ * written, and its `text` where it is read.
  *
  * A room has sides of 1 to 64 and V = wide * high * deep cells, at most 16,384. The cell at (x, y, z) has the number
  * (x * high + y) * deep + z.
  *
- * WHAT COMES BACK: a number, 0 for a route or a tree, else one of 1 to 15 below.
+ * WHAT COMES BACK: a number, 0 for a route, a sheet, a tree, a text or a room, else one of those below.
  *   Numbers 1 to 6 leave every buffer as it was, `values` included: read nothing from it. Their detail is 0.
  *   A number from 7 on has its detail in values[0] and leaves zeros in all else that can be written, to its very end; but 11 of
- *   dustroute_why has its reason in `reached` and `walls`.
+ *   dustroute_why has its reason in `reached` and `walls`, and 13 and 14 of dustroute_tree_why tell of a sink in the last two
+ *   values, and where it is shut in, in `reached`, `walls` and `causes`.
  *   0 leaves the answer at the front of the outputs, zeros behind it, and zeros in the work memory. */
 #ifndef DUSTROUTE_H
 #define DUSTROUTE_H
@@ -35,12 +39,12 @@ extern "C" {
 /* The numbers that come back. */
 enum dustroute_number {
     DUSTROUTE_DONE = 0,
-    DUSTROUTE_SHEET = 1,          /* the sheet's length, version or counts, bytes left over, over 16 sinks */
+    DUSTROUTE_SHEET = 1,          /* the sheet's length, version or counts, bytes left over, over 16 sinks; parts too long for one */
     DUSTROUTE_SIDES = 2,          /* a side or V is out of range */
     DUSTROUTE_CONFIG = 3,         /* a cost is over 100,000 or the node limit over 200,000 */
-    DUSTROUTE_POSITION = 4,       /* a position is outside the room; a search's end is V or more */
+    DUSTROUTE_POSITION = 4,       /* a position is outside the room; a search's end or a drawn path's cell is V or more */
     DUSTROUTE_CODE = 5,           /* an unknown kind, facing or port kind; Air in a block record */
-    DUSTROUTE_BUFFER = 6,         /* a buffer is too short, or kinds of a search are not exactly V */
+    DUSTROUTE_BUFFER = 6,         /* a buffer is too short, or kinds of a search or a drawing are not exactly V */
     DUSTROUTE_OVERLAP = 7,        /* two blocks in one cell; the detail is that cell */
     DUSTROUTE_PORT_FACING = 8,    /* BlockPower without a horizontal facing; 0 for the source, k for the k-th sink */
     DUSTROUTE_END_OUTSIDE = 9,    /* a terminal or an approach outside the room; the detail is as in 8 */
@@ -48,8 +52,10 @@ enum dustroute_number {
     DUSTROUTE_NO_ROUTE = 11,      /* there is no route; how many cells were expanded, by the plain engine: are reached */
     DUSTROUTE_LIMIT_PASSED = 12,  /* the node limit was passed; expanded */
     DUSTROUTE_QUEUE_FULL = 13,    /* a push was due and the queue was full; expanded */
-    DUSTROUTE_NO_GOAL = 14,       /* no way from a sink to the tree; its approach cell */
-    DUSTROUTE_BRANCHES_FULL = 15  /* the branches exceed the branch buffer; that sink's place in the sheet, from 1 */
+    DUSTROUTE_NO_GOAL = 14,       /* no way was found from a sink to the tree; its approach cell */
+    DUSTROUTE_BRANCHES_FULL = 15, /* the branches exceed the branch buffer; that sink's place in the sheet, from 1 */
+    DUSTROUTE_TEXT_SHORT = 18,    /* the text of a function file is longer than its buffer */
+    DUSTROUTE_BAD_LINE = 19       /* a line that no function file of the room has there; its number, from 1 */
 };
 
 enum {
@@ -60,7 +66,16 @@ enum {
     DUSTROUTE_SEARCH_VALUES = 4,
     DUSTROUTE_SEARCH_TOTALS = 7,
     DUSTROUTE_PLAIN_VALUES = 3,
+    DUSTROUTE_ROUTE_VALUES = 1,
+    DUSTROUTE_LIST_VALUES = 2,
     DUSTROUTE_TREE_VALUES = 20,
+    DUSTROUTE_TREE_WHY_VALUES = 22,
+    DUSTROUTE_FUNCTION_VALUES = 2,
+    DUSTROUTE_WRITE_VALUES = 2,
+    DUSTROUTE_BLOCK_NUMBERS = 6,
+    DUSTROUTE_POSITION_NUMBERS = 3,
+    DUSTROUTE_END_NUMBERS = 5,
+    DUSTROUTE_LINE_BYTES = 76,
     DUSTROUTE_MOVES = 12
 };
 
@@ -78,6 +93,31 @@ enum dustroute_reason {
     DUSTROUTE_BAD_SUPPORT = 3 /* what is right beneath the cell is none of Air, Solid, Transparent and RedstoneBlock */
 };
 
+/* What dustroute_tree_why tells of a move besides. */
+enum dustroute_tree_reason {
+    DUSTROUTE_KEPT_FREE = 4,        /* the cell is blocked Air */
+    DUSTROUTE_SUPPORT_KEPT_FREE = 5 /* what is right beneath it is, in strict mode */
+};
+
+/* What dustroute_tree_why says of a sink. */
+enum dustroute_verdict {
+    DUSTROUTE_APPROACH_TAKEN = 1, /* its approach is neither Air nor RedstoneWire */
+    DUSTROUTE_SHUT_IN = 2,        /* from its approach no cell of the net can be got to, at any costs */
+    DUSTROUTE_CONFLICTS = 3,      /* it can, but each route that was tried was in conflict with the net's own wire */
+    DUSTROUTE_CUT_SHORT = 4       /* a search may have ended early: a higher node limit, or after 13 a longer queue */
+};
+
+/* Why dustroute_tree_why says that a cell is blocked: one bit a reason. */
+enum dustroute_cause {
+    DUSTROUTE_CAUSE_CONDUCTOR = 1, /* another net's conductor */
+    DUSTROUTE_CAUSE_KEEPOUT = 2,   /* in the keepout of one */
+    DUSTROUTE_CAUSE_CLEARANCE = 4, /* another net's clearance */
+    DUSTROUTE_CAUSE_TERMINAL = 8,  /* another net's terminal */
+    DUSTROUTE_CAUSE_RESERVED = 16, /* a reserved cell */
+    DUSTROUTE_CAUSE_BLOCK = 32,    /* the keepout of a block of the room */
+    DUSTROUTE_CAUSE_OWN = 64       /* a clearance of this net's own branches so far */
+};
+
 /* Lengths that suffice for a room of V cells.
  *
  * The queue takes two numbers a place. With a flat step of at least 10 and a stair of at least 20 a queue of 5V places is never
@@ -89,6 +129,9 @@ enum dustroute_reason {
 #define DUSTROUTE_QUEUE_LENGTH_AT_ANY_COST(limit) ((size_t)2 * (11 * (size_t)(limit) + 1))
 #define DUSTROUTE_WALLS_LENGTH(V) ((size_t)DUSTROUTE_MOVES * (V))
 #define DUSTROUTE_BRANCHES_LENGTH(V) ((size_t)DUSTROUTE_MAX_SINKS * ((V) + 1))
+
+/* A line of a function file has at most 76 bytes: so many for each cell that isn't Air hold its text, and never give 18. */
+#define DUSTROUTE_TEXT_LENGTH(blocks) ((size_t)DUSTROUTE_LINE_BYTES * (blocks))
 
 /* One search from `start` to `goal` in a room whose cells hold these kinds. May return 0, 2 to 6 and 10 to 13, and
  * judges 2, 3, 6, 5, 4, 10 in that order.
@@ -162,6 +205,30 @@ uint32_t dustroute_plain(
     uint8_t *classes, size_t classes_length,
     uint64_t *values, size_t values_length);
 
+/* The job sheet of a job's parts, told as 16-bit numbers. What was written is read as these parts, and the parts of a sheet that
+ * is accepted give its own bytes back. May return 0 to 6, and judges 1, 2, 3, then 4 and 5 record by record, then 6. 1 is for
+ * over 16 sinks, over 60,000 bytes, a list that is no whole number of records, or a source of another length.
+ *
+ * blocks         DUSTROUTE_BLOCK_NUMBERS a record: node, x, y, z, kind, facing; only read, as all lists
+ * conductors, clearances, terminals, reserved
+ *                DUSTROUTE_POSITION_NUMBERS a record: x, y, z
+ * source         DUSTROUTE_END_NUMBERS: x, y, z, port kind, facing
+ * sinks          as many for each sink
+ * sheet          any length; DUSTROUTE_MAX_SHEET always suffices. Output: the sheet's bytes, and zeros behind them
+ * values         DUSTROUTE_WRITE_VALUES at least. Output, untouched by numbers 1 to 6: 0, and how many bytes were written */
+uint32_t dustroute_write_sheet(
+    size_t wide, size_t high, size_t deep,
+    uint32_t limit, uint32_t horizontal, uint32_t stair, uint32_t support,
+    const uint16_t *blocks, size_t blocks_length,
+    const uint16_t *conductors, size_t conductors_length,
+    const uint16_t *clearances, size_t clearances_length,
+    const uint16_t *terminals, size_t terminals_length,
+    const uint16_t *reserved, size_t reserved_length,
+    const uint16_t *source, size_t source_length,
+    const uint16_t *sinks, size_t sinks_length,
+    uint8_t *sheet, size_t sheet_length,
+    uint64_t *values, size_t values_length);
+
 /* The tree of the one net that a job sheet describes. May return 0 to 9 and 13 to 15, and judges 1, 2, 3, then 4 and 5
  * record by record, then 6, 7, 8, 9, then per sink 13 or 14, then 15.
  *
@@ -214,6 +281,107 @@ uint32_t dustroute_tree_mode(
     uint32_t *path, size_t path_length,
     uint32_t *best, size_t best_length,
     uint64_t *queue, size_t queue_length,
+    uint64_t *values, size_t values_length);
+
+/* "Why couldn't this sink be reached?" dustroute_tree_mode, and for 13 and 14 the sink whose turn it was and what may be said of it.
+ * Numbers, their order, outputs and lengths are those of dustroute_tree_mode, but that 6 is also due for one of the three outputs or
+ * the values. Takes up to twice as long.
+ *
+ * reached        V at least. Output: 1 for each cell that wire gets to from the sink's approach, where any cell of the net may be the
+ *                goal, else 0
+ * walls          DUSTROUTE_WALLS_LENGTH at least. Output: byte 12v + i is what stands against move i out of cell v, a
+ *                dustroute_reason or dustroute_tree_reason; 0 where v is not reached
+ * causes         V at least. Output: why each cell is blocked, the bits of dustroute_cause; 0 where it isn't
+ *                All three are zero but for DUSTROUTE_SHUT_IN
+ * values         DUSTROUTE_TREE_WHY_VALUES at least. Output: those of dustroute_tree; then the sink's place in the sheet, from 1, and a
+ *                dustroute_verdict, both 0 but for 13 and 14
+ * all others     as of dustroute_tree_mode */
+uint32_t dustroute_tree_why(
+    uint32_t strict,
+    const uint8_t *sheet, size_t sheet_length,
+    uint32_t *branches, size_t branches_length,
+    uint8_t *occupied, size_t occupied_length,
+    uint8_t *repeaters, size_t repeaters_length,
+    uint8_t *reached, size_t reached_length,
+    uint8_t *walls, size_t walls_length,
+    uint8_t *causes, size_t causes_length,
+    uint8_t *kinds, size_t kinds_length,
+    uint8_t *blocked, size_t blocked_length,
+    uint8_t *classes, size_t classes_length,
+    uint8_t *joinable, size_t joinable_length,
+    uint32_t *known, size_t known_length,
+    uint32_t *previous, size_t previous_length,
+    uint32_t *path, size_t path_length,
+    uint32_t *best, size_t best_length,
+    uint64_t *queue, size_t queue_length,
+    uint64_t *values, size_t values_length);
+
+/* A room as a function file of the game's Java Edition: for each cell that isn't Air, in number order, one line
+ * `setblock ~x ~y ~z minecraft:STATE replace` and a newline, relative to where it is run; a 0 is left out behind its `~`. No byte
+ * of it is free: docs/MORE-RULES.md has the states. A Repeater and a Comparator face their output here and their input in
+ * the game, so the text says the opposite side. May return 0, 2, 5, 6 and 18, and judges 2, 6, 5, 18 in that order; 5 is also for
+ * a facing that its kind can't have: a Repeater and a Comparator have 1 to 4, a Piston 1 to 6, a RedstoneTorch, a Lever and
+ * a Button 0 to 4, all others 0.
+ *
+ * kinds, facings V exactly each: each cell's kind and facing; only read
+ * text           any length; see DUSTROUTE_TEXT_LENGTH. Output: the text, zeros behind it; 18 leaves it all zero
+ * values         DUSTROUTE_FUNCTION_VALUES at least. Output, untouched by 2, 5 and 6: 0, and how many bytes the text has; 0 after 18 */
+uint32_t dustroute_write_function(
+    size_t wide, size_t high, size_t deep,
+    const uint8_t *kinds, size_t kinds_length,
+    const uint8_t *facings, size_t facings_length,
+    uint8_t *text, size_t text_length,
+    uint64_t *values, size_t values_length);
+
+/* The room that such a text lays. A line is good only if dustroute_write_function could have it there, for a room of these sides:
+ * byte for byte, in number order, no cell twice. What comes before the first newline is a line, and so is a rest without one,
+ * which is bad. May return 0, 2, 6 and 19, and judges 2, 6, 19 in that order.
+ *
+ * text           the text's bytes and no more; only read
+ * kinds, facings V at least each. Output: each cell's kind and facing, zeros behind them; 19 leaves them all zero
+ * values         DUSTROUTE_FUNCTION_VALUES at least. Output, untouched by 2 and 6: the number of the first bad line, from 1, or 0; and
+ *                how many lines were read, 0 after 19 */
+uint32_t dustroute_read_function(
+    size_t wide, size_t high, size_t deep,
+    const uint8_t *text, size_t text_length,
+    uint8_t *kinds, size_t kinds_length,
+    uint8_t *facings, size_t facings_length,
+    uint64_t *values, size_t values_length);
+
+/* ONE ROUTE DRAWN into a room of kinds, which is changed in place; the path may be any cells of the room, not only a search's. Both
+ * functions return 0, 2, 6, 5 or 4, judged in that order, with detail 0; a refusal touches nothing.
+ *
+ * dustroute_materialize_route goes along the path: where the cell beneath is Air it becomes a support, then, where the cell itself is Air, it
+ * becomes RedstoneWire. Each cell sees the room as those before it have left it, so a support may take the place of a later cell's
+ * wire. A support outside the room isn't laid. Only the path's cells and those right beneath them change, and what isn't Air stays.
+ *
+ * support_kind   a support's kind, 0 Air (none is laid) to 12 Piston; any other number is 5
+ * kinds          V exactly: each cell's kind. Changed in place
+ * path           cells, any number of them; one of V or more is 4. Only read
+ * values         DUSTROUTE_ROUTE_VALUES at least. Output, untouched by a refusal: the detail, 0 */
+uint32_t dustroute_materialize_route(
+    size_t wide, size_t high, size_t deep,
+    uint32_t support_kind,
+    uint8_t *kinds, size_t kinds_length,
+    const uint32_t *path, size_t path_length,
+    uint64_t *values, size_t values_length);
+
+/* Repeaters along a path. A count starts at 0 and goes up by 1 at each place from the second to the last but one; where it has reached the
+ * limit, and the steps in and out have the same flat facing, the cell becomes a Repeater, whatever stands there, and the count is
+ * 0 again. Only these cells change.
+ *
+ * run            the run limit, any number; 0 acts as 1
+ * kinds, path    as of dustroute_materialize_route
+ * cells, facings as long as the path at least, each. Outputs: the repeaters' cells in path order, and the facing of the path's passage
+ *                through each, from input to output: 1 North, 2 East, 3 South, 4 West. A path that crosses itself may list a cell twice
+ * values         DUSTROUTE_LIST_VALUES at least. Output, untouched by a refusal: the detail, 0, and how many repeaters are listed */
+uint32_t dustroute_insert_repeaters(
+    size_t wide, size_t high, size_t deep,
+    uint32_t run,
+    uint8_t *kinds, size_t kinds_length,
+    const uint32_t *path, size_t path_length,
+    uint32_t *cells, size_t cells_length,
+    uint8_t *facings, size_t facings_length,
     uint64_t *values, size_t values_length);
 
 /* ONE LENT ARENA FOR A TREE, instead of thirteen buffers: ask dustroute_arena_size for the bytes that suffice, lend so many, and call

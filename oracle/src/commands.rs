@@ -6,13 +6,16 @@ use std::io::{self, ErrorKind, Read, Write};
 use std::path::Path;
 
 use cases::files::{self, Cases};
+use cases::function::Function;
+use cases::parts::Parts;
 use cases::samples::{Sample, samples};
 use cases::smallest::Point;
 use cases::stats::Tally;
 use cases::text::{number, parse_hex, parse_search, search_answer_lines, tree_answer_lines};
 use cases::tree::ROUTE_LIMITS;
 use oracle::{
-    Profile, Rng, Search, Sheet, StrictSheet, Why, check_route, check_search, check_sheet,
+    Drawing, Profile, Rng, Search, Sheet, StrictSheet, TreeWhy, Why, check_route, check_search,
+    check_sheet,
 };
 
 use crate::Trouble;
@@ -35,12 +38,14 @@ oracle compare KIND --seed N --count N [--profile P]
                                             answers random cases, writes none
 oracle show KIND FILE [INDEX]               cases and answers for a reader
 oracle stats KIND FILE                      how many of which cases
-KIND is `searches`, `sheets`, `strict-sheets`, sheets in strict mode, or `whys`, searches with their reason; P is tiny, small, middle, large or
-mixed (the default); `-` is standard input.
+KIND is `searches`, `sheets`, `strict-sheets`, sheets in strict mode, `whys`, searches with their reason, `tree-whys`, sheets with theirs,
+`functions`, function files written and read, `drawings`, routes drawn, or `writes`, parts of jobs written as sheets; P is tiny, small,
+middle, large or mixed (the default); `-` is standard input.
 Status 0: done; 1: answers differ; 2: bad input.
 ";
 
-const KINDS: &str = "`searches`, `sheets`, `strict-sheets`, `whys`";
+const KINDS: &str =
+    "`searches`, `sheets`, `strict-sheets`, `whys`, `tree-whys`, `functions`, `drawings`, `writes`";
 
 pub fn run(raw: impl Iterator<Item = OsString>) -> Result<(), Trouble> {
     let mut arguments = Arguments::sort(raw)?;
@@ -57,6 +62,10 @@ pub fn run(raw: impl Iterator<Item = OsString>) -> Result<(), Trouble> {
                 "sheets" => run_lists::<Sheet>(&command, arguments),
                 "strict-sheets" => run_lists::<StrictSheet>(&command, arguments),
                 "whys" => run_lists::<Why>(&command, arguments),
+                "tree-whys" => run_lists::<TreeWhy>(&command, arguments),
+                "functions" => run_lists::<Function>(&command, arguments),
+                "drawings" => run_lists::<Drawing>(&command, arguments),
+                "writes" => run_lists::<Parts>(&command, arguments),
                 kind => Err(format!("none of {KINDS}: {kind}").into()),
             }
         }

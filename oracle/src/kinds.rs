@@ -1,15 +1,28 @@
-//! Searches, sheets in both modes and searches with their reason under one roof, so that each command is written once.
+//! Searches, sheets in both modes, both with their reasons, function files, drawings and parts of jobs under one roof, so that each
+//! command is written once.
 
-use cases::examples::{search_cases, sheet_cases, strict_cases, why_cases};
+use cases::examples::{
+    drawing_cases, function_cases, parts_cases, search_cases, sheet_cases, strict_cases,
+    tree_why_cases, why_cases,
+};
 use cases::files::Case;
-use cases::stats::{Tally, count_search, count_sheet, count_strict, count_why};
+use cases::function::{Function, FunctionAnswer};
+use cases::generate::{random_function, random_parts};
+use cases::parts::{Parts, PartsAnswer};
+use cases::stats::{
+    Tally, count_drawing, count_function, count_parts, count_search, count_sheet, count_strict,
+    count_tree_why, count_why,
+};
 use cases::text::{
-    search_answer_lines, search_lines, sheet_lines, tree_answer_lines, why_answer_lines, why_lines,
+    drawing_answer_lines, drawing_lines, function_answer_lines, function_lines, parts_answer_lines,
+    parts_lines, search_answer_lines, search_lines, sheet_lines, tree_answer_lines,
+    tree_why_answer_lines, tree_why_lines, why_answer_lines, why_lines,
 };
 use oracle::{
-    Disagreement, Profile, Rng, Search, SearchAnswer, Sheet, StrictSheet, TreeAnswer, Why,
-    WhyAnswer, check_search, check_sheet, check_strict, check_why, random_search, random_sheet,
-    random_strict, random_why,
+    Disagreement, Drawing, DrawingAnswer, Profile, Rng, Search, SearchAnswer, Sheet, StrictSheet,
+    TreeAnswer, TreeWhy, TreeWhyAnswer, Why, WhyAnswer, check_drawing, check_search, check_sheet,
+    check_strict, check_tree_why, check_why, random_drawing, random_search, random_sheet,
+    random_strict, random_tree_why, random_why,
 };
 
 pub trait Asked: Case<Answer: Eq> {
@@ -123,5 +136,111 @@ impl Asked for Why {
 
     fn answer_lines(answer: &WhyAnswer) -> String {
         why_answer_lines(answer)
+    }
+}
+
+impl Asked for TreeWhy {
+    fn random(rng: &mut Rng, profile: Profile) -> Self {
+        random_tree_why(rng, profile)
+    }
+
+    fn examples() -> Vec<Self> {
+        tree_why_cases()
+    }
+
+    fn check(&self) -> Result<TreeWhyAnswer, Disagreement> {
+        check_tree_why(self)
+    }
+
+    fn count(&self, answer: &TreeWhyAnswer, tally: &mut Tally) {
+        count_tree_why(tally, self, answer);
+    }
+
+    fn lines(&self) -> String {
+        tree_why_lines(self)
+    }
+
+    fn answer_lines(answer: &TreeWhyAnswer) -> String {
+        tree_why_answer_lines(answer)
+    }
+}
+
+impl Asked for Function {
+    fn random(rng: &mut Rng, profile: Profile) -> Self {
+        random_function(rng, profile)
+    }
+
+    fn examples() -> Vec<Self> {
+        function_cases()
+    }
+
+    /// The published Rust reads no text: there is the plain writer and reader alone.
+    fn check(&self) -> Result<FunctionAnswer, Disagreement> {
+        Ok(self.plain_answer())
+    }
+
+    fn count(&self, answer: &FunctionAnswer, tally: &mut Tally) {
+        count_function(tally, self, answer);
+    }
+
+    fn lines(&self) -> String {
+        function_lines(self)
+    }
+
+    fn answer_lines(answer: &FunctionAnswer) -> String {
+        function_answer_lines(answer)
+    }
+}
+
+impl Asked for Drawing {
+    fn random(rng: &mut Rng, profile: Profile) -> Self {
+        random_drawing(rng, profile)
+    }
+
+    fn examples() -> Vec<Self> {
+        drawing_cases()
+    }
+
+    fn check(&self) -> Result<DrawingAnswer, Disagreement> {
+        check_drawing(self)
+    }
+
+    fn count(&self, answer: &DrawingAnswer, tally: &mut Tally) {
+        count_drawing(tally, self, answer);
+    }
+
+    fn lines(&self) -> String {
+        drawing_lines(self)
+    }
+
+    fn answer_lines(answer: &DrawingAnswer) -> String {
+        drawing_answer_lines(answer)
+    }
+}
+
+impl Asked for Parts {
+    fn random(rng: &mut Rng, profile: Profile) -> Self {
+        random_parts(rng, profile)
+    }
+
+    fn examples() -> Vec<Self> {
+        parts_cases()
+    }
+
+    /// The published Rust writes no sheet: there is the plain writer alone.
+    fn check(&self) -> Result<PartsAnswer, Disagreement> {
+        Ok(self.plain_answer())
+    }
+
+    fn count(&self, answer: &PartsAnswer, tally: &mut Tally) {
+        count_parts(tally, self, answer);
+    }
+
+    fn lines(&self) -> String {
+        parts_lines(self)
+    }
+
+    fn answer_lines(answer: &PartsAnswer) -> String {
+        parts_answer_lines(answer)
     }
 }

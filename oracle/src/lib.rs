@@ -1,23 +1,32 @@
 //! The oracle: answers that the published Rust gives, with the refusals that it lacks judged by the wrapper. Each case
 //! is also answered by the plain router of `cases`; where the two could both speak and differ, that is a hard error.
 
+mod compare_drawing;
 mod compare_search;
 mod compare_tree;
+mod compare_tree_why;
 mod compare_why;
 mod published_side;
 
 use std::fmt::{Display, Formatter};
 
 pub use cases::Refusal;
-pub use cases::generate::{Profile, random_search, random_sheet, random_strict, random_why};
+pub use cases::drawing::{Drawing, DrawingAnswer};
+pub use cases::generate::{
+    Profile, random_drawing, random_search, random_sheet, random_strict, random_tree_why,
+    random_why,
+};
 pub use cases::rng::Rng;
 pub use cases::search::{Search, SearchAnswer};
 pub use cases::sheet::{Sheet, TreeAnswer};
 pub use cases::strict::StrictSheet;
+pub use cases::tree_why::{TreeWhy, TreeWhyAnswer};
 pub use cases::why::{Why, WhyAnswer};
 
+pub use compare_drawing::check_drawing;
 pub use compare_search::check_search;
 pub use compare_tree::{check_route, check_sheet, check_strict, tree_of};
+pub use compare_tree_why::check_tree_why;
 pub use compare_why::check_why;
 pub use published_side::{PublishedJob, cell_at, pos_of, router_config, world_of};
 
@@ -66,7 +75,18 @@ pub fn answer_strict(case: &StrictSheet) -> TreeAnswer {
     check_strict(case).unwrap_or_else(|difference| panic!("{difference}"))
 }
 
+/// The answer to a drawing. Panics with the case if the published Rust and the plain drawing differ.
+pub fn answer_drawing(case: &Drawing) -> DrawingAnswer {
+    check_drawing(case).unwrap_or_else(|difference| panic!("{difference}"))
+}
+
 /// The answer to a search with its reason. Panics with the case if the published Rust and the plain search or flood differ.
 pub fn answer_why(case: &Why) -> WhyAnswer {
     check_why(case).unwrap_or_else(|difference| panic!("{difference}"))
+}
+
+/// The answer to a sheet with its reason. Panics with the case if the published Rust and the plain router differ, or a first search and
+/// the verdict.
+pub fn answer_tree_why(case: &TreeWhy) -> TreeWhyAnswer {
+    check_tree_why(case).unwrap_or_else(|difference| panic!("{difference}"))
 }

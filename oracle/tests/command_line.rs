@@ -97,7 +97,16 @@ fn smallest_inputs_are_shown() {
 #[test]
 fn lists_are_made_answered_shown_and_checked() {
     let folder = folder("lists");
-    for kind in ["searches", "sheets", "strict-sheets", "whys"] {
+    for kind in [
+        "searches",
+        "sheets",
+        "strict-sheets",
+        "whys",
+        "tree-whys",
+        "functions",
+        "drawings",
+        "writes",
+    ] {
         let bare = folder.join(kind).display().to_string();
         let answered = format!("{bare}.answered");
         let draw = ["--seed", "4", "--count", "30", "--profile", "tiny"];
@@ -199,7 +208,7 @@ fn bad_input_gets_a_message() {
         (&["sheet", "--hex", "--hex", "-"], "--hex is given twice"),
         (
             &["answer", "rooms", "a", "b"],
-            "none of `searches`, `sheets`, `strict-sheets`, `whys`: rooms",
+            "none of `searches`, `sheets`, `strict-sheets`, `whys`, `tree-whys`, `functions`, `drawings`, `writes`: rooms",
         ),
         (&["answer", "searches", &noise], "OUT is missing"),
         (

@@ -6,7 +6,8 @@ use cases::smallest::{Input, points};
 use cases::text::{parse_hex, tree_answer_lines};
 use cases::{answers, examples, generate};
 use oracle::{
-    Profile, answer_search, answer_sheet, answer_strict, answer_why, check_route, check_search,
+    Profile, answer_drawing, answer_search, answer_sheet, answer_strict, answer_tree_why,
+    answer_why, check_route, check_search,
 };
 
 #[test]
@@ -77,6 +78,20 @@ fn examples_of_whys() {
 }
 
 #[test]
+fn examples_of_tree_whys() {
+    for (name, case, answer) in examples::tree_whys() {
+        assert_eq!(answer_tree_why(&case), answer, "{name}");
+    }
+}
+
+#[test]
+fn examples_of_drawings() {
+    for (name, case, answer) in examples::drawings() {
+        assert_eq!(answer_drawing(&case), answer, "{name}");
+    }
+}
+
+#[test]
 fn random_searches_agree() {
     for (profile, count) in [
         (Profile::Tiny, 4_000),
@@ -106,6 +121,28 @@ fn random_whys_agree() {
         (Profile::Large, 5),
     ] {
         answered(generate::whys(23, count, profile), answer_why);
+    }
+}
+
+#[test]
+fn random_tree_whys_agree() {
+    for (profile, count) in [
+        (Profile::Tiny, 2_000),
+        (Profile::Small, 400),
+        (Profile::Large, 3),
+    ] {
+        answered(generate::tree_whys(24, count, profile), answer_tree_why);
+    }
+}
+
+#[test]
+fn random_drawings_agree() {
+    for (profile, count) in [
+        (Profile::Tiny, 4_000),
+        (Profile::Small, 2_000),
+        (Profile::Large, 5),
+    ] {
+        answered(generate::drawings(24, count, profile), answer_drawing);
     }
 }
 
@@ -141,4 +178,16 @@ fn stored_strict_sheets_are_made_again() {
 fn stored_whys_are_made_again() {
     let made = answered(answers::whys(), answer_why);
     assert!(write_answered(&made) == answers::WHYS.bytes());
+}
+
+#[test]
+fn stored_tree_whys_are_made_again() {
+    let made = answered(answers::tree_whys(), answer_tree_why);
+    assert!(write_answered(&made) == answers::TREE_WHYS.bytes());
+}
+
+#[test]
+fn stored_drawings_are_made_again() {
+    let made = answered(answers::drawings(), answer_drawing);
+    assert!(write_answered(&made) == answers::DRAWINGS.bytes());
 }

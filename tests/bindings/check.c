@@ -354,6 +354,77 @@ static void check_plain(void) {
         }
 }
 
+/* ---- one route drawn */
+
+/* A path, lent with just its length. */
+static struct buffer lend_path(const uint32_t *cells, size_t length) {
+    struct buffer copy = lend(length, 4);
+    memcpy(copy.elements, cells, 4 * length);
+    return copy;
+}
+
+/* The number of a drawn path in a room 2x2x1 of Air, with so many values; what is left is as due. */
+static void expect_drawn(const uint32_t *cells, size_t length, uint32_t support, size_t value_count, uint32_t number, const uint8_t *due) {
+    static const uint8_t air[4] = {0, 0, 0, 0};
+    struct buffer kinds = lend_copy(air, 4), path = lend_path(cells, length), values = lend(value_count, 8);
+    EXPECT(dustroute_materialize_route(2, 2, 1, support, at(kinds), 4, at(path), length, at(values), value_count) == number);
+    EXPECT(number == DUSTROUTE_DONE ? cleared(values) : untouched(values));
+    const struct buffer others[2] = {path, values};
+    expect_kept(kinds, number == DUSTROUTE_DONE ? due : air, others, 2);
+    EXPECT(memcmp(path.elements, cells, 4 * length) == 0);
+    give_back(path);
+    give_back(values);
+}
+
+/* The same of the repeaters of a row of five at limit 2, over lists of these lengths. */
+static void expect_listed(const uint32_t *path_cells, size_t cell_count, size_t facing_count, size_t value_count, uint32_t number) {
+    static const uint8_t row[5] = {3, 3, 3, 3, 3}, due[5] = {3, 3, 5, 3, 3};
+    struct buffer kinds = lend_copy(row, 5), path = lend_path(path_cells, 5), values = lend(value_count, 8);
+    struct buffer cells = lend(cell_count, 4), facings = lend(facing_count, 1);
+    EXPECT(dustroute_insert_repeaters(5, 1, 1, 2, at(kinds), 5, at(path), 5, at(cells), cell_count, at(facings), facing_count, at(values),
+                                      value_count) == number);
+    if (number == DUSTROUTE_DONE) {
+        const uint32_t *listed = at(cells);
+        const uint8_t *faces = at(facings);
+        const uint64_t *told = at(values);
+        for (size_t i = 0; i < cell_count; i++)
+            EXPECT(listed[i] == (i == 0 ? 2 : 0));
+        for (size_t i = 0; i < facing_count; i++)
+            EXPECT(faces[i] == (i == 0 ? 2 : 0));
+        for (size_t i = 0; i < value_count; i++)
+            EXPECT(told[i] == (i == 1 ? 1 : 0));
+    } else
+        EXPECT(untouched(cells) && untouched(facings) && untouched(values));
+    const struct buffer others[4] = {path, values, cells, facings};
+    expect_kept(kinds, number == DUSTROUTE_DONE ? due : row, others, 4);
+    EXPECT(memcmp(path.elements, path_cells, 20) == 0);
+    give_back(path);
+    give_back(values);
+    give_back(cells);
+    give_back(facings);
+}
+
+static void check_drawing(void) {
+    static const uint32_t down[3] = {1, 2, 0}, outside[3] = {1, 2, 4}, row[5] = {0, 1, 2, 3, 4}, past[5] = {0, 1, 2, 3, 5};
+    static const uint8_t due[4] = {1, 3, 3, 0}, wire[4] = {0, 3, 3, 0};
+    expect_drawn(down, 3, 1, 1, DUSTROUTE_DONE, due);
+    expect_drawn(down, 3, 1, 4, DUSTROUTE_DONE, due);
+    expect_drawn(down, 2, 0, 1, DUSTROUTE_DONE, wire);
+    expect_drawn(down, 0, 1, 1, DUSTROUTE_DONE, (const uint8_t[4]){0, 0, 0, 0});
+    expect_drawn(down, 3, 13, 1, DUSTROUTE_CODE, due);
+    expect_drawn(down, 3, 256, 1, DUSTROUTE_CODE, due);
+    expect_drawn(outside, 3, 1, 1, DUSTROUTE_POSITION, due);
+    expect_drawn(outside, 3, 256, 0, DUSTROUTE_BUFFER, due);
+    expect_listed(row, 5, 5, 2, DUSTROUTE_DONE);
+    expect_listed(row, 9, 6, 5, DUSTROUTE_DONE);
+    expect_listed(past, 5, 5, 2, DUSTROUTE_POSITION);
+    expect_listed(past, 4, 5, 2, DUSTROUTE_BUFFER);
+    expect_listed(row, 5, 4, 2, DUSTROUTE_BUFFER);
+    expect_listed(row, 0, 0, 2, DUSTROUTE_BUFFER);
+    expect_listed(row, 5, 5, 1, DUSTROUTE_BUFFER);
+    expect_listed(row, 5, 5, 0, DUSTROUTE_BUFFER);
+}
+
 /* ---- one tree */
 
 enum {
@@ -603,16 +674,322 @@ static void check_modes(void) {
     in_mode = false;
 }
 
+/* ---- why a sink wasn't reached */
+
+enum { SINK_REACHED = TREE_BUFFERS, SINK_WALLS, SINK_CAUSES, SINK_BUFFERS };
+
+struct tree_why {
+    struct buffer lent[SINK_BUFFERS];
+    uint32_t number;
+};
+
+static struct tree_why tree_why_of(uint32_t mode, const uint8_t *sheet, size_t sheet_length, const size_t n[SINK_BUFFERS]) {
+    static const size_t sizes[SINK_BUFFERS] = {4, 1, 1, 1, 1, 1, 1, 4, 4, 4, 4, 8, 8, 1, 1, 1};
+    struct tree_why asked;
+    struct buffer copy = lend_copy(sheet, sheet_length);
+    for (int i = 0; i < SINK_BUFFERS; i++)
+        asked.lent[i] = lend(n[i], sizes[i]);
+    struct buffer *b = asked.lent;
+    asked.number = dustroute_tree_why(
+        mode, at(copy), sheet_length, at(b[BRANCHES]), n[BRANCHES], at(b[OCCUPIED]), n[OCCUPIED], at(b[REPEATERS]), n[REPEATERS],
+        at(b[SINK_REACHED]), n[SINK_REACHED], at(b[SINK_WALLS]), n[SINK_WALLS], at(b[SINK_CAUSES]), n[SINK_CAUSES],
+        at(b[KINDS]), n[KINDS], at(b[BLOCKED]), n[BLOCKED], at(b[TREE_CLASSES]), n[TREE_CLASSES], at(b[JOINABLE]), n[JOINABLE],
+        at(b[TREE_KNOWN]), n[TREE_KNOWN], at(b[TREE_PREVIOUS]), n[TREE_PREVIOUS], at(b[TREE_PATH]), n[TREE_PATH],
+        at(b[BEST]), n[BEST], at(b[TREE_QUEUE]), n[TREE_QUEUE], at(b[TREE_VALUES]), n[TREE_VALUES]);
+    expect_kept(copy, sheet, b, SINK_BUFFERS);
+    return asked;
+}
+
+static void free_tree_why(struct tree_why asked) {
+    for (int i = 0; i < SINK_BUFFERS; i++)
+        give_back(asked.lent[i]);
+}
+
+/* After 13 or 14: the detail, the sink's place and the verdict, and zeros in all that is no reason. */
+static void expect_stopped(struct tree_why asked, uint64_t detail, uint64_t sink, uint64_t verdict) {
+    const uint64_t *values = at(asked.lent[TREE_VALUES]);
+    EXPECT(values[0] == detail && values[20] == sink && values[21] == verdict);
+    for (size_t i = 1; i < asked.lent[TREE_VALUES].length; i++)
+        EXPECT(i == 20 || i == 21 || values[i] == 0);
+    for (int i = BRANCHES; i < TREE_VALUES; i++)
+        EXPECT(cleared(asked.lent[i]));
+}
+
+static void expect_no_reason(struct tree_why asked) {
+    for (int i = SINK_REACHED; i <= SINK_CAUSES; i++)
+        EXPECT(cleared(asked.lent[i]));
+}
+
+/* In strict mode the far end alone is reached: ahead of it what is beneath is kept free, and so is the cell one down. */
+static void expect_shut_in(uint32_t mode, const size_t n[SINK_BUFFERS]) {
+    enum { O = DUSTROUTE_OUTSIDE, F = DUSTROUTE_KEPT_FREE, S = DUSTROUTE_SUPPORT_KEPT_FREE };
+    static const uint8_t due[DUSTROUTE_MOVES] = {O, O, O, O, O, O, O, O, O, F, S, O};
+    struct tree_why asked = tree_why_of(mode, OVER, sizeof OVER, n);
+    const uint8_t *reached = at(asked.lent[SINK_REACHED]), *walls = at(asked.lent[SINK_WALLS]), *causes = at(asked.lent[SINK_CAUSES]);
+    EXPECT(asked.number == DUSTROUTE_NO_GOAL);
+    expect_stopped(asked, 5, 1, DUSTROUTE_SHUT_IN);
+    for (size_t i = 0; i < n[SINK_REACHED]; i++)
+        EXPECT(reached[i] == (i == 5));
+    EXPECT(all(walls, 5 * DUSTROUTE_MOVES, 0) && memcmp(walls + 5 * DUSTROUTE_MOVES, due, sizeof due) == 0);
+    EXPECT(all(walls + 6 * DUSTROUTE_MOVES, n[SINK_WALLS] - 6 * DUSTROUTE_MOVES, 0));
+    for (size_t i = 0; i < n[SINK_CAUSES]; i++)
+        EXPECT(causes[i] == (i == 1 ? DUSTROUTE_CAUSE_CONDUCTOR : 0));
+    free_tree_why(asked);
+}
+
+static void check_tree_why(void) {
+    const size_t exact[SINK_BUFFERS] = {6, 6, 6, 6, 6, 6, 6, 6, 6, 6, 6, 60, DUSTROUTE_TREE_WHY_VALUES, 6, DUSTROUTE_WALLS_LENGTH(6), 6};
+    const size_t longer[SINK_BUFFERS] = {9, 7, 11, 8, 6, 13, 9, 7, 8, 9, 10, 61, 27, 13, DUSTROUTE_WALLS_LENGTH(6) + 7, 9};
+    expect_shut_in(DUSTROUTE_STRICT, exact);
+    expect_shut_in(UINT32_MAX, longer);
+
+    /* a tree: no sink, no verdict, no reason */
+    struct tree_why done = tree_why_of(DUSTROUTE_PUBLISHED, OVER, sizeof OVER, longer);
+    const uint32_t *branches = at(done.lent[BRANCHES]);
+    const uint64_t *values = at(done.lent[TREE_VALUES]);
+    EXPECT(done.number == DUSTROUTE_DONE && branches[0] == 3 && branches[1] == 4 && branches[2] == 5 && branches[3] == 0);
+    EXPECT(values[1] == 1 && values[4] == 3 && values[20] == 0 && values[21] == 0);
+    expect_no_reason(done);
+    free_tree_why(done);
+
+    /* the node limit is 0, and then the queue has one place: cut short, and nothing is told */
+    uint8_t limited[sizeof OVER];
+    memcpy(limited, OVER, sizeof limited);
+    limited[10] = limited[11] = 0;
+    size_t narrow[SINK_BUFFERS];
+    memcpy(narrow, longer, sizeof narrow);
+    narrow[TREE_QUEUE] = 2;
+    struct tree_why limit = tree_why_of(DUSTROUTE_PUBLISHED, limited, sizeof limited, longer);
+    struct tree_why queue = tree_why_of(DUSTROUTE_PUBLISHED, OVER, sizeof OVER, narrow);
+    EXPECT(limit.number == DUSTROUTE_NO_GOAL && queue.number == DUSTROUTE_QUEUE_FULL);
+    expect_stopped(limit, 5, 1, DUSTROUTE_CUT_SHORT);
+    expect_stopped(queue, 2, 1, DUSTROUTE_CUT_SHORT);
+    expect_no_reason(limit);
+    expect_no_reason(queue);
+    free_tree_why(limit);
+    free_tree_why(queue);
+
+    /* number 6: each buffer but the branches one short, then each of length 0; nothing is touched */
+    for (int i = OCCUPIED; i < SINK_BUFFERS; i++)
+        for (int none = 0; none < 2; none++) {
+            size_t lengths[SINK_BUFFERS];
+            memcpy(lengths, longer, sizeof lengths);
+            lengths[i] = none ? 0 : i == TREE_QUEUE ? 1 : exact[i] - 1;
+            struct tree_why asked = tree_why_of(DUSTROUTE_STRICT, OVER, sizeof OVER, lengths);
+            EXPECT(asked.number == DUSTROUTE_BUFFER);
+            for (int j = 0; j < SINK_BUFFERS; j++)
+                EXPECT(untouched(asked.lent[j]));
+            free_tree_why(asked);
+        }
+}
+
+/* ---- a function file */
+
+static const char WIRES[] = "setblock ~ ~ ~ minecraft:redstone_wire replace\nsetblock ~2 ~ ~ minecraft:redstone_wire replace\n";
+enum { WIRES_LENGTH = sizeof WIRES - 1 };
+
+/* A row of three, these kinds and facings, over a text and values of these lengths: the number, and all bytes. */
+static void expect_written(const uint8_t *kinds, const uint8_t *facings, size_t cells, size_t length, size_t count, uint32_t number) {
+    struct buffer text = lend(length, 1), values = lend(count, 8);
+    uint32_t found = dustroute_write_function(3, 1, 1, kinds, cells, facings, cells, at(text), length, at(values), count);
+    const uint64_t *told = at(values);
+    EXPECT(found == number);
+    if (number == DUSTROUTE_DONE) {
+        EXPECT(memcmp(at(text), WIRES, WIRES_LENGTH) == 0 && all(text.elements + WIRES_LENGTH, length - WIRES_LENGTH, 0));
+        EXPECT(told[0] == 0 && told[1] == WIRES_LENGTH && all(values.elements + 16, 8 * count - 16, 0));
+    } else if (number == DUSTROUTE_TEXT_SHORT) {
+        EXPECT(all(text.elements, length, 0) && all(values.elements, 8 * count, 0));
+    } else {
+        EXPECT(all(text.elements, length, RUBBISH) && all(values.elements, 8 * count, RUBBISH));
+    }
+    EXPECT(all(text.elements - GUARD, GUARD, GUARD_BYTE) && all(values.elements - GUARD, GUARD, GUARD_BYTE));
+    give_back(text);
+    give_back(values);
+}
+
+/* A text of a row of three, over kinds, facings and values of these lengths. */
+static void expect_read(const char *text, size_t length, size_t cells, size_t count, uint32_t number, uint64_t bad) {
+    struct buffer kinds = lend(cells, 1), facings = lend(cells, 1), values = lend(count, 8);
+    uint32_t found = dustroute_read_function(
+        3, 1, 1, (const uint8_t *)text, length, at(kinds), cells, at(facings), cells, at(values), count);
+    const uint64_t *told = at(values);
+    const uint8_t row[3] = {3, 0, 3};
+    EXPECT(found == number);
+    if (number == DUSTROUTE_DONE) {
+        EXPECT(memcmp(at(kinds), row, 3) == 0 && all(kinds.elements + 3, cells - 3, 0) && all(facings.elements, cells, 0));
+        EXPECT(told[0] == 0 && told[1] == 2 && all(values.elements + 16, 8 * count - 16, 0));
+    } else if (number == DUSTROUTE_BAD_LINE) {
+        EXPECT(all(kinds.elements, cells, 0) && all(facings.elements, cells, 0));
+        EXPECT(told[0] == bad && told[1] == 0 && all(values.elements + 16, 8 * count - 16, 0));
+    } else {
+        EXPECT(all(kinds.elements, cells, RUBBISH) && all(facings.elements, cells, RUBBISH) && all(values.elements, 8 * count, RUBBISH));
+    }
+    give_back(kinds);
+    give_back(facings);
+    give_back(values);
+}
+
+static void check_functions(void) {
+    const uint8_t wires[3] = {3, 0, 3}, none[3] = {0, 0, 0}, faced[3] = {1, 0, 0}, unknown[3] = {13, 0, 0};
+    expect_written(wires, none, 3, WIRES_LENGTH, 2, DUSTROUTE_DONE);
+    expect_written(wires, none, 3, DUSTROUTE_TEXT_LENGTH(2), 5, DUSTROUTE_DONE);
+    expect_written(wires, none, 3, WIRES_LENGTH - 1, 3, DUSTROUTE_TEXT_SHORT);
+    expect_written(wires, none, 3, 0, 2, DUSTROUTE_TEXT_SHORT);
+    expect_written(wires, faced, 3, WIRES_LENGTH, 2, DUSTROUTE_CODE);
+    expect_written(unknown, none, 3, 0, 2, DUSTROUTE_CODE);
+    expect_written(wires, none, 2, 9, 2, DUSTROUTE_BUFFER);
+    expect_written(wires, none, 3, WIRES_LENGTH, 1, DUSTROUTE_BUFFER);
+    expect_written(wires, none, 3, WIRES_LENGTH, 0, DUSTROUTE_BUFFER);
+    expect_read(WIRES, WIRES_LENGTH, 3, 2, DUSTROUTE_DONE, 0);
+    expect_read(WIRES, WIRES_LENGTH, 70, 7, DUSTROUTE_DONE, 0);
+    expect_read(WIRES, WIRES_LENGTH + 1, 4, 2, DUSTROUTE_BAD_LINE, 3);
+    expect_read(WIRES, WIRES_LENGTH - 1, 3, 3, DUSTROUTE_BAD_LINE, 2);
+    expect_read("#", 1, 3, 2, DUSTROUTE_BAD_LINE, 1);
+    expect_read(WIRES, WIRES_LENGTH, 2, 2, DUSTROUTE_BUFFER, 0);
+    expect_read(WIRES, WIRES_LENGTH, 3, 1, DUSTROUTE_BUFFER, 0);
+    uint64_t values[2] = {7, 7};
+    EXPECT(dustroute_write_function(0, 1, 1, NULL, 0, NULL, 0, NULL, 0, values, 0) == DUSTROUTE_SIDES && values[0] == 7);
+    EXPECT(dustroute_read_function(1, 65, 1, NULL, 0, NULL, 0, NULL, 0, values, 2) == DUSTROUTE_SIDES && values[1] == 7);
+    /* from x to x + 1 a signal runs through a repeater that faces west in the game */
+    static const char west[] = "setblock ~ ~ ~ minecraft:repeater[facing=west] replace\n";
+    uint8_t repeater = 5, east = 2, text[DUSTROUTE_LINE_BYTES];
+    EXPECT(dustroute_write_function(1, 1, 1, &repeater, 1, &east, 1, text, sizeof text, values, 2) == DUSTROUTE_DONE);
+    EXPECT(values[1] == sizeof west - 1 && memcmp(text, west, sizeof west - 1) == 0);
+}
+
+/* ---- a sheet written */
+
+enum { BLOCKS, CONDUCTORS, CLEARANCES, TERMINALS, RESERVED, SOURCE, SINKS, PART_LISTS };
+
+/* A job's lists as 16-bit numbers, at the usual costs in a room of 5x2x3. */
+struct parts {
+    size_t wide, high, deep;
+    uint32_t limit;
+    uint16_t numbers[PART_LISTS][12];
+    size_t lengths[PART_LISTS];
+};
+
+static const struct parts PARTS = {
+    5, 2, 3, 30000,
+    {{0x0102, 3, 0, 0, 1, 0, 0xFFFF, 1, 1, 1, 5, 2}, {4, 1, 0}, {0, 1, 0}, {1, 1, 0}, {2, 1, 0, 2, 1, 0}, {0, 0, 1, 0, 0},
+     {4, 0, 1, 0, 0, 2, 0, 2, 1, 4}},
+    {12, 3, 3, 3, 6, 5, 10}};
+
+/* Their sheet. */
+static const uint8_t PARTS_SHEET[79] = {
+    1, 0, 0, 0, 74, 5, 2, 3, 0, 0, 0x75, 0x30, 0, 0, 0, 10, 0, 0, 0, 25, 0, 0, 0, 15,
+    0, 2, 1, 2, 3, 0, 0, 1, 0, 0xFF, 0xFF, 1, 1, 1, 5, 2, 0, 1, 4, 1, 0, 0, 1, 0, 1, 0, 0, 1, 1, 1, 0, 0, 2, 2, 1, 0, 2, 1, 0,
+    0, 0, 1, 0, 0, 2, 4, 0, 1, 0, 0, 2, 0, 2, 1, 4};
+
+/* These parts over an output and values of these lengths: the number, all bytes, and lists as they were. */
+static void expect_sheet(const struct parts *parts, size_t length, size_t count, uint32_t number) {
+    struct buffer sheet = lend(length, 1), values = lend(count, 8), lists[PART_LISTS];
+    for (int i = 0; i < PART_LISTS; i++) {
+        lists[i] = lend(parts->lengths[i], 2);
+        memcpy(lists[i].elements, parts->numbers[i], 2 * parts->lengths[i]);
+    }
+    const size_t *n = parts->lengths;
+    uint32_t found = dustroute_write_sheet(
+        parts->wide, parts->high, parts->deep, parts->limit, 10, 25, 15, at(lists[BLOCKS]), n[BLOCKS],
+        at(lists[CONDUCTORS]), n[CONDUCTORS], at(lists[CLEARANCES]), n[CLEARANCES], at(lists[TERMINALS]), n[TERMINALS],
+        at(lists[RESERVED]), n[RESERVED], at(lists[SOURCE]), n[SOURCE], at(lists[SINKS]), n[SINKS],
+        at(sheet), length, at(values), count);
+    const uint64_t *told = at(values);
+    EXPECT(found == number);
+    if (found == DUSTROUTE_DONE && number == found) {
+        EXPECT(memcmp(at(sheet), PARTS_SHEET, 79) == 0 && all(sheet.elements + 79, length - 79, 0));
+        EXPECT(told[0] == 0 && told[1] == 79 && all(values.elements + 16, 8 * count - 16, 0));
+    } else {
+        EXPECT(untouched(sheet) && untouched(values));
+    }
+    EXPECT(all(sheet.elements - GUARD, GUARD, GUARD_BYTE) && all(values.elements - GUARD, GUARD, GUARD_BYTE));
+    for (int i = 0; i < PART_LISTS; i++) {
+        EXPECT(memcmp(lists[i].elements, parts->numbers[i], 2 * parts->lengths[i]) == 0);
+        EXPECT(all(lists[i].elements - GUARD, GUARD, GUARD_BYTE));
+        give_back(lists[i]);
+    }
+    give_back(sheet);
+    give_back(values);
+}
+
+/* The parts with one number of a list changed. */
+static void expect_sheet_refused(int list, size_t place, uint16_t value, uint32_t number) {
+    struct parts parts = PARTS;
+    parts.numbers[list][place] = value;
+    expect_sheet(&parts, 79, DUSTROUTE_WRITE_VALUES, number);
+}
+
+static void check_write_sheet(void) {
+    expect_sheet(&PARTS, 79, DUSTROUTE_WRITE_VALUES, DUSTROUTE_DONE);
+    expect_sheet(&PARTS, DUSTROUTE_MAX_SHEET, 5, DUSTROUTE_DONE);
+    expect_sheet(&PARTS, 78, DUSTROUTE_WRITE_VALUES, DUSTROUTE_BUFFER);
+    expect_sheet(&PARTS, 0, DUSTROUTE_WRITE_VALUES, DUSTROUTE_BUFFER);
+    expect_sheet(&PARTS, 79, 1, DUSTROUTE_BUFFER);
+    expect_sheet(&PARTS, 79, 0, DUSTROUTE_BUFFER);
+    for (int i = 0; i < PART_LISTS; i++) {
+        struct parts parts = PARTS;
+        parts.lengths[i]--;
+        parts.wide = 0; /* 1 comes before 2, and 6 last */
+        expect_sheet(&parts, 0, 0, DUSTROUTE_SHEET);
+    }
+    for (int axis = 0; axis < 3; axis++) {
+        struct parts parts = PARTS;
+        size_t *sides[3] = {&parts.wide, &parts.high, &parts.deep};
+        const size_t bad[] = {0, 65, 256 + 5, (size_t)-1, (size_t)1 << 32 | 5};
+        for (size_t i = 0; i < sizeof bad / sizeof *bad; i++) {
+            *sides[axis] = bad[i];
+            expect_sheet(&parts, 79, DUSTROUTE_WRITE_VALUES, DUSTROUTE_SIDES);
+        }
+    }
+    struct parts parts = PARTS;
+    parts.wide = parts.high = parts.deep = (size_t)1 << 32; /* their product wraps to 0 */
+    expect_sheet(&parts, 79, DUSTROUTE_WRITE_VALUES, DUSTROUTE_SIDES);
+    parts = PARTS;
+    parts.limit = 200001;
+    expect_sheet(&parts, 79, DUSTROUTE_WRITE_VALUES, DUSTROUTE_CONFIG);
+    expect_sheet_refused(BLOCKS, 1, 300, DUSTROUTE_POSITION);
+    expect_sheet_refused(RESERVED, 5, 256, DUSTROUTE_POSITION);
+    expect_sheet_refused(SINKS, 5, 5, DUSTROUTE_POSITION);
+    expect_sheet_refused(BLOCKS, 10, 300, DUSTROUTE_CODE);
+    expect_sheet_refused(BLOCKS, 4, 0, DUSTROUTE_CODE);
+    expect_sheet_refused(SOURCE, 3, 256, DUSTROUTE_CODE);
+    expect_sheet_refused(SINKS, 9, 7, DUSTROUTE_CODE);
+}
+
+/* Sixteen sinks are written, seventeen are not; nor is more than 60,000 bytes, or a list of which no count can tell. */
+static void check_longest_sheet(void) {
+    static uint16_t numbers[3 * 65537];
+    static uint8_t sheet[DUSTROUTE_MAX_SHEET];
+    static const struct { size_t positions, sinks; uint32_t number; } cases[] = {
+        {0, 16, DUSTROUTE_DONE}, {0, 17, DUSTROUTE_SHEET}, {19985, 1, DUSTROUTE_DONE}, {19986, 1, DUSTROUTE_SHEET},
+        {65535, 0, DUSTROUTE_SHEET}, {65536, 0, DUSTROUTE_SHEET}, {65537, 0, DUSTROUTE_SHEET}};
+    for (size_t i = 0; i < sizeof cases / sizeof *cases; i++) {
+        uint64_t values[DUSTROUTE_WRITE_VALUES] = {7, 7};
+        size_t due = 40 + 3 * cases[i].positions + 5 * cases[i].sinks;
+        uint32_t found = dustroute_write_sheet(
+            1, 1, 1, 0, 0, 0, 0, NULL, 0, NULL, 0, NULL, 0, NULL, 0, numbers, 3 * cases[i].positions,
+            numbers, DUSTROUTE_END_NUMBERS, numbers, DUSTROUTE_END_NUMBERS * cases[i].sinks,
+            sheet, sizeof sheet, values, DUSTROUTE_WRITE_VALUES);
+        EXPECT(found == cases[i].number);
+        EXPECT(found == DUSTROUTE_DONE ? values[0] == 0 && values[1] == due : values[0] == 7 && values[1] == 7);
+    }
+}
+
 int main(void) {
     for (int null = 0; null < 2; null++) {
         empty_is_null = null;
         check_search();
         check_why();
         check_plain();
+        check_drawing();
         check_tree();
         check_arena();
         check_modes();
+        check_tree_why();
+        check_functions();
+        check_write_sheet();
     }
+    check_longest_sheet();
     check_damaged();
     check_damaged_in_arena();
     if (failures == 0)

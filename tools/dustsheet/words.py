@@ -88,3 +88,25 @@ def of_search(number: int, detail: int, sides: Pos, limit: int) -> str:
         12: "the node limit %d was passed" % limit,
         13: "the search ran out of memory: its queue was full after %d cells" % detail,
     }.get(number) or GENERAL.get(number, "refused with number %d" % number)
+
+
+# ---- a function file
+
+def of_function(number: int, detail: int) -> str:
+    """Why the library refuses a room that is to be written, or a text that is to be read."""
+    return {
+        5: "an unknown kind, or a facing that its kind can't have",
+        6: "there are not as many kinds or facings as the room has cells, or a lent buffer is too short",
+        18: "the text of the room is longer than the buffer",
+        19: "line %d is none that a function file of this room has there" % detail,
+    }.get(number) or GENERAL.get(number, "refused with number %d" % number)
+
+# ---- one route drawn
+
+def of_drawing(number: int) -> str:
+    """Why the library refuses to draw a path into a room."""
+    return {
+        4: "a cell of the path is outside the room",
+        5: "an unknown kind, of a cell or of the supports; kinds are 0 to %d" % (len(KINDS) - 1),
+        6: "there are not as many kinds as the room has cells, or a lent buffer is too short",
+    }.get(number) or GENERAL.get(number, "refused with number %d" % number)

@@ -20,6 +20,7 @@ from .repository import ROOT
 
 Say = Callable[[str], None]
 CRATE = "dustroute"
+SHARED = "lib%s.so" % CRATE
 ENDS_WITHIN = 5  # seconds that the processes of a build are given to end by themselves
 
 
@@ -29,15 +30,31 @@ class NotBuilt(Exception):
 
 def shared_library(say: Say) -> Path:
     """The shared library's file: that of the folder DUSTROUTE_ARCHIVE, or this repository's own."""
+    return _found_or_built(SHARED, "--shared", say)
+
+
+def wasm_module(say: Say) -> Path:
+    """The WebAssembly module's file, found or built as the shared library is."""
+    return _found_or_built("%s.wasm" % CRATE, "--wasm", say)
+
+
+def shared_library_if_built() -> Optional[Path]:
+    """The same file where it is built; None where it isn't, and nothing is built for it."""
+    named = os.environ.get("DUSTROUTE_ARCHIVE")
+    file = (Path(named).resolve() if named else ROOT / "target" / "native") / SHARED
+    return file if (file.is_file() if named else is_built(file)) else None
+
+
+def _found_or_built(name: str, option: str, say: Say) -> Path:
     named = os.environ.get("DUSTROUTE_ARCHIVE")
     if named:
-        file = Path(named).resolve() / ("lib%s.so" % CRATE)
+        file = Path(named).resolve() / name
         if not file.is_file():
-            raise NotBuilt("DUSTROUTE_ARCHIVE names %s, and there is no %s in it; tools/native-archive --shared makes it" % (named, file.name))
+            raise NotBuilt("DUSTROUTE_ARCHIVE names %s, and there is no %s in it; tools/native-archive %s makes it" % (named, file.name, option))
         return file
-    file = ROOT / "target" / "native" / ("lib%s.so" % CRATE)
+    file = ROOT / "target" / "native" / name
     if not is_built(file):
-        _build(file, say)
+        _build(file, option, say)
     return file
 
 
@@ -111,7 +128,7 @@ def stamp_text(file: Path, by: str, sources: str) -> str:
 
 # ---- building it
 
-def _build(file: Path, say: Say) -> None:
+def _build(file: Path, option: str, say: Say) -> None:
     by = toolchain()
     if by is None:
         raise NotBuilt("no rt on the PATH: the Rattle toolchain proves and builds the router, the first time")
@@ -122,7 +139,7 @@ def _build(file: Path, say: Say) -> None:
         stamp_of(file).unlink(missing_ok=True)
         sources = sum_of_sources(CRATE)
         say("proving and building the router; the first time takes minutes")
-        _prove_and_link(file, say)
+        _prove_and_link(file, option, say)
         stamp_of(file).write_text(stamp_text(file, by, sources), encoding="utf-8")
 
 
@@ -138,7 +155,7 @@ def _alone(lock: Path, say: Say) -> Iterator[None]:
         yield
 
 
-def _prove_and_link(file: Path, say: Say) -> None:
+def _prove_and_link(file: Path, option: str, say: Say) -> None:
     """The crates below first, several at a time; the script then proves the last one and links."""
     crates = crates_of(CRATE)
     proved: Set[str] = set()
@@ -152,7 +169,7 @@ def _prove_and_link(file: Path, say: Say) -> None:
             proved.add(found[1])
             say("%d of %d crates" % (len(proved), len(crates)))
 
-    for words in (["rt", "check", *crates[:-1]], [str(ROOT / "tools" / "native-archive"), "--shared", CRATE, str(file)]):
+    for words in (["rt", "check", *crates[:-1]], [str(ROOT / "tools" / "native-archive"), option, CRATE, str(file)]):
         if run(words, told):
             raise NotBuilt("the router is not proved, so it is not used: `rt check %s` in %s says why (%s)" % (CRATE, ROOT, last))
     say("%d of %d crates; built" % (len(crates), len(crates)))

@@ -5,11 +5,12 @@ length is said."""
 from __future__ import annotations
 
 import ctypes
-from typing import Dict, NamedTuple, Optional, Sequence, Tuple, Union
+from array import array
+from typing import Dict, Iterable, NamedTuple, Optional, Sequence, Tuple, Union
 
 from . import memory as memories
 from .answers import Config, PlainRoute, Refusal, Room, Route, Tree
-from .library import library
+from .library import library, library_if_built
 from .memory import Memory
 from dustsheet import job as jobs, text as texts, words
 from dustsheet.job import MAX_NODES, MAX_SINKS, Job
@@ -76,6 +77,41 @@ def plain(room: Room, kinds: Sequence[int], start: int, goal: int, config: Confi
     return PlainRoute(tuple(called.lent["path"][:length]), cost)
 
 
+# ---- a job's sheet
+
+def write_sheet(job: Job, memory: Optional[Memory] = None) -> bytes:
+    """The sheet of a job, by the proved writer: what the router reads of it is this job, its records in their order.
+
+        dustroute.write_sheet(dustsheet.job.from_bytes(sheet)) == sheet      # of every sheet that the router accepts
+
+    Raises Refusal with number 1 (over 16 sinks or 60,000 bytes) or 2 to 5, as the router would of its sheet. The numbers of a record
+    fit sixteen bits, the limit and the costs 32; others raise OverflowError."""
+    room, config = Room(*job.sides), Config(job.limit, *job.costs)
+    lists = {name: array("H", _flat(getattr(job, name))) for name in jobs.PLACE_LISTS}
+    blocks = array("H", _flat((block.node, *block.at, block.kind, block.facing) for block in job.blocks))
+    source, *sinks = (array("H", (*end.at, end.port, end.facing)) for end in (job.source, *job.sinks))
+    lengths = {"sheet": min(jobs.size(job), jobs.MAX_BYTES), "values": library().constants["DUSTROUTE_WRITE_VALUES"]}
+    called = call("write_sheet", room, config, memory, lengths, blocks=blocks, source=source, sinks=sum(sinks, array("H")), **lists)
+    if called.number:
+        raise Refusal(called.number, called.detail, words.of_job(called.number, called.detail, job))
+    return bytes(called.lent["sheet"][:called.lent["values"][1]])
+
+
+def _flat(records: Iterable[Sequence[int]]) -> Iterable[int]:
+    return (number for record in records for number in record)
+
+
+def sheet_made(job: Job) -> bytes:
+    """The sheet of a job, good or not: by the proved writer where the library is built, else by `dustsheet.job.to_bytes`, which gives the
+    same bytes. What the writer refuses the latter writes, and the router refuses it."""
+    if library_if_built() is None:
+        return jobs.to_bytes(job)
+    try:
+        return write_sheet(job)
+    except Refusal:
+        return jobs.to_bytes(job)
+
+
 # ---- the tree of a job
 
 class BadText(ValueError):
@@ -91,7 +127,7 @@ def sheet_of(sheet_or_text: Union[bytes, str, Job]) -> bytes:
 
     Bytes are told apart by the first one. A text that can't be read raises BadText; one that the router refuses is made."""
     if isinstance(sheet_or_text, Job):
-        return jobs.to_bytes(sheet_or_text)
+        return sheet_made(sheet_or_text)
     if isinstance(sheet_or_text, (bytes, bytearray, memoryview)):
         content = bytes(sheet_or_text)
         if jobs.is_sheet(content):
@@ -103,7 +139,7 @@ def sheet_of(sheet_or_text: Union[bytes, str, Job]) -> bytes:
     draft = texts.read(sheet_or_text, "text")
     if draft.problems:
         raise BadText(draft.problems)
-    return jobs.to_bytes(texts.job_of(draft))
+    return sheet_made(texts.job_of(draft))
 
 
 def route(sheet_or_text: Union[bytes, str, Job], memory: Optional[Memory] = None, *, strict: bool = False) -> Tree:
@@ -114,16 +150,21 @@ def route(sheet_or_text: Union[bytes, str, Job], memory: Optional[Memory] = None
 
     Raises Refusal with number 1 to 5, 7 to 9, or 14 (no way was found to a sink); BadText for a text that can't be read."""
     sheet = sheet_of(sheet_or_text)
-    room, config = _head(sheet)
-    lengths = {"branches": MAX_SINKS * (room.cells() + 1), "values": library().constants["DUSTROUTE_TREE_VALUES"]}
+    room, config = head_of(sheet)
+    lengths = {**tree_lengths(room), "values": library().constants["DUSTROUTE_TREE_VALUES"]}
     mode = library().constants["DUSTROUTE_STRICT" if strict else "DUSTROUTE_PUBLISHED"]
     called = call("tree_mode", room, config, memory, lengths, strict=mode, sheet=sheet)
     if called.number:
         raise Refusal(called.number, called.detail, words.of_sheet(called.number, called.detail, sheet))
-    return _tree(room, called.lent)
+    return tree_told(room, called)
 
 
-def _head(sheet: bytes) -> Tuple[Room, Config]:
+def tree_lengths(room: Room) -> Dict[str, int]:
+    """A branch buffer that is long enough for sixteen branches of every cell."""
+    return {"branches": MAX_SINKS * (room.cells() + 1)}
+
+
+def head_of(sheet: bytes) -> Tuple[Room, Config]:
     """Of a sheet that ends too early nothing is needed: it is refused."""
     try:
         sides, limit, costs = jobs.head(sheet)
@@ -132,8 +173,10 @@ def _head(sheet: bytes) -> Tuple[Room, Config]:
     return Room(*sides), Config(limit, *costs)
 
 
-def _tree(room: Room, lent: Dict[str, ctypes.Array]) -> Tree:
-    _, count, _, _, *lengths = lent["values"][:]
+def tree_told(room: Room, called: Called) -> Tree:
+    """The tree that a call has told."""
+    lent = called.lent
+    _, count, _, _, *lengths = lent["values"][:20]
     branches, place = [], 0
     for length in lengths[:count]:
         branches.append(tuple(lent["branches"][place:place + length]))

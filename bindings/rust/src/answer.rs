@@ -71,10 +71,10 @@ pub enum End {
     Sink(u32),
 }
 
-/// Why there is no route or no tree.
+/// Why there is no route, no sheet, no tree, no text or no room.
 #[derive(Clone, Copy, Debug, Eq, PartialEq)]
 pub enum Refusal {
-    /// 1: the sheet's length, version or counts, bytes left over, over 16 sinks.
+    /// 1: the sheet's length, version or counts, bytes left over, over 16 sinks; a job that is too long for a sheet.
     Sheet,
     /// 2: a side or the number of cells is out of range.
     Sides,
@@ -82,7 +82,7 @@ pub enum Refusal {
     Config,
     /// 4: a position, or an end of a search, is outside the room.
     Position,
-    /// 5: an unknown code, or Air in a block record.
+    /// 5: an unknown code, Air in a block record, or a facing that its kind can't have in a function file.
     Code,
     /// 6: a buffer is too short, or a search's kinds are not one for each cell.
     Buffer,
@@ -100,10 +100,14 @@ pub enum Refusal {
     LimitPassed(Nodes),
     /// 13: a push was due and the queue was full.
     QueueFull(Nodes),
-    /// 14: no way from a sink to the tree.
+    /// 14: no way was found from a sink to the tree. That doesn't say that there is none: [`crate::why_tree`] says more.
     NoGoal { approach: u32 },
     /// 15: the branches exceed the branch buffer.
     BranchesFull { sink: u32 },
+    /// 18: a function file's text is longer than its buffer.
+    TextShort,
+    /// 19: no function file of the room has this line there; lines count from 1.
+    BadLine { line: u32 },
 }
 
 impl Refusal {
@@ -126,6 +130,8 @@ impl Refusal {
             13 => Self::QueueFull(Nodes(detail)),
             14 => Self::NoGoal { approach: detail },
             15 => Self::BranchesFull { sink: detail },
+            18 => Self::TextShort,
+            19 => Self::BadLine { line: detail },
             _ => unreachable!("the router has no number {number}"),
         }
     }
@@ -152,17 +158,20 @@ impl Refusal {
             Self::QueueFull(_) => 13,
             Self::NoGoal { .. } => 14,
             Self::BranchesFull { .. } => 15,
+            Self::TextShort => 18,
+            Self::BadLine { .. } => 19,
         }
     }
 
     pub fn detail(self) -> u32 {
         match self {
-            Self::Sheet | Self::Sides | Self::Config | Self::Position | Self::Code | Self::Buffer => 0,
+            Self::Sheet | Self::Sides | Self::Config | Self::Position | Self::Code | Self::Buffer | Self::TextShort => 0,
             Self::PortFacing(end) | Self::EndOutside(end) => end.place(),
             Self::NoRoute(nodes) | Self::LimitPassed(nodes) | Self::QueueFull(nodes) => nodes.0,
             Self::Overlap { cell } | Self::NotRouteable { cell } => cell,
             Self::NoGoal { approach } => approach,
             Self::BranchesFull { sink } => sink,
+            Self::BadLine { line } => line,
         }
     }
 }
@@ -237,7 +246,7 @@ impl fmt::Display for End {
 impl fmt::Display for Refusal {
     fn fmt(&self, out: &mut fmt::Formatter) -> fmt::Result {
         match self {
-            Self::Sheet => write!(out, "the bytes are no job sheet"),
+            Self::Sheet => write!(out, "the bytes are no job sheet, or the job is too long for one"),
             Self::Sides => write!(out, "a side is not 1 to 64, or the room has over 16,384 cells"),
             Self::Config => write!(out, "a cost is over 100,000 or the node limit over 200,000"),
             Self::Position => write!(out, "something stands outside the room"),
@@ -255,6 +264,8 @@ impl fmt::Display for Refusal {
             Self::QueueFull(nodes) => write!(out, "the queue was full after {} cells", nodes.0),
             Self::NoGoal { approach } => write!(out, "no way was found to the sink that is approached from cell {approach}"),
             Self::BranchesFull { sink } => write!(out, "the branches up to sink {sink} have more cells than the branch buffer holds"),
+            Self::TextShort => write!(out, "the text of the room is longer than the buffer"),
+            Self::BadLine { line } => write!(out, "line {line} is none that a function file of this room has there"),
         }
     }
 }

@@ -1,6 +1,4 @@
-//! A room, its costs, and the job sheet: bytes that come from elsewhere, or a [`Job`] written down.
-
-use std::fmt;
+//! A room, its costs, a [`Job`], and the job sheet: bytes that come from elsewhere, or a job that was written.
 
 /// A room's sides. Each is 1 to 64, and the room has at most 16,384 cells; others are refused.
 #[derive(Clone, Copy, Debug, Eq, PartialEq)]
@@ -117,17 +115,20 @@ mod sealed {
     pub trait OneByte {}
     impl OneByte for u8 {}
     impl OneByte for super::Kind {}
+    impl OneByte for super::Facing {}
 }
 
-/// What a search may be given for each cell: a [`Kind`], or a byte, which may be no kind's and is refused then.
+/// What a search may be given for each cell: a [`Kind`], or a byte, which may be no kind's and is refused then. A function file
+/// takes a [`Facing`] as well.
 pub trait Code: sealed::OneByte + Copy {}
 impl Code for u8 {}
 impl Code for Kind {}
+impl Code for Facing {}
 
 /// The bytes of codes.
 pub(crate) fn bytes_of<C: Code>(codes: &[C]) -> &[u8] {
     const { assert!(size_of::<C>() == 1) };
-    // SAFETY: only u8 and Kind are codes; each is one byte, and every byte of them is initialized.
+    // SAFETY: only u8, Kind and Facing are codes; each is one byte, and every byte of them is initialized.
     unsafe { std::slice::from_raw_parts(codes.as_ptr().cast(), codes.len()) }
 }
 
@@ -195,59 +196,7 @@ impl Job {
             sinks,
         }
     }
-
-    /// The job as a sheet. A list that is too long for its count, or for a sheet, can't be written.
-    pub fn sheet(&self) -> Result<Sheet, JobTooLong> {
-        if self.sinks.len() > Sheet::MAX_SINKS {
-            return Err(JobTooLong);
-        }
-        let mut rest = vec![self.room.wide, self.room.high, self.room.deep];
-        for number in [self.config.limit, self.config.horizontal, self.config.stair, self.config.support] {
-            rest.extend(number.to_be_bytes());
-        }
-        put_count(&mut rest, self.blocks.len())?;
-        for block in &self.blocks {
-            rest.extend(block.node.to_be_bytes());
-            put_position(&mut rest, block.at);
-            rest.extend([block.kind as u8, block.facing as u8]);
-        }
-        for list in [&self.conductors, &self.clearances, &self.terminals, &self.reserved] {
-            put_count(&mut rest, list.len())?;
-            list.iter().for_each(|at| put_position(&mut rest, *at));
-        }
-        put_endpoint(&mut rest, self.source);
-        rest.push(self.sinks.len() as u8);
-        self.sinks.iter().for_each(|sink| put_endpoint(&mut rest, *sink));
-        Sheet::with_head(rest)
-    }
 }
-
-fn put_count(out: &mut Vec<u8>, count: usize) -> Result<(), JobTooLong> {
-    let count = u16::try_from(count).map_err(|_| JobTooLong)?;
-    out.extend(count.to_be_bytes());
-    Ok(())
-}
-
-fn put_position(out: &mut Vec<u8>, at: Position) {
-    out.extend([at.x, at.y, at.z]);
-}
-
-fn put_endpoint(out: &mut Vec<u8>, end: Endpoint) {
-    put_position(out, end.at);
-    out.extend([end.port as u8, end.facing as u8]);
-}
-
-/// A job whose sheet would have over 60,000 bytes, over 65,535 records in a list, or over sixteen sinks.
-#[derive(Clone, Copy, Debug, Eq, PartialEq)]
-pub struct JobTooLong;
-
-impl fmt::Display for JobTooLong {
-    fn fmt(&self, out: &mut fmt::Formatter) -> fmt::Result {
-        out.write_str("the job is too long for a sheet")
-    }
-}
-
-impl std::error::Error for JobTooLong {}
 
 /// A job sheet's bytes. Nothing is promised of them: the router reads them, and refuses what is none.
 #[derive(Clone, Debug, Eq, PartialEq)]
@@ -258,7 +207,6 @@ pub struct Sheet {
 impl Sheet {
     pub const MAX_BYTES: usize = 60_000;
     pub const MAX_SINKS: usize = 16;
-    const VERSION: u8 = 1;
     /// Where the sides begin: behind the version and the length of the rest.
     const SIDES: usize = 5;
     const CONFIG: usize = 8;
@@ -269,16 +217,6 @@ impl Sheet {
 
     pub fn bytes(&self) -> &[u8] {
         &self.bytes
-    }
-
-    fn with_head(rest: Vec<u8>) -> Result<Self, JobTooLong> {
-        if rest.len() + Self::SIDES > Self::MAX_BYTES {
-            return Err(JobTooLong);
-        }
-        let mut bytes = vec![Self::VERSION];
-        bytes.extend((rest.len() as u32).to_be_bytes());
-        bytes.extend(rest);
-        Ok(Self { bytes })
     }
 
     /// The room that the sheet names, if its bytes go that far.

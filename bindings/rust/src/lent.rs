@@ -1,17 +1,22 @@
-//! The memory that the router is lent. [`crate::search`], [`crate::why`], [`crate::plain`] and [`crate::route_tree`] make their own; here
-//! a caller keeps it from one call to the next, or lends another length. Any length and any content is lawful: what is too short is refused.
+//! The memory that the router is lent. [`crate::search`], [`crate::why`], [`crate::plain`], [`crate::write_sheet`], [`crate::route_tree`]
+//! and the functions over a function file make their own; here a caller keeps it from one call to the next, or lends another length. Any length and any content is lawful: what is too short is refused.
 
 use crate::answer::{Cost, Nodes, PlainRefusal, PlainRoute, Refusal, Route, Tree};
-use crate::ffi::{dustroute_plain, dustroute_search, dustroute_tree, dustroute_tree_mode, dustroute_why};
+use crate::ffi::{dustroute_plain, dustroute_search, dustroute_tree, dustroute_tree_mode, dustroute_tree_why, dustroute_why};
 use crate::job::{Code, Config, Costs, Room, Sheet, bytes_of};
 use crate::mode::Mode;
-use crate::why::{MOVES, WalledIn, Why};
+use crate::tree_why::{ShutIn, TreeWhy, Unreached, Verdict};
+use crate::why::{MOVES, Walled, WalledIn, Why};
 
-/// How many values a search, a plain route and a tree come to, and a search with its totals.
+pub use crate::function::{FUNCTION_VALUES, LINE_BYTES, ReadMemory, WriteMemory};
+pub use crate::sheet::{SheetMemory, WRITE_VALUES};
+
+/// How many values a search, a plain route and a tree come to, a search with its totals, and a tree with its reason.
 pub const SEARCH_VALUES: usize = 4;
 pub const SEARCH_TOTALS: usize = 7;
 pub const PLAIN_VALUES: usize = 3;
 pub const TREE_VALUES: usize = 20;
+pub const TREE_WHY_VALUES: usize = 22;
 
 /// A place of the queue takes two numbers.
 const NUMBERS_A_PLACE: usize = 2;
@@ -160,7 +165,7 @@ impl WhyMemory {
         let number = self.call(room, config, bytes_of(kinds), start, goal);
         match self.search.answer(number) {
             Ok(route) => Why::Route(route),
-            Err(Refusal::NoRoute(expanded)) => Why::WalledIn(WalledIn::new(room, expanded, &self.reached, &self.walls)),
+            Err(Refusal::NoRoute(expanded)) => Why::WalledIn(WalledIn::new(expanded, Walled::new(room, &self.reached, &self.walls))),
             Err(refusal) => Why::Refused(refusal),
         }
     }
@@ -269,9 +274,10 @@ impl PlainMemory {
     }
 }
 
-/// Calls a function of a tree over the sheet and each buffer of its memory, a pointer and a length each; a mode stands before them.
+/// Calls a function of a tree over the sheet and each buffer of its memory, a pointer and a length each; a mode stands before them, and
+/// further outputs behind the tree's.
 macro_rules! over_slices {
-    ($function:ident, $memory:expr, $sheet:expr $(, $mode:expr)?) => {
+    ($function:ident, $memory:expr, $sheet:expr $(, $mode:expr $(; $($output:expr),+)?)?) => {
         $function(
             $($mode,)?
             $sheet.as_ptr(),
@@ -282,6 +288,7 @@ macro_rules! over_slices {
             $memory.occupied.len(),
             $memory.repeaters.as_mut_ptr(),
             $memory.repeaters.len(),
+            $($($($output.as_mut_ptr(), $output.len(),)+)?)?
             $memory.kinds.as_mut_ptr(),
             $memory.kinds.len(),
             $memory.blocked.as_mut_ptr(),
@@ -400,6 +407,71 @@ impl TreeMemory {
                 branch.to_vec()
             })
             .collect()
+    }
+}
+
+/// What a tree is lent that tells why a sink wasn't reached: `reached`, `walls` and `causes` are output, too.
+#[derive(Clone, Debug, Eq, PartialEq)]
+pub struct TreeWhyMemory {
+    pub tree: TreeMemory,
+    pub reached: Vec<u8>,
+    pub walls: Vec<u8>,
+    pub causes: Vec<u8>,
+}
+
+impl TreeWhyMemory {
+    /// The memory of a tree, with as many values as its reason comes to, and outputs for a room of so many cells.
+    pub fn new(tree: TreeMemory, cells: usize) -> Self {
+        Self {
+            tree: TreeMemory {
+                values: vec![0; TREE_WHY_VALUES],
+                ..tree
+            },
+            reached: vec![0; cells],
+            walls: vec![0; MOVES.len() * cells],
+            causes: vec![0; cells],
+        }
+    }
+
+    /// Memory that suffices. A sheet that is refused before its buffers are judged needs none.
+    pub fn for_sheet(sheet: &Sheet) -> Self {
+        let cells = sheet.room().and_then(Room::cells).unwrap_or(0);
+        Self::new(TreeMemory::for_sheet(sheet), cells)
+    }
+
+    /// The tree of a sheet in a mode, or why a sink wasn't reached. A refusal by 1 to 6 leaves the memory as it was, `values` included.
+    pub fn why_tree(&mut self, mode: Mode, sheet: &Sheet) -> TreeWhy {
+        let number = self.call(mode.number(), sheet.bytes());
+        match self.tree.answer(number) {
+            Ok(tree) => TreeWhy::Tree(tree),
+            Err(refusal @ (Refusal::QueueFull(_) | Refusal::NoGoal { .. })) => {
+                let room = sheet.room().expect("a room that is not refused");
+                TreeWhy::Unreached(self.unreached(refusal, room))
+            }
+            Err(refusal) => TreeWhy::Refused(refusal),
+        }
+    }
+
+    fn unreached(&self, refusal: Refusal, room: Room) -> Unreached {
+        let [.., sink, verdict] = self.tree.values[..TREE_WHY_VALUES] else {
+            unreachable!("fewer values are refused")
+        };
+        let shut_in = || {
+            let cells = Walled::new(room, &self.reached, &self.walls);
+            ShutIn::new(cells, &self.causes[..room.cells().unwrap_or(0)])
+        };
+        Unreached {
+            sink: sink as u32,
+            refusal,
+            verdict: Verdict::of(verdict, shut_in),
+        }
+    }
+
+    /// The bare call, in the mode that a number stands for, over any bytes: the number comes back, 0 for a tree, and the memory is as the
+    /// router leaves it.
+    pub fn call(&mut self, strict: u32, sheet: &[u8]) -> u32 {
+        // SAFETY: as for `TreeMemory::call_mode`.
+        unsafe { over_slices!(dustroute_tree_why, self.tree, sheet, strict; self.reached, self.walls, self.causes) }
     }
 }
 

@@ -1,6 +1,8 @@
 //! DustRoute's router for one net, proved in Rattle, behind safe functions: [`search`] looks for one route in a room of kinds, [`why`]
 //! tells the reason as well where there is none, [`plain`] looks for a cheapest route by other means, to check against,
-//! [`route_tree`] makes the tree that a job sheet asks for, and [`route_tree_in`] in strict mode as well.
+//! [`write_sheet`], or [`Job::sheet`], writes a job sheet, [`route_tree`] makes the tree that a job sheet asks for, [`route_tree_in`] in strict mode as well, and [`why_tree`] tells why a sink
+//! wasn't reached. [`materialize_route`] and [`insert_repeaters`] draw one route into a room of kinds. [`write_function`] writes a room
+//! as the text of commands that lays it in the game, and [`read_function`] reads one.
 //!
 //! Every input gets an answer: a bad room, cost, position or sheet comes back as a [`Refusal`]. The functions lend the router
 //! as much memory as its answer can need, so that [`Refusal::QueueFull`] and [`Refusal::BranchesFull`] never come from them, and
@@ -8,18 +10,26 @@
 //! calls through [`lent`].
 
 mod answer;
+pub mod draw;
 mod ffi;
+mod function;
 mod job;
 pub mod lent;
 mod mode;
+mod sheet;
+mod tree_why;
 mod why;
 
 pub use answer::{Cost, End, Nodes, PlainRefusal, PlainRoute, Reached, Refusal, Route, Tree};
-pub use job::{Block, Code, Config, Costs, Endpoint, Facing, Job, JobTooLong, Kind, Port, Position, Room, Sheet};
+pub use draw::{Repeater, insert_repeaters, materialize_route};
+pub use function::LaidRoom;
+pub use job::{Block, Code, Config, Costs, Endpoint, Facing, Job, Kind, Port, Position, Room, Sheet};
 pub use mode::Mode;
+pub use sheet::Parts;
+pub use tree_why::{Cause, ShutIn, TreeWhy, Unreached, Verdict};
 pub use why::{MOVES, Reason, Wall, WalledIn, Why};
 
-use lent::{PlainMemory, SearchMemory, TreeMemory, WhyMemory};
+use lent::{LINE_BYTES, PlainMemory, ReadMemory, SearchMemory, SheetMemory, TreeMemory, TreeWhyMemory, WhyMemory, WriteMemory};
 
 /// One search from cell `start` to cell `goal` in a room whose cells hold `kinds`, one for each cell in number order: a slice of
 /// [`Kind`] or of bytes.
@@ -38,6 +48,12 @@ pub fn plain<C: Code>(room: Room, costs: Costs, kinds: &[C], start: usize, goal:
     PlainMemory::new(room.cells().unwrap_or(0)).plain(room, costs, kinds, start, goal)
 }
 
+/// The job sheet of a job's parts. Over sixteen sinks or 60,000 bytes, a list that is no whole number of records and a source of another
+/// length are [`Refusal::Sheet`]; what the router would refuse with 2 to 5 is refused so here.
+pub fn write_sheet(parts: &Parts) -> Result<Sheet, Refusal> {
+    SheetMemory::for_parts(parts).write(parts)
+}
+
 /// The tree of the one net that a sheet describes.
 pub fn route_tree(sheet: &Sheet) -> Result<Tree, Refusal> {
     TreeMemory::for_sheet(sheet).route_tree(sheet)
@@ -46,4 +62,20 @@ pub fn route_tree(sheet: &Sheet) -> Result<Tree, Refusal> {
 /// The same in a mode: [`Mode::Published`] is what [`route_tree`] has.
 pub fn route_tree_in(mode: Mode, sheet: &Sheet) -> Result<Tree, Refusal> {
     TreeMemory::for_sheet(sheet).route_tree_in(mode, sheet)
+}
+
+/// The same, and where a sink wasn't reached why: which one, and what may be said of it.
+pub fn why_tree(mode: Mode, sheet: &Sheet) -> TreeWhy {
+    TreeWhyMemory::for_sheet(sheet).why_tree(mode, sheet)
+}
+
+/// The text of `setblock` commands that lays a room in the game, one line for each cell that isn't Air. Kinds and facings are one for
+/// each cell in number order: slices of [`Kind`] and [`Facing`], or of bytes.
+pub fn write_function<K: Code, F: Code>(room: Room, kinds: &[K], facings: &[F]) -> Result<Vec<u8>, Refusal> {
+    WriteMemory::new(LINE_BYTES * kinds.len()).write(room, kinds, facings)
+}
+
+/// The room of these sides that a text lays: only what [`write_function`] could have written is read.
+pub fn read_function(room: Room, text: &[u8]) -> Result<LaidRoom, Refusal> {
+    ReadMemory::new(room.cells().unwrap_or(0)).read(room, text)
 }

@@ -37,7 +37,7 @@ lengths-behind a b c d n each e f =
 
 -- ---- the promise by its cases
 
-short-small : (v : Judgement) (number : ℕ) → number ≡ either (isGood v) bufferNumber (numberOf v) → touches number ≡ false
+pub short-small : (v : Judgement) (number : ℕ) → number ≡ either (isGood v) bufferNumber (numberOf v) → touches number ≡ false
 short-small v number e = ask (isGood v) (λ t. rw (e, t)) (λ f. rw (e, f) (unread-touches-none v f))
 
 module _ {mode : Mode} {sheet : List ℕ} {B : Lent} {values : List ℕ} where
@@ -66,7 +66,7 @@ module _ {mode : Mode} {sheet : List ℕ} {B : Lent} {values : List ℕ} where
 
 -- ---- two results that keep the promise coincide: the number, the values, and every byte of lent memory
 
-short-one : {sheet : List ℕ} {m n : ℕ} → ShortNumber sheet m → ShortNumber sheet n → m ≡ n
+pub short-one : {sheet : List ℕ} {m n : ℕ} → ShortNumber sheet m → ShortNumber sheet n → m ≡ n
 short-one {sheet = sheet} p q = p .number-is ∙ rw (one-reading sheet (p .reading) (q .reading) (p .read) (q .read)) (sym (q .number-is))
 
 tree-comes-one : {mode : Mode} {sheet : List ℕ} {L : Lengths} {values : ℕ} {o q : TreeOutcome} → TreeComes mode sheet L values o → TreeComes mode sheet L values q → o ≡ q

@@ -2,15 +2,22 @@
 
 use std::path::PathBuf;
 
-use crate::examples::{search_cases, sheet_cases, strict_cases, why_cases};
+use crate::drawing::Drawing;
+use crate::examples::{
+    drawing_cases, function_cases, parts_cases, search_cases, sheet_cases, strict_cases,
+    tree_why_cases, why_cases,
+};
+use crate::function::Function;
 use crate::generate::{self, Profile};
+use crate::parts::Parts;
 use crate::search::Search;
 use crate::sheet::Sheet;
 use crate::strict::StrictSheet;
+use crate::tree_why::TreeWhy;
 use crate::why::Why;
 
-/// A file of the samples and examples, followed by random cases of the mixed profile. It lies in the repository beside the proved
-/// program, or the tests, that replay it.
+/// A file of the samples and examples, followed by random cases of the mixed profile, function files, drawings and parts of jobs of the
+/// tiny one. It lies in the repository beside the proved program, or the tests, that replay it.
 pub struct Stored {
     pub file: &'static str,
     pub seed: u64,
@@ -37,6 +44,30 @@ pub const STRICT_SHEETS: Stored = Stored {
 
 pub const WHYS: Stored = Stored {
     file: "tests/bindings/whys.bin",
+    seed: 1,
+    count: 400,
+};
+
+pub const TREE_WHYS: Stored = Stored {
+    file: "tests/bindings/treewhys.bin",
+    seed: 1,
+    count: 500,
+};
+
+pub const FUNCTIONS: Stored = Stored {
+    file: "tests/bindings/functions.bin",
+    seed: 1,
+    count: 250,
+};
+
+pub const DRAWINGS: Stored = Stored {
+    file: "tests/bindings/drawings.bin",
+    seed: 1,
+    count: 400,
+};
+
+pub const WRITES: Stored = Stored {
+    file: "tests/bindings/writes.bin",
     seed: 1,
     count: 400,
 };
@@ -72,4 +103,28 @@ pub fn strict_sheets() -> Vec<StrictSheet> {
 pub fn whys() -> Vec<Why> {
     let random = generate::whys(WHYS.seed, WHYS.count, Profile::Mixed);
     why_cases().into_iter().chain(random).collect()
+}
+
+/// The cases of `treewhys.bin`, made anew.
+pub fn tree_whys() -> Vec<TreeWhy> {
+    let random = generate::tree_whys(TREE_WHYS.seed, TREE_WHYS.count, Profile::Mixed);
+    tree_why_cases().into_iter().chain(random).collect()
+}
+
+/// The cases of `functions.bin`, made anew.
+pub fn functions() -> Vec<Function> {
+    let random = generate::functions(FUNCTIONS.seed, FUNCTIONS.count, Profile::Tiny);
+    function_cases().into_iter().chain(random).collect()
+}
+
+/// The cases of `drawings.bin`, made anew.
+pub fn drawings() -> Vec<Drawing> {
+    let random = generate::drawings(DRAWINGS.seed, DRAWINGS.count, Profile::Tiny);
+    drawing_cases().into_iter().chain(random).collect()
+}
+
+/// The cases of `writes.bin`, made anew.
+pub fn writes() -> Vec<Parts> {
+    let random = generate::writes(WRITES.seed, WRITES.count, Profile::Tiny);
+    parts_cases().into_iter().chain(random).collect()
 }

@@ -1,13 +1,22 @@
 //! Small cases beside the samples, each for one rule: open points as docs/DECISIONS.md settles them, every refusal, and the
 //! order in which refusals are judged. Searches stand here, sheets in `trees`, sheets for both modes in `modes`, the reasons of
-//! searches in `reasons`. Whoever answers cases can run them.
+//! searches in `reasons`, those of sheets in `sinks`, function files in `functions`, routes drawn in `drawings`, parts of jobs in `parts`.
+//! Whoever answers cases can run them.
 
+mod drawings;
+mod functions;
 mod modes;
+mod parts;
 mod reasons;
+mod sinks;
 mod trees;
 
+pub use drawings::{drawing_cases, drawings};
+pub use functions::{function_cases, functions};
 pub use modes::{modes, strict_cases};
+pub use parts::{parts, parts_cases};
 pub use reasons::{why_cases, whys};
+pub use sinks::{tree_why_cases, tree_whys};
 pub use trees::sheets;
 
 use crate::room::{Config, kind};

@@ -1,11 +1,17 @@
-//! Files of cases, big-endian throughout. `DRS1`, `DRT1`, `DRM1` and `DRW1` hold searches, sheets, sheets in strict mode and searches
-//! with their reason, each with its answer; `DRS0`, `DRT0`, `DRM0` and `DRW0` the same records without answers.
+//! Files of cases, big-endian throughout. `DRS1`, `DRT1`, `DRM1`, `DRW1`, `DRY1`, `DRF1`, `DRD1` and `DRP1` hold searches, sheets, sheets
+//! in strict mode, searches with their reason, sheets with theirs, function files, drawings and parts of jobs, each with its answer;
+//! with 0 in place of 1 the same records without answers.
 
 use crate::Refusal;
+use crate::drawing::{Drawing, DrawingAnswer, Repeater};
+use crate::function::{Function, FunctionAnswer, Laid, Reading, Writing};
+use crate::parts::{Parts, PartsAnswer};
 use crate::room::Config;
 use crate::search::{Search, SearchAnswer};
 use crate::sheet::{Sheet, TreeAnswer};
 use crate::strict::StrictSheet;
+use crate::tree::Mode;
+use crate::tree_why::{SinkReason, TreeWhy, TreeWhyAnswer, verdict};
 use crate::why::{Told, Why, WhyAnswer};
 
 /// A kind of case that can be kept in a file.
@@ -120,6 +126,17 @@ impl<'a> Input<'a> {
             .collect())
     }
 
+    /// So many cells, each with its twelve moves.
+    fn told(&mut self, count: u32) -> Result<Vec<Told>, String> {
+        let told = |_| {
+            Ok(Told {
+                cell: u16::from_be_bytes(self.take()?),
+                moves: self.take()?,
+            })
+        };
+        (0..count).map(told).collect()
+    }
+
     fn refusal(&mut self) -> Result<Refusal, String> {
         Ok(Refusal::new(self.byte()?, self.number()?))
     }
@@ -144,6 +161,15 @@ fn put_bytes(out: &mut Vec<u8>, bytes: &[u8]) {
 fn put_cells(out: &mut Vec<u8>, cells: &[u16]) {
     put(out, cells.len());
     out.extend(cells.iter().flat_map(|cell| cell.to_be_bytes()));
+}
+
+/// A count, and so many cells with their twelve moves.
+fn put_told(out: &mut Vec<u8>, reached: &[Told]) {
+    put(out, reached.len());
+    for told in reached {
+        out.extend(told.cell.to_be_bytes());
+        out.extend(told.moves);
+    }
 }
 
 /// Number and detail: those of a refusal, or both 0.
@@ -336,11 +362,7 @@ impl Case for Why {
 
     fn write_answer(answer: &WhyAnswer, out: &mut Vec<u8>) {
         Search::write_answer(&answer.search, out);
-        put(out, answer.reached.len());
-        for told in &answer.reached {
-            out.extend(told.cell.to_be_bytes());
-            out.extend(told.moves);
-        }
+        put_told(out, &answer.reached);
     }
 
     fn read_answer(input: &mut Input) -> Result<WhyAnswer, String> {
@@ -349,15 +371,288 @@ impl Case for Why {
         if count > 0 && search.number() != 11 {
             return Err(format!("{count} cells reached, but it is not number 11"));
         }
-        let told = |_| {
-            Ok(Told {
-                cell: u16::from_be_bytes(input.take()?),
-                moves: input.take()?,
-            })
-        };
         Ok(WhyAnswer {
             search,
-            reached: (0..count).map(told).collect::<Result<_, String>>()?,
+            reached: input.told(count)?,
+        })
+    }
+}
+
+impl Case for TreeWhy {
+    type Answer = TreeWhyAnswer;
+    const BARE: [u8; 4] = *b"DRY0";
+    const ANSWERED: [u8; 4] = *b"DRY1";
+
+    fn write(&self, out: &mut Vec<u8>) {
+        out.push(u8::from(self.mode == Mode::Strict));
+        self.sheet.write(out);
+        put32(out, self.reached);
+        put32(out, self.walls);
+        put32(out, self.causes);
+    }
+
+    fn read(input: &mut Input) -> Result<Self, String> {
+        Ok(Self {
+            mode: match input.byte()? {
+                0 => Mode::Published,
+                1 => Mode::Strict,
+                other => return Err(format!("no mode: {other}")),
+            },
+            sheet: Sheet::read(input)?,
+            reached: input.number()?,
+            walls: input.number()?,
+            causes: input.number()?,
+        })
+    }
+
+    fn write_answer(answer: &TreeWhyAnswer, out: &mut Vec<u8>) {
+        Sheet::write_answer(&answer.tree, out);
+        let Some(reason) = &answer.reason else { return };
+        out.extend([reason.place, reason.verdict]);
+        put_told(out, &reason.reached);
+        put(out, reason.causes.len());
+        for (cell, bits) in &reason.causes {
+            out.extend(cell.to_be_bytes());
+            out.push(*bits);
+        }
+    }
+
+    fn read_answer(input: &mut Input) -> Result<TreeWhyAnswer, String> {
+        let tree = Sheet::read_answer(input)?;
+        if !matches!(tree.number(), 13 | 14) {
+            return Ok(TreeWhyAnswer { tree, reason: None });
+        }
+        let [place, verdict] = input.take()?;
+        let count = input.number()?;
+        let reached = input.told(count)?;
+        let count = input.number()?;
+        let cause = |_| Ok((u16::from_be_bytes(input.take()?), input.byte()?));
+        let causes = (0..count).map(cause).collect::<Result<Vec<_>, String>>()?;
+        if verdict != verdict::SHUT_IN && !(reached.is_empty() && causes.is_empty()) {
+            return Err("cells are told, but the sink is not shut in".into());
+        }
+        let reason = Some(SinkReason {
+            place,
+            verdict,
+            reached,
+            causes,
+        });
+        Ok(TreeWhyAnswer { tree, reason })
+    }
+}
+
+impl Case for Parts {
+    type Answer = PartsAnswer;
+    const BARE: [u8; 4] = *b"DRP0";
+    const ANSWERED: [u8; 4] = *b"DRP1";
+
+    fn write(&self, out: &mut Vec<u8>) {
+        let config = &self.config;
+        let costs = [config.horizontal, config.stair, config.support];
+        for number in [&self.sides[..], &[config.node_limit], &costs].concat() {
+            put32(out, number);
+        }
+        put_cells(out, &self.blocks);
+        for list in &self.lists {
+            put_cells(out, list);
+        }
+        put_cells(out, &self.source);
+        put_cells(out, &self.sinks);
+        put32(out, self.lent);
+    }
+
+    fn read(input: &mut Input) -> Result<Self, String> {
+        Ok(Self {
+            sides: [input.number()?, input.number()?, input.number()?],
+            config: Config {
+                node_limit: input.number()?,
+                horizontal: input.number()?,
+                stair: input.number()?,
+                support: input.number()?,
+            },
+            blocks: input.cells()?,
+            lists: [
+                input.cells()?,
+                input.cells()?,
+                input.cells()?,
+                input.cells()?,
+            ],
+            source: input.cells()?,
+            sinks: input.cells()?,
+            lent: input.number()?,
+        })
+    }
+
+    fn write_answer(answer: &PartsAnswer, out: &mut Vec<u8>) {
+        out.push(answer.number());
+        if let PartsAnswer::Sheet(bytes) = answer {
+            put_bytes(out, bytes);
+        }
+    }
+
+    fn read_answer(input: &mut Input) -> Result<PartsAnswer, String> {
+        match input.byte()? {
+            0 => input.counted_bytes().map(PartsAnswer::Sheet),
+            number @ 1..=6 => Ok(PartsAnswer::Refused(Refusal::bare(number))),
+            other => Err(format!("no number of a writer: {other}")),
+        }
+    }
+}
+
+/// What a record of a function file asks.
+const WRITE: u8 = 0;
+const READ: u8 = 1;
+
+impl Case for Function {
+    type Answer = FunctionAnswer;
+    const BARE: [u8; 4] = *b"DRF0";
+    const ANSWERED: [u8; 4] = *b"DRF1";
+
+    fn write(&self, out: &mut Vec<u8>) {
+        match self {
+            Self::Write(case) => {
+                out.push(WRITE);
+                out.extend(case.sides);
+                put32(out, case.lent);
+                put_bytes(out, &case.kinds);
+                put_bytes(out, &case.facings);
+            }
+            Self::Read(case) => {
+                out.push(READ);
+                out.extend(case.sides);
+                put32(out, case.kinds);
+                put32(out, case.facings);
+                put_bytes(out, &case.text);
+            }
+        }
+    }
+
+    fn read(input: &mut Input) -> Result<Self, String> {
+        match input.byte()? {
+            WRITE => Ok(Self::Write(Writing {
+                sides: input.take()?,
+                lent: input.number()?,
+                kinds: input.counted_bytes()?,
+                facings: input.counted_bytes()?,
+            })),
+            READ => Ok(Self::Read(Reading {
+                sides: input.take()?,
+                kinds: input.number()?,
+                facings: input.number()?,
+                text: input.counted_bytes()?,
+            })),
+            other => Err(format!("neither written nor read: {other}")),
+        }
+    }
+
+    fn write_answer(answer: &FunctionAnswer, out: &mut Vec<u8>) {
+        match answer {
+            FunctionAnswer::Refused(refusal) => put_refusal(out, *refusal),
+            FunctionAnswer::Text(text) => {
+                put_refusal(out, NO_REFUSAL);
+                out.push(WRITE);
+                put_bytes(out, text);
+            }
+            FunctionAnswer::Room(laid) => {
+                put_refusal(out, NO_REFUSAL);
+                out.push(READ);
+                put32(out, laid.lines);
+                put_bytes(out, &laid.kinds);
+                put_bytes(out, &laid.facings);
+            }
+        }
+    }
+
+    fn read_answer(input: &mut Input) -> Result<FunctionAnswer, String> {
+        match input.refusal()? {
+            NO_REFUSAL => match input.byte()? {
+                WRITE => input.counted_bytes().map(FunctionAnswer::Text),
+                READ => Ok(FunctionAnswer::Room(Laid {
+                    lines: input.number()?,
+                    kinds: input.counted_bytes()?,
+                    facings: input.counted_bytes()?,
+                })),
+                other => Err(format!("neither a text nor a room: {other}")),
+            },
+            refusal @ (Refusal {
+                number: 2 | 5 | 6 | 18,
+                detail: 0,
+            }
+            | Refusal {
+                number: 19,
+                detail: 1..,
+            }) => Ok(FunctionAnswer::Refused(refusal)),
+            refusal => Err(format!("no answer of a function file: {refusal:?}")),
+        }
+    }
+}
+
+impl Case for Drawing {
+    type Answer = DrawingAnswer;
+    const BARE: [u8; 4] = *b"DRD0";
+    const ANSWERED: [u8; 4] = *b"DRD1";
+
+    fn write(&self, out: &mut Vec<u8>) {
+        out.extend(self.sides);
+        put32(out, self.support);
+        put32(out, self.run);
+        put32(out, self.cells);
+        put32(out, self.facings);
+        put_bytes(out, &self.kinds);
+        put(out, self.path.len());
+        out.extend(self.path.iter().flat_map(|cell| cell.to_be_bytes()));
+    }
+
+    fn read(input: &mut Input) -> Result<Self, String> {
+        Ok(Self {
+            sides: input.take()?,
+            support: input.number()?,
+            run: input.number()?,
+            cells: input.number()?,
+            facings: input.number()?,
+            kinds: input.counted_bytes()?,
+            path: {
+                let count = input.number()?;
+                (0..count)
+                    .map(|_| input.number())
+                    .collect::<Result<_, _>>()?
+            },
+        })
+    }
+
+    fn write_answer(answer: &DrawingAnswer, out: &mut Vec<u8>) {
+        out.extend([answer.laid, answer.listed]);
+        put_bytes(out, &answer.kinds);
+        put_bytes(out, &answer.repeatered);
+        put(out, answer.repeaters.len());
+        for repeater in &answer.repeaters {
+            out.extend(repeater.cell.to_be_bytes());
+            out.push(repeater.facing);
+        }
+    }
+
+    fn read_answer(input: &mut Input) -> Result<DrawingAnswer, String> {
+        let [laid, listed] = input.take()?;
+        if [laid, listed]
+            .iter()
+            .any(|number| !matches!(number, 0 | 2 | 4..=6))
+        {
+            return Err(format!("no numbers of a drawing: {laid}, {listed}"));
+        }
+        let (kinds, repeatered) = (input.counted_bytes()?, input.counted_bytes()?);
+        let count = input.number()?;
+        let entry = |_| {
+            Ok(Repeater {
+                cell: u16::from_be_bytes(input.take()?),
+                facing: input.byte()?,
+            })
+        };
+        Ok(DrawingAnswer {
+            laid,
+            kinds,
+            listed,
+            repeatered,
+            repeaters: (0..count).map(entry).collect::<Result<_, String>>()?,
         })
     }
 }

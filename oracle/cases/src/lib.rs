@@ -7,9 +7,12 @@ mod blocked;
 pub mod cheapest;
 pub mod conflict;
 pub mod connected;
+pub mod drawing;
 pub mod examples;
 pub mod files;
+pub mod function;
 pub mod generate;
+pub mod parts;
 pub mod reading;
 pub mod repeaters;
 pub mod rng;
@@ -22,6 +25,7 @@ pub mod stats;
 pub mod strict;
 pub mod text;
 pub mod tree;
+pub mod tree_why;
 pub mod why;
 
 /// A refusal: its number and detail in docs/RULES.md, Numbers that come back.

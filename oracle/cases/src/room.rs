@@ -1,6 +1,6 @@
 //! docs/RULES.md, The room: sides, cell numbers, kinds, facings, the twelve moves, and the costs with their ranges.
 
-const MOST_SIDE: u8 = 64;
+pub const MOST_SIDE: u8 = 64;
 pub const MOST_CELLS: usize = 16_384;
 pub const MOST_COST: u32 = 100_000;
 pub const MOST_NODES: u32 = 200_000;
@@ -16,6 +16,8 @@ pub mod kind {
     pub const COMPARATOR: u8 = 6;
     pub const LEVER: u8 = 7;
     pub const BUTTON: u8 = 8;
+    pub const PRESSURE_PLATE: u8 = 9;
+    pub const REDSTONE_LAMP: u8 = 10;
     pub const REDSTONE_BLOCK: u8 = 11;
     pub const PISTON: u8 = 12;
     pub const LAST: u8 = PISTON;

@@ -4,10 +4,15 @@ use std::collections::BTreeMap;
 use std::fmt::Display;
 
 use crate::conflict::stairs;
+use crate::drawing::{Drawing, DrawingAnswer};
+use crate::function::{Function, FunctionAnswer};
+use crate::parts::{Parts, PartsAnswer};
 use crate::room::{MOST_CELLS, Room, kind, port, sideways};
 use crate::search::{Search, SearchAnswer};
-use crate::sheet::{Job, Port, Sheet, TreeAnswer};
+use crate::sheet::{Job, MOST_BYTES, Port, Sheet, TreeAnswer};
 use crate::strict::{Apart, StrictSheet};
+use crate::tree::Mode;
+use crate::tree_why::{TreeWhy, TreeWhyAnswer, cause, kept, verdict};
 use crate::why::{MOVES, Why, WhyAnswer, reason};
 
 /// Counts under names, printed in the order of the names.
@@ -46,6 +51,79 @@ fn has_stairs(room: &Room, path: &[u16]) -> bool {
     !stairs(room, &path).is_empty()
 }
 
+/// Counts a function file, written or read.
+pub fn count_function(tally: &mut Tally, case: &Function, answer: &FunctionAnswer) {
+    let asked = match case {
+        Function::Write(_) => "written",
+        Function::Read(_) => "read",
+    };
+    tally.add("functions");
+    match answer.number() {
+        0 => tally.add(format!("{asked}, number  0")),
+        number => tally.add(format!("{asked}, number {number:>2}")),
+    }
+    if let Some(room) = Room::new(case.sides(), MOST_CELLS) {
+        tally.add(size(&room));
+    }
+}
+
+/// Counts the parts of a job.
+pub fn count_parts(tally: &mut Tally, case: &Parts, answer: &PartsAnswer) {
+    tally.add("writes");
+    match answer.number() {
+        0 => tally.add("number  0: a sheet"),
+        number => tally.add(format!("number {number:>2}")),
+    }
+    tally.add_if("over 60,000 bytes", case.size() > MOST_BYTES);
+    let PartsAnswer::Sheet(bytes) = answer else {
+        return;
+    };
+    tally.add(match bytes.len() {
+        0..=99 => "sheet: up to 99 bytes",
+        100..=999 => "sheet: 100 to 999 bytes",
+        1_000..=9_999 => "sheet: 1,000 to 9,999 bytes",
+        10_000..MOST_BYTES => "sheet: 10,000 bytes and more",
+        _ => "sheet: 60,000 bytes",
+    });
+    tally.add_if("sheet: sixteen sinks", case.sinks.len() == 80);
+    let just = bytes.len() == case.lent as usize;
+    tally.add_if("sheet: an output of just its length", just);
+}
+
+/// Counts a drawing.
+pub fn count_drawing(tally: &mut Tally, case: &Drawing, answer: &DrawingAnswer) {
+    tally.add("drawings");
+    tally.add(format!("laid: number {}", answer.laid));
+    tally.add(format!("listed: number {}", answer.listed));
+    let Ok(room) = case.judge_laying() else {
+        return;
+    };
+    tally.add(size(&room));
+    tally.add_if("a limit of 0", case.run == 0);
+    let path = case.path.iter().map(|cell| *cell as usize);
+    let unwired =
+        |cell: usize| case.kinds[cell] == kind::AIR && answer.kinds[cell] != kind::REDSTONE_WIRE;
+    tally.add_if(
+        "a path cell of Air got a support instead of wire",
+        path.clone().any(unwired),
+    );
+    tally.add_if(
+        "a path cell held a block",
+        path.clone().any(|cell| case.kinds[cell] != kind::AIR),
+    );
+    tally.add(match answer.repeaters.len() {
+        0 => "no repeater",
+        1 => "1 repeater",
+        _ => "2 or more repeaters",
+    });
+    let mut cells: Vec<_> = answer.repeaters.iter().map(|entry| entry.cell).collect();
+    cells.sort_unstable();
+    tally.add_if(
+        "a cell is listed twice",
+        cells.windows(2).any(|pair| pair[0] == pair[1]),
+    );
+}
+
 /// Counts a search of which the reason is asked.
 pub fn count_why(tally: &mut Tally, case: &Why, answer: &WhyAnswer) {
     tally.add("whys");
@@ -74,6 +152,55 @@ pub fn count_why(tally: &mut Tally, case: &Why, answer: &WhyAnswer) {
         tally.add_if(words, answer.reached.iter().any(|told| holds(&told.moves)));
     }
 }
+
+/// Counts a sheet of which it is asked why a sink wasn't reached.
+pub fn count_tree_why(tally: &mut Tally, case: &TreeWhy, answer: &TreeWhyAnswer) {
+    tally.add("tree-whys");
+    match answer.number() {
+        0 => tally.add("number  0: a tree"),
+        number => tally.add(format!("number {number:>2}")),
+    }
+    if let Ok((_, room)) = case.judge() {
+        tally.add(size(&room));
+    }
+    let Some(told) = &answer.reason else { return };
+    let mode = match case.mode {
+        Mode::Published => "published",
+        Mode::Strict => "strict",
+    };
+    tally.add(format!("{}: {mode}", answer.number()));
+    let verdict = match told.verdict {
+        verdict::APPROACH_TAKEN => "approach taken",
+        verdict::SHUT_IN => "shut in",
+        verdict::CONFLICTS => "conflicts",
+        _ => "cut short",
+    };
+    tally.add(format!("{}, {mode}: {verdict}", answer.number()));
+    for (given, words) in [
+        (reason::OUTSIDE, "outside"),
+        (reason::TAKEN, "taken"),
+        (reason::BAD_SUPPORT, "bad support"),
+        (kept::FREE, "kept free"),
+        (kept::SUPPORT_FREE, "support kept free"),
+    ] {
+        let holds = told.reached.iter().any(|told| told.moves.contains(&given));
+        tally.add_if(format!("shut in, a move: {words}"), holds);
+    }
+    for (bit, words) in cause::ALL.into_iter().zip(CAUSE_WORDS) {
+        let holds = told.causes.iter().any(|(_, bits)| bits & bit != 0);
+        tally.add_if(format!("shut in, a cause: {words}"), holds);
+    }
+}
+
+const CAUSE_WORDS: [&str; 7] = [
+    "another net's conductor",
+    "its keepout",
+    "its clearance",
+    "its terminal",
+    "reserved",
+    "a block's keepout",
+    "this net's own clearance",
+];
 
 pub fn count_search(tally: &mut Tally, case: &Search, answer: &SearchAnswer) {
     tally.add("searches");

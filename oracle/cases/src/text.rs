@@ -3,10 +3,15 @@
 use std::fmt::Write;
 
 use crate::Refusal;
+use crate::drawing::{Drawing, DrawingAnswer};
+use crate::function::{Function, FunctionAnswer};
+use crate::parts::{Parts, PartsAnswer};
 use crate::room::{Config, kind};
 use crate::search::{Search, SearchAnswer};
 use crate::sheet::{Job, Port, Sheet, TreeAnswer};
-use crate::why::{Why, WhyAnswer};
+use crate::tree::Mode;
+use crate::tree_why::{TreeWhy, TreeWhyAnswer};
+use crate::why::{Told, Why, WhyAnswer};
 
 /// What is written for a list: a blank before each.
 fn listed<T: ToString>(items: impl IntoIterator<Item = T>) -> String {
@@ -40,9 +45,130 @@ pub fn why_lines(case: &Why) -> String {
 
 /// The search's lines, then `reached` with a cell and its twelve moves for each cell reached.
 pub fn why_answer_lines(answer: &WhyAnswer) -> String {
-    let told = answer.reached.iter();
-    let told = told.map(|told| format!("reached {}:{}\n", told.cell, listed(told.moves)));
-    search_answer_lines(&answer.search) + &told.collect::<String>()
+    search_answer_lines(&answer.search) + &told_lines(&answer.reached)
+}
+
+fn told_lines(reached: &[Told]) -> String {
+    let told = reached.iter();
+    told.map(|told| format!("reached {}:{}\n", told.cell, listed(told.moves)))
+        .collect()
+}
+
+/// A sheet's limits and job, with its mode and the lengths of the reason's three outputs.
+pub fn tree_why_lines(case: &TreeWhy) -> String {
+    let strict = case.mode == Mode::Strict;
+    let outputs = listed([case.reached, case.walls, case.causes]);
+    let sheet = sheet_lines(&case.sheet);
+    format!("strict {strict}\noutputs{outputs}\n{sheet}")
+}
+
+/// The tree's lines; then `sink` with its place and verdict, `reached` with a cell and its twelve moves for each cell reached, and
+/// `causes` with each blocked cell and its bits.
+pub fn tree_why_answer_lines(answer: &TreeWhyAnswer) -> String {
+    let tree = tree_answer_lines(&answer.tree);
+    let Some(reason) = &answer.reason else {
+        return tree;
+    };
+    let causes = reason.causes.iter();
+    let causes = listed(causes.map(|(cell, bits)| format!("{cell}:{bits}")));
+    format!(
+        "{tree}sink {} verdict {}\n{}causes{causes}\n",
+        reason.place,
+        reason.verdict,
+        told_lines(&reason.reached)
+    )
+}
+
+/// What is written or read: the room's sides, the lent lengths, and the kinds and facings or the text.
+pub fn function_lines(case: &Function) -> String {
+    match case {
+        Function::Write(case) => format!(
+            "write{}\nlent {}\nkinds{}\nfacings{}\n",
+            listed(case.sides),
+            case.lent,
+            listed(&case.kinds),
+            listed(&case.facings)
+        ),
+        Function::Read(case) => format!(
+            "read{}\nlent {} {}\ntext {}\n",
+            listed(case.sides),
+            case.kinds,
+            case.facings,
+            case.text.escape_ascii()
+        ),
+    }
+}
+
+/// `text` with its bytes, `room` with its lines, kinds and facings, or `refused` with number and detail.
+pub fn function_answer_lines(answer: &FunctionAnswer) -> String {
+    match answer {
+        FunctionAnswer::Refused(refusal) => refused(refusal),
+        FunctionAnswer::Text(text) => format!("text {}\n", text.escape_ascii()),
+        FunctionAnswer::Room(laid) => format!(
+            "room {}\nkinds{}\nfacings{}\n",
+            laid.lines,
+            listed(&laid.kinds),
+            listed(&laid.facings)
+        ),
+    }
+}
+
+/// A drawing for a reader.
+/// A job's parts, for a reader.
+pub fn parts_lines(case: &Parts) -> String {
+    let config = &case.config;
+    let costs = [config.horizontal, config.stair, config.support];
+    let mut lines = format!(
+        "# room{} limit {} costs{} lent {}\n",
+        listed(case.sides),
+        config.node_limit,
+        listed(costs),
+        case.lent
+    );
+    let names = ["conductors", "clearances", "terminals", "reserved"];
+    let lists = [
+        ("blocks", &case.blocks),
+        ("source", &case.source),
+        ("sinks", &case.sinks),
+    ];
+    for (name, list) in lists.into_iter().chain(names.into_iter().zip(&case.lists)) {
+        lines += &format!("# {name}{}\n", listed(list));
+    }
+    lines
+}
+
+pub fn parts_answer_lines(answer: &PartsAnswer) -> String {
+    match answer {
+        PartsAnswer::Refused(refusal) => refused(refusal),
+        PartsAnswer::Sheet(bytes) => format!("sheet {}\n", hex_words(bytes).join(" ")),
+    }
+}
+
+pub fn drawing_lines(case: &Drawing) -> String {
+    format!(
+        "# room{} support {} run {} cells {} facings {}\n# kinds{}\n# path{}\n",
+        listed(case.sides),
+        case.support,
+        case.run,
+        case.cells,
+        case.facings,
+        listed(&case.kinds),
+        listed(&case.path)
+    )
+}
+
+/// The two numbers, each with the room's kinds, and the list: each cell with its facing.
+pub fn drawing_answer_lines(answer: &DrawingAnswer) -> String {
+    let entries = answer.repeaters.iter();
+    let entries = entries.map(|entry| format!("{}:{}", entry.cell, entry.facing));
+    format!(
+        "laid {}\nkinds{}\nlisted {}\nkinds{}\nrepeaters{}\n",
+        answer.laid,
+        listed(&answer.kinds),
+        answer.listed,
+        listed(&answer.repeatered),
+        listed(entries)
+    )
 }
 
 /// The lines that program `route` prints.

@@ -4,13 +4,18 @@ use std::collections::BTreeMap;
 use std::fmt::Debug;
 
 use cases::answers::{
-    SEARCHES, SHEETS, STRICT_SHEETS, Stored, WHYS, searches, sheets, strict_sheets, whys,
+    DRAWINGS, FUNCTIONS, SEARCHES, SHEETS, STRICT_SHEETS, Stored, TREE_WHYS, WHYS, WRITES,
+    drawings, functions, searches, sheets, strict_sheets, tree_whys, whys, writes,
 };
+use cases::drawing::{Drawing, DrawingAnswer};
 use cases::files::{Case, read};
+use cases::function::Function;
+use cases::parts::Parts;
 use cases::room::MOST_CELLS;
 use cases::search::Search;
 use cases::sheet::{MOST_BYTES, Sheet, TreeAnswer};
 use cases::strict::StrictSheet;
+use cases::tree_why::{TreeWhy, TreeWhyAnswer};
 use cases::why::Why;
 
 /// The cases of a file with their answers: they are those that are made, and the plain router agrees.
@@ -83,4 +88,57 @@ fn stored_whys() {
     let numbers = stored.iter().map(|(_, answer)| answer.number());
     is_common(&[0, 2, 3, 4, 5, 6, 10, 12, 13], 5, numbers.clone());
     is_common(&[11], 100, numbers);
+}
+
+#[test]
+fn stored_tree_whys() {
+    let stored = agreed(&TREE_WHYS, tree_whys(), TreeWhy::plain_answer);
+    let answers = || stored.iter().map(|(_, answer)| answer);
+    let numbers = || answers().map(TreeWhyAnswer::number);
+    is_common(&[0, 1, 2, 3, 4, 5, 6, 7, 8, 9, 13], 3, numbers());
+    is_common(&[14], 200, numbers());
+    is_common(&[1, 2, 3, 4], 15, answers().map(TreeWhyAnswer::verdict));
+}
+
+#[test]
+fn stored_functions() {
+    let stored = agreed(&FUNCTIONS, functions(), Function::plain_answer);
+    let written = |case: &Function| matches!(case, Function::Write(_));
+    let numbers = |asked: bool| {
+        let cases = stored
+            .iter()
+            .filter(move |(case, _)| written(case) == asked);
+        cases.map(|(_, answer)| answer.number())
+    };
+    is_common(&[0, 2, 5, 6, 18], 5, numbers(true));
+    is_common(&[0, 2, 6, 19], 5, numbers(false));
+    is_common(&[0], 80, numbers(true));
+    is_common(&[19], 80, numbers(false));
+}
+
+#[test]
+fn stored_writes() {
+    let stored = agreed(&WRITES, writes(), Parts::plain_answer);
+    let numbers = || stored.iter().map(|(_, answer)| answer.number());
+    is_common(&[1, 2, 3, 4, 5, 6], 5, numbers());
+    is_common(&[0], 200, numbers());
+}
+
+#[test]
+fn stored_drawings() {
+    let stored = agreed(&DRAWINGS, drawings(), Drawing::plain_answer);
+    for numbers in [
+        |answer: &DrawingAnswer| answer.laid,
+        |answer: &DrawingAnswer| answer.listed,
+    ] {
+        is_common(
+            &[0, 2, 4, 5, 6],
+            5,
+            stored.iter().map(|(_, answer)| numbers(answer)),
+        );
+    }
+    let several = stored
+        .iter()
+        .filter(|(_, answer)| answer.repeaters.len() >= 2);
+    assert!(several.count() >= 20);
 }

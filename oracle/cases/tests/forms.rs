@@ -1,13 +1,19 @@
 //! Files, text and sheets: what is written is read back, and what is damaged is refused.
 
+use cases::drawing::Drawing;
 use cases::files::{Case, read, write_answered, write_bare};
-use cases::generate::{Profile, searches, sheets, strict_sheets, whys};
+use cases::function::Function;
+use cases::generate::{
+    Profile, drawings, functions, searches, sheets, strict_sheets, tree_whys, whys, writes,
+};
+use cases::parts::Parts;
 use cases::room::Config;
 use cases::samples::HEX_SHEET;
 use cases::search::Search;
 use cases::sheet::{Block, Job, Port, Sheet};
 use cases::strict::StrictSheet;
 use cases::text::{parse_hex, parse_search, search_lines, sheet_lines};
+use cases::tree_why::TreeWhy;
 use cases::why::Why;
 
 fn some_searches() -> Vec<Search> {
@@ -22,8 +28,24 @@ fn some_strict_sheets() -> Vec<StrictSheet> {
     strict_sheets(7, 200, Profile::Tiny)
 }
 
+fn some_functions() -> Vec<Function> {
+    functions(7, 300, Profile::Tiny)
+}
+
 fn some_whys() -> Vec<Why> {
     whys(7, 300, Profile::Tiny)
+}
+
+fn some_tree_whys() -> Vec<TreeWhy> {
+    tree_whys(7, 300, Profile::Tiny)
+}
+
+fn some_drawings() -> Vec<Drawing> {
+    drawings(7, 300, Profile::Tiny)
+}
+
+fn some_writes() -> Vec<Parts> {
+    writes(7, 300, Profile::Tiny)
 }
 
 fn bare_round_trip<C: Case + Clone + PartialEq>(cases: &[C]) {
@@ -39,6 +61,10 @@ fn bare_files_are_read_back() {
     bare_round_trip(&some_sheets());
     bare_round_trip(&some_strict_sheets());
     bare_round_trip(&some_whys());
+    bare_round_trip(&some_tree_whys());
+    bare_round_trip(&some_functions());
+    bare_round_trip(&some_drawings());
+    bare_round_trip(&some_writes());
 }
 
 fn answered_round_trip<C>(cases: &[C], answer: fn(&C) -> C::Answer)
@@ -62,6 +88,10 @@ fn answered_files_are_read_back() {
     answered_round_trip(&some_sheets(), Sheet::plain_answer);
     answered_round_trip(&some_strict_sheets(), StrictSheet::plain_answer);
     answered_round_trip(&some_whys(), Why::plain_answer);
+    answered_round_trip(&some_tree_whys(), TreeWhy::plain_answer);
+    answered_round_trip(&some_functions(), Function::plain_answer);
+    answered_round_trip(&some_drawings(), Drawing::plain_answer);
+    answered_round_trip(&some_writes(), Parts::plain_answer);
 }
 
 #[test]

@@ -1,18 +1,25 @@
-//! The proved search, its reason, the plain engine and the proved tree, called through their archive: compared with the oracle's
-//! answers on random cases, and timed.
+//! The proved search, its reason, the plain engine, the writer, the proved tree, its reason and function files, called through their
+//! archive: compared with the oracle's answers on random cases, and timed.
 
 mod bench;
+mod bench_functions;
 mod bench_modes;
 mod bench_plain;
+mod bench_tree_whys;
 mod bench_trees;
 mod bench_whys;
+mod bench_writes;
 mod clock;
 mod compare;
+mod compare_drawings;
+mod compare_functions;
 mod compare_modes;
 mod compare_plain;
 mod compare_smallest;
+mod compare_tree_whys;
 mod compare_trees;
 mod compare_whys;
+mod compare_writes;
 mod connected;
 mod flat;
 mod proved;
@@ -29,12 +36,23 @@ driver compare searches|sheets|modes|whys --seed N --count N [--profile P] [--ag
                 rich: of the sheets only those that have a tree of two or more sinks with stairs and repeaters
 driver compare plain --seed N --count N [--profile P]
                 compares the plain engine with Dijkstra's rule and with the proved search, a fifth of the inputs damaged
+driver compare tree-whys --seed N --count N [--profile P] [--against oracle|plain]
+                compares random sheets in both modes, and why a sink wasn't reached, until so many were refused with 14
+driver compare functions --seed N --count N [--profile P]
+                compares function files, written and read, with the plain writer and reader; rooms go out and back, texts are damaged
+driver compare writes --seed N --count N [--profile P]
+                compares job sheets written from a job's parts with the plain writer, and reads them back; a third is damaged
+driver compare drawings --seed N --count N [--profile P] [--against oracle|plain]
+                compares routes drawn and their repeaters, a fifth of the inputs damaged
 driver compare smallest compares the smallest inputs of docs/SMALLEST.md
 driver connected --seed N --count N [--profile P]
                 tests on so many trees of random sheets that the whole net hangs together
 driver bench searches   times the proved search, the published Rust and plain Rust over flat arrays
 driver bench whys       times a search without a route, and the same with its reason
+driver bench tree-whys  times trees that stop at a sink, and the same with their reason
 driver bench modes      times the proved tree in both modes
+driver bench functions  times function files of the largest room, written and read
+driver bench writes     times sheets of up to 60,000 bytes, written and read
 driver bench plain      times the plain engine beside the proved search, with the number of its sweeps
 driver bench trees [NAME..]
                 times the proved tree and the published Rust: of trees whose names begin so, or all
@@ -100,10 +118,26 @@ fn run(words: &[String]) -> Result<bool, String> {
             draw if draw.rich => Err("--only rich is for sheets".into()),
             draw => Ok(compare_modes::compare(&draw)),
         },
+        ["compare", "tree-whys"] => match draw(&words[2..])? {
+            draw if draw.rich => Err("--only rich is for sheets".into()),
+            draw => Ok(compare_tree_whys::compare(&draw)),
+        },
         ["compare", "sheets"] => Ok(compare_trees::compare(&draw(&words[2..])?)),
         ["compare", "plain"] => match draw(&words[2..])? {
             draw if draw.rich || !draw.published => Err("no --against, no --only".into()),
             draw => Ok(compare_plain::compare(&draw)),
+        },
+        ["compare", "functions"] => match draw(&words[2..])? {
+            draw if draw.rich || !draw.published => Err("no --against, no --only".into()),
+            draw => Ok(compare_functions::compare(&draw)),
+        },
+        ["compare", "writes"] => match draw(&words[2..])? {
+            draw if draw.rich || !draw.published => Err("no --against, no --only".into()),
+            draw => Ok(compare_writes::compare(&draw)),
+        },
+        ["compare", "drawings"] => match draw(&words[2..])? {
+            draw if draw.rich => Err("--only rich is for sheets".into()),
+            draw => Ok(compare_drawings::compare(&draw)),
         },
         ["compare", "smallest"] => Ok(compare_smallest::compare()),
         ["connected", ..] => match draw(&words[1..])? {
@@ -118,8 +152,20 @@ fn run(words: &[String]) -> Result<bool, String> {
             bench_whys::bench();
             Ok(true)
         }
+        ["bench", "tree-whys"] => {
+            bench_tree_whys::bench();
+            Ok(true)
+        }
         ["bench", "modes"] => {
             bench_modes::bench();
+            Ok(true)
+        }
+        ["bench", "functions"] => {
+            bench_functions::bench();
+            Ok(true)
+        }
+        ["bench", "writes"] => {
+            bench_writes::bench();
             Ok(true)
         }
         ["bench", "plain"] => {

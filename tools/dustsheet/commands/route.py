@@ -8,11 +8,12 @@ from typing import List, Optional, Union
 
 import dustroute
 
-from .. import answer as answers, crosscheck, files, job as jobs, report, text as texts
+from .. import answer as answers, crosscheck, files, job as jobs, report, sinks, text as texts
 from ..check import Remark, remarks
 from ..progress import Progress
 from ..rules import ample_limit
-from . import sheet as sheets, view as views
+from ..sinks import Unreached
+from . import sheet as sheets, unreached, view as views
 from .given import Given, read
 
 ABOUT = "route a job: a text or a sheet"
@@ -40,18 +41,19 @@ def route(args: argparse.Namespace) -> int:
     progress = Progress(NAME, args.quiet)
     load(progress)
     answered = progress.watch("routing", lambda: attempt(given.sheet, args.strict))
-    reason = progress.watch("looking for the reason", lambda: refusal_lines(given, answered, args.strict))
+    stopped = progress.watch("looking for the reason", lambda: stopped_at(given, answered, args.strict))
+    reason = progress.watch("looking for the reason", lambda: refusal_lines(given, answered, args.strict, stopped))
     said = printed(answered)
     job = given.job()
     answer = answers.read(said, job, args.strict) if job else None
     found = remarks(job, answer) if job else []
     if args.view:
-        page = views.page_of(files.title(args.file), given.sheet, said, files.shown(args.file), "; ".join(reason), args.strict)
+        page = views.page_of(files.title(args.file), given.sheet, said, files.shown(args.file), one_paragraph(reason), args.strict)
         files.write(args.view, page.encode(), is_text=True)
     if not args.json:
         print_out(said)
     elif isinstance(answered, dustroute.Refusal):
-        print_out(report.of_refusal(job, answered.number, answered.detail, reason, found, args.strict))
+        print_out(report.of_refusal(job, answered.number, answered.detail, reason, found, args.strict, stopped))
     elif job and answer:
         print_out(report.of_net(job, answer, found, args.strict))
     tell(reason, found)
@@ -96,16 +98,35 @@ def cross_check(progress: Progress, job: Optional[jobs.Job], answered: Answered,
 
 # ---- why it was refused
 
-def refusal_lines(given: Given, answered: Answered, strict: bool) -> List[str]:
-    """The reason of a refusal in plain words: for a text at its lines, if a line is to blame."""
+def stopped_at(given: Given, answered: Answered, strict: bool) -> Optional[Unreached]:
+    """The sink that a tree stopped at with 13 or 14, and why."""
+    job = given.job()
+    if job is None or isinstance(answered, dustroute.Tree) or answered.number not in (13, 14):
+        return None
+    told = unreached.found(job, strict)
+    return None if isinstance(told, dustroute.Tree) else told
+
+
+def refusal_lines(given: Given, answered: Answered, strict: bool, stopped: Optional[Unreached]) -> List[str]:
+    """The reason of a refusal in plain words: for a text at its lines, if a line is to blame; of a sink that wasn't reached all that is
+    known, or, where its search was cut short, which limit is to blame."""
     if isinstance(answered, dustroute.Tree):
         return []
     if given.draft is not None and answered.number < 13:
         problems = texts.problems_of(given.draft, texts.job_of(given.draft))
         if problems:
             return sheets.listed(given.draft, problems).split("\n")
+    if stopped is not None and stopped.verdict != sinks.CUT_SHORT:
+        return [answered.words, *sinks.words(stopped), "`./dustroute why` says what to try, and draws it."]
     more = limit_words(given, answered, strict) if answered.number == 14 else None
     return [answered.words + (": " + more if more else "")]
+
+
+def one_paragraph(reason: List[str]) -> str:
+    """The lines of a refusal as one text, behind which a page puts a full stop: sentences follow the first line, or faults of a text."""
+    if reason and all(line.endswith(".") for line in reason[1:]):
+        return ". ".join([reason[0], *(line[:-1] for line in reason[1:])])
+    return "; ".join(reason)
 
 
 def limit_words(given: Given, refusal: dustroute.Refusal, strict: bool) -> Optional[str]:
@@ -113,13 +134,10 @@ def limit_words(given: Given, refusal: dustroute.Refusal, strict: bool) -> Optio
     job = given.job()
     if job is None:
         return None
-    ample = ample_limit(job)
-    if ample is not None and job.limit >= ample:
-        return "the node limit %d is ample and not to blame" % job.limit
-    enough = ample or jobs.MAX_NODES
+    enough = ample_limit(job) or jobs.MAX_NODES
     if job.limit >= enough:
         return "the node limit %d is the highest there is" % job.limit
-    again = attempt(jobs.to_bytes(dataclasses.replace(job, limit=enough)), strict)
+    again = attempt(dustroute.sheet_made(dataclasses.replace(job, limit=enough)), strict)
     passed = "the node limit %d was passed; a limit of %d suffices" % (job.limit, enough)
     if isinstance(again, dustroute.Tree):
         return passed

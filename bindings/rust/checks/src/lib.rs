@@ -1,16 +1,22 @@
 //! The oracle's cases as the wrapper takes them, memory full of rubbish for them, and what their answers leave in it: "Numbers 1 to 6
 //! touch nothing; 7 to 15 leave every lent writable buffer zero. A success writes the answer, zeros behind it, and zeroes work memory."
-//! On 11 the two outputs of `why` hold the reason. The wrapper's tests and the oracle's driver share this.
+//! On 11 the two outputs of `why` hold the reason, on 13 and 14 two values and three outputs that of a tree. The wrapper's tests and
+//! the oracle's driver share this.
 
 use cases::Refusal;
 use cases::cheapest::Cheapest;
+use cases::drawing::{Drawing, DrawingAnswer};
+use cases::function::{Function, FunctionAnswer};
+use cases::parts::PartsAnswer;
 use cases::room::MOST_CELLS;
 use cases::search::{Search, SearchAnswer};
 use cases::sheet::{Sheet, TreeAnswer};
 use cases::tree::realize;
+use cases::tree_why::{TreeWhy, TreeWhyAnswer};
 use cases::why::WhyAnswer;
-use dustroute::lent::{PlainMemory, SearchMemory, TreeMemory, WhyMemory};
-use dustroute::{Config, Room};
+use dustroute::draw::{self, LIST_VALUES, ROUTE_VALUES};
+use dustroute::lent::{PlainMemory, ReadMemory, SearchMemory, SheetMemory, TREE_VALUES, TreeMemory, TreeWhyMemory, WhyMemory, WriteMemory};
+use dustroute::{Config, Parts, Room};
 
 pub fn room_of([wide, high, deep]: [u8; 3]) -> Room {
     Room { wide, high, deep }
@@ -97,6 +103,15 @@ pub fn dirty_tree(mut memory: TreeMemory, byte: u8) -> TreeMemory {
     memory
 }
 
+/// The memory with this in every byte.
+pub fn dirty_tree_why(mut memory: TreeWhyMemory, byte: u8) -> TreeWhyMemory {
+    memory.tree = dirty_tree(memory.tree, byte);
+    for buffer in [&mut memory.reached, &mut memory.walls, &mut memory.causes] {
+        buffer.fill(byte);
+    }
+    memory
+}
+
 /// Puts cells at the front of a buffer.
 fn put(buffer: &mut [u32], cells: &[u16]) {
     for (place, cell) in buffer[..cells.len()].iter_mut().zip(cells) {
@@ -165,6 +180,70 @@ pub fn plain_fault(case: &Search, due: &Cheapest, number: u32, before: &PlainMem
     (*after != memory).then_some("memory")
 }
 
+/// What is not as due of both drawings in turn, if anything is not: over lent lists and values with this in every byte, so many values
+/// longer than they need be; then with too few values, which nothing may touch.
+pub fn drawing_fault(case: &Drawing, due: &DrawingAnswer, byte: u8, longer: usize) -> Option<&'static str> {
+    let (word, long) = words_of(byte);
+    let room = room_of(case.sides);
+    let mut kinds = case.kinds.clone();
+    let mut values = vec![long; ROUTE_VALUES + longer];
+    let number = draw::call_materialize(room, case.support, &mut kinds, &case.path, &mut values);
+    let zero = |values: &[u64]| values.iter().all(|value| *value == 0);
+    let kept = |values: &[u64]| values.iter().all(|value| *value == long);
+    if number != u32::from(due.laid) || kinds != due.kinds {
+        return Some("the route");
+    }
+    if !(if number == 0 { zero(&values) } else { kept(&values) }) {
+        return Some("the route's values");
+    }
+    let (mut cells, mut facings) = (vec![word; case.cells as usize], vec![byte; case.facings as usize]);
+    let mut values = vec![long; LIST_VALUES + longer];
+    let number = draw::call_insert(room, case.run, &mut kinds, &case.path, &mut cells, &mut facings, &mut values);
+    if number != u32::from(due.listed) || kinds != due.repeatered {
+        return Some("the repeaters");
+    }
+    let list = list_due(case, due, word, byte);
+    if [cells.clone(), facings.iter().map(|facing| u32::from(*facing)).collect()] != list {
+        return Some("the list");
+    }
+    let told = values[0] == 0 && values[1] == due.repeaters.len() as u64 && zero(&values[2..]);
+    if !(if number == 0 { told } else { kept(&values) }) {
+        return Some("the list's values");
+    }
+    few_values_fault(case, due, &mut kinds, &mut cells, &mut facings)
+}
+
+/// The two slices of the list, facings as wide as cells.
+fn list_due(case: &Drawing, due: &DrawingAnswer, word: u32, byte: u8) -> [Vec<u32>; 2] {
+    if due.listed != 0 {
+        return [vec![word; case.cells as usize], vec![byte.into(); case.facings as usize]];
+    }
+    let mut list = [vec![0; case.cells as usize], vec![0; case.facings as usize]];
+    for (place, entry) in due.repeaters.iter().enumerate() {
+        list[0][place] = entry.cell.into();
+        list[1][place] = entry.facing.into();
+    }
+    list
+}
+
+/// Fewer values than an answer comes to: 6, unless 2 is due, and nothing is touched.
+fn few_values_fault(
+    case: &Drawing,
+    due: &DrawingAnswer,
+    kinds: &mut Vec<u8>,
+    cells: &mut Vec<u32>,
+    facings: &mut Vec<u8>,
+) -> Option<&'static str> {
+    let room = room_of(case.sides);
+    let before = (kinds.clone(), cells.clone(), facings.clone());
+    let few = |number: u8| if number == 2 { 2 } else { 6 };
+    let laid = draw::call_materialize(room, case.support, kinds, &case.path, &mut []);
+    let mut values = [7; LIST_VALUES - 1];
+    let listed = draw::call_insert(room, case.run, kinds, &case.path, cells, facings, &mut values);
+    let touched = values != [7; LIST_VALUES - 1] || before != (kinds.clone(), cells.clone(), facings.clone());
+    (laid != few(due.laid) || listed != few(due.listed) || touched).then_some("too few values")
+}
+
 /// The memory as this answer to a sheet leaves it, given what it was before.
 pub fn tree_due(before: &TreeMemory, sheet: &Sheet, answer: &TreeAnswer) -> TreeMemory {
     let mut due = dirty_tree(before.clone(), 0);
@@ -191,8 +270,125 @@ pub fn tree_due(before: &TreeMemory, sheet: &Sheet, answer: &TreeAnswer) -> Tree
     due
 }
 
+/// The memory as this answer to a sheet leaves it, in a room of so many cells, given what it was before.
+pub fn tree_why_due(before: &TreeWhyMemory, case: &TreeWhy, cells: usize, answer: &TreeWhyAnswer) -> TreeWhyMemory {
+    if (1..=6).contains(&answer.number()) {
+        return before.clone();
+    }
+    let mut due = dirty_tree_why(before.clone(), 0);
+    due.tree = tree_due(&before.tree, &case.sheet, &answer.tree);
+    if let Some(reason) = &answer.reason {
+        due.tree.values[TREE_VALUES] = u64::from(reason.place);
+        due.tree.values[TREE_VALUES + 1] = u64::from(reason.verdict);
+        due.reached[..cells].copy_from_slice(&reason.reached_bytes(cells));
+        due.walls[..12 * cells].copy_from_slice(&reason.walls_bytes(cells));
+        due.causes[..cells].copy_from_slice(&reason.causes_bytes(cells));
+    }
+    due
+}
+
 /// The source's terminal, of a sheet that has a tree.
 fn source_of(sheet: &Sheet) -> u16 {
     let (job, room) = sheet.judge(MOST_CELLS).expect("it has a tree");
     realize(&job, &room).expect("it has a tree").source as u16
+}
+
+/// What a call over a function file is lent, by what is asked.
+#[derive(Clone, Debug, Eq, PartialEq)]
+pub enum FunctionMemory {
+    Write(WriteMemory),
+    Read(ReadMemory),
+}
+
+/// Memory of the lengths of a case and so much more, with so many values and this in every byte.
+pub fn function_memory(case: &Function, extra: usize, values: usize, byte: u8) -> FunctionMemory {
+    let values = vec![words_of(byte).1; values];
+    match case {
+        Function::Write(case) => FunctionMemory::Write(WriteMemory {
+            text: vec![byte; case.lent as usize + extra],
+            values,
+        }),
+        Function::Read(case) => FunctionMemory::Read(ReadMemory {
+            kinds: vec![byte; case.kinds as usize + extra],
+            facings: vec![byte; case.facings as usize + 2 * extra],
+            values,
+        }),
+    }
+}
+
+/// Asks a case over memory: the number comes back.
+pub fn ask_function(case: &Function, memory: &mut FunctionMemory) -> u32 {
+    let room = room_of(case.sides());
+    match (case, memory) {
+        (Function::Write(case), FunctionMemory::Write(memory)) => memory.call(room, &case.kinds, &case.facings),
+        (Function::Read(case), FunctionMemory::Read(memory)) => memory.call(room, &case.text),
+        _ => panic!("memory of the other function"),
+    }
+}
+
+/// The bytes, and zeros behind them.
+fn bytes_due(bytes: &[u8], length: usize) -> Vec<u8> {
+    let mut due = bytes.to_vec();
+    due.resize(length, 0);
+    due
+}
+
+/// What an answer leaves in memory.
+pub fn function_due(before: &FunctionMemory, answer: &FunctionAnswer) -> FunctionMemory {
+    let mut due = before.clone();
+    let (detail, count, text, kinds, facings): (u32, usize, &[u8], &[u8], &[u8]) = match answer {
+        FunctionAnswer::Refused(refusal) if refusal.number <= 6 => return due,
+        FunctionAnswer::Refused(refusal) => (refusal.detail, 0, &[], &[], &[]),
+        FunctionAnswer::Text(text) => (0, text.len(), text, &[], &[]),
+        FunctionAnswer::Room(laid) => (0, laid.lines as usize, &[], &laid.kinds, &laid.facings),
+    };
+    let values = match &mut due {
+        FunctionMemory::Write(memory) => {
+            memory.text = bytes_due(text, memory.text.len());
+            &mut memory.values
+        }
+        FunctionMemory::Read(memory) => {
+            memory.kinds = bytes_due(kinds, memory.kinds.len());
+            memory.facings = bytes_due(facings, memory.facings.len());
+            &mut memory.values
+        }
+    };
+    values.fill(0);
+    values[..2].copy_from_slice(&[detail.into(), count as u64]);
+    due
+}
+
+/// The parts of a case as the wrapper takes them.
+pub fn parts_of(case: &cases::parts::Parts) -> Parts {
+    let [conductors, clearances, terminals, reserved] = case.lists.clone();
+    Parts {
+        sides: case.sides.map(|side| side as usize),
+        config: config_of(&case.config),
+        blocks: case.blocks.clone(),
+        conductors,
+        clearances,
+        terminals,
+        reserved,
+        source: case.source.clone(),
+        sinks: case.sinks.clone(),
+    }
+}
+
+/// Memory for a sheet of so many bytes, with so many values and this in every byte.
+pub fn sheet_memory(bytes: usize, values: usize, byte: u8) -> SheetMemory {
+    SheetMemory {
+        sheet: vec![byte; bytes],
+        values: vec![words_of(byte).1; values],
+    }
+}
+
+/// What the answer of a writer leaves in memory: a sheet and its length, zeros behind both; a refusal touches nothing.
+pub fn sheet_due(before: &SheetMemory, answer: &PartsAnswer) -> SheetMemory {
+    let mut due = before.clone();
+    if let PartsAnswer::Sheet(bytes) = answer {
+        due.sheet = bytes_due(bytes, before.sheet.len());
+        due.values.fill(0);
+        due.values[1] = bytes.len() as u64;
+    }
+    due
 }

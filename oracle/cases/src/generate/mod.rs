@@ -1,24 +1,36 @@
 //! Random cases. The same seed gives the same cases; each case of a list can be made by itself.
 
 mod damage;
+mod drawings;
+mod functions;
+mod parts;
 mod searches;
 mod sheets;
 mod site;
 mod strict;
 mod terrain;
+mod tree_whys;
 mod whys;
 
 pub use damage::count_places;
+pub use drawings::random_drawing;
+pub use functions::random_function;
+pub use parts::random_parts;
 pub use searches::{random_plain_search, random_search};
 pub use sheets::random_sheet;
 pub use strict::random_strict;
+pub use tree_whys::random_tree_why;
 pub use whys::random_why;
 
+use crate::drawing::Drawing;
+use crate::function::Function;
+use crate::parts::Parts;
 use crate::rng::Rng;
 use crate::room::{Config, MOST_CELLS, MOST_COST, MOST_NODES, Room};
 use crate::search::Search;
 use crate::sheet::Sheet;
 use crate::strict::StrictSheet;
+use crate::tree_why::TreeWhy;
 use crate::why::Why;
 
 /// How large the rooms of random cases are.
@@ -53,6 +65,13 @@ impl Profile {
     }
 }
 
+/// A list of random drawings.
+pub fn drawings(seed: u64, count: u32, profile: Profile) -> Vec<Drawing> {
+    (0..u64::from(count))
+        .map(|index| random_drawing(&mut Rng::for_case(seed, index), profile))
+        .collect()
+}
+
 /// A list of random searches.
 pub fn searches(seed: u64, count: u32, profile: Profile) -> Vec<Search> {
     (0..u64::from(count))
@@ -78,6 +97,27 @@ pub fn strict_sheets(seed: u64, count: u32, profile: Profile) -> Vec<StrictSheet
 pub fn whys(seed: u64, count: u32, profile: Profile) -> Vec<Why> {
     (0..u64::from(count))
         .map(|index| random_why(&mut Rng::for_case(seed, index), profile))
+        .collect()
+}
+
+/// A list of random sheets of which it is asked why a sink wasn't reached.
+pub fn tree_whys(seed: u64, count: u32, profile: Profile) -> Vec<TreeWhy> {
+    (0..u64::from(count))
+        .map(|index| random_tree_why(&mut Rng::for_case(seed, index), profile))
+        .collect()
+}
+
+/// A list of random function files, written and read.
+pub fn functions(seed: u64, count: u32, profile: Profile) -> Vec<Function> {
+    (0..u64::from(count))
+        .map(|index| random_function(&mut Rng::for_case(seed, index), profile))
+        .collect()
+}
+
+/// A list of random parts of jobs, to be written.
+pub fn writes(seed: u64, count: u32, profile: Profile) -> Vec<Parts> {
+    (0..u64::from(count))
+        .map(|index| random_parts(&mut Rng::for_case(seed, index), profile))
         .collect()
 }
 
