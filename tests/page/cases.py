@@ -1,6 +1,6 @@
 """cases.py OUT.json: what Python's modules say of texts and sheets, for the page's scripts to say the same. Texts are the examples, whole and
-with random slips; sheets are the oracle's, with their answers, whole and damaged; reasons are those of its searches without a route and of its trees that stopped
-at a sink, the latter in their file's order."""
+with random slips; sheets are the oracle's, with their answers and the nets laid, whole and damaged; reasons are those of its searches without
+a route and of its trees that stopped at a sink, the latter in their file's order."""
 import json
 import os
 import random
@@ -9,15 +9,20 @@ import sys
 
 sys.dont_write_bytecode = True
 HERE = os.path.dirname(os.path.abspath(__file__))
-sys.path[:0] = [os.path.join(HERE, "..", "..", "tools"), os.path.join(HERE, "..", "tools")]
+sys.path[:0] = [os.path.join(HERE, *path) for path in (("..", "..", "tools"), ("..", "tools"), ("..", "..", "bindings", "python"))]
 from common import content, examples, stored  # noqa: E402
 import test_sinks  # noqa: E402
-from dustsheet import answer as answers, check, job as jobs, net, reason as reasons, rules, sinks, text as texts, words  # noqa: E402
+from dustsheet import answer as answers, check, job as jobs, laying, net, reason as reasons, rules, sinks, text as texts, words  # noqa: E402
+from dustsheet.commands import build  # noqa: E402
 
 ROOT = os.path.join(HERE, "..", "..")
 MOVES = [(x, up, z) for x, z in ((1, 0), (-1, 0), (0, 1), (0, -1)) for up in (-1, 0, 1)]
 
 SEED, SLIPS, DAMAGED = 1, 1500, 400
+# the facings that kinds can have in the game, of all others 0 alone: docs/LAYING-RULES.md. The library may be missing here; the page asks its module
+CAN_FACE = {jobs.REPEATER: range(1, 5), jobs.COMPARATOR: range(1, 5), jobs.PISTON: range(1, 7),
+            jobs.TORCH: range(5), jobs.LEVER: range(5), jobs.BUTTON: range(5)}
+build.facings_of = lambda kind: list(CAN_FACE.get(kind, [0]))
 STRANGE = ["soild", "lamb", "blok", "sinks", "north", "up", "code-13", "node", "to", "at", "facing", "99", "300", "-1", "1.5", "(3,", "ä", "\u00b2",
            "x" * 60, "#", "Redstone_Wire", "CLEAR", "limit", "costs", "4294967296", "1234567890123", "block-power", "wire", "\u2028", "torches"]
 
@@ -72,6 +77,8 @@ def told_of_sheet(sheet, number, detail, printed):
         return told
     fault = jobs.first_fault(job)
     told["fault"] = None if fault is None else [fault.number, fault.part, fault.index, fault.words]
+    if fault is not None:
+        told["unwritten"] = words.of_job(fault.number, 0, job)
     if number:
         told["words"] = words.of_sheet(number, detail, sheet)
     elif number == 0:
@@ -81,6 +88,9 @@ def told_of_sheet(sheet, number, detail, printed):
         told["signals"] = sorted([job.number(at), strength] for at, strength in net.signals(answer, job).items())
         told["branches"] = [[one.steps, one.stairs, len(one.supports), len(one.repeaters), one.signal] for one in net.branches(answer, job)]
         told["supports"] = sorted({job.number(at) for one in net.branches(answer, job) for at in one.supports})
+        laid = laying.lay(job, answer)
+        told["kinds"], told["facings"] = laid.kinds.hex(), laid.facings.hex()
+        told["unfit"] = [words.sentence(line) for line in build.unfit_words(job, laid)]
     return told
 
 

@@ -97,6 +97,32 @@ function treed(name, one, strict, outputs = {}) {
     return call.troubles;
 }
 
+// The writer of the sheets that read: their own bytes come back, and of those with a fault its number.
+function* jobs(cases) {
+    for (const { sheet } of cases) {
+        let job;
+        try {
+            job = page.jobOfSheet(sheet);
+        } catch {
+            continue;
+        }
+        yield { sheet, job, number: page.firstFault(job)?.number ?? 0 };
+    }
+}
+
+function written({ sheet, job, number }) {
+    const { wide, high, deep, limit, horizontal, stair, support, ...lists } = page.writerParts(job);
+    const lent = { sheet: sheet.length + GAP, values: 3 };
+    const call = called("dustroute_write_sheet", { wide, high, deep, limit, horizontal, stair, support }, lists, lent);
+    if (call.number !== number) return [`number ${call.number}, not ${number}`];
+    if (number) Object.keys(lent).forEach(call.untouched);
+    else {
+        call.holds("sheet", sheet);
+        call.holds("values", [0, sheet.length]);
+    }
+    return call.troubles;
+}
+
 function holdsReason(call, { told = [], causes = [] }) {
     const bits = [];
     for (const { cell, bits: why } of causes) bits[cell] = why;
@@ -123,11 +149,11 @@ const EVERY = 25; // of so many cases one is changed, to see that the change is 
 function changed(one, turn) {
     const parts = ["number", ...(one.number > 6 ? ["detail"] : []), ...(one.path?.length ? ["path", "cost", "expanded"] : []),
         ...(one.repeaters?.length ? ["repeaters"] : []), ...(one.branches?.length ? ["branches", "occupied"] : []), ...(one.told?.length ? ["told"] : []),
-        ...(one.causes?.length ? ["causes"] : []), ...(one.verdict ? ["place", "verdict"] : [])];
+        ...(one.job && !one.number ? ["sheet"] : []), ...(one.causes?.length ? ["causes"] : []), ...(one.verdict ? ["place", "verdict"] : [])];
     const part = parts[turn % parts.length];
     const value = one[part];
     const other = { branches: () => value.map((branch) => [...branch].reverse().map((cell) => cell + 1)), path: () => [...value.slice(0, -1), value.at(-1) + 1],
-        repeaters: () => value.slice(1), told: () => value.slice(1), causes: () => value.slice(1) };
+        repeaters: () => value.slice(1), told: () => value.slice(1), causes: () => value.slice(1), sheet: () => value.map((byte, place) => byte + (place === value.length - 1)) };
     return { part, answer: { ...one, [part]: part in other ? other[part]() : value + 1 } };
 }
 
@@ -157,4 +183,5 @@ replay("sheets, the mode named", sheets(stored, "DRT1"), (one) => treed("dustrou
 replay("sheets in strict mode", sheets(`${root}/tests/bindings/strict.bin`, "DRM1"), (one) => treed("dustroute_tree_mode", one, 1));
 replay("sheets with their reason", treeWhys(`${root}/tests/bindings/treewhys.bin`), (one) =>
     treed("dustroute_tree_why", one, one.strict, { values: 22, reached: one.reachedLength, walls: one.wallsLength, causes: one.causesLength }));
+replay("sheets written from their parts", jobs(sheets(stored, "DRT1")), written);
 process.exit(failures ? 1 : 0);

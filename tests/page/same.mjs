@@ -1,5 +1,5 @@
 // node same.mjs SCRIPTS.mjs MODULE.wasm CASES.json ROOT: the page's scripts say of texts, sheets, searches and sinks that weren't reached what
-// Python's modules say (cases.py), word for word.
+// Python's modules say (cases.py), word for word, and lay nets as they do.
 import { readFileSync } from "node:fs";
 import { pathToFileURL } from "node:url";
 import { treeWhys } from "./stored.mjs";
@@ -28,6 +28,7 @@ function checkText(told) {
     const job = page.jobOf(draft);
     expect("what the router refuses", lines(page.problemsOf(draft, job)), told.late);
     expect("the sheet", hex(page.sheetOf(job)), told.sheet);
+    if (!page.firstFault(job)) expect("the sheet by the proved writer", hex(page.sheetWritten(router, job).sheet), told.sheet);
     expect("the canonical text", page.writeText(job), told.canonical);
     expect("the job read from its sheet", page.writeText(page.jobOfSheet(page.sheetOf(job))), told.canonical);
     if (!told.blocked) return;
@@ -53,6 +54,9 @@ function checkSheet(told) {
     }
     const fault = page.firstFault(job);
     expect("the first fault", fault && [fault.number, fault.part, fault.index, fault.words], told.fault);
+    const file = page.sheetFile(router, { job, saveAs: "a.sheet" });
+    if (fault) expect("why no sheet is written", file, { words: [`a.sheet: ${told.unwritten} (number ${fault.number})`] });
+    else expect("the sheet by the proved writer", hex(file.file), told.sheet);
     if (told.words) expect("the words of a refusal", page.refusalWords(told.number, told.detail, job), told.words);
     if (!told.printed) return undefined;
     const answer = answerOf(told);
@@ -61,7 +65,16 @@ function checkSheet(told) {
     expect("the remarks", remarked(page.remarks(job, answer, net)), told.remarks);
     expect("the signals", [...net.strength].sort((one, other) => one[0] - other[0]), told.signals);
     expect("the branches", net.branches.map((one) => [one.steps, one.stairs, one.supports, one.repeaters, one.signal]), told.branches);
-    return expect("the supports", ascending(net.supports), told.supports);
+    expect("the supports", ascending(net.supports), told.supports);
+    return checkLaid(sheet, page.lay(job, answer), told);
+}
+
+function checkLaid(sheet, laid, told) {
+    expect("the kinds when the net is laid", hex(laid.kinds), told.kinds);
+    expect("the facings when the net is laid", hex(laid.facings), told.facings);
+    const { words, file } = page.functionFile(router, { sheet, strict: false });
+    expect("what the game doesn't have", words, told.unfit);
+    expect("whether the function file is there", file !== undefined, !told.unfit.length);
 }
 
 function checkReason({ text, start, goal, words }) {

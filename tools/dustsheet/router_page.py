@@ -59,7 +59,8 @@ def tables_of(header: object, given: Tuple[str, ...]) -> Dict[str, object]:
               "routeCells": jobs.ROUTE_CELLS, "cost": jobs.MAX_COST, "nodes": jobs.MAX_NODES, "quoted": texts.MOST_QUOTED,
               "records": texts.MOST_RECORDS, "defaultCosts": texts.DEFAULT_COSTS, "defaultLimit": texts.DEFAULT_LIMIT,
               "treeValues": constants["DUSTROUTE_TREE_VALUES"], "treeWhyValues": constants["DUSTROUTE_TREE_WHY_VALUES"],
-              "searchTotals": constants["DUSTROUTE_SEARCH_TOTALS"]}
+              "searchTotals": constants["DUSTROUTE_SEARCH_TOTALS"], "writeValues": constants["DUSTROUTE_WRITE_VALUES"],
+              "functionValues": constants["DUSTROUTE_FUNCTION_VALUES"], "lineBytes": constants["DUSTROUTE_LINE_BYTES"]}
     return {"KINDS": jobs.KINDS, "FACINGS": jobs.FACINGS, "PORTS": jobs.PORTS, "PLACE_LISTS": jobs.PLACE_LISTS, "PART_NAMES": jobs.PART_NAMES,
             "LIMITS": limits, "ALSO": texts.ALSO, "FORMS": texts.FORMS, "PLACE_WORDS": texts.PLACE_WORDS, "GENERAL": words.GENERAL,
             "KIND_SIGNS": symbols.KIND_SIGNS, "KIND_NAMES": symbols.KIND_NAMES, "COLOURS": symbols.COLOURS, "DASHES": symbols.DASHES,

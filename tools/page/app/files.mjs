@@ -1,7 +1,7 @@
 // Texts and sheets, opened from a disk and saved to it.
 import { firstFault, recordName } from "../job/job.mjs";
 import { said } from "../job/said.mjs";
-import { Refused, isSheet, jobOfSheet, sheetOf } from "../job/sheet.mjs";
+import { Refused, isSheet, jobOfSheet } from "../job/sheet.mjs";
 import { writeText } from "../job/write.mjs";
 
 // The text of a file's bytes, a sheet's or its own; an Error with words for a person where there is none.
@@ -25,18 +25,12 @@ export function textOfFile(name, content) {
     return writeText(job);
 }
 
-export function save(name, content, type) {
+// A text or bytes.
+export function save(name, content) {
+    const type = typeof content === "string" ? "text/plain" : "application/octet-stream";
     const link = document.createElement("a");
     link.href = URL.createObjectURL(new Blob([content], { type }));
     link.download = name;
     link.click();
     setTimeout(() => URL.revokeObjectURL(link.href), 1000);
-}
-
-export function saveSheet(name, job) {
-    save(name + ".sheet", sheetOf(job), "application/octet-stream");
-}
-
-export function saveText(name, text) {
-    save(name + ".txt", text, "text/plain");
 }

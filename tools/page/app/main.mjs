@@ -1,14 +1,15 @@
 // The page: finds its elements, hangs them on the app, and draws.
 import { FACINGS, LIMITS, PORTS } from "../job/job.mjs";
+import { sheetOf } from "../job/sheet.mjs";
 import { TABLES } from "../job/tables.mjs";
 import { Background } from "../router/background.mjs";
-import { OFFERS } from "../router/reasons.mjs";
+import { OFFERS, QUESTIONS } from "../router/reasons.mjs";
 import { answerParts, element, reasonParts } from "../view/told.mjs";
 import { App } from "./app.mjs";
 import { buildPalette } from "./palette.mjs";
 import { listenToKeys, listenToPageKeys, listenToTurnKeys } from "./keyboard.mjs";
 import { listenToPointer, listenToTurning } from "./pointer.mjs";
-import { save, saveSheet, saveText, textOfFile } from "./files.mjs";
+import { save, textOfFile } from "./files.mjs";
 import { Screen } from "./screen.mjs";
 import { Signal } from "./signal.mjs";
 
@@ -84,6 +85,7 @@ function heard(data) {
         at("strict-choice").hidden = !data.names.includes("dustroute_tree_mode");
         return undefined;
     }
+    if (data.told?.file) return save(data.told.saveAs, data.told.file);
     clearTimeout(slow);
     if (data.told) return app.toldOf(data.told);
     if (data.answer) return app.answered(data);
@@ -105,21 +107,27 @@ function showAnswer() {
     Object.assign(document.body.dataset, { answered: app.asked, drawn: drawn.toFixed(1) });
 }
 
-// What a tool or a button asked: a file is saved, words stand before the answer that is there.
+// What a tool or a button asked: its words stand before the answer that is there.
 function showReason(reason) {
     document.getElementById("asked")?.remove();
-    if (reason.file) return save(fileName + reason.end, reason.file, "text/plain");
     at("answer").prepend(element("section", [element("h2", "Asked"), ...reasonParts(reason)], { id: "asked" }));
     at("answer").scrollTop = 0;
-    return screen.paint();
+    screen.paint();
 }
 
 function showOffers() {
     for (const { id, label, tip, asks, end } of OFFERS) {
         const button = element("button", label, { type: "button", id, title: tip });
-        button.addEventListener("click", () => app.askFor({ asks, end }));
+        button.addEventListener("click", () => app.askFor({ asks, saveAs: fileName + end }));
         at("files").append(button);
     }
+}
+
+// By the proved writer, where the module has it and could be loaded; else the script's own bytes, which are the same.
+function saveSheet() {
+    const saveAs = fileName + ".sheet";
+    if (QUESTIONS.sheetFile && background.isLoaded) app.askFor({ asks: "sheetFile", job: app.job, saveAs });
+    else save(saveAs, sheetOf(app.job));
 }
 
 // What is wrong with the text; where it is no room that can be drawn, the last one stays, and pales.
@@ -149,8 +157,8 @@ function listenToButtons() {
     press("down", () => app.moveCursorBy([0, -1, 0]));
     press("turn-left", () => screen.turnBy(Math.PI / 4, 0));
     press("turn-right", () => screen.turnBy(-Math.PI / 4, 0));
-    press("save-text", () => saveText(fileName, app.text));
-    press("save-sheet", () => saveSheet(fileName, app.job));
+    press("save-text", () => save(fileName + ".txt", app.text));
+    press("save-sheet", saveSheet);
     press("open", () => at("file").click());
     press("help", () => at("help-words").showModal());
     press("large", () => {

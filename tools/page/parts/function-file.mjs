@@ -1,13 +1,13 @@
 // needs: dustroute_write_function
-// The room with its net laid, as the text of commands from which a block world builds it.
-import { AIR, KIND, SOLID, cellCount, kindsOf, numberOf } from "../job/job.mjs";
-import { netOf } from "../job/net.mjs";
+// The room with its net laid, as the text of commands from which a block world builds it. In step with tools/dustsheet/commands/build.py.
+import { FACINGS, KIND, KINDS, LIMITS, cellCount, placeOf, spell } from "../job/job.mjs";
+import { lay } from "../job/laying.mjs";
+import { said, sentence } from "../job/said.mjs";
 import { jobOfSheet } from "../job/sheet.mjs";
 import { OFFERS, QUESTIONS } from "../router/reasons.mjs";
 import { treeOf } from "../router/answers.mjs";
 
-const LINE = 96; // bytes that suffice for the command of a cell
-const TURNED = { repeater: 4, comparator: 4, piston: 6, "redstone-torch": 4, lever: 4, button: 4 }; // the last facing of kinds that have one
+const UNFIT = 5; // the number of a facing that its kind can't have
 
 OFFERS.push({ id: "save-function", label: "Save function", tip: "the finished room as commands for the block world", asks: "functionFile",
     end: ".mcfunction" });
@@ -17,28 +17,47 @@ function functionFile(router, { sheet, strict }) {
     const job = jobOfSheet(sheet);
     const answer = treeOf(router, sheet, strict);
     if (answer.number) return { words: ["There is no net to build yet."] };
-    const [wide, high, deep] = job.sides;
-    const { kinds, facings } = laidRoom(job, answer);
-    const { number, lent } = router.call("dustroute_write_function", { wide, high, deep, kinds, facings }, cellCount(job),
-        { text: LINE * cellCount(job), values: 2 });
-    if (number) return { words: [`The room can't be written as commands (number ${number}): a block has no facing, or one that it can't have.`] };
-    return { words: [], file: new TextDecoder().decode(lent.text.slice(0, Number(lent.values[1]))) };
+    const laid = lay(job, answer);
+    const { number, text } = commands(router, job.sides, laid);
+    if (number === UNFIT) return { words: unfitWords(router, job, laid).map(sentence) };
+    if (number) return { words: [sentence(said("refused with number %d", number))] };
+    return { words: [], file: text };
 }
 
-// What each cell holds and faces when supports, wire and repeaters are laid.
-function laidRoom(job, answer) {
-    const kinds = kindsOf(job);
-    const facings = new Uint8Array(kinds.length);
-    for (const block of job.blocks) {
-        const name = Object.keys(TURNED).find((one) => KIND[one] === block.kind);
-        if (name && block.facing <= TURNED[name]) facings[numberOf(job, block.at)] = block.facing;
+function commands(router, [wide, high, deep], { kinds, facings }) {
+    const cells = wide * high * deep;
+    const { number, lent } = router.call("dustroute_write_function", { wide, high, deep, kinds, facings }, cells,
+        { text: LIMITS.lineBytes * cells, values: LIMITS.functionValues });
+    return { number, text: number ? "" : new TextDecoder().decode(lent.text.slice(0, Number(lent.values[1]))) };
+}
+
+// ---- where a facing can't be
+
+// The facings with which a kind can be written: the proved function is asked, so that its table stands once.
+function facingsOf(router, kind) {
+    return FACINGS.map((_, facing) => facing).filter((facing) => !commands(router, [1, 1, 1], { kinds: [kind], facings: [facing] }).number);
+}
+
+// Each block that can't be written, and what to write instead. Routing doesn't look at these facings.
+function unfitWords(router, job, { kinds, facings }) {
+    const lawful = new Map([...new Set(kinds)].map((kind) => [kind, facingsOf(router, kind)]));
+    const found = [];
+    for (let cell = 0; cell < cellCount(job); cell++) {
+        const [kind, facing] = [kinds[cell], facings[cell]];
+        if (lawful.get(kind).includes(facing)) continue;
+        found.push(said("the %s at %s faces %s, and the game has none that does: write facing %s%s", KINDS[kind],
+            spell(placeOf(job.sides, cell)), FACINGS[facing], oneOf(lawful.get(kind).map((one) => FACINGS[one])), standingWords(kind, facing)));
     }
-    const net = netOf(answer, job);
-    for (const cell of net.supports) kinds[cell] = SOLID;
-    for (const cell of net.strength.keys()) if (kinds[cell] === AIR) kinds[cell] = KIND["redstone-wire"];
-    for (const cell of answer.repeaters) {
-        kinds[cell] = KIND.repeater;
-        facings[cell] = net.facing.get(cell);
-    }
-    return { kinds, facings };
+    return found;
+}
+
+// `a, b or c`.
+function oneOf(names) {
+    return [names.slice(0, -1).join(", "), names[names.length - 1]].filter(Boolean).join(" or ");
+}
+
+// DustRoute's own standing torch faces up; in the game it has no facing.
+function standingWords(kind, facing) {
+    const isUp = FACINGS[facing] === "up" && [KIND["redstone-torch"], KIND.lever, KIND.button].includes(kind);
+    return isUp ? said("; one that stands on the ground has facing none") : "";
 }

@@ -6,7 +6,7 @@ const PATIENCE = 400; // and that a newer question waits for it
 export class Background {
     // `source` is the worker's script, `load` the message that loads the module, `told` what hears of answers.
     constructor(source, load, told, longest = LONGEST) {
-        Object.assign(this, { source, load, told, longest, waiting: null, asked: null, begun: 0, timer: null, isLoaded: false });
+        Object.assign(this, { source, load, told, longest, waiting: null, files: [], asked: null, begun: 0, timer: null, isLoaded: false });
         this.start();
     }
 
@@ -26,15 +26,19 @@ export class Background {
         else if (performance.now() - this.begun > PATIENCE) this.startAnew();
     }
 
-    // Asks something beside the route; a route that waits goes first.
+    // Asks something beside the route; a route that waits goes first. A file that is to be saved waits for it, too.
     askAlso(question) {
-        if (this.waiting === null) this.ask(question);
+        if (question.saveAs) {
+            this.files.push(question);
+            if (this.asked === null) this.send();
+        } else if (this.waiting === null) this.ask(question);
     }
 
     // Sends what waits, once the module is there: then its time begins.
     send() {
-        if (!this.isLoaded || this.waiting === null) return;
-        [this.asked, this.waiting] = [this.waiting, null];
+        const next = this.isLoaded ? this.waiting ?? this.files.shift() : undefined;
+        if (next === undefined) return;
+        [this.asked, this.waiting] = [next, null];
         this.begun = performance.now();
         this.worker.postMessage(this.asked);
         this.timer = setTimeout(() => this.tooLate(), this.longest);

@@ -18,7 +18,7 @@ export const REASONS = [limitReason];
 // What else the worker can be asked, by name: a part adds to it, and the tool that asks.
 export const QUESTIONS = {};
 
-// What else the page can save: a part adds {id, label, tip, asks, end}, and what it asks comes back as {words} or {file}.
+// What else the page can save: a part adds {id, label, tip, asks, end}. What it asks comes back as {words} or {file, saveAs}.
 export const OFFERS = [];
 
 // Of a search that was cut short, as is told where the module tells it of a sink (parts/why-tree.mjs); else of each net without a way.

@@ -12,7 +12,7 @@ async function answerTo(question) {
         return { names: (await loaded).names() };
     }
     const router = await loaded;
-    if (question.asks) return { told: { end: question.end, ...QUESTIONS[question.asks](router, question) } };
+    if (question.asks) return { told: { saveAs: question.saveAs, ...QUESTIONS[question.asks](router, question) } };
     const begun = performance.now();
     const answer = treeOf(router, question.sheet, question.strict);
     const took = performance.now() - begun;
