@@ -318,7 +318,7 @@ uint32_t dustroute_tree_why(
 
 /* A room as a function file of the game's Java Edition: for each cell that isn't Air, in number order, one line
  * `setblock ~x ~y ~z minecraft:STATE replace` and a newline, relative to where it is run; a 0 is left out behind its `~`. No byte
- * of it is free: docs/MORE-RULES.md has the states. A Repeater and a Comparator face their output here and their input in
+ * of it is free: docs/LAYING-RULES.md has the states. A Repeater and a Comparator face their output here and their input in
  * the game, so the text says the opposite side. May return 0, 2, 5, 6 and 18, and judges 2, 6, 5, 18 in that order; 5 is also for
  * a facing that its kind can't have: a Repeater and a Comparator have 1 to 4, a Piston 1 to 6, a RedstoneTorch, a Lever and
  * a Button 0 to 4, all others 0.
