@@ -13,12 +13,12 @@ use Rattle.room.specs.declared.Neighbour.{Neighbour}
 use Rattle.room.specs.declared.Neighbour.the-variants.{Inside, Outside}
 use Rattle.basics.specs.Lists.{In}
 
--- "Sides X, Y, Z are 1 to 64; the room has V = XYZ cells, at most 16,384."
+-- "Sides rise to 300, V to 65,536": sides X, Y, Z are 1 to 300; the room has V = XYZ cells, at most 65,536
 abbrev pub maxSide : ℕ
-maxSide = 64
+maxSide = 300
 
 abbrev pub maxVolume : ℕ
-maxVolume = 16384
+maxVolume = 65536
 
 abbrev pub volume : Room → ℕ
 volume R = R .wide * R .high * R .deep

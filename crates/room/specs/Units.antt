@@ -1,9 +1,9 @@
 -- Kinds, facings with the cell ahead, port kinds, and the config with its ranges, as docs/RULES.md, The room, has them.
 use mathlib.Core.Bool.{Bool, _&&_}
-use Prim.Native.Nat.{ℕ, _≤_}
+use Prim.Native.Nat.{ℕ, _+_, _*_, _≤_, max}
 use lib.Dec.{leb, eqb}
 use Rattle.basics.specs.Tests.{either}
-use Rattle.room.specs.Room.{between, by, neighbour}
+use Rattle.room.specs.Room.{volume, between, by, neighbour}
 use Rattle.room.specs.declared.Room.{Room}
 use Rattle.room.specs.declared.Move.{Move}
 use Rattle.room.specs.declared.Neighbour.{Neighbour}
@@ -88,24 +88,40 @@ maxPort = 1
 abbrev pub portKnown : ℕ → Bool
 portKnown port = leb port maxPort
 
--- "Each cost is 0 to 100,000, the node limit 0 to 200,000."
+-- "each cost is at most 1,000,000", the node limit at most 800,000
 abbrev pub maxCost : ℕ
-maxCost = 100000
+maxCost = 1000000
 
 abbrev pub maxNodes : ℕ
-maxNodes = 200000
+maxNodes = 800000
 
--- what number 3 judges
-unfoldable pub configGood : RouterConfig → Bool
-configGood C =
+-- "V times the sum of the support cost and the larger step cost is at most 3,300,000,000"
+abbrev pub maxProduct : ℕ
+maxProduct = 3300000000
+
+-- that sum: the dearest step, with a new support
+unfoldable pub dearest : RouterConfig → ℕ
+dearest C = max (C .horizontal .0) (C .stair .0) + C .support .0
+
+-- the single ranges: each number by itself, whatever the room
+unfoldable pub rangesGood : RouterConfig → Bool
+rangesGood C =
     leb (C .limit .0) maxNodes && (leb (C .horizontal .0) maxCost && (leb (C .stair .0) maxCost && leb (C .support .0) maxCost))
 
+-- what number 3 judges: the single ranges, then the product
+unfoldable pub configGood : Room → RouterConfig → Bool
+configGood R C = rangesGood C && leb (volume R * dearest C) maxProduct
+
 -- a config that number 3 does not refuse: its test, read as inequalities
-pub record GoodConfig (C : RouterConfig) : Type 0 where
+pub record GoodRanges (C : RouterConfig) : Type 0 where
   pub limit-most : C .limit .0 ≤ maxNodes
   pub horizontal-most : C .horizontal .0 ≤ maxCost
   pub stair-most : C .stair .0 ≤ maxCost
   pub support-most : C .support .0 ≤ maxCost
+
+pub record GoodConfig (R : Room) (C : RouterConfig) : Type 0 where
+  pub ranges : GoodRanges C
+  pub product-most : volume R * dearest C ≤ maxProduct
 
 -- "Costs 10, 25, 15, node limit 30,000", DustRoute's default
 abbrev pub usualConfig : RouterConfig

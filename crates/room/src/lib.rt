@@ -3,15 +3,18 @@
 ghost use mathlib.Core.Path.{_≡_};
 ghost use Prim.Native.Nat.{_≤_, _<_, _^_};
 ghost use Rattle.room.specs.Room.{Good, Within, SmallPos, between, sidesGood, volume, cellOf, posOf, within, moveAt, neighbourAt, neighbour, beneath, above, apart, distanceAt, distance};
-ghost use Rattle.room.specs.Units.{kindKnown, facingKnown, facingHorizontal, facingMove, ahead, portKnown, configGood};
+ghost use Rattle.room.specs.Units.{kindKnown, facingKnown, facingHorizontal, facingMove, ahead, portKnown, dearest, rangesGood, configGood, GoodRanges};
 
-const MAX_SIDE: usize = 64;
+const MAX_SIDE: usize = 300;
 
-pub const MAX_VOLUME: usize = 16384;
+pub const MAX_VOLUME: usize = 65536;
 
-const MAX_COST: u32 = 100000;
+const MAX_COST: u32 = 1000000;
 
-const MAX_NODES: u32 = 200000;
+const MAX_NODES: u32 = 800000;
+
+// The most that V times the dearest step with a new support may come to.
+const MAX_PRODUCT: u64 = 3300000000;
 
 // The kinds of a block, in the order of DustRoute's BlockKind: all of them, though some are named by no rule.
 pub const AIR: u8 = 0;
@@ -154,9 +157,9 @@ pub fn port_known(port: u8) -> bool
 }
 
 impl RouterConfig {
-    // Number 3 is due where this is false.
-    pub fn good(self) -> bool
-        ensures { λ r. ⌜ r ≡ configGood self ⌝ }
+    // Whether the node limit and each cost are in their single ranges.
+    fn ranges_good(self) -> bool
+        ensures { λ r. ⌜ r ≡ rangesGood self ⌝ }
     {
         if MAX_NODES < self.limit.0 {
             return false;
@@ -168,6 +171,28 @@ impl RouterConfig {
             return false;
         }
         self.support.0 <= MAX_COST
+    }
+
+    // The dearest step, with a new support.
+    fn dearest(self) -> u32
+        requires { ⌜ GoodRanges self ⌝ }
+        ensures { λ r. ⌜ r ≡ dearest self ⌝ }
+    {
+        if self.horizontal.0 < self.stair.0 {
+            return self.stair.0 + self.support.0;
+        }
+        self.horizontal.0 + self.support.0
+    }
+
+    // Number 3 is due where this is false: the single ranges, then the product, which takes 64 bits.
+    pub fn good(self, room: Room) -> bool
+        requires { ⌜ Good room ⌝ }
+        ensures { λ r. ⌜ r ≡ configGood room self ⌝ }
+    {
+        if !self.ranges_good() {
+            return false;
+        }
+        room.volume() as u64 * as_long(self.dearest()) <= MAX_PRODUCT
     }
 }
 

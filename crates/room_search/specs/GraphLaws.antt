@@ -20,7 +20,7 @@ use Rattle.room.specs.MoveLaws.{most, leads, nearer}
 use Rattle.best_first.specs.Search
 use Rattle.best_first.specs.Ways.{GraphStep, Sound, Consistent}
 use Rattle.room_search.specs.Routing.{Task, entering, total, priceOf, moveInto, movesBy, estimateOf, graphOf, graph}
-use Rattle.room.specs.Units.{maxCost, GoodConfig}
+use Rattle.room.specs.Units.{dearest}
 
 -- a move of the graph is one of the room's moves, which leads to a cell that can be entered
 pub record Made (R : Room) (C : RouterConfig) (class : ℕ → ℕ) (u : ℕ) (ms : List Move) (g : Search.Move) : Type 0 where
@@ -77,20 +77,13 @@ step-by T u v c s =
     let cost : total (priceOf (T .config) (a .by) (entering T (a .into))) ≡ c = ap (λ (g : Search.Move). g .cost) (sym (a .is)) ∙ s .3 in
     rw (← to, ← cost) (record { by = a .by; listed = a .listed; leads-in = a .leads-in; entered = a .entered; cost-is = refl })
 
--- the dearest step, with a new support
-unfoldable pub dearest : RouterConfig → ℕ
-dearest C = max (C .horizontal .0) (C .stair .0) + C .support .0
-
+-- no move costs more than the dearest step with a new support
 pub price-low : (C : RouterConfig) (m : Move) (class : ℕ) → total (priceOf C m class) ≤ dearest C
 unfolding priceOf dearest
 price-low C m class =
     let step : priceOf C m class .step .0 ≤ max (C .horizontal .0) (C .stair .0) = ask (flat m) (λ t. rw t (omega arith)) (λ f. rw f (omega arith)) in
     let support : priceOf C m class .support .0 ≤ C .support .0 = ask (eqb class 2) (λ t. rw t (omega arith)) (λ f. rw f (omega arith)) in
     omega arith
-
-pub dearest-most : {C : RouterConfig} → GoodConfig C → dearest C ≤ 2 * maxCost
-unfolding dearest
-dearest-most F = omega (arith, F .horizontal-most, F .stair-most, F .support-most)
 
 module _ (R : Room) (C : RouterConfig) (class : ℕ → ℕ) (start goal places : ℕ) where
   pub sound : start < volume R → goal < volume R → Sound (graphOf R C class start goal places) 12 (dearest C)

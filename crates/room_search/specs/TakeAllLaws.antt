@@ -2,14 +2,14 @@
 use mathlib.Core.Path.{_≡_, refl, sym, ap, _∙_}
 use mathlib.Core.List.{List, [], _∷_}
 use Prim.Native.Nat.{ℕ, _+_, _-_, _*_, _≤_, _<_, _^_}
-use native.Mathlib.Nat.{mul-le-mul}
 use native.Mathlib.Omega.{arith}
 use lib.ListN.{length, getD, set, replicate}
 use Rattle.basics.specs.Zeros.{cleared-to}
 use Rattle.room.specs.declared.Room.{Room}
 use Rattle.room.specs.declared.RouterConfig.{RouterConfig}
 use Rattle.room.specs.Room.{Good, volume, distanceAt, distance, posOf}
-use Rattle.room.specs.Units.{GoodConfig}
+use Rattle.room.specs.Units.{dearest, GoodConfig}
+use Rattle.room.specs.UnitLaws.{few-steps}
 use Rattle.best_first.specs.Search.{Graph, no-route, firstState, bestFirst, Answer}
 use Rattle.best_first.specs.Entries.{Same}
 use Rattle.best_first.specs.Statements.{Bounded}
@@ -23,7 +23,7 @@ use Rattle.room_search.specs.declared.AfterTaking.the-variants.{GoesOn, 
 use Rattle.room_search.specs.Routing.{placesIn, estimateOf, graphOf}
 use Rattle.room_search.specs.Held.{entriesIn, held}
 use Rattle.room_search.specs.HeldLaws.{pushed-entries}
-use Rattle.room_search.specs.GraphLaws.{dearest, sound, dearest-most}
+use Rattle.room_search.specs.GraphLaws.{sound}
 use Rattle.room_search.specs.TriedMoves.{maxKnown, placesOf, HeapReady, Placed}
 use Rattle.room_search.specs.Takings.{graphIn, Takeable, OutcomeTold, TakingCame, Fresh, Searchable, Showable}
 use Rattle.room_search.specs.declared.Outcome.the-variants.{Arrived, NoRoute, LimitPassed, QueueFull}
@@ -32,7 +32,7 @@ use Rattle.room.specs.declared.Pos.{Pos}
 -- what a search is over, and stays over
 pub record Arena (R : Room) (C : RouterConfig) (classes : List ℕ) (start : ℕ) (goal : Spot) : Type 0 where
   pub good : Good R
-  pub config-good : GoodConfig C
+  pub config-good : GoodConfig R C
   pub classes-long : length classes ≡ volume R
   pub start-in : start < volume R
   pub goal-placed : Placed R goal
@@ -91,7 +91,7 @@ module _ {R : Room} {C : RouterConfig} {classes queue₀ : List ℕ} {start : �
   bounds = going-bounded (sound R C (λ v. getD classes v 0) start (goal .cell) (placesOf queue₀) (A .start-in) (A .goal-placed .inside)) (I .going)
 
   known-most : (volume R - 1) * dearest C ≤ maxKnown
-  known-most = let v : volume R - 1 ≤ 16383 = omega (arith, A .good .few) in mul-le-mul v (dearest-most (A .config-good))
+  known-most = few-steps (A .config-good) (omega arith)
 
   pub running-within : expanded ≤ C .limit .0
   unfolding held
@@ -111,7 +111,7 @@ module _ {R : Room} {C : RouterConfig} {classes queue₀ : List ℕ} {start : �
     ready = I .ready;
     cells = λ e i. (bounds .cell-in e i, bounds .cell-known e i);
     costs = λ v. omega (arith, bounds .cost v, known-most);
-    serial-most = omega (arith, bounds .serial, running-within, A .config-good .limit-most);
+    serial-most = omega (arith, bounds .serial, running-within, A .config-good .ranges .limit-most);
   }
 
   module _ {known′ previous′ queue′ : List ℕ} where

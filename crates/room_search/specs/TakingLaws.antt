@@ -23,7 +23,8 @@ use Rattle.room_search.specs.declared.AfterTaking.the-variants.{GoesOn, 
 use Rattle.room_search.specs.Routing.{placesIn, movesBy, graphOf}
 use Rattle.room_search.specs.Held.{entriesIn, held}
 use Rattle.room_search.specs.HeldLaws.{takenEntry, taken-entries}
-use Rattle.room_search.specs.GraphLaws.{dearest, sound}
+use Rattle.room.specs.Units.{dearest}
+use Rattle.room_search.specs.GraphLaws.{sound}
 use Rattle.room_search.specs.TriedMoves.{placesOf, Placed, Able, Expansion, Stage, Fitting, MovesCame, setting}
 use Rattle.room_search.specs.Takings.{graphIn, Takeable, TakingCame}
 

@@ -28,7 +28,7 @@ graphIn R C classes start goal queue = graphOf R C (λ v. getD classes v 0) star
 -- what one taking asks of its parameters
 pub record Takeable (R : Room) (C : RouterConfig) (classes known previous queue : List ℕ) (line : Line) (goal : Spot) : Type 0 where
   pub good : Good R
-  pub config-good : GoodConfig C
+  pub config-good : GoodConfig R C
   pub classes-long : length classes ≡ volume R
   pub known-long : length known ≡ volume R
   pub previous-long : length previous ≡ volume R
@@ -68,7 +68,7 @@ pub record TakingCame (R : Room) (C : RouterConfig) (classes known previous queu
 -- what a whole search asks of its parameters: nothing is known yet
 pub record Fresh (R : Room) (C : RouterConfig) (classes known previous queue : List ℕ) (start goal : Spot) : Type 0 where
   pub good : Good R
-  pub config-good : GoodConfig C
+  pub config-good : GoodConfig R C
   pub classes-long : length classes ≡ volume R
   pub known-zero : known ≡ replicate (volume R) 0
   pub previous-zero : previous ≡ replicate (volume R) 0
@@ -83,7 +83,7 @@ spotOf R v = record { cell = v; at = posOf R v }
 -- what a search over class bytes asks, whatever its memory holds: work memory of exactly V cells, and a place in the queue
 pub record Searchable (R : Room) (C : RouterConfig) (classes known previous queue : List ℕ) (start goal : ℕ) : Type 0 where
   pub good : Good R
-  pub config-good : GoodConfig C
+  pub config-good : GoodConfig R C
   pub classes-long : length classes ≡ volume R
   pub known-long : length known ≡ volume R
   pub previous-long : length previous ≡ volume R

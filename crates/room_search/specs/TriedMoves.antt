@@ -8,7 +8,7 @@ use Rattle.room.specs.declared.Room.{Room}
 use Rattle.room.specs.declared.Move.{Move}
 use Rattle.room.specs.declared.RouterConfig.{RouterConfig}
 use Rattle.room.specs.Room.{Good, by, volume, posOf}
-use Rattle.room.specs.Units.{GoodConfig}
+use Rattle.room.specs.Units.{maxProduct, GoodConfig}
 use Rattle.best_first.specs.Search
 use Rattle.best_first.specs.Search.{Graph, Pushed, full}
 use Rattle.best_first.specs.Ways.{Sound}
@@ -25,9 +25,9 @@ use Rattle.room_search.specs.Held.{held}
 abbrev pub placesOf : List ℕ → ℕ
 placesOf queue = placesIn (length queue)
 
--- no known cost is higher: 16,383 times the dearest step with a new support
+-- no known cost is higher: each is at most V - 1 of the dearest steps with a new support
 abbrev pub maxKnown : ℕ
-maxKnown = 3276600000
+maxKnown = maxProduct
 
 -- the queue's first places are a heap
 pub record HeapReady (queue : List ℕ) (line : Line) : Type 0 where
@@ -122,7 +122,7 @@ pub record Aside (R : Room) (from beside : Spot) (m : Move) : Type 0 where
 -- what these functions ask of their parameters to try so many moves
 pub record Able (tries : ℕ) (R : Room) (C : RouterConfig) (classes : List ℕ) (goal : Spot) (from : Spot) (cost : ℕ) (known previous queue : List ℕ) (line : Line) : Type 0 where
   pub good : Good R
-  pub config-good : GoodConfig C
+  pub config-good : GoodConfig R C
   pub classes-long : length classes ≡ volume R
   pub known-long : length known ≡ volume R
   pub previous-long : length previous ≡ volume R

@@ -14,7 +14,7 @@ use Rattle.room.specs.declared.Move.{Move}
 use Rattle.room.specs.declared.RouterConfig.{RouterConfig}
 use Rattle.room.specs.declared.Cost.{Cost}
 use Rattle.room.specs.declared.Neighbour.the-variants.{Inside, Outside}
-use Rattle.room.specs.Room.{Good, Within, SmallPos, at, volume, posOf, cellOf, between, stays, neighbour, distanceAt, distance}
+use Rattle.room.specs.Room.{maxSide, Good, Within, SmallPos, at, volume, posOf, cellOf, between, stays, neighbour, distanceAt, distance}
 use Rattle.room.specs.RoomLaws.{cell-pos, pos-cell, pos-in, cell-in, small-pos}
 use Rattle.room.specs.MoveLaws.{Moved, leads-to, not-stays, one-less-in}
 use Rattle.best_first.specs.Search.{Graph}
@@ -110,7 +110,7 @@ module _ (R : Room) (G : Good R) (s : Spot) (P : Placed R s) where
   pub placed-small : SmallPos (s .at)
   placed-small = small-pos R G (s .cell) (P .inside) (s .at) (P .is)
 
-pub rise-few : (R : Room) → Good R → (k : ℕ) → k ≤ 2 → k * R .deep ≤ 128
+pub rise-few : (R : Room) → Good R → (k : ℕ) → k ≤ 2 → k * R .deep ≤ 2 * maxSide
 rise-few R G k h = mul-le-mul h (G .z-most)
 
 -- ---- one move

@@ -1,4 +1,4 @@
--- `Room::good` meets its contract: each test is one of the definition's, and sides of at most 64 have a small product.
+-- `Room::good` meets its contract: each test is one of the definition's, and sides of at most 300 have a small product.
 use native.Mathlib.Nat.{mul-le-mul}
 use native.Mathlib.Omega.{arith}
 use Rattle.basics.specs.Tests.{test-fails, test-passes}

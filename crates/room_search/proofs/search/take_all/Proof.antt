@@ -43,7 +43,7 @@ enum-known-after : tie.Need-enum-known-after Inv-loop μ-loop
 enum-known-after c = search needs
 
 add-t30 : tie.Need-add-t30 Inv-loop μ-loop
-add-t30 c = let s = c .before .before .before .before .before .before .before .before .before .before .before .before .before .before .before .before .before .before .before .before .before .before .before .before .before .before in let F = s .pre in let A = arena F in let I = c .before .before .before .before .before .before .before .before .before .before .before .before .before .before .before .before .loop .inv .2 in record { fits = omega (arith, running-within A I, F .config-good .limit-most) }
+add-t30 c = let s = c .before .before .before .before .before .before .before .before .before .before .before .before .before .before .before .before .before .before .before .before .before .before .before .before .before .before in let F = s .pre in let A = arena F in let I = c .before .before .before .before .before .before .before .before .before .before .before .before .before .before .before .before .loop .inv .2 in record { fits = omega (arith, running-within A I, F .config-good .ranges .limit-most) }
 
 loop-less : tie.Need-loop-less Inv-loop μ-loop
 loop-less c = let s = c .before .before .before .before .before .before .before .before .before .before .before .before .before .before .before .before .before .before .before .before .before .before .before .before .before .before in let F = s .pre in let A = arena F in let I = c .before .before .before .before .before .before .before .before .before .before .before .before .before .before .before .before .loop .inv .2 in omega (arith, running-within A (running-on A I (c .before .before .before .before .before .before .before .before .before .before .take-one .kept .1 .1 .1 .1 .1 .0) (rw (c .before .before .after .given .1) at (c .before .before .before .before .before .before .before .before .before .before .take-one .ensures))))
