@@ -45,7 +45,7 @@ pub record Usable (sheet : List ℕ) (job : Job) (J : Contents) : Type 0 where
   pub room-is : job .room ≡ J .room
   pub room-good : GoodRoom (job .room)
   pub config-is : job .config ≡ J .config
-  pub config-good : GoodConfig (job .config)
+  pub config-good : GoodConfig (job .room) (job .config)
   pub blocks : BlockList sheet (job .room) (job .blocks) (J .blocks)
   pub conductors : PositionList sheet (job .room) (job .conductors) (J .conductors)
   pub clearances : PositionList sheet (job .room) (job .clearances) (J .clearances)

@@ -124,7 +124,7 @@ module _ (v : Version) (J : Contents) (N : NoFault v J) (I : PartsIn (bytesBy v 
     room-is = refl;
     room-good = good-sides (v .ranges) S (J .room) (N .sides);
     config-is = refl;
-    config-good = good-config (v .ranges) S (J .config) (N .config);
+    config-good = good-config (v .ranges) S (J .room) (J .config) (N .sides) (N .config);
     blocks = block-list;
     conductors = position-list (layoutOf v J .conductors) (J .conductors) (I .conductors) (conductors-back v J) refl (N .conductors);
     clearances = position-list (layoutOf v J .clearances) (J .clearances) (I .clearances) (clearances-back v J) refl (N .clearances);

@@ -8,7 +8,7 @@ use lib.ListN.{getD}
 use Rattle.room.specs.declared.Room.{Room}
 use Rattle.room.specs.declared.RouterConfig.{RouterConfig}
 use Rattle.room.specs.Room.{maxSide, maxVolume, volume, between}
-use Rattle.room.specs.Units.{maxCost, maxNodes}
+use Rattle.room.specs.Units.{maxCost, maxNodes, maxProduct}
 use Rattle.job_sheet.specs.declared.Version.{Version}
 use Rattle.job_sheet.specs.declared.Ranges.{Ranges}
 
@@ -86,3 +86,4 @@ pub record Searchable (g : Ranges) : Type 0 where
   pub cells-most : g .cells ≤ maxVolume
   pub nodes-most : g .nodes ≤ maxNodes
   pub cost-most : g .cost ≤ maxCost
+  pub product-most : g .cells * (2 * g .cost) ≤ maxProduct
