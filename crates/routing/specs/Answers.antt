@@ -58,7 +58,7 @@ endsInside R start goal = ltb start (volume R) && ltb goal (volume R)
 unfoldable pub judged : Input → Judgement
 judged I =
     either (sidesGood (I .room))
-    (either (configGood (I .config))
+    (either (configGood (I .room) (I .config))
     (either (buffersGood (I .room) (I .kinds) (I .lengths))
     (either (every kindKnown (I .kinds)) (either (endsInside (I .room) (I .start) (I .goal)) Fit (Unfit Position)) (Unfit Code)) (Unfit Buffer)) (Unfit Config))
     (Unfit Sides)

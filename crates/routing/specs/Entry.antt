@@ -36,7 +36,7 @@ pub record SearchFound (T : Task) (o : Outcome) (known previous : List ℕ) : Ty
 -- what showing a route asks: a good room and config, a kind for each cell, as many predecessors and known costs, and a path buffer that is long enough
 pub record Shown (R : Room) (C : RouterConfig) (kinds : List ℕ) (goal : ℕ) (known previous path : List ℕ) : Type 0 where
   pub good : Good R
-  pub config-good : GoodConfig C
+  pub config-good : GoodConfig R C
   pub kinds-long : length kinds ≡ volume R
   pub previous-long : length previous ≡ volume R
   pub known-long : length known ≡ volume R
@@ -66,7 +66,7 @@ endsFit kinds start goal =
 -- what an input has that no number from 2 to 6 refuses
 pub record Admitted (R : Room) (C : RouterConfig) (kinds : List ℕ) (start goal : ℕ) (L : Lengths) : Type 0 where
   pub good : Good R
-  pub config-good : GoodConfig C
+  pub config-good : GoodConfig R C
   pub kinds-long : length kinds ≡ volume R
   pub start-in : start < volume R
   pub goal-in : goal < volume R

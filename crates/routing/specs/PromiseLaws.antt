@@ -37,7 +37,7 @@ differ why e = never (cc)
 
 record Passed (R : Room) (C : RouterConfig) (kinds : List ℕ) (start goal : ℕ) (L : Lengths) : Type 0 where
   sides : sidesGood R ≡ true
-  config : configGood C ≡ true
+  config : configGood R C ≡ true
   buffers : buffersGood R kinds L ≡ true
   ends : endsInside R start goal ≡ true
 
@@ -46,7 +46,7 @@ module _ {R : Room} {C : RouterConfig} {kinds : List ℕ} {start goal : ℕ} {L 
   unfolding judged
   fit-passed e =
       ask (sidesGood R)
-      (λ a. ask (configGood C)
+      (λ a. ask (configGood R C)
       (λ b. ask (buffersGood R kinds L)
       (λ c. ask (every kindKnown kinds)
       (λ d. ask (endsInside R start goal)
@@ -66,7 +66,7 @@ module _ {R : Room} {C : RouterConfig} {kinds : List ℕ} {start goal : ℕ} {L 
       let i : (ltb start (volume R) && ltb goal (volume R)) ≡ true = p .ends in
       record {
         good = good R (p .sides);
-        config-good = good-config C (p .config);
+        config-good = good-config R C (p .config);
         kinds-long = search passed;
         start-in = search passed;
         goal-in = search passed;

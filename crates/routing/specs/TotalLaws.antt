@@ -3,7 +3,7 @@ use mathlib.Core.Path.{_≡_, refl}
 use mathlib.Core.Logic.{_≢_}
 use mathlib.Core.List.{List, [], _∷_}
 use Prim.Native.Nat.{ℕ, _+_, _*_, _≤_, _<_, max}
-use native.Mathlib.Nat.{suc-mul, mul-le-mul}
+use native.Mathlib.Nat.{suc-mul, mul-le-mul-left}
 use native.Mathlib.Numerals.{add-one}
 use native.Mathlib.Omega.{arith}
 use lib.Dec.{eqb}
@@ -14,14 +14,15 @@ use Rattle.basics.specs.Folds.{ByPairs, pairs-next, pairs-end}
 use Rattle.room.specs.declared.Room.{Room}
 use Rattle.room.specs.declared.RouterConfig.{RouterConfig}
 use Rattle.room.specs.Room.{Good, maxVolume, volume, posOf, beneath}
-use Rattle.room.specs.Units.{GoodConfig, maxCost, air}
+use Rattle.room.specs.Units.{GoodConfig, maxProduct, dearest, air}
+use Rattle.room.specs.UnitLaws.{few-steps}
 use Rattle.room_search.specs.Routing.{kindAt}
 use Rattle.routing.specs.Totals.{stepOf, laidAt, pathSteps, pathLaid}
 
 -- what the totals of a path ask: a good room with a kind for each cell, a good config, and cells of the room, not more of them than it has
 pub record Countable (R : Room) (C : RouterConfig) (kinds path : List ℕ) : Type 0 where
   pub good : Good R
-  pub config-good : GoodConfig C
+  pub config-good : GoodConfig R C
   pub kinds-long : length kinds ≡ volume R
   pub path-short : length path ≤ volume R
   pub cells : (i : ℕ) → i < length path → getD path i 0 < volume R
@@ -30,6 +31,14 @@ pub record Countable (R : Room) (C : RouterConfig) (kinds path : List ℕ) : Typ
 
 abbrev dearer : RouterConfig → ℕ
 dearer C = max (C .horizontal .0) (C .stair .0)
+
+dearer-low : (C : RouterConfig) → dearer C ≤ dearest C
+unfolding dearest
+dearer-low C = omega arith
+
+support-low : (C : RouterConfig) → C .support .0 ≤ dearest C
+unfolding dearest
+support-low C = omega arith
 
 step-low : (R : Room) (C : RouterConfig) (u v : ℕ) → stepOf R C u v ≤ dearer C
 unfolding stepOf
@@ -100,16 +109,17 @@ module _ (R : Room) (C : RouterConfig) (kinds path : List ℕ) where
       pub counted-laid : laid ≡ pathLaid R kinds path
       counted-laid = omega (arith, I .laid-left, pairs-end (laid-by R kinds) path i h)
 
-    -- the sums stay in 32 bits: no more steps, and no more supports, than the room has cells
+    -- the sums stay within the product, and so in 32 bits: no more steps, and no more supports, than the room has cells
     module _ (P : Countable R C kinds path) where
-      pub steps-fit : i + 1 < length path → (step : ℕ) → step ≡ stepOf R C (getD path i 0) (getD path (i + 1) 0) → steps + step ≤ maxVolume * maxCost
+      pub steps-fit : i + 1 < length path → (step : ℕ) → step ≡ stepOf R C (getD path i 0) (getD path (i + 1) 0) → steps + step ≤ maxProduct
       steps-fit h step e =
-          let dear : dearer C ≤ maxCost = omega (arith, P .config-good .horizontal-most, P .config-good .stair-most) in
-          let few : i + 1 ≤ maxVolume = omega (arith, P .path-short, P .good .few) in
-          omega (arith, I .steps-most, e, step-low R C (getD path i 0) (getD path (i + 1) 0), one-more i (dearer C), mul-le-mul few dear)
+          let few : i + 1 ≤ volume R = omega (arith, P .path-short) in
+          omega (arith, I .steps-most, e, step-low R C (getD path i 0) (getD path (i + 1) 0), one-more i (dearer C), mul-le-mul-left (i + 1) (dearer-low C), few-steps (P .config-good) few)
 
       pub laid-fit : laid ≤ maxVolume
       laid-fit = omega (arith, I .laid-most, I .within, P .path-short, P .good .few)
 
-      pub supports-fit : laid * C .support .0 ≤ maxVolume * maxCost
-      supports-fit = mul-le-mul laid-fit (P .config-good .support-most)
+      pub supports-fit : laid * C .support .0 ≤ maxProduct
+      supports-fit =
+          let few : laid ≤ volume R = omega (arith, I .laid-most, I .within, P .path-short) in
+          omega (arith, mul-le-mul-left laid (support-low C), few-steps (P .config-good) few)

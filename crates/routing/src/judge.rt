@@ -75,7 +75,7 @@ pub fn judge(
     if !room.good() {
         return Judgement::Unfit(Refusal::Sides);
     }
-    if !config.good() {
+    if !config.good(room) {
         return Judgement::Unfit(Refusal::Config);
     }
     if !buffers_good(room, kinds, lengths) {

@@ -14,7 +14,7 @@ unfolding judged
 returns c = rw (test-fails (c .before .good2 .ensures) (c .if1 .taken))
 
 good-requires-2 : tie.Need-good-requires-2
-good-requires-2 c κs = search needs
+good-requires-2 c κs = good _ (test-passes (c .before .good2 .ensures) (c .if1 .left))
 
 returns-2 : tie.Need-returns-2
 unfolding judged
