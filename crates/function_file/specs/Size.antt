@@ -58,4 +58,4 @@ blocks (kind ∷ kinds) = either (eqb kind 0) (blocks kinds) (1 + blocks kinds)
 
 -- no line is longer
 abbrev pub lineMost : ℕ
-lineMost = 76
+lineMost = 77

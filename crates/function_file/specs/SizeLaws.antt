@@ -1,9 +1,10 @@
--- The text of a room is as long as was counted, and no line is longer than 76 bytes.
+-- The text of a room is as long as was counted, and no line is longer than 77 bytes.
 use mathlib.Core.Path.{_≡_, refl, sym, ap, _∙_}
 use mathlib.Core.Logic.{_≢_}
 use mathlib.Core.Bool.{Bool, true, false, _&&_, not}
 use mathlib.Core.List.{List, [], _∷_, _++_}
 use Prim.Native.Nat.{ℕ, _+_, _*_, _≤_, _<_}
+use native.Mathlib.Nat.{le-trans, mul-le-mul}
 use native.Mathlib.Omega.{arith}
 use lib.Dec.{eqb, leb, ltb}
 use lib.ListN.{length, getD, length-append}
@@ -12,7 +13,7 @@ use Rattle.basics.specs.Tests.{either, ask, askLess, askSame, and-left, and-rig
 use Rattle.basics.specs.Lists.{allBelow, below-all}
 use Rattle.room.specs.declared.Room.{Room}
 use Rattle.room.specs.declared.Pos.{Pos}
-use Rattle.room.specs.Room.{Good, volume, posOf}
+use Rattle.room.specs.Room.{maxVolume, Good, Within, volume, posOf}
 use Rattle.room.specs.RoomLaws.{pos-in}
 use Rattle.function_file.specs.Words.{words, word, numberText, leastFacing, mostFacing, blockKnown, nameWord, openWord, opposite, shownFacing, sideWord, closeWord, stateText}
 use Rattle.function_file.specs.Text.{placeText, lineAt, lineOf, blockText, textFrom, textOf}
@@ -32,14 +33,55 @@ module _ (n : ℕ) where
       (λ l. askLess n 100 (λ m. ap length (text-two n l m) ∙ rw (ne-eqb n 0 z, le-ltb n 10 l, lt-ltb n 100 m))
       (λ m. ap length (text-three n m h) ∙ rw (ne-eqb n 0 z, le-ltb n 10 l, le-ltb n 100 m))))
 
-  number-most : n < 100 → numberSize n ≤ 4
+  -- by its digits
+  one-digit : n < 10 → numberSize n ≤ 3
   unfolding numberSize
-  number-most h = rw (lt-ltb n 100 h) (by-tests (eqb n 0) (ltb n 10))
+  one-digit h = rw (lt-ltb n 10 h) (ask (eqb n 0) (λ t. rw t (omega arith)) (λ f. rw f (omega arith)))
+
+  two-digits : n < 100 → numberSize n ≤ 4
+  unfolding numberSize
+  two-digits h = rw (lt-ltb n 100 h) (by-tests (eqb n 0) (ltb n 10))
     where
       by-tests : (a b : Bool) → either {X = ℕ} a 2 (either b 3 4) ≤ 4
       by-tests true b = omega arith
       by-tests false true = omega arith
       by-tests false false = omega arith
+
+  three-digits : numberSize n ≤ 5
+  unfolding numberSize
+  three-digits = by-tests (eqb n 0) (ltb n 10) (ltb n 100)
+    where
+      by-tests : (a b c : Bool) → either {X = ℕ} a 2 (either b 3 (either c 4 5)) ≤ 5
+      by-tests true b c = omega arith
+      by-tests false true c = omega arith
+      by-tests false false true = omega arith
+      by-tests false false false = omega arith
+
+-- The numbers of a position in a room take at most 13 bytes: where two of them have three digits the third has one, since the cells would be too many
+-- otherwise
+module _ {R : Room} (good : Good R) {p : Pos} (w : Within R p) where
+  crowded : (a b c : ℕ) → a ≤ R .wide → b ≤ R .high → c ≤ R .deep → a * b * c ≤ maxVolume
+  crowded a b c h k l = le-trans (mul-le-mul (mul-le-mul h k) l) (good .few)
+
+  place-most : numberSize (p .x) + numberSize (p .y) + numberSize (p .z) ≤ 13
+  place-most =
+      askLess (p .x) 100
+      (λ a. askLess (p .y) 100
+      (λ b. omega (arith, two-digits (p .x) a, two-digits (p .y) b, three-digits (p .z)))
+      (λ b. askLess (p .z) 100
+      (λ c. omega (arith, two-digits (p .x) a, three-digits (p .y), two-digits (p .z) c))
+      (λ c. askLess (p .x) 10
+      (λ d. omega (arith, one-digit (p .x) d, three-digits (p .y), three-digits (p .z)))
+      (λ d. absurd (omega (arith, crowded 11 101 101 (omega (arith, w .x-in)) (omega (arith, w .y-in)) (omega (arith, w .z-in))))))))
+      (λ a. askLess (p .y) 100
+      (λ b. askLess (p .z) 100
+      (λ c. omega (arith, three-digits (p .x), two-digits (p .y) b, two-digits (p .z) c))
+      (λ c. askLess (p .y) 10
+      (λ d. omega (arith, three-digits (p .x), one-digit (p .y) d, three-digits (p .z)))
+      (λ d. absurd (omega (arith, crowded 101 11 101 (omega (arith, w .x-in)) (omega (arith, w .y-in)) (omega (arith, w .z-in)))))))
+      (λ b. askLess (p .z) 10
+      (λ d. omega (arith, three-digits (p .x), three-digits (p .y), one-digit (p .z) d))
+      (λ d. absurd (omega (arith, crowded 101 101 11 (omega (arith, w .x-in)) (omega (arith, w .y-in)) (omega (arith, w .z-in)))))))
 
 -- ---- a state: computed, kind by kind and facing by facing
 
@@ -82,9 +124,9 @@ module _ (p : Pos) (kind facing : ℕ) (known : blockKnown kind facing ≡ true)
       omega
       (arith, frame-sizes .0, frame-sizes .1, frame-sizes .2, length-append (word 12) (place ++ behind), length-append place behind, length-append (numberText (p .x)) (numberText (p .y) ++ numberText (p .z)), length-append (numberText (p .y)) (numberText (p .z)), length-append (word 13) (st ++ word 14), length-append st (word 14), number-size (p .x) a, number-size (p .y) b, number-size (p .z) c, state-size kind facing known some)
 
-  pub line-most : p .x < 100 → p .y < 100 → p .z < 100 → lineSize p kind facing ≤ lineMost
+  line-most : numberSize (p .x) + numberSize (p .y) + numberSize (p .z) ≤ 13 → lineSize p kind facing ≤ lineMost
   unfolding lineSize
-  line-most a b c = omega (arith, number-most (p .x) a, number-most (p .y) b, number-most (p .z) c, state-most kind facing known some)
+  line-most h = omega (arith, h, state-most kind facing known some)
 
 -- ---- a cell, and all cells
 
@@ -102,7 +144,7 @@ module _ {R : Room} (good : Good R) where
         let w = pos-in R good cell h in
         askSame kind 0 (λ z. rw (eq-eqb kind 0 z) (omega arith))
         (λ z. rw (ne-eqb kind 0 z)
-        (omega (arith, line-most (posOf R cell) kind facing known z (omega (arith, w .x-in, good .x-most)) (omega (arith, w .y-in, good .y-most)) (omega (arith, w .z-in, good .z-most)))))
+        (omega (arith, line-most (posOf R cell) kind facing known z (place-most good w))))
 
   module _ (facings : List ℕ) where
     size-from : (kinds : List ℕ) (cell : ℕ) → cell + length kinds ≤ volume R → knownFrom cell kinds facings ≡ true → length (textFrom R cell kinds facings) ≡ sizeFrom R cell kinds facings

@@ -333,7 +333,7 @@ module _ (R : Room) (kinds facings text : List ℕ) (n : ℕ) (text′ : List �
       let w = was-written R kinds facings (length text) n (W .answer) in
       w .long ∙ text-size (good R (w .sides-good)) kinds facings (w .exportable .kinds-long) (w .exportable .known)
 
-  -- 76 bytes for each cell that isn't Air always do
+  -- 77 bytes for each cell that isn't Air always do
   pub size-most : n ≤ lineMost * blocks kinds
   size-most =
       let w = was-written R kinds facings (length text) n (W .answer) in
