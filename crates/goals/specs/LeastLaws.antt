@@ -14,7 +14,7 @@ use Rattle.room.specs.declared.Move.{Move}
 use Rattle.room.specs.declared.RouterConfig.{RouterConfig}
 use Rattle.room.specs.Room.{Good, SmallPos, maxSide, maxVolume, volume, posOf, apart, flat}
 use Rattle.room.specs.RoomLaws.{small-pos}
-use Rattle.room.specs.Units.{maxCost, GoodConfig}
+use Rattle.room.specs.Units.{maxCost, GoodRanges}
 use Rattle.room.specs.MoveLaws.{Moved, Small, small, leads}
 use Rattle.best_first.specs.Ways.{Way}
 use Rattle.room_search.specs.Routing.{Task, priceOf, total, graphOf, graph, entering}
@@ -42,7 +42,7 @@ unfolding leastAt
 least-is C p q u x z r k = rw (r, u, x, z, k)
 
 -- it is small, and so is a bid
-least-few : {C : RouterConfig} → GoodConfig C → (p q : Pos) → SmallPos p → SmallPos q → leastAt C p q < 2 ^ 32
+least-few : {C : RouterConfig} → GoodRanges C → (p q : Pos) → SmallPos p → SmallPos q → leastAt C p q < 2 ^ 32
 unfolding leastAt
 least-few {C} F p q s t =
     let up = product-few maxSide (apart-few (p .y) (q .y) refl (s .y-small) (t .y-small)) (F .stair-most) in
@@ -57,7 +57,7 @@ least-few {C} F p q s t =
     le-trans : {a b c : ℕ} → a ≤ b → b ≤ c → a ≤ c
     le-trans h k = omega arith
 
-pub bid-few : {C : RouterConfig} {R : Room} → GoodConfig C → Good R → (from : Pos) → SmallPos from → (goal : ℕ) → goal < volume R → bidOf C R from goal < noBid
+pub bid-few : {C : RouterConfig} {R : Room} → GoodRanges C → Good R → (from : Pos) → SmallPos from → (goal : ℕ) → goal < volume R → bidOf C R from goal < noBid
 unfolding bidOf
 bid-few {C} {R} F G from s goal h = small (least-few F from (posOf R goal) s (small-pos R G goal h (posOf R goal) refl)) h (G .few)
   where

@@ -17,7 +17,7 @@ use Rattle.room.specs.declared.Pos.{Pos}
 use Rattle.room.specs.declared.Cost.{Cost}
 use Rattle.room.specs.Room.{Good, maxVolume, volume, posOf}
 use Rattle.room.specs.RoomLaws.{small-pos}
-use Rattle.room.specs.Units.{GoodConfig}
+use Rattle.room.specs.Units.{GoodRanges}
 use Rattle.ground.specs.declared.Ground.{Ground}
 use Rattle.routing_resources.specs.Marks.{isMarked}
 use Rattle.goals.specs.declared.Tried.{Tried}
@@ -85,7 +85,7 @@ module _ (S : Site) (start : ℕ) (blocked : List ℕ) where
     stays-kept Y = record { held = H; yields = Y; still = λ other y. y }
 
   -- a goal whose bid does not beat what is kept
-  module _ (R-good : Good (S .room)) (C-good : GoodConfig (S .config)) (start-in : start < volume (S .room)) where
+  module _ (R-good : Good (S .room)) (C-good : GoodRanges (S .config)) (start-in : start < volume (S .room)) where
     abbrev its : ℕ → ℕ
     its goal = bidOf (S .config) (S .room) (posOf (S .room) start) goal
 
@@ -340,7 +340,7 @@ pub record GoalsPassed (S : Site) (start : ℕ) (t : Bid) (K : Kept) (joinable�
   pub none : volume (S .room) ≤ t .goal → t .bid ≡ noBid
   pub same : SameMemory joinable₀ joinable blocked₀ blocked classes₀ classes known₀ known previous₀ previous path₀ path best₀ best queue₀ queue
 
-module _ (ground : Ground) (kinds : List ℕ) (start : ℕ) (R-good : Good (ground .room)) (C-good : GoodConfig (ground .config)) (start-in : start < volume (ground .room)) where
+module _ (ground : Ground) (kinds : List ℕ) (start : ℕ) (R-good : Good (ground .room)) (C-good : GoodRanges (ground .config)) (start-in : start < volume (ground .room)) where
   abbrev R : Room
   R = ground .room
 

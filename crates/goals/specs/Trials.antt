@@ -71,7 +71,7 @@ siteOf ground kinds joinable queue = record {
 -- what a sink's goals ask of the room and the marks. Joinable cells among themselves make no pair
 pub record Grounds (S : Site) (blocked : List ℕ) (start : ℕ) : Type 0 where
   pub good : Good (S .room)
-  pub config-good : GoodConfig (S .config)
+  pub config-good : GoodConfig (S .room) (S .config)
   pub kinds-long : length (S .kinds) ≡ volume (S .room)
   pub joinable-long : length (S .joinable) ≡ volume (S .room)
   pub joinable-marks : Marks (S .joinable)

@@ -5,7 +5,7 @@ ghost use mathlib.Core.Path.{_≡_};
 ghost use Prim.Native.Nat.{_+_, _-_, _≤_, _<_, min};
 ghost use lib.ListN.{length};
 ghost use Rattle.room.specs.Room.{Good, SmallPos, volume};
-ghost use Rattle.room.specs.Units.{maxCost, GoodConfig};
+ghost use Rattle.room.specs.Units.{maxCost, GoodRanges};
 ghost use Rattle.goals.specs.Goals.{routeToTree};
 ghost use Rattle.goals.specs.Trials.{Tells, lengthOf, siteOf, Attemptable};
 ghost use Rattle.goals.specs.NeverFull.{NeverFull};
@@ -28,7 +28,7 @@ const NO_BID: u64 = 4294967296 * PER_COST;
 
 // The cheaper of a flat step and a stair.
 fn cheaper_step(config: RouterConfig) -> u32
-    requires { ⌜ GoodConfig config ⌝ }
+    requires { ⌜ GoodRanges config ⌝ }
     ensures { λ r. ⌜ (r ≡ min (config .horizontal .0) (config .stair .0)) × (r ≤ maxCost) ⌝ }
 {
     if config.horizontal.0 < config.stair.0 {
@@ -48,7 +48,7 @@ fn beyond(a: usize, b: usize) -> usize
 // What any route between two positions costs at least: a stair for each cell up or down, and the cheaper step for each cell
 // aside that is then left.
 fn least_at(config: RouterConfig, p: Pos, q: Pos) -> u32
-    requires { ⌜ GoodConfig config ⌝ }
+    requires { ⌜ GoodRanges config ⌝ }
     requires { ⌜ SmallPos p ⌝ }
     requires { ⌜ SmallPos q ⌝ }
     ensures { λ r. ⌜ r ≡ leastAt config p q ⌝ }
@@ -106,7 +106,7 @@ fn keep_first(kept: Kept, goal: usize, tried: Tried, path: &[u32], best: &mut [u
 // A goal's bid.
 fn bid_of(room: Room, config: RouterConfig, from: Pos, goal: usize) -> u64
     requires { ⌜ Good room ⌝ }
-    requires { ⌜ GoodConfig config ⌝ }
+    requires { ⌜ GoodRanges config ⌝ }
     requires { ⌜ goal < volume room ⌝ }
     requires { ⌜ SmallPos from ⌝ }
     ensures { λ r. ⌜ r ≡ bidOf config room from goal ⌝ }
@@ -148,7 +148,7 @@ fn next_marked(marks: &[u8], from: usize) -> usize
 // One goal more: where its bid is `low` or higher, it may be the lowest or the second.
 fn lower_bid(room: Room, config: RouterConfig, from: Pos, low: u64, next: Bid, goal: usize) -> Bid
     requires { ⌜ Good room ⌝ }
-    requires { ⌜ GoodConfig config ⌝ }
+    requires { ⌜ GoodRanges config ⌝ }
     requires { ⌜ goal < volume room ⌝ }
     requires { ⌜ SmallPos from ⌝ }
     ensures { λ r. ⌜ LowerBid config room from low goal next r ⌝ }
@@ -188,7 +188,7 @@ fn none_bids(cells: usize) -> Bid
 // The joinable cell of the lowest bid from `low` on and before `end`.
 fn next_bid(room: Room, config: RouterConfig, joinable: &[u8], from: Pos, low: u64, end: u64) -> Bid
     requires { ⌜ Good room ⌝ }
-    requires { ⌜ GoodConfig config ⌝ }
+    requires { ⌜ GoodRanges config ⌝ }
     requires { ⌜ length (now joinable) ≡ volume room ⌝ }
     requires { ⌜ SmallPos from ⌝ }
     ensures { λ r. ⌜ NextBid config room (now (joinable .entry)) from low end r ⌝ }

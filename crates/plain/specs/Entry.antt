@@ -5,11 +5,10 @@ use Prim.Native.Nat.{ℕ, _≤_, _<_}
 use lib.ListN.{length}
 use Rattle.lent.specs.Lent.{Cleared, filled}
 use Rattle.room.specs.Room.{Good, volume}
-use Rattle.room.specs.Units.{GoodConfig}
+use Rattle.room.specs.Units.{dearest, GoodConfig}
 use Rattle.best_first.specs.Search.{Graph}
 use Rattle.sweeps.specs.Sweeps.{ReachedCount, Grounded, AtRest}
 use Rattle.room_search.specs.Routing.{Task, placesIn, graph}
-use Rattle.room_search.specs.GraphLaws.{dearest}
 use Rattle.routing.specs.Answers.{taskIn}
 use Rattle.plain.specs.declared.Errand.{Errand}
 use Rattle.plain.specs.declared.PlainAnswer.{PlainAnswer}
@@ -22,7 +21,7 @@ taskOn E kinds = taskIn (E .room) (E .config) kinds (E .start) (E .goal) (places
 -- what an input has that no number from 2 to 6 refuses
 pub record ErrandPosed (E : Errand) (kinds : List ℕ) : Type 0 where
   pub good : Good (E .room)
-  pub config-good : GoodConfig (E .config)
+  pub config-good : GoodConfig (E .room) (E .config)
   pub kinds-long : length kinds ≡ volume (E .room)
   pub start-in : E .start < volume (E .room)
   pub goal-in : E .goal < volume (E .room)

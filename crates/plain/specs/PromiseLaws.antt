@@ -18,7 +18,7 @@ use Rattle.trace.specs.Traces.{PreviousInside}
 use Rattle.best_first.specs.Search.{Graph, trace}
 use Rattle.sweeps.specs.RestLaws.{rest-cheapest, rest-no-way, rest-lawful, rest-counted, count-one}
 use Rattle.room_search.specs.Routing.{graphOf, graph}
-use Rattle.room_search.specs.GraphLaws.{dearest}
+use Rattle.room.specs.Units.{dearest}
 use Rattle.room_search.specs.Classes.{Plain, withEnd}
 use Rattle.room_search.specs.SameGraphLaws.{ends-graph}
 use Rattle.routing.specs.declared.Refusal.{Refusal}

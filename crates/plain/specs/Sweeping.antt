@@ -8,14 +8,13 @@ use Rattle.basics.specs.Lists.{In}
 use Rattle.room.specs.declared.Move.{Move}
 use Rattle.room.specs.declared.Neighbour.the-variants.{Inside}
 use Rattle.room.specs.Room.{Good, volume, neighbour}
-use Rattle.room.specs.Units.{GoodConfig}
+use Rattle.room.specs.Units.{dearest, GoodConfig}
 use Rattle.best_first.specs.Search
 use Rattle.best_first.specs.Search.{Graph}
 use Rattle.best_first.specs.Equations.{Gain}
 use Rattle.best_first.specs.Base.{Loose}
 use Rattle.sweeps.specs.Sweeps.{ReachedCount, Grounded, AtRest, Progress, NoHigher, TriedFrom}
 use Rattle.room_search.specs.Routing.{placesIn, total, priceOf, graphOf}
-use Rattle.room_search.specs.GraphLaws.{dearest}
 use Rattle.plain.specs.declared.Errand.{Errand}
 use Rattle.plain.specs.Answers.{unusedQueue}
 
@@ -31,7 +30,7 @@ pub data Lowered (u v c : ℕ) (known previous : List ℕ) (r : Bool) (known′ 
 -- a room that is fit, its class bytes, and both ends in it
 pub record ErrandFit (E : Errand) (classes : List ℕ) : Type 0 where
   pub good : Good (E .room)
-  pub config-good : GoodConfig (E .config)
+  pub config-good : GoodConfig (E .room) (E .config)
   pub classes-long : length classes ≡ volume (E .room)
   pub start-in : E .start < volume (E .room)
   pub goal-in : E .goal < volume (E .room)

@@ -20,7 +20,7 @@ use Rattle.room.specs.declared.RouterConfig.{RouterConfig}
 use Rattle.room.specs.declared.Neighbour.{Neighbour}
 use Rattle.room.specs.declared.Neighbour.the-variants.{Inside, Outside}
 use Rattle.room.specs.Room.{maxVolume, by, volume, moves, moveAt, neighbour}
-use Rattle.room.specs.Units.{maxCost}
+use Rattle.room.specs.Units.{maxProduct, dearest}
 use Rattle.room.specs.MoveLaws.{leads}
 use Rattle.best_first.specs.Search
 use Rattle.best_first.specs.Ways.{Sound}
@@ -32,7 +32,7 @@ use Rattle.sweeps.specs.RestLaws.{rest-counted, count-one}
 use Rattle.sweeps.specs.FewSweeps.{beaten-more, sweeps-few, some-known}
 use Rattle.sweeps.specs.SweepLaws.{progress-none, progress-both, progress-still, kept-most, lower-kept, lower-stays, lower-falls, first-kept}
 use Rattle.room_search.specs.Routing.{placesIn, total, priceOf, moveInto, movesBy, graphOf}
-use Rattle.room_search.specs.GraphLaws.{Made, made, dearest, dearest-most, sound}
+use Rattle.room_search.specs.GraphLaws.{Made, made, sound}
 use Rattle.plain.specs.declared.Errand.{Errand}
 use Rattle.plain.specs.Answers.{unusedQueue}
 use Rattle.plain.specs.Sweeping.{errandGraph, Lowered, no-dearer, lowers, ErrandFit, Sweeping, LooseMove, MoveSwept, MovesSwept, Swept, Ready, Settled}
@@ -85,9 +85,9 @@ module _ {E : Errand} {classes : List ℕ} (F : ErrandFit E classes) where
     fit-long = (K .linked .known-long, K .linked .previous-long)
 
     -- a known cost and the dearest step fit 32 bits, with 1 added
-    pub fit-most : (u : ℕ) → 0 < getD known u 0 → getD known u 0 + dearest (E .config) ≤ suc (maxVolume * (2 * maxCost))
+    pub fit-most : (u : ℕ) → 0 < getD known u 0 → getD known u 0 + dearest (E .config) ≤ suc maxProduct
     unfolding graphOf
-    fit-most u p = omega (arith, kept-most fit-sound K u p, mul-le-mul (F .good .few) (dearest-most (F .config-good)))
+    fit-most u p = omega (arith, kept-most fit-sound K u p, F .config-good .product-most)
 
 -- ---- costs that fall
 

@@ -6,7 +6,7 @@ ghost use lib.ListN.{length, getD};
 ghost use Rattle.basics.specs.Lists.{In};
 ghost use Rattle.basics.specs.Counts.{times};
 ghost use Rattle.room.specs.Room.{maxVolume, moves};
-ghost use Rattle.room.specs.Units.{GoodConfig};
+ghost use Rattle.room.specs.Units.{GoodRanges};
 ghost use Rattle.room_search.specs.Routing.{total, priceOf};
 ghost use Rattle.plain.specs.Sweeping.{Lowered, Sweeping, MoveSwept, MovesSwept, Swept, Ready, Settled};
 use crate::Errand;
@@ -29,7 +29,7 @@ fn step_cost(config: RouterConfig, m: Move) -> Cost
 
 // What a move into a cell of that class costs: the step, and a new support where air is beneath.
 fn move_cost(config: RouterConfig, m: Move, class: u8) -> Cost
-    requires { ⌜ GoodConfig config ⌝ }
+    requires { ⌜ GoodRanges config ⌝ }
     ensures { λ r. ⌜ r .0 ≡ total (priceOf config m class) ⌝ }
 {
     let step = step_cost(config, m);

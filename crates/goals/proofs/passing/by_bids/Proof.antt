@@ -37,13 +37,13 @@ pos-requires c κs = search needs
 next-bid-requires : tie.Need-next-bid-requires Inv-loop μ-loop
 next-bid-requires c κs =
     let grounds = c .before .before .before .before .before .before .before .before .before .before .before .pre .0 .grounds in
-    (grounds .good, (grounds .config-good, (grounds .joinable-long, small-pos _ (grounds .good) _ (grounds .start-in) _ (c .before .pos .ensures))))
+    (grounds .good, (grounds .config-good .ranges, (grounds .joinable-long, small-pos _ (grounds .good) _ (grounds .start-in) _ (c .before .pos .ensures))))
 
 loop-holds : tie.Need-loop-holds Inv-loop μ-loop
 loop-holds c =
     let start = start-of c in
     let grounds = start .pre .0 .grounds in
-    passed-first (start .args .ground) (start .args .kinds .now) (start .args .start) (grounds .good) (grounds .config-good) (grounds .start-in) _ _ _ _ _ _ _ _ (c .before .before .pos .ensures) (c .next-bid .ensures)
+    passed-first (start .args .ground) (start .args .kinds .now) (start .args .start) (grounds .good) (grounds .config-good .ranges) (grounds .start-in) _ _ _ _ _ _ _ _ (c .before .before .pos .ensures) (c .next-bid .ensures)
 
 pass-goal-requires : tie.Need-pass-goal-requires Inv-loop μ-loop
 pass-goal-requires c κs =
@@ -53,7 +53,7 @@ pass-goal-requires c κs =
     let pre = start .pre in
     let grounds = pre .0 .grounds in
     let h = rw (grounds .kinds-long) at (test .if1 .taken) in
-    (memory-able (start .args .ground) (start .args .kinds .now) (loop .inv .same) (pre .0), passed-able (start .args .ground) (start .args .kinds .now) (start .args .start) (grounds .good) (grounds .config-good) (grounds .start-in) (loop .inv) (pre .1 .0) (pre .1 .1) h)
+    (memory-able (start .args .ground) (start .args .kinds .now) (loop .inv .same) (pre .0), passed-able (start .args .ground) (start .args .kinds .now) (start .args .start) (grounds .good) (grounds .config-good .ranges) (grounds .start-in) (loop .inv) (pre .1 .0) (pre .1 .1) h)
 
 bid-to-beat-requires : tie.Need-bid-to-beat-requires Inv-loop μ-loop
 bid-to-beat-requires c κs = kept-small _ _ _ (start-of (test-of (passing c) .before .before .before) .pre .0 .grounds .good) (passing c .pass-goal .ensures .0 .held)
@@ -66,7 +66,7 @@ next-bid-requires-2 c κs =
     let start = start-of (test .before .before .before) in
     let grounds = start .pre .0 .grounds in
     let long = ap length (passed .pass-goal .ensures .1 .0) ∙ ap length (loop .inv .same .joinable-is) ∙ grounds .joinable-long in
-    (grounds .good, (grounds .config-good, (long, small-pos _ (grounds .good) _ (grounds .start-in) _ (test .before .before .before .before .before .pos .ensures))))
+    (grounds .good, (grounds .config-good .ranges, (long, small-pos _ (grounds .good) _ (grounds .start-in) _ (test .before .before .before .before .before .pos .ensures))))
 
 loop-less : tie.Need-loop-less Inv-loop μ-loop
 loop-less c =
@@ -76,7 +76,7 @@ loop-less c =
     let start = start-of (test .before .before .before) in
     let grounds = start .pre .0 .grounds in
     let h = rw (grounds .kinds-long) at (test .if1 .taken) in
-    bid-rises (start .args .ground) (start .args .kinds .now) (start .args .start) (grounds .good) (grounds .config-good) (grounds .start-in) (loop .inv) h (c .next-bid2 .ensures)
+    bid-rises (start .args .ground) (start .args .kinds .now) (start .args .start) (grounds .good) (grounds .config-good .ranges) (grounds .start-in) (loop .inv) h (c .next-bid2 .ensures)
 
 loop-again : tie.Need-loop-again Inv-loop μ-loop
 loop-again c =
@@ -87,7 +87,7 @@ loop-again c =
     let grounds = start .pre .0 .grounds in
     let pass-goal = passed .pass-goal in
     let h = rw (grounds .kinds-long) at (test .if1 .taken) in
-    passed-next (start .args .ground) (start .args .kinds .now) (start .args .start) (grounds .good) (grounds .config-good) (grounds .start-in) (loop .inv) h (pass-goal .ensures .0) (pass-goal .ensures .1) (pass-goal .kept .1 .1 .1 .1 .1 .0) (pass-goal .kept .1 .1 .1 .1 .1 .1 .0) (pass-goal .kept .1 .1 .1 .1 .1 .1 .1 .0) (pass-goal .kept .1 .1 .1 .1 .1 .1 .1 .1 .0) (pass-goal .kept .1 .1 .1 .1 .1 .1 .1 .1 .1 .0) (test .before .before .before .before .before .pos .ensures) (c .before .bid-to-beat .ensures) (c .next-bid2 .ensures)
+    passed-next (start .args .ground) (start .args .kinds .now) (start .args .start) (grounds .good) (grounds .config-good .ranges) (grounds .start-in) (loop .inv) h (pass-goal .ensures .0) (pass-goal .ensures .1) (pass-goal .kept .1 .1 .1 .1 .1 .0) (pass-goal .kept .1 .1 .1 .1 .1 .1 .0) (pass-goal .kept .1 .1 .1 .1 .1 .1 .1 .0) (pass-goal .kept .1 .1 .1 .1 .1 .1 .1 .1 .0) (pass-goal .kept .1 .1 .1 .1 .1 .1 .1 .1 .1 .0) (test .before .before .before .before .before .pos .ensures) (c .before .bid-to-beat .ensures) (c .next-bid2 .ensures)
 
 same-length : tie.Need-same-length Inv-loop μ-loop
 same-length c = ap length (c .before .before .loop .inv .same .joinable-is)
@@ -121,7 +121,7 @@ returns c =
     let args = start .args in
     let loop = c .before .before .loop in
     let h = rw (grounds .kinds-long) at (c .if1 .left) in (
-      passed-all (args .ground) (args .kinds .now) (args .start) (grounds .good) (grounds .config-good) (grounds .start-in) (loop .inv) (pre .1 .1) h,
+      passed-all (args .ground) (args .kinds .now) (args .start) (grounds .good) (grounds .config-good .ranges) (grounds .start-in) (loop .inv) (pre .1 .1) h,
       (loop .inv .same .joinable-is, loop .inv .same .blocked-is, loop .inv .same .classes-is),
     )
 

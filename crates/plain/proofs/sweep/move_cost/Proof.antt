@@ -1,6 +1,7 @@
 -- `move_cost` meets its contract: its two cases are the definition's.
 use native.Mathlib.Omega.{arith}
-use Rattle.room_search.specs.GraphLaws.{price-low, dearest-most}
+use Rattle.room.specs.UnitLaws.{dearest-most}
+use Rattle.room_search.specs.GraphLaws.{price-low}
 use Rattle.plain.specs.SweepingLaws.{cost-laid, cost-bare}
 use borrow.Author.Needs.{needs}
 use Rattle.plain.proofs.sweep.move_cost.Statement.{statement}

@@ -58,7 +58,7 @@ returns c =
     move-shut (s .pre .0) (a .from) (a .cost .0) (s .pre .1 .0) (a .m) _ (leads at) (c .if1 .taken)
 
 move-cost-requires : tie.Need-move-cost-requires
-move-cost-requires c κs = search needs
+move-cost-requires c κs = start-of (asked (cell-of (c .before))) .pre .0 .fit .config-good .ranges
 
 -- the sum that is offered fits, with 1 added
 sum-fits : (c : tie.After-move-cost) → start-of (asked (cell-of (class-of c))) .args .cost .0 + c .move-cost .result .0 + 1 < 2 ^ 32
