@@ -14,14 +14,14 @@ use Rattle.basics.specs.Lists.{every, every-map, every-joined, every-append, jo
 use Rattle.room.specs.declared.Room.{Room}
 use Rattle.room.specs.declared.Pos.{Pos}
 use Rattle.room.specs.declared.RouterConfig.{RouterConfig}
-use Rattle.room.specs.Room.{Within, Good as GoodRoom}
-use Rattle.room.specs.Units.{GoodConfig, maxKind, kindKnown, maxFacing, facingKnown, maxPort, portKnown}
+use Rattle.room.specs.Room.{Within, between}
+use Rattle.room.specs.Units.{GoodRanges, maxKind, kindKnown, maxFacing, facingKnown, maxPort, portKnown}
 use Rattle.job_sheet.specs.declared.Block.{Block}
 use Rattle.job_sheet.specs.declared.Endpoint.{Endpoint}
 use Rattle.job_sheet.specs.declared.Sink.{Sink}
 use Rattle.job_sheet.specs.declared.Judgement.the-variants.{Good, Code}
-use Rattle.job_sheet.specs.Version.{versionOne}
-use Rattle.job_sheet.specs.VersionLaws.{good-sides, good-config}
+use Rattle.job_sheet.specs.Version.{versionOne, sidesWithin}
+use Rattle.job_sheet.specs.VersionLaws.{good-ranges}
 use Rattle.job_sheet.specs.Sheet.{Contents, maxBytes, maxSinks, layoutOf, two, four, sides, costs, position, block, endpoint, sink, counted, sinkBytes, rest, bytesOf, bytesBy, isGood, judged, blockFault, positionFault, endpointFault, sinkFault}
 use Rattle.job_sheet.specs.FaultLaws.{good-is}
 use Rattle.job_sheet.specs.AcceptedLaws.{NoFault, no-fault, first-good, faultless, position-within, block-within, endpoint-within}
@@ -67,7 +67,20 @@ counted-bytes bytes p f xs e h =
 
 -- ---- the records
 
-module _ (R : Room) (G : GoodRoom R) where
+-- a byte holds each side of a room of version 1
+record ByteSides (R : Room) : Type 0 where
+  x-most : R .wide < 256
+  y-most : R .high < 256
+  z-most : R .deep < 256
+
+byte-sides : (R : Room) → sidesWithin (versionOne .ranges) R ≡ true → ByteSides R
+unfolding sidesWithin between
+byte-sides R e =
+    let x : R .wide ≤ versionOne .ranges .side = search passed in
+    let y : R .high ≤ versionOne .ranges .side = search passed in
+    let z : R .deep ≤ versionOne .ranges .side = search passed in record { x-most = omega arith; y-most = omega arith; z-most = omega arith }
+
+module _ (R : Room) (G : ByteSides R) where
   position-bytes : (p : Pos) → Within R p → every isByte (position false p) ≡ true
   position-bytes p w =
       and-both (byte (p .x) (omega (arith, w .x-in, G .x-most)))
@@ -99,7 +112,7 @@ module _ (R : Room) (G : GoodRoom R) where
   unfolding sinkFault
   sink-bytes k g = endpoint-bytes (k .end) g
 
-costs-bytes : (C : RouterConfig) → GoodConfig C → every isByte (costs C) ≡ true
+costs-bytes : (C : RouterConfig) → GoodRanges C → every isByte (costs C) ≡ true
 costs-bytes C G =
     rw (every-joined isByte (four (C .limit .0) ∷ four (C .horizontal .0) ∷ four (C .stair .0) ∷ four (C .support .0) ∷ [])) (and-both (four-bytes (C .limit .0) (omega (arith, G .limit-most)))
     (and-both (four-bytes (C .horizontal .0) (omega (arith, G .horizontal-most)))
@@ -144,13 +157,13 @@ unfolding bytesBy rest
 good-bytes J g s k n =
     let R = J .room in
     let N = no-fault versionOne J g in
-    let G = good-sides (versionOne .ranges) one-searchable R (N .sides) in
+    let G = byte-sides R (N .sides) in
     let Z = sized J s k in
     let position-good : (p : Pos) → isGood (positionFault R p) ≡ true → every isByte (position false p) ≡ true = λ p e. position-bytes R G p (position-within R p e) in
     let side : every isByte (sides false R) ≡ true =
     and-both (byte (R .wide) (omega (arith, G .x-most))) (and-both (byte (R .high) (omega (arith, G .y-most))) (and-both (byte (R .deep) (omega (arith, G .z-most))) refl)) in
     let all : every isByte (rest versionOne J) ≡ true =
-    rw every-joined (and-both side (and-both (costs-bytes (J .config) (good-config (versionOne .ranges) one-searchable (J .config) (N .config)))
+    rw every-joined (and-both side (and-both (costs-bytes (J .config) (good-ranges (versionOne .ranges) one-searchable (J .config) (N .config)))
     (and-both (counted-bytes (block false) (λ b. isGood (blockFault R b) && nodeHeld b) (block-bytes R G) (J .blocks) (both-every (λ b. isGood (blockFault R b)) nodeHeld (J .blocks) (rw every-map at (N .blocks)) n) (Z .blocks))
     (and-both (counted-bytes (position false) (λ p. isGood (positionFault R p)) position-good (J .conductors) (rw every-map at (N .conductors)) (Z .conductors))
     (and-both (counted-bytes (position false) (λ p. isGood (positionFault R p)) position-good (J .clearances) (rw every-map at (N .clearances)) (Z .clearances))

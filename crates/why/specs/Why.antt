@@ -63,7 +63,7 @@ outputsGood R reached walls = leb (volume R) reached && leb (12 * volume R) wall
 
 -- that is due at 6's place: 2 and 3 are judged before it
 unfoldable pub outputsRefused : Room → RouterConfig → ℕ → ℕ → Bool
-outputsRefused R C reached walls = sidesGood R && (configGood C && not (outputsGood R reached walls))
+outputsRefused R C reached walls = sidesGood R && (configGood R C && not (outputsGood R reached walls))
 
 -- else the answer is the search's, which judges 2, 3, 6, 5, 4, 10
 unfoldable pub whyAnswer : Input → ℕ → ℕ → Answer

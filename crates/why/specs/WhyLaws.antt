@@ -63,11 +63,11 @@ module _ (R : Room) (C : RouterConfig) (reached walls : ℕ) where
   unfolding outputsRefused
   short-sides s = rw s
 
-  pub short-config : sidesGood R ≡ true → configGood C ≡ false → false ≡ outputsRefused R C reached walls
+  pub short-config : sidesGood R ≡ true → configGood R C ≡ false → false ≡ outputsRefused R C reached walls
   unfolding outputsRefused
   short-config s k = rw (s, k)
 
-  module _ (s : sidesGood R ≡ true) (k : configGood C ≡ true) where
+  module _ (s : sidesGood R ≡ true) (k : configGood R C ≡ true) where
     pub short-reached : reached < volume R → true ≡ outputsRefused R C reached walls
     unfolding outputsRefused outputsGood
     short-reached h = rw (s, k, lt-leb (volume R) reached h)
@@ -138,10 +138,10 @@ module _ {R : Room} {kinds : List ℕ} {start goal : ℕ} {path classes reached 
 -- ---- the promise
 
 fit-sides : (R : Room) (C : RouterConfig) (kinds : List ℕ) (start goal : ℕ) (L : Lengths) → judged (input R C kinds start goal L) ≡ Fit
-    → (sidesGood R ≡ true) × (configGood C ≡ true)
+    → (sidesGood R ≡ true) × (configGood R C ≡ true)
 unfolding judged
 fit-sides R C kinds start goal L e =
-    ask (sidesGood R) (λ s. ask (configGood C) (λ k. (s, k)) (λ k. never (cc (rw (s, k) at e)))) (λ s. never (cc (rw s at e)))
+    ask (sidesGood R) (λ s. ask (configGood R C) (λ k. (s, k)) (λ k. never (cc (rw (s, k) at e)))) (λ s. never (cc (rw s at e)))
 
 module _ (R : Room) (C : RouterConfig) (kinds : List ℕ) (start goal : ℕ) (path known previous classes queue reached walls : List ℕ) where
   abbrev I : Input

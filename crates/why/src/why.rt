@@ -19,7 +19,7 @@ fn outputs_refused(room: Room, config: RouterConfig, reached: usize, walls: usiz
     if !room.good() {
         return false;
     }
-    if !config.good() {
+    if !config.good(room) {
         return false;
     }
     let v = room.volume();

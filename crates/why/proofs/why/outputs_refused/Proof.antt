@@ -14,7 +14,7 @@ returns : tie.Need-returns
 returns c = let a = c .before .before .args in short-sides (a .room) (a .config) (a .reached) (a .walls) (test-fails (c .before .good2 .ensures) (c .if1 .taken))
 
 good-requires-2 : tie.Need-good-requires-2
-good-requires-2 c κs = search needs
+good-requires-2 c κs = good _ (test-passes (c .before .good2 .ensures) (c .if1 .left))
 
 returns-2 : tie.Need-returns-2
 returns-2 c = let a = c .before .before .before .before .args in short-config (a .room) (a .config) (a .reached) (a .walls) (test-passes (c .before .before .before .good2 .ensures) (c .before .before .if1 .left)) (test-fails (c .before .good3 .ensures) (c .if2 .taken))
