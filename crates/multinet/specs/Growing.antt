@@ -27,7 +27,7 @@ Near R t = (t .terminal ≡ t .approach) ⊎ Step R (t .approach) (t .terminal)
 -- a plot that no number up to 9 refuses
 pub record SoundPlot (P : Plot) : Type 0 where
   pub good : Good (P .room)
-  pub config-good : GoodConfig (P .config)
+  pub config-good : GoodConfig (P .room) (P .config)
   pub kinds-long : length (P .kinds) ≡ volume (P .room)
   pub places-some : 0 < P .places
   pub net : NetInside (P .room) (P .source) (P .taps)
