@@ -6,7 +6,7 @@ use lib.ListN.{replicate, set}
 use Rattle.room.specs.declared.Room.{Room}
 use Rattle.room.specs.declared.RouterConfig.{RouterConfig}
 use Rattle.room.specs.Room.{volume, posOf, cellOf, moves, between, sidesGood, stays, neighbour, beneath, distance}
-use Rattle.room.specs.Units.{air, solid, redstoneWire, lever, usualConfig, configGood}
+use Rattle.room.specs.Units.{air, solid, redstoneWire, lever, usualConfig, configGood, rangesGood, dearest}
 use Rattle.best_first.specs.Search.{sooner, least, push, offer, expand, trace, takeOne, takeAll, firstState, bestFirst}
 use Rattle.room_search.specs.Routing.{routeableKind, routeable, bearing, classFor, priceOf, movesBy, graphOf, searched}
 use Rattle.routing.specs.Answers.{Input, buffersGood, endsInside, judged, fitAnswer, answerOf, numberOf, detailOf, routeCost, routeExpanded, cellsFor}
@@ -106,5 +106,5 @@ rows =
     ∷ []
 
 pub samples : map (λ s. said (s .ask)) rows ≡ map (λ s. s .answer) rows
-unfolding answerOf judged sidesGood configGood buffersGood endsInside fitAnswer routeable searched graphOf movesBy priceOf classFor bearing routeableKind posOf cellOf moves between stays neighbour beneath distance sooner least push offer expand trace takeOne takeAll firstState bestFirst
+unfolding answerOf judged sidesGood configGood rangesGood dearest buffersGood endsInside fitAnswer routeable searched graphOf movesBy priceOf classFor bearing routeableKind posOf cellOf moves between stays neighbour beneath distance sooner least push offer expand trace takeOne takeAll firstState bestFirst
 samples = refl

@@ -6,7 +6,7 @@ use lib.ListN.{replicate, set}
 use Rattle.room.specs.declared.Room.{Room}
 use Rattle.room.specs.declared.RouterConfig.{RouterConfig}
 use Rattle.room.specs.Room.{volume, posOf, cellOf, moves, between, sidesGood, stays, neighbour, beneath, distance}
-use Rattle.room.specs.Units.{air, lever, configGood}
+use Rattle.room.specs.Units.{air, lever, configGood, rangesGood, dearest}
 use Rattle.best_first.specs.Search.{sooner, least, push, offer, expand, trace, takeOne, takeAll, firstState, bestFirst}
 use Rattle.room_search.specs.Routing.{routeableKind, routeable, bearing, classFor, priceOf, movesBy, graphOf, searched}
 use Rattle.routing.specs.Totals.{stepOf, laidAt}
@@ -72,5 +72,5 @@ rows =
     ∷ []
 
 pub support-samples : map (λ s. counted (s .ask)) rows ≡ map (λ s. s .answer) rows
-unfolding answerOf judged sidesGood configGood buffersGood endsInside fitAnswer routeable searched graphOf movesBy priceOf classFor bearing routeableKind stepOf laidAt posOf cellOf moves between stays neighbour beneath distance sooner least push offer expand trace takeOne takeAll firstState bestFirst
+unfolding answerOf judged sidesGood configGood rangesGood dearest buffersGood endsInside fitAnswer routeable searched graphOf movesBy priceOf classFor bearing routeableKind stepOf laidAt posOf cellOf moves between stays neighbour beneath distance sooner least push offer expand trace takeOne takeAll firstState bestFirst
 support-samples = refl

@@ -3,12 +3,13 @@
 use mathlib.Core.Path.{_≡_, refl, sym, ap, subst, _∙_}
 use mathlib.Core.Logic.{_⊎_, inl, inr, _≢_, _↔_}
 use mathlib.Core.List.{List}
-use Prim.Native.Nat.{ℕ, suc, _+_, _-_, _*_, _≤_, _<_, max, zero-le}
+use Prim.Native.Nat.{ℕ, suc, _+_, _-_, _*_, _^_, _≤_, _<_, max, zero-le}
 use native.Mathlib.Omega.{arith}
 use lib.Dec.{eqb}
 use Rattle.numbers.specs.Refusals.{doneNumber, noRouteNumber, limitPassedNumber, queueFullNumber}
 use Rattle.basics.specs.Tests.{ask, never}
-use Rattle.room.specs.Room.{volume}
+use Rattle.room.specs.declared.Room.{Room}
+use Rattle.room.specs.Room.{Good, volume}
 use Rattle.basics.specs.Counts.{times}
 use Rattle.best_first.specs.Search.{State, Taken, on, oneMoreExpanded, Answer, route, no-route, limit-passed, queue-full}
 use Rattle.best_first.specs.Ways.{GraphStep, Way, Sound, Consistent}
@@ -22,7 +23,9 @@ use Rattle.routing.specs.declared.Route.{Route}
 use Rattle.routing.specs.declared.Answer as public
 use Rattle.routing.specs.declared.Answer.the-variants.{Routed, Refused, NotRouteable, NoRoute, LimitPassed, QueueFull}
 use Rattle.room_search.specs.Routing.{Task, routeable, entering, graphOf, graph, searched}
-use Rattle.room_search.specs.GraphLaws.{dearest, sound, consistent}
+use Rattle.room.specs.Units.{dearest, maxNodes, GoodConfig}
+use Rattle.room.specs.UnitLaws.{maxEstimate, sums-fit}
+use Rattle.room_search.specs.GraphLaws.{sound, consistent}
 use Rattle.demands.specs.Lawful.{LawfulStep, stepCost, LawfulWay, wayCost}
 use Rattle.routing.specs.Answers.{Input, taskOf, judged, answered, fitAnswer, answerOf, numberOf, routeCost, Promise}
 use Rattle.routing.specs.PromiseLaws.{admitted}
@@ -79,6 +82,11 @@ module _ {T : Task} (P : Posed T) where
       → knownAt s v ≤ (volume (T .room) - 1) * (max (T .config .horizontal .0) (T .config .stair .0) + T .config .support .0) + 1
   unfolding graphOf dearest
   known-most r v = any-graph.in-range graph-sound r .cost v
+
+  -- so that, with its estimate, it fits 32 bits wherever number 3 is not due
+  pub known-fits : GoodConfig (T .room) (T .config) → {pushed : List ℕ} {s : State} → Reached (graph T) pushed s → (v : ℕ) → knownAt s v + maxEstimate < 2 ^ 32
+  unfolding graphOf
+  known-fits F r v = omega (arith, any-graph.in-range graph-sound r .cost v, sums-fit F {n = volume (T .room) - 1} (omega arith))
 
   -- an old entry, one of another cost than its cell has now, pushes nothing when it is taken
   pub old-entry : {pushed : List ℕ} {s : State} {t : Taken} → Reached (graph T) pushed s → Taking (s .waiting) t
@@ -147,6 +155,10 @@ module _ {T : Task} (P : Posed T) where
   -- "a node limit and queue of that size or more", 12 for each cell, are enough
   pub ample-enough : Ample T → Enough (T .room) (T .config) (T .places)
   ample-enough A = record { limit-enough = omega (arith, A .limit-wide, P .start-in); queue-enough = omega (arith, A .queue-wide) }
+
+-- and no room's node limit of that size is refused
+pub ample-allowed : {R : Room} → Good R → 12 * volume R ≤ maxNodes
+ample-allowed G = omega (arith, G .few)
 
 -- ---- the public search, from its promise alone
 

@@ -31,7 +31,7 @@ configOf limit horizontal stair support = record {
 
 -- a buffer of fewer than four values is number 6, at 6's place: 2 and 3 are judged before it
 abbrev pub shortRefusal : Room → RouterConfig → Refusal
-shortRefusal R C = either (sidesGood R) (either (configGood C) Buffer Config) Sides
+shortRefusal R C = either (sidesGood R) (either (configGood R C) Buffer Config) Sides
 
 unfoldable pub exported : Input → List ℕ → Answer
 exported I values = either (leb 4 (length values)) (answerOf I) (Refused (shortRefusal (I .room) (I .config)))

@@ -19,7 +19,7 @@ pub fn short_refusal(room: Room, config: RouterConfig) -> Refusal
     if !room.good() {
         return Refusal::Sides;
     }
-    if !config.good() {
+    if !config.good(room) {
         return Refusal::Config;
     }
     Refusal::Buffer

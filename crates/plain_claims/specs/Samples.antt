@@ -8,7 +8,7 @@ use native.Mathlib.Omega.{arith}
 use lib.ListN.{replicate}
 use Rattle.numbers.specs.Refusals.{doneNumber, noRouteNumber}
 use Rattle.room.specs.Room.{sidesGood, posOf, cellOf, moves, between, stays, neighbour, beneath, distance}
-use Rattle.room.specs.Units.{air, configGood}
+use Rattle.room.specs.Units.{air, configGood, rangesGood, dearest}
 use Rattle.best_first.specs.Search.{sooner, least, push, offer, expand, trace, takeOne, takeAll, firstState, bestFirst}
 use Rattle.room_search.specs.Routing.{routeableKind, routeable, bearing, classFor, priceOf, movesBy, graphOf, searched}
 use Rattle.routing.specs.declared.Lengths.{Lengths}
@@ -39,7 +39,7 @@ abbrev pub cheapSearch : Input
 cheapSearch = searchInput cheapAir (record { 0 = 30000 }) (lengths 96)
 
 pub search-pays-18 : (first.numberOf (answerOf cheapSearch) ≡ doneNumber) × (first.routeCost (answerOf cheapSearch) ≡ 18)
-unfolding answerOf judged sidesGood configGood buffersGood endsInside fitAnswer routeable searched graphOf movesBy priceOf classFor bearing routeableKind posOf cellOf moves between stays neighbour beneath distance sooner least push offer expand trace takeOne takeAll firstState bestFirst
+unfolding answerOf judged sidesGood configGood rangesGood dearest buffersGood endsInside fitAnswer routeable searched graphOf movesBy priceOf classFor bearing routeableKind posOf cellOf moves between stays neighbour beneath distance sooner least push offer expand trace takeOne takeAll firstState bestFirst
 search-pays-18 = (refl, refl)
 
 -- 2 0 3 is lawful, and costs 9
@@ -57,7 +57,7 @@ unfolding stepCost posOf beneath
 costs-9 = refl
 
 fit : judged cheapAir ≡ Fit
-unfolding judged sidesGood configGood buffersGood endsInside between
+unfolding judged sidesGood configGood rangesGood dearest buffersGood endsInside between
 fit = refl
 
 unrefused : Unrefused cheapAir

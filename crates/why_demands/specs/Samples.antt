@@ -7,7 +7,7 @@ use Rattle.basics.specs.Folds.{along}
 use Rattle.room.specs.declared.Room.{Room}
 use Rattle.room.specs.declared.RouterConfig.{RouterConfig}
 use Rattle.room.specs.Room.{volume, posOf, cellOf, moves, between, sidesGood, stays, neighbour, beneath, distance}
-use Rattle.room.specs.Units.{air, solid, lever, usualConfig, configGood}
+use Rattle.room.specs.Units.{air, solid, lever, usualConfig, configGood, rangesGood, dearest}
 use Rattle.best_first.specs.Search.{sooner, least, push, offer, expand, trace, takeOne, takeAll, firstState, bestFirst}
 use Rattle.room_search.specs.Routing.{routeableKind, routeable, bearing, classFor, priceOf, movesBy, graphOf, searched}
 use Rattle.routing.specs.declared.Answer.{Answer}
@@ -109,5 +109,5 @@ rows =
     ∷ []
 
 pub why-samples : map (λ s. answered (s .ask) (s .reached) (s .walls)) rows ≡ map (λ s. s .answer) rows
-unfolding whyAnswer outputsRefused outputsGood answerOf judged sidesGood configGood buffersGood endsInside fitAnswer routeable searched graphOf movesBy priceOf classFor bearing routeableKind posOf cellOf moves between stays neighbour beneath distance sooner least push offer expand trace takeOne takeAll firstState bestFirst tabled reachedBy isReached parentsFrom spread meet along freeBy obstacleFor
+unfolding whyAnswer outputsRefused outputsGood answerOf judged sidesGood configGood rangesGood dearest buffersGood endsInside fitAnswer routeable searched graphOf movesBy priceOf classFor bearing routeableKind posOf cellOf moves between stays neighbour beneath distance sooner least push offer expand trace takeOne takeAll firstState bestFirst tabled reachedBy isReached parentsFrom spread meet along freeBy obstacleFor
 why-samples = refl
