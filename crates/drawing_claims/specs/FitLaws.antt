@@ -22,7 +22,7 @@ pub fit-known : (I : Input) → judged I ≡ Fit → RoomKnown I
 unfolding judged
 fit-known I e =
     ask (sidesGood (I .room))
-    (λ a. ask (configGood (I .config))
+    (λ a. ask (configGood (I .room) (I .config))
     (λ b. ask (buffersGood (I .room) (I .kinds) (I .lengths))
     (λ c. ask (every kindKnown (I .kinds))
     (λ d. record { sides = a; kinds = d })
