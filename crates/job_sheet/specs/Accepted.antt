@@ -46,6 +46,7 @@ pub record Usable (sheet : List ℕ) (job : Job) (J : Contents) : Type 0 where
   pub room-good : GoodRoom (job .room)
   pub config-is : job .config ≡ J .config
   pub config-good : GoodConfig (job .room) (job .config)
+  pub run-is : job .run ≡ J .run
   pub blocks : BlockList sheet (job .room) (job .blocks) (J .blocks)
   pub conductors : PositionList sheet (job .room) (job .conductors) (J .conductors)
   pub clearances : PositionList sheet (job .room) (job .clearances) (J .clearances)

@@ -18,9 +18,9 @@ use Rattle.job_sheet.specs.declared.Sink.{Sink}
 use Rattle.job_sheet.specs.declared.Version.{Version}
 use Rattle.job_sheet.specs.declared.Judgement.{Judgement}
 use Rattle.job_sheet.specs.declared.Judgement.the-variants.{Good, Sides, Config, Position}
-use Rattle.job_sheet.specs.Version.{sidesWithin, configWithin, Searchable}
+use Rattle.job_sheet.specs.Version.{sidesWithin, configWithin, limitWithin, Searchable}
 use Rattle.job_sheet.specs.VersionLaws.{good-sides, good-config}
-use Rattle.job_sheet.specs.Sheet.{Contents, isGood, firstFault, sidesFault, configFault, positionFault, blockFault, endpointFault, sinkFault, judged, bytesBy, maxSinks, behind, noSink, sinksOf, layoutOf, jobOf}
+use Rattle.job_sheet.specs.Sheet.{Contents, isGood, firstFault, sidesFault, configFault, limitFault, positionFault, blockFault, endpointFault, sinkFault, judged, bytesBy, maxSinks, behind, noSink, sinksOf, layoutOf, jobOf}
 use Rattle.job_sheet.specs.Accepted.{BlockList, PositionList, SinkList, Usable}
 use Rattle.job_sheet.specs.Places.{noBlock, noPosition, positionsIn}
 use Rattle.job_sheet.specs.LayoutLaws.{PartsIn, blocks-back, conductors-back, clearances-back, terminals-back, reserved-back}
@@ -52,13 +52,21 @@ module _ (R : Room) where
 
   pub sink-within : (k : Sink) → isGood (sinkFault R k) ≡ true → Within R (k .end .at)
   unfolding sinkFault
-  sink-within k g = endpoint-within (k .end) g
+  sink-within k g = let all = first-good _ (good-is _ g) in endpoint-within (k .end) (search passed)
+
+  pub tail-within : (k : Sink) → isGood (sinkFault R k) ≡ true → limitWithin (k .tail) ≡ true
+  unfolding sinkFault
+  tail-within k g =
+      let all = first-good _ (good-is _ g) in
+      let t : isGood (limitFault (k .tail)) ≡ true = search passed in
+      faultless (limitWithin (k .tail)) Config refl t
 
 -- ---- of a job without fault, each part is good
 
 pub record NoFault (v : Version) (J : Contents) : Type 0 where
   pub sides : sidesWithin (v .ranges) (J .room) ≡ true
-  pub config : configWithin (v .ranges) (J .config) ≡ true
+  pub config : configWithin (v .ranges) (J .room) (J .config) ≡ true
+  pub run : limitWithin (J .run) ≡ true
   pub blocks : every isGood (map (blockFault (J .room)) (J .blocks)) ≡ true
   pub conductors : every isGood (map (positionFault (J .room)) (J .conductors)) ≡ true
   pub clearances : every isGood (map (positionFault (J .room)) (J .clearances)) ≡ true
@@ -72,10 +80,12 @@ unfolding judged
 no-fault v J e =
     let all = rw every-joined at (first-good _ e) in
     let x : isGood (sidesFault (v .ranges) (J .room)) ≡ true = search passed in
-    let c : isGood (configFault (v .ranges) (J .config)) ≡ true = search passed in
+    let c : isGood (configFault (v .ranges) (J .room) (J .config)) ≡ true = search passed in
+    let n : isGood (limitFault (J .run)) ≡ true = search passed in
     record {
       sides = faultless (sidesWithin (v .ranges) (J .room)) Sides refl x;
-      config = faultless (configWithin (v .ranges) (J .config)) Config refl c;
+      config = faultless (configWithin (v .ranges) (J .room) (J .config)) Config refl c;
+      run = faultless (limitWithin (J .run)) Config refl n;
       blocks = search passed depth 12;
       conductors = search passed depth 12;
       clearances = search passed depth 12;
@@ -124,7 +134,8 @@ module _ (v : Version) (J : Contents) (N : NoFault v J) (I : PartsIn (bytesBy v 
     room-is = refl;
     room-good = good-sides (v .ranges) S (J .room) (N .sides);
     config-is = refl;
-    config-good = good-config (v .ranges) S (J .room) (J .config) (N .sides) (N .config);
+    config-good = good-config (v .ranges) (J .room) (J .config) (N .config);
+    run-is = refl;
     blocks = block-list;
     conductors = position-list (layoutOf v J .conductors) (J .conductors) (I .conductors) (conductors-back v J) refl (N .conductors);
     clearances = position-list (layoutOf v J .clearances) (J .clearances) (I .clearances) (clearances-back v J) refl (N .clearances);

@@ -19,9 +19,10 @@ use Rattle.job_sheet.specs.declared.Version.{Version}
 use Rattle.job_sheet.specs.declared.faults.Records.the-variants.{Blocks, Positions, Endpoints, Sinks}
 use Rattle.job_sheet.specs.declared.Judgement.{Judgement}
 use Rattle.job_sheet.specs.declared.Judgement.the-variants.{Good, Sheet, Sides, Config, Position, Code}
-use Rattle.job_sheet.specs.Version.{sidesPlace, configPlace, sidesWithin, configWithin}
-use Rattle.job_sheet.specs.Sheet.{Contents, isGood, firstFault, sidesFault, configFault, positionFault, blockFault, endpointFault, sinkFault, faultsOf, judged}
-use Rattle.job_sheet.specs.Places.{roomIn, configIn, many, blocksIn, positionsIn, sinksIn, faultsIn, headFault, listAt, layoutIn, contentsIn}
+use Rattle.job_sheet.specs.UsualLimits.{usualRun}
+use Rattle.job_sheet.specs.Version.{sidesPlace, configPlace, runPlace, sidesWithin, configWithin, limitWithin}
+use Rattle.job_sheet.specs.Sheet.{Contents, isGood, firstFault, sidesFault, configFault, limitFault, positionFault, blockFault, endpointFault, sinkFault, faultsOf, judged}
+use Rattle.job_sheet.specs.Places.{roomIn, configIn, limitIn, many, blocksIn, positionsIn, sinksIn, faultsIn, headFault, listAt, layoutIn, contentsIn}
 
 pub good-is : (v : Judgement) → isGood v ≡ true → v ≡ Good
 good-is Good e = refl
@@ -50,6 +51,13 @@ pub first-on : (l m : List Judgement) → firstFault (l ++ m) ≡ firstFault (fi
 unfolding firstFault
 first-on [] m = refl
 first-on (v ∷ l) m = ask (isGood v) (λ e. rw (e, first-on l m)) (λ e. rw (e, e))
+
+-- of two faults the first, and the second where there is no first
+pub first-of-two : {f v : Judgement} (w : Judgement) → f ≡ v → isGood f ≡ false → f ≡ firstFault (v ∷ w ∷ [])
+first-of-two {v = v} w e g = e ∙ sym (fault-first v (w ∷ []) (ap isGood (sym e) ∙ g))
+
+pub second-of-two : {f v w r : Judgement} → f ≡ v → isGood f ≡ true → r ≡ w → r ≡ firstFault (v ∷ w ∷ [])
+second-of-two {v = v} {w = w} e g h = h ∙ sym (good-first v (w ∷ []) (ap isGood (sym e) ∙ g) ∙ only-first w)
 
 -- the fault so far, carried from list to list
 unfoldable pub carried : Judgement → List (List Judgement) → Judgement
@@ -99,12 +107,15 @@ module _ (v : Version) (s : List ℕ) where
   abbrev C₀ : RouterConfig
   C₀ = configIn (drop (configPlace v) s)
 
+  abbrev run₀ : ℕ
+  run₀ = limitIn (v .limits) usualRun (drop (runPlace v) s) 0
+
   -- what the code carries is the judgement
-  judged-carried : carried (headFault (v .ranges) R₀ C₀) (recordFaults v s R₀ (layoutIn v s)) ≡ judged v (contentsIn v s)
+  judged-carried : carried (headFault (v .ranges) R₀ C₀ run₀) (recordFaults v s R₀ (layoutIn v s)) ≡ judged v (contentsIn v s)
   unfolding judged contentsIn layoutIn listAt
   judged-carried =
       let L = layoutIn v s in
-      let head : List Judgement = sidesFault (v .ranges) R₀ ∷ configFault (v .ranges) C₀ ∷ [] in
+      let head : List Judgement = sidesFault (v .ranges) R₀ ∷ configFault (v .ranges) R₀ C₀ ∷ limitFault run₀ ∷ [] in
       carried-is (firstFault head) (recordFaults v s R₀ L)
       ∙ sym (first-on head (joined (recordFaults v s R₀ L)))
       ∙ λ i. firstFault (
@@ -121,9 +132,9 @@ module _ (v : Version) (s : List ℕ) where
       )
       )
 
-  module _ (R : Room) (C : RouterConfig) (L : Layout) (r : R ≡ R₀) (c : C ≡ C₀) (l : L ≡ layoutIn v s) where
+  module _ (R : Room) (C : RouterConfig) (run : ℕ) (L : Layout) (r : R ≡ R₀) (c : C ≡ C₀) (n : run ≡ run₀) (l : L ≡ layoutIn v s) where
     pub judged-steps : (v₀ v₁ v₂ v₃ v₄ v₅ v₆ v₇ : Judgement)
-        → v₀ ≡ headFault (v .ranges) R C
+        → v₀ ≡ headFault (v .ranges) R C run
         → v₁ ≡ firstFault (v₀ ∷ faultsIn v R Blocks s (L .blocks))
         → v₂ ≡ firstFault (v₁ ∷ faultsIn v R Positions s (L .conductors))
         → v₃ ≡ firstFault (v₂ ∷ faultsIn v R Positions s (L .clearances))
@@ -133,7 +144,7 @@ module _ (v : Version) (s : List ℕ) where
         → v₇ ≡ firstFault (v₆ ∷ faultsIn v R Sinks s (L .sinks))
         → v₇ ≡ judged v (contentsIn v s)
     unfolding carried
-    judged-steps v₀ v₁ v₂ v₃ v₄ v₅ v₆ v₇ e₀ e₁ e₂ e₃ e₄ e₅ e₆ e₇ = rw (e₇, e₆, e₅, e₄, e₃, e₂, e₁, e₀, r, c, l) judged-carried
+    judged-steps v₀ v₁ v₂ v₃ v₄ v₅ v₆ v₇ e₀ e₁ e₂ e₃ e₄ e₅ e₆ e₇ = rw (e₇, e₆, e₅, e₄, e₃, e₂, e₁, e₀, r, c, n, l) judged-carried
 
 -- ---- number 1 is no judgement of contents
 
@@ -169,8 +180,8 @@ module _ (R : Room) where
   endpoint-not e = first-not _ (search (and-both, test-not) depth 8)
 
   sink-not : (k : Sink) → notSheet (sinkFault R k) ≡ true
-  unfolding sinkFault
-  sink-not k = endpoint-not (k .end)
+  unfolding sinkFault notSheet
+  sink-not k = first-not _ (and-both (endpoint-not (k .end)) (and-both (test-not (limitWithin (k .tail)) Config refl) refl))
 
 all-not : {X : Type 0} (fault : X → Judgement) → ((x : X) → notSheet (fault x) ≡ true) → (xs : List X) → every notSheet (map fault xs) ≡ true
 all-not fault f xs = rw every-map (every-all (λ x. notSheet (fault x)) f xs)
@@ -180,7 +191,7 @@ unfolding judged notSheet
 judged-not v J e =
     let R = J .room in
     let all : every (every notSheet) (faultsOf v J) ≡ true =
-    and-both (and-both (test-not (sidesWithin (v .ranges) R) Sides refl) (and-both (test-not (configWithin (v .ranges) (J .config)) Config refl) refl))
+    and-both (and-both (test-not (sidesWithin (v .ranges) R) Sides refl) (and-both (test-not (configWithin (v .ranges) R (J .config)) Config refl) (and-both (test-not (limitWithin (J .run)) Config refl) refl)))
     (and-both (all-not (blockFault R) (block-not R) (J .blocks))
     (and-both (all-not (positionFault R) (position-not R) (J .conductors))
     (and-both (all-not (positionFault R) (position-not R) (J .clearances))

@@ -1,22 +1,25 @@
 -- The parts of a sheet stand where the definitions say: a sheet of J's bytes is read back as J, and what is read of a sheet that passes the tests of
 -- number 1 has the sheet's bytes.
 use mathlib.Core.Path.{_≡_, refl, sym, ap, _∙_}
-use mathlib.Core.Bool.{Bool}
+use mathlib.Core.Bool.{Bool, true, false, _||_}
 use mathlib.Core.List.{List, [], _∷_, _++_, map}
 use Prim.Native.Nat.{ℕ, _+_, _*_, _≤_, _<_}
 use native.Mathlib.Nat.{div-add-mod', add-zero, mul-one}
 use native.Mathlib.Omega.{arith}
+use lib.Dec.{eqb}
 use lib.ListN.{length, getD, drop, length-append, length-drop}
 use lib.Seq.{drop-at, drop-drop, drop-cons, drop-length, getD-drop}
-use Rattle.basics.specs.Lists.{drop-next, joined}
+use Rattle.basics.specs.Tests.{ask, and-left, and-right}
+use Rattle.basics.specs.Lists.{every, every-all, drop-next, joined}
 use Rattle.job_sheet.specs.declared.Part.{Part}
 use Rattle.job_sheet.specs.declared.Sink.{Sink}
 use Rattle.job_sheet.specs.declared.Version.{Version}
 use Rattle.job_sheet.specs.declared.places.Layout.{Layout}
-use Rattle.job_sheet.specs.Version.{positionSize, blockSize, endpointSize, sinkSize, sidesPlace, configPlace, configSize, listsPlace}
-use Rattle.job_sheet.specs.Sheet.{Contents, maxBytes, maxSinks, two, four, sides, costs, position, block, endpoint, sink, counted, sinkBytes, rest, bytesBy, listed, sourceAt, sinksListed, behind, layoutOf}
-use Rattle.job_sheet.specs.Places.{roomIn, configIn, twoIn, fourIn, endpointIn, sinkIn, many, blocksIn, positionsIn, sinksIn, listAt, sinksAt, layoutIn, contentsIn, Shaped}
-use Rattle.job_sheet.specs.RecordLaws.{Bytes, Coding, four-back, positions, blocks, endpoints, sinks, many-back, joined-long, many-long, many-forth, bytes-drop, two-forth, fours, configs, rooms, span-drop}
+use Rattle.job_sheet.specs.UsualLimits.{usualRun, usualTail}
+use Rattle.job_sheet.specs.Version.{positionSize, blockSize, endpointSize, limitSize, sinkSize, sidesPlace, configPlace, configSize, runPlace, listsPlace}
+use Rattle.job_sheet.specs.Sheet.{Contents, maxBytes, maxSinks, two, four, sides, costs, position, block, endpoint, limit, sink, counted, sinkBytes, rest, bytesBy, usual, tellsLimits, listed, sourceAt, sinksListed, behind, layoutOf}
+use Rattle.job_sheet.specs.Places.{roomIn, configIn, twoIn, fourIn, endpointIn, limitIn, sinkIn, many, blocksIn, positionsIn, sinksIn, listAt, sinksAt, layoutIn, contentsIn, Shaped}
+use Rattle.job_sheet.specs.RecordLaws.{Bytes, CodingOf, Coding, four-back, positions, blocks, endpoints, limits, sinks, many-back, joined-long, many-long, many-forth, bytes-drop, two-forth, fours, configs, rooms, span-drop}
 
 -- ---- a sheet of J's bytes
 
@@ -41,7 +44,7 @@ module _ {X : Type 0} {bytes : X → List ℕ} {value : List ℕ → X} {size : 
     after-count = cut-on s place (two (length xs)) (joined (map bytes xs) ++ l) 2 refl C
 
     list-records : many value size (length xs) (drop (place + 2) s) ≡ xs
-    list-records = rw (after-count .stands) (many-back K xs l)
+    list-records = rw (after-count .stands) (many-back K xs (every-all (λ _. true) (λ _. refl) xs) l)
 
     list-behind : Cut s (behind (listed long size place (length xs))) l
     list-behind = cut-on s (place + 2) (joined (map bytes xs)) l (size * length xs) (joined-long K xs) after-count
@@ -69,8 +72,11 @@ module _ (v : Version) (J : Contents) where
   abbrev blocksOn : List ℕ
   blocksOn = counted (block (v .long)) (J .blocks) ++ conductorsOn
 
+  abbrev runOn : List ℕ
+  runOn = limit (v .limits) (J .run) ++ blocksOn
+
   abbrev configOn : List ℕ
-  configOn = costs (J .config) ++ blocksOn
+  configOn = costs (J .config) ++ runOn
 
   at-sides : Cut (bytesBy v J) sidesPlace (sides (v .long) (J .room) ++ configOn)
   unfolding bytesBy rest
@@ -79,8 +85,11 @@ module _ (v : Version) (J : Contents) where
   at-config : Cut (bytesBy v J) (configPlace v) configOn
   at-config = cut-on (bytesBy v J) sidesPlace (sides (v .long) (J .room)) configOn (positionSize (v .long)) (rooms (v .long) .sized (J .room)) at-sides
 
+  at-run : Cut (bytesBy v J) (runPlace v) runOn
+  at-run = cut-on (bytesBy v J) (configPlace v) (costs (J .config)) runOn configSize refl at-config
+
   at-blocks : Cut (bytesBy v J) (listsPlace v) blocksOn
-  at-blocks = cut-on (bytesBy v J) (configPlace v) (costs (J .config)) blocksOn configSize refl at-config
+  at-blocks = cut-on (bytesBy v J) (runPlace v) (limit (v .limits) (J .run)) blocksOn (limitSize (v .limits)) (limits (v .limits) usualRun .sized (J .run)) at-run
 
   at-conductors : Cut (bytesBy v J) (behind (layoutOf v J .blocks)) conductorsOn
   unfolding layoutOf
@@ -134,10 +143,10 @@ module _ (v : Version) (J : Contents) where
       )
 
   pub room-back : roomIn (v .long) (drop sidesPlace (bytesBy v J)) ≡ J .room
-  room-back = rw (at-sides .stands) (rooms (v .long) .back (J .room) configOn)
+  room-back = rw (at-sides .stands) (rooms (v .long) .back (J .room) refl configOn)
 
   config-back : configIn (drop (configPlace v) (bytesBy v J)) ≡ J .config
-  config-back = rw (at-config .stands) (configs .back (J .config) blocksOn)
+  config-back = rw (at-config .stands) (configs .back (J .config) refl runOn)
 
   pub blocks-back : blocksIn (bytesBy v J) (layoutOf v J .blocks) ≡ J .blocks
   unfolding blocksIn layoutOf
@@ -160,25 +169,44 @@ module _ (v : Version) (J : Contents) where
   reserved-back = list-records (positions (v .long)) (v .long) (bytesBy v J) (behind (layoutOf v J .terminals)) (J .reserved) sourceOn at-reserved
 
   source-back : endpointIn (v .long) (drop (layoutOf v J .source .from) (bytesBy v J)) ≡ J .source
-  source-back = rw (at-source .stands) (endpoints (v .long) .back (J .source) sinksOn)
+  source-back = rw (at-source .stands) (endpoints (v .long) .back (J .source) refl sinksOn)
 
-  sinks-back : sinksIn v (bytesBy v J) (layoutOf v J .sinks) ≡ J .sinks
-  unfolding sinksIn layoutOf
-  sinks-back = rw (at-sinks .stands) (many-back (sinks v) (J .sinks) [])
+  -- where the version tells the limits, they are read back
+  module _ (t : tellsLimits v J ≡ true) where
+    abbrev tailsTold : Bool
+    tailsTold = every (λ k. v .limits || eqb (k .tail) usualTail) (J .sinks)
 
-  pub contents-back : contentsIn v (bytesBy v J) ≡ J
+    limits-told : ((v .limits || eqb (J .run) usualRun) ≡ true) × (tailsTold ≡ true)
+    unfolding usual
+    limits-told =
+        ask (v .limits)
+        (λ carried. rw carried (refl, every-all (λ _. true) (λ _. refl) (J .sinks)))
+        (λ none.
+        let u : usual J ≡ true = rw none at t in
+        let tails : Bool = every (λ k. eqb (k .tail) usualTail) (J .sinks) in
+        rw none (and-left (eqb (J .run) usualRun) tails u, and-right (eqb (J .run) usualRun) tails u))
+
+    run-back : limitIn (v .limits) usualRun (drop (runPlace v) (bytesBy v J)) 0 ≡ J .run
+    run-back = rw (at-run .stands) (limits (v .limits) usualRun .back (J .run) (limits-told .0) blocksOn)
+
+    sinks-back : sinksIn v (bytesBy v J) (layoutOf v J .sinks) ≡ J .sinks
+    unfolding sinksIn layoutOf
+    sinks-back = rw (at-sinks .stands) (many-back (sinks v) (J .sinks) (limits-told .1) [])
+
+  pub contents-back : tellsLimits v J ≡ true → contentsIn v (bytesBy v J) ≡ J
   unfolding contentsIn
-  contents-back =
+  contents-back t =
       rw layout-back (λ i. record {
         room = room-back i;
         config = config-back i;
+        run = run-back t i;
         blocks = blocks-back i;
         conductors = conductors-back i;
         clearances = clearances-back i;
         terminals = terminals-back i;
         reserved = reserved-back i;
         source = source-back i;
-        sinks = sinks-back i;
+        sinks = sinks-back t i;
       })
 
   pub shaped-back : length (bytesBy v J) ≤ maxBytes → length (J .sinks) ≤ maxSinks → Shaped v (bytesBy v J)
@@ -238,7 +266,7 @@ ordered v s = record {
   sinks-from = refl;
 }
 
-module _ {X : Type 0} {bytes : X → List ℕ} {value : List ℕ → X} {size : ℕ} (K : Coding bytes value size) (s : List ℕ) (b : Bytes s) where
+module _ {X : Type 0} {told : X → Bool} {bytes : X → List ℕ} {value : List ℕ → X} {size : ℕ} (K : CodingOf told bytes value size) (s : List ℕ) (b : Bytes s) where
   value-forth : (place : ℕ) → place + size ≤ length s → bytes (value (drop place s)) ++ drop (place + size) s ≡ drop place s
   value-forth place h = rw (← drop-drop size place s) (K .forth (drop place s) (bytes-drop place s b) (simp length-drop (omega arith)))
 
@@ -339,12 +367,13 @@ module _ (v : Version) (s : List ℕ) (b : Bytes s) (S : Shaped v s) where
   rest-forth =
       then-on (sides (v .long) (roomIn (v .long) (drop sidesPlace s))) (value-forth (rooms (v .long)) s b sidesPlace (omega (arith, ordered v s)))
       (then-on (costs (configIn (drop (configPlace v) s))) (value-forth configs s b (configPlace v) (omega (arith, ordered v s)))
+      (then-on (limit (v .limits) (limitIn (v .limits) usualRun (drop (runPlace v) s) 0)) (value-forth (limits (v .limits) usualRun) s b (runPlace v) (omega (arith, ordered v s)))
       (then-on (counted (block (v .long)) (blocksIn s (L .blocks))) blocks-forth
       (then-on (counted (position (v .long)) (positionsIn s (L .conductors))) conductors-forth
       (then-on (counted (position (v .long)) (positionsIn s (L .clearances))) clearances-forth
       (then-on (counted (position (v .long)) (positionsIn s (L .terminals))) terminals-forth
       (then-on (counted (position (v .long)) (positionsIn s (L .reserved))) reserved-forth
-      (then-on (endpoint (v .long) (endpointIn (v .long) (drop (L .source .from) s))) source-forth sinks-forth)))))))
+      (then-on (endpoint (v .long) (endpointIn (v .long) (drop (L .source .from) s))) source-forth sinks-forth))))))))
 
   pub bytes-forth : bytesBy v (contentsIn v s) ≡ s
   unfolding bytesBy

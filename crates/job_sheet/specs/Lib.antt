@@ -1,3 +1,4 @@
+pub mod UsualLimits
 pub mod Version
 pub mod VersionLaws
 pub mod Sheet

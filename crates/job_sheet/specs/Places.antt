@@ -20,8 +20,9 @@ use Rattle.job_sheet.specs.declared.places.Layout.{Layout}
 use Rattle.job_sheet.specs.declared.faults.Records.{Records}
 use Rattle.job_sheet.specs.declared.faults.Records.the-variants.{Blocks, Positions, Endpoints, Sinks}
 use Rattle.job_sheet.specs.declared.Judgement.{Judgement}
-use Rattle.job_sheet.specs.Version.{width, positionSize, blockSize, mostSize, sidesPlace, configPlace, listsPlace}
-use Rattle.job_sheet.specs.Sheet.{Contents, maxBytes, maxSinks, listed, sourceAt, sinksListed, behind, firstFault, sidesFault, configFault, positionFault, blockFault, endpointFault, sinkFault}
+use Rattle.job_sheet.specs.UsualLimits.{usualRun, usualTail}
+use Rattle.job_sheet.specs.Version.{width, positionSize, blockSize, endpointSize, mostSize, sidesPlace, configPlace, runPlace, listsPlace}
+use Rattle.job_sheet.specs.Sheet.{Contents, maxBytes, maxSinks, listed, sourceAt, sinksListed, behind, firstFault, sidesFault, configFault, limitFault, positionFault, blockFault, endpointFault, sinkFault}
 
 -- ---- at byte k of what begins at a place
 
@@ -50,6 +51,11 @@ configIn l = record {
   support = record { 0 = fourIn l 12 };
 }
 
+-- a limit where limits are carried, else the usual one
+abbrev pub limitIn : Bool → ℕ → List ℕ → ℕ → ℕ
+limitIn false usual l k = usual
+limitIn true usual l k = getD l k 0
+
 -- ---- records
 
 abbrev pub blockIn : Bool → List ℕ → Block
@@ -64,7 +70,7 @@ abbrev pub endpointIn : Bool → List ℕ → Endpoint
 endpointIn long l = record { at = positionIn long l 0; port = getD l (positionSize long) 0; facing = getD l (positionSize long + 1) 0 }
 
 abbrev pub sinkIn : Version → List ℕ → Sink
-sinkIn v l = record { end = endpointIn (v .long) l }
+sinkIn v l = record { end = endpointIn (v .long) l; tail = limitIn (v .limits) usualTail l (endpointSize (v .long)) }
 
 -- n records, each of the same size, from the front
 abbrev pub many : {X : Type 0} → (List ℕ → X) → ℕ → ℕ → List ℕ → List X
@@ -98,8 +104,8 @@ abbrev pub faultsIn : Version → Room → Records → List ℕ → Part → Lis
 faultsIn v R k s p = many (faultIn v R k) (p .size) (p .count) (drop (p .from) s)
 
 -- numbers 2 and 3
-abbrev pub headFault : Ranges → Room → RouterConfig → Judgement
-headFault g R C = firstFault (sidesFault g R ∷ configFault g C ∷ [])
+abbrev pub headFault : Ranges → Room → RouterConfig → ℕ → Judgement
+headFault g R C run = firstFault (sidesFault g R ∷ configFault g R C ∷ limitFault run ∷ [])
 
 -- ---- the whole sheet
 
@@ -136,6 +142,7 @@ contentsIn v s =
     record {
       room = roomIn (v .long) (drop sidesPlace s);
       config = configIn (drop (configPlace v) s);
+      run = limitIn (v .limits) usualRun (drop (runPlace v) s) 0;
       blocks = blocksIn s (L .blocks);
       conductors = positionsIn s (L .conductors);
       clearances = positionsIn s (L .clearances);

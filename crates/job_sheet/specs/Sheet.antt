@@ -1,14 +1,14 @@
 -- docs/RULES.md, The job sheet, and numbers 1 to 5 over it: what a sheet says, the bytes that say it, which sheets mean something, and what
 -- the reading answers. Definitions alone; their laws are in the files named Laws, what they come to in Theorems.
 use mathlib.Core.Path.{_≡_}
-use mathlib.Core.Bool.{Bool, true, false, not}
+use mathlib.Core.Bool.{Bool, true, false, not, _&&_, _||_}
 use mathlib.Core.List.{List, [], _∷_, _++_, map}
 use Prim.Native.Nat.{ℕ, _+_, _-_, _*_, _/_, _%_, _≤_}
 use lib.Dec.{eqb}
 use lib.ListN.{length, replicate}
 use Rattle.numbers.specs.Refusals.{doneNumber, sheetNumber, sidesNumber, configNumber, positionNumber, codeNumber}
 use Rattle.basics.specs.Tests.{either}
-use Rattle.basics.specs.Lists.{joined}
+use Rattle.basics.specs.Lists.{every, joined}
 use Rattle.room.specs.declared.Room.{Room}
 use Rattle.room.specs.declared.Pos.{Pos}
 use Rattle.room.specs.declared.RouterConfig.{RouterConfig}
@@ -26,7 +26,8 @@ use Rattle.job_sheet.specs.declared.Job.{Job}
 use Rattle.job_sheet.specs.declared.Reading.{Reading}
 use Rattle.job_sheet.specs.declared.Judgement.{Judgement}
 use Rattle.job_sheet.specs.declared.Judgement.the-variants.{Good, Sheet, Sides, Config, Position, Code}
-use Rattle.job_sheet.specs.Version.{versionOne, versionIn, positionSize, blockSize, endpointSize, sinkSize, listsPlace, sidesWithin, configWithin}
+use Rattle.job_sheet.specs.UsualLimits.{usualRun, usualTail}
+use Rattle.job_sheet.specs.Version.{versionOne, versionIn, positionSize, blockSize, endpointSize, sinkSize, listsPlace, sidesWithin, configWithin, limitWithin}
 
 -- ---- the limits of a sheet, in every version
 
@@ -42,6 +43,7 @@ maxSinks = 16
 pub record Contents : Type 0 where
   pub room : Room
   pub config : RouterConfig
+  pub run : ℕ
   pub blocks : List Block
   pub conductors : List Pos
   pub clearances : List Pos
@@ -84,9 +86,14 @@ block long b = joined (two (b .node) ∷ position long (b .at) ∷ (b .kind ∷ 
 abbrev pub endpoint : Bool → Endpoint → List ℕ
 endpoint long e = position long (e .at) ++ (e .port ∷ e .facing ∷ [])
 
--- "sinks as the source"
+-- a limit: "one byte each", where limits are carried
+abbrev pub limit : Bool → ℕ → List ℕ
+limit false n = []
+limit true n = n ∷ []
+
+-- "sinks as the source", "the tail limit follows the sink's facing"
 abbrev pub sink : Version → Sink → List ℕ
-sink v k = endpoint (v .long) (k .end)
+sink v k = endpoint (v .long) (k .end) ++ limit (v .limits) (k .tail)
 
 -- "lists with two-byte counts"
 abbrev pub counted : {X : Type 0} → (X → List ℕ) → List X → List ℕ
@@ -103,6 +110,7 @@ rest v J =
     joined (
     sides long (J .room)
     ∷ costs (J .config)
+    ∷ limit (v .limits) (J .run)
     ∷ counted (block long) (J .blocks)
     ∷ counted (position long) (J .conductors)
     ∷ counted (position long) (J .clearances)
@@ -121,9 +129,18 @@ bytesBy v J = v .number ∷ (four (length (rest v J)) ++ rest v J)
 abbrev pub bytesOf : Contents → List ℕ
 bytesOf J = bytesBy versionOne J
 
+-- "12 and 8 throughout"
+unfoldable pub usual : Contents → Bool
+usual J = eqb (J .run) usualRun && every (λ k. eqb (k .tail) usualTail) (J .sinks)
+
+-- a version tells J's limits: it carries them, or they are the usual ones
+abbrev pub tellsLimits : Version → Contents → Bool
+tellsLimits v J = v .limits || usual J
+
 -- the sheet means J in a version
 pub record MeansBy (v : Version) (sheet : List ℕ) (J : Contents) : Type 0 where
   pub bytes : bytesBy v J ≡ sheet
+  pub limits : tellsLimits v J ≡ true
   pub short : length sheet ≤ maxBytes
   pub few-sinks : length (J .sinks) ≤ maxSinks
 
@@ -151,8 +168,12 @@ firstFault (v ∷ vs) = either (isGood v) (firstFault vs) v
 abbrev pub sidesFault : Ranges → Room → Judgement
 sidesFault g R = either (sidesWithin g R) Good Sides
 
-abbrev pub configFault : Ranges → RouterConfig → Judgement
-configFault g C = either (configWithin g C) Good Config
+abbrev pub configFault : Ranges → Room → RouterConfig → Judgement
+configFault g R C = either (configWithin g R C) Good Config
+
+-- "3 for a limit outside 1 to 15"
+abbrev pub limitFault : ℕ → Judgement
+limitFault n = either (limitWithin n) Good Config
 
 -- "a position outside the room"
 abbrev pub positionFault : Room → Pos → Judgement
@@ -171,14 +192,15 @@ blockFault R b =
 unfoldable pub endpointFault : Room → Endpoint → Judgement
 endpointFault R e = firstFault (positionFault R (e .at) ∷ codeFault (portKnown (e .port)) ∷ codeFault (facingKnown (e .facing)) ∷ [])
 
+-- "the tail limit is judged with its record, after 4 and 5"
 unfoldable pub sinkFault : Room → Sink → Judgement
-sinkFault R k = endpointFault R (k .end)
+sinkFault R k = firstFault (endpointFault R (k .end) ∷ limitFault (k .tail) ∷ [])
 
--- what is judged, in its order: 2, 3, then the records as the sheet has them
+-- what is judged, in its order: 2, 3 ("run limit first" of the limits), then the records as the sheet has them
 abbrev pub faultsOf : Version → Contents → List (List Judgement)
 faultsOf v J =
     let R = J .room in
-    (sidesFault (v .ranges) R ∷ configFault (v .ranges) (J .config) ∷ [])
+    (sidesFault (v .ranges) R ∷ configFault (v .ranges) R (J .config) ∷ limitFault (J .run) ∷ [])
     ∷ map (blockFault R) (J .blocks)
     ∷ map (positionFault R) (J .conductors)
     ∷ map (positionFault R) (J .clearances)
@@ -207,7 +229,7 @@ noEndpoint = record { at = at 0 0 0; port = 0; facing = 0 }
 
 -- what stands in a place of `Sinks` that no sink takes
 abbrev pub noSink : Sink
-noSink = record { end = noEndpoint }
+noSink = record { end = noEndpoint; tail = 0 }
 
 -- "The sixteen sinks with their count travel as one value": those of the sheet, then places that hold nothing
 abbrev pub sinksOf : List Sink → Sinks
@@ -256,6 +278,7 @@ jobOf v J =
     record {
       room = J .room;
       config = J .config;
+      run = J .run;
       blocks = L .blocks;
       conductors = L .conductors;
       clearances = L .clearances;
@@ -273,6 +296,7 @@ unfoldable pub noJob : Job
 noJob = record {
   room = record { wide = 0; high = 0; deep = 0 };
   config = record { limit = record { 0 = 0 }; horizontal = record { 0 = 0 }; stair = record { 0 = 0 }; support = record { 0 = 0 } };
+  run = 0;
   blocks = noPart;
   conductors = noPart;
   clearances = noPart;

@@ -13,7 +13,7 @@ use Rattle.job_sheet.specs.declared.Judgement.the-variants.{Good, Sheet}
 use Rattle.job_sheet.specs.declared.Version.{Version}
 use Rattle.job_sheet.specs.Version.{versionOf, versionIn, sidesPlace, Searchable}
 use Rattle.job_sheet.specs.VersionLaws.{searchable}
-use Rattle.job_sheet.specs.Sheet.{Contents, bytesBy, MeansBy, Means, isGood, judged, layoutOf, jobOf, accepted, refused, answer, Read, meaning, means-nothing}
+use Rattle.job_sheet.specs.Sheet.{Contents, bytesBy, tellsLimits, MeansBy, Means, isGood, judged, layoutOf, jobOf, accepted, refused, answer, Read, meaning, means-nothing}
 use Rattle.job_sheet.specs.Accepted.{Accepted, Usable}
 use Rattle.job_sheet.specs.Places.{roomIn, Shaped}
 use Rattle.job_sheet.specs.LayoutLaws.{layout-back, room-back, contents-back, shaped-back, parts-in}
@@ -22,13 +22,13 @@ use Rattle.job_sheet.specs.AcceptedLaws.{no-fault, usable-job}
 
 -- ---- the encoding
 
--- in each version bytes say one thing only
-pub injective : (v : Version) (J K : Contents) → bytesBy v J ≡ bytesBy v K → J ≡ K
-injective v J K e = sym (contents-back v J) ∙ rw e (contents-back v K)
+-- in each version bytes say one thing only, limits included where the version tells them
+pub injective : (v : Version) (J K : Contents) → tellsLimits v J ≡ true → tellsLimits v K ≡ true → bytesBy v J ≡ bytesBy v K → J ≡ K
+injective v J K s t e = sym (contents-back v J s) ∙ rw e (contents-back v K t)
 
 -- so a sheet means one thing at most
 pub one-meaning : (sheet : List ℕ) (J K : Contents) → Means sheet J → Means sheet K → J ≡ K
-one-meaning sheet J K m n = injective (versionIn sheet) J K (m .bytes ∙ sym (n .bytes))
+one-meaning sheet J K m n = injective (versionIn sheet) J K (m .limits) (n .limits) (m .bytes ∙ sym (n .bytes))
 
 -- and the room of what it means stands right behind the length of the rest
 pub room-stands : (sheet : List ℕ) (J : Contents) → Means sheet J → roomIn (versionIn sheet .long) (drop sidesPlace sheet) ≡ J .room

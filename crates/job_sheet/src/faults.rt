@@ -3,9 +3,9 @@ ghost use mathlib.Core.Path.{_≡_};
 ghost use mathlib.Core.List.{_∷_};
 ghost use Prim.Native.Nat.{_+_, _^_, _≤_, _<_};
 ghost use lib.ListN.{length, drop};
-ghost use Rattle.room.specs.Room.{between};
-ghost use Rattle.job_sheet.specs.Version.{sidesWithin, configWithin, Searchable};
-ghost use Rattle.job_sheet.specs.Sheet.{firstFault, positionFault, blockFault, endpointFault, sinkFault, judged, behind};
+ghost use Rattle.room.specs.Room.{Good, between};
+ghost use Rattle.job_sheet.specs.Version.{sidesWithin, costsWithin, fitsRanges, configWithin, limitWithin, Searchable};
+ghost use Rattle.job_sheet.specs.Sheet.{firstFault, limitFault, positionFault, blockFault, endpointFault, sinkFault, judged, behind};
 ghost use Rattle.job_sheet.specs.Places.{faultIn, faultsIn, headFault, layoutIn, contentsIn, Shaped};
 use crate::Block;
 use crate::Endpoint;
@@ -19,6 +19,9 @@ use crate::places::Layout;
 use room::Pos;
 use room::Room;
 use room::RouterConfig;
+
+// "1 to 15".
+const MOST_LIMIT: usize = 15;
 
 // The sorts of records in a sheet.
 enum Records {
@@ -73,10 +76,26 @@ pub fn endpoint_fault(room: Room, endpoint: Endpoint) -> Judgement
     }
 }
 
+// "3 for a limit outside 1 to 15".
+pub fn limit_fault(limit: usize) -> Judgement
+    ensures { λ r. ⌜ r ≡ limitFault limit ⌝ }
+{
+    if limit_within(limit) {
+        Judgement::Good
+    } else {
+        Judgement::Config
+    }
+}
+
+// "The tail limit is judged with its record, after 4 and 5."
 pub fn sink_fault(room: Room, sink: Sink) -> Judgement
     ensures { λ r. ⌜ r ≡ sinkFault room sink ⌝ }
 {
-    endpoint_fault(room, sink.end)
+    let fault = endpoint_fault(room, sink.end);
+    if !fault.is_good() {
+        return fault;
+    }
+    limit_fault(sink.tail)
 }
 
 // What is wrong with the record at a place.
@@ -136,6 +155,13 @@ fn side_within(side: usize, longest: usize) -> bool
     side <= longest
 }
 
+// Whether a limit is from 1 to 15.
+fn limit_within(limit: usize) -> bool
+    ensures { λ r. ⌜ r ≡ limitWithin limit ⌝ }
+{
+    side_within(limit, MOST_LIMIT)
+}
+
 impl Ranges {
     // Number 2 is due where this is false.
     fn sides_within(self, room: Room) -> bool
@@ -154,9 +180,9 @@ impl Ranges {
         room.wide * room.high * room.deep <= self.cells
     }
 
-    // Number 3 is due where this is false.
-    fn config_within(self, config: RouterConfig) -> bool
-        ensures { λ r. ⌜ r ≡ configWithin self config ⌝ }
+    // Whether each number of the config is in its range.
+    fn costs_within(self, config: RouterConfig) -> bool
+        ensures { λ r. ⌜ r ≡ costsWithin self config ⌝ }
     {
         if self.nodes < config.limit.0 {
             return false;
@@ -170,19 +196,40 @@ impl Ranges {
         config.support.0 <= self.cost
     }
 
-    // Number 2, then 3.
-    pub fn head_fault(self, room: Room, config: RouterConfig) -> Judgement
+    // Whether sides and config are within these ranges, each number by itself.
+    pub fn hold(self, room: Room, config: RouterConfig) -> bool
         requires { ⌜ Searchable self ⌝ }
-        ensures { λ r. ⌜ r ≡ headFault self room config ⌝ }
+        ensures { λ r. ⌜ r ≡ fitsRanges self room config ⌝ }
+    {
+        if !self.sides_within(room) {
+            return false;
+        }
+        self.costs_within(config)
+    }
+
+    // Number 3 is due where this is false, of the config: its ranges, then the product of cells and dearest step.
+    fn config_within(self, room: Room, config: RouterConfig) -> bool
+        requires { ⌜ Good room ⌝ }
+        ensures { λ r. ⌜ r ≡ configWithin self room config ⌝ }
+    {
+        if !self.costs_within(config) {
+            return false;
+        }
+        config.good(room)
+    }
+
+    // Number 2, then 3, of the config and the run limit.
+    pub fn head_fault(self, room: Room, config: RouterConfig, run: usize) -> Judgement
+        requires { ⌜ Searchable self ⌝ }
+        ensures { λ r. ⌜ r ≡ headFault self room config run ⌝ }
     {
         if !self.sides_within(room) {
             return Judgement::Sides;
         }
-        if self.config_within(config) {
-            Judgement::Good
-        } else {
-            Judgement::Config
+        if !self.config_within(room, config) {
+            return Judgement::Config;
         }
+        limit_fault(run)
     }
 }
 
@@ -193,9 +240,9 @@ pub fn judge(sheet: &[u8], version: Version, layout: Layout) -> Judgement
     ensures { λ r. ⌜ r ≡ judged version (contentsIn version (now (sheet .entry))) ⌝ }
 {
     let room = places::room_from(sheet, version.long);
-    let mut fault = version
-        .ranges
-        .head_fault(room, places::config_from(sheet, version));
+    let config = places::config_from(sheet, version);
+    let run = places::run_from(sheet, version);
+    let mut fault = version.ranges.head_fault(room, config, run);
     fault = first_fault(fault, sheet, version, room, Records::Blocks, layout.blocks);
     fault = first_fault(
         fault,

@@ -2,6 +2,7 @@
 // stay in the sheet's bytes and are read there, record by record.
 pub mod faults; // faults.rt: numbers 2 to 5
 pub mod places; // places.rt: what stands at a place of a sheet, and number 1
+pub mod usual_limits; // usual_limits.rt: the limits of a sheet that carries none
 pub mod versions; // versions.rt: what a sheet's first byte says of its records
 
 ghost use mathlib.Core.Path.{_≡_};
@@ -22,10 +23,11 @@ pub const MAX_BYTES: usize = 60000;
 pub const MAX_SINKS: usize = 16;
 
 // What the version of a sheet means: its number, whether sides and coordinates are long, that is of two bytes and not one,
-// and the ranges that its job is judged at.
+// whether limits are carried, and the ranges that its job is judged at.
 pub struct Version {
     pub number: u8,
     pub long: bool,
+    pub limits: bool,
     pub ranges: Ranges,
 }
 
@@ -61,9 +63,10 @@ pub struct Endpoint {
     pub facing: u8,
 }
 
-// A sink is an endpoint; its record need not be as long as the source's.
+// A sink is an endpoint with its tail limit; its record need not be as long as the source's.
 pub struct Sink {
     pub end: Endpoint,
+    pub tail: usize,
 }
 
 // "The sixteen sinks with their count travel as one value."
@@ -72,10 +75,11 @@ pub struct Sinks {
     pub ends: [Sink; MAX_SINKS],
 }
 
-// What a sheet says. Its lists are told by where they stand.
+// What a sheet says; `run` is the run limit. Its lists are told by where they stand.
 pub struct Job {
     pub room: Room,
     pub config: RouterConfig,
+    pub run: usize,
     pub blocks: Part,
     pub conductors: Part,
     pub clearances: Part,
@@ -145,7 +149,10 @@ pub fn no_endpoint() -> Endpoint
 pub fn no_sink() -> Sink
     ensures { λ r. ⌜ r ≡ noSink ⌝ }
 {
-    Sink { end: no_endpoint() }
+    Sink {
+        end: no_endpoint(),
+        tail: 0,
+    }
 }
 
 // A list of none.
@@ -190,6 +197,7 @@ fn job_from(sheet: &[u8], version: Version, layout: Layout) -> Job
     Job {
         room: places::room_from(sheet, version.long),
         config: places::config_from(sheet, version),
+        run: places::run_from(sheet, version),
         blocks,
         conductors,
         clearances,
@@ -219,6 +227,7 @@ pub fn refusal(judgement: Judgement) -> Reading
                 stair: Cost(0),
                 support: Cost(0),
             },
+            run: 0,
             blocks: none,
             conductors: none,
             clearances: none,

@@ -2,13 +2,16 @@
 ghost use mathlib.Core.Path.{_≡_};
 ghost use Prim.Native.Nat.{_+_, _^_, _≤_, _<_};
 ghost use lib.ListN.{getD, drop};
-ghost use Rattle.job_sheet.specs.Version.{mostSize, sidesPlace, configPlace};
-ghost use Rattle.job_sheet.specs.Places.{twoIn, fourIn, coordinateIn, positionIn, roomIn, configIn, blockIn, endpointIn, sinkIn, shapeHolds, shaped, Behind, LaidOut, Listed, SourceListed, SinksListed};
+ghost use Rattle.job_sheet.specs.UsualLimits.{usualRun};
+ghost use Rattle.job_sheet.specs.Version.{mostSize, sidesPlace, configPlace, runPlace};
+ghost use Rattle.job_sheet.specs.Places.{twoIn, fourIn, positionIn, roomIn, configIn, limitIn, blockIn, endpointIn, sinkIn, shapeHolds, shaped, Behind, LaidOut, Listed, SourceListed, SinksListed};
 use crate::Block;
 use crate::Endpoint;
 use crate::Part;
 use crate::Sink;
 use crate::Version;
+use crate::usual_limits::USUAL_RUN;
+use crate::usual_limits::USUAL_TAIL;
 use crate::versions;
 use room::Cost;
 use room::Nodes;
@@ -52,28 +55,36 @@ pub fn four_bytes(sheet: &[u8], place: usize, k: usize) -> u32
     two_bytes(sheet, place, k) as u32 * 65536 + two_bytes(sheet, place, k + 2) as u32
 }
 
-// A side or a coordinate, from byte k on of what begins at a place.
-fn coordinate(sheet: &[u8], long: bool, place: usize, k: usize) -> usize
-    requires { ⌜ place + k + 1 < 2 ^ 64 ⌝ }
-    ensures { λ r. ⌜ r ≡ coordinateIn long (drop place (now (sheet .entry))) k ⌝ }
-{
-    if long {
-        two_bytes(sheet, place, k) as usize
-    } else {
-        byte(sheet, place, k) as usize
-    }
-}
-
-// "x, y, z", from byte k on of what begins at a place.
+// "x, y, z", from byte k on of what begins at a place. Whether coordinates are long is asked once a record, so that places within
+// it are constants: lists are long, and each is read some times.
 pub fn position_from(sheet: &[u8], long: bool, place: usize, k: usize) -> Pos
     requires { ⌜ place + k + 5 < 2 ^ 64 ⌝ }
     ensures { λ r. ⌜ r ≡ positionIn long (drop place (now (sheet .entry))) k ⌝ }
 {
-    let width = versions::width(long);
-    Pos {
-        x: coordinate(sheet, long, place, k),
-        y: coordinate(sheet, long, place, k + width),
-        z: coordinate(sheet, long, place, k + width + width),
+    if long {
+        Pos {
+            x: two_bytes(sheet, place, k) as usize,
+            y: two_bytes(sheet, place, k + 2) as usize,
+            z: two_bytes(sheet, place, k + 2 + 2) as usize,
+        }
+    } else {
+        Pos {
+            x: byte(sheet, place, k) as usize,
+            y: byte(sheet, place, k + 1) as usize,
+            z: byte(sheet, place, k + 1 + 1) as usize,
+        }
+    }
+}
+
+// A limit, byte k of what begins at a place, where limits are carried; else the usual one.
+pub fn limit_from(sheet: &[u8], limits: bool, usual: usize, place: usize, k: usize) -> usize
+    requires { ⌜ place + k < 2 ^ 64 ⌝ }
+    ensures { λ r. ⌜ r ≡ limitIn limits usual (drop place (now (sheet .entry))) k ⌝ }
+{
+    if limits {
+        byte(sheet, place, k) as usize
+    } else {
+        usual
     }
 }
 
@@ -82,12 +93,20 @@ pub fn block_from(sheet: &[u8], long: bool, place: usize) -> Block
     requires { ⌜ place + 9 < 2 ^ 64 ⌝ }
     ensures { λ r. ⌜ r ≡ blockIn long (drop place (now (sheet .entry))) ⌝ }
 {
-    let position = versions::position_size(long);
-    Block {
-        node: two_bytes(sheet, place, 0),
-        at: position_from(sheet, long, place, 2),
-        kind: byte(sheet, place, 2 + position),
-        facing: byte(sheet, place, 3 + position),
+    if long {
+        Block {
+            node: two_bytes(sheet, place, 0),
+            at: position_from(sheet, true, place, 2),
+            kind: byte(sheet, place, 8),
+            facing: byte(sheet, place, 9),
+        }
+    } else {
+        Block {
+            node: two_bytes(sheet, place, 0),
+            at: position_from(sheet, false, place, 2),
+            kind: byte(sheet, place, 5),
+            facing: byte(sheet, place, 6),
+        }
     }
 }
 
@@ -104,13 +123,15 @@ pub fn endpoint_from(sheet: &[u8], long: bool, place: usize) -> Endpoint
     }
 }
 
-// "sinks as the source".
+// "sinks as the source", "the tail limit follows the sink's facing".
 pub fn sink_from(sheet: &[u8], version: Version, place: usize) -> Sink
-    requires { ⌜ place + 7 < 2 ^ 64 ⌝ }
+    requires { ⌜ place + 8 < 2 ^ 64 ⌝ }
     ensures { λ r. ⌜ r ≡ sinkIn version (drop place (now (sheet .entry))) ⌝ }
 {
+    let endpoint = versions::endpoint_size(version.long);
     Sink {
         end: endpoint_from(sheet, version.long, place),
+        tail: limit_from(sheet, version.limits, USUAL_TAIL, place, endpoint),
     }
 }
 
@@ -144,6 +165,14 @@ pub fn config_from(sheet: &[u8], version: Version) -> RouterConfig
     ensures { λ r. ⌜ r ≡ configIn (drop (configPlace version) (now (sheet .entry))) ⌝ }
 {
     config_at(sheet, versions::config_place(version))
+}
+
+// The run limit of a sheet.
+pub fn run_from(sheet: &[u8], version: Version) -> usize
+    ensures { λ r. ⌜ r ≡ limitIn (version .limits) usualRun (drop (runPlace version) (now (sheet .entry))) 0 ⌝ }
+{
+    let place = versions::run_place(version);
+    limit_from(sheet, version.limits, USUAL_RUN, place, 0)
 }
 
 // The list whose count stands at a place, of records of `size` bytes, with long coordinates or not.

@@ -36,9 +36,10 @@ use Rattle.job_sheet.proofs.Part as Part′
 use Rattle.job_sheet.proofs.Part.Laws as PartLaws
 use Rattle.job_sheet.proofs.Sinks as Sinks′
 use Rattle.job_sheet.proofs.Sinks.Laws as SinksLaws
-use Rattle.job_sheet.specs.Version.{versionIn, positionSize, blockSize, listsPlace}
-use Rattle.job_sheet.specs.Places.{fourIn, positionIn, configIn, endpointIn, Listed, SourceListed, SinksListed}
-use Rattle.sheet_reader.specs.Reader.{Stands, onward, SidesListed, sinksFound, PartsFound}
+use Rattle.job_sheet.specs.UsualLimits.{usualRun}
+use Rattle.job_sheet.specs.Version.{versionIn, positionSize, blockSize, configSize, listsPlace}
+use Rattle.job_sheet.specs.Places.{fourIn, positionIn, configIn, limitIn, endpointIn, Listed, SourceListed, SinksListed}
+use Rattle.sheet_reader.specs.Reader.{Stands, onward, SidesListed, configAt, sinksFound, PartsFound}
 use Rattle.sheet_reader.specs.ReaderLaws.{onward-stands}
 use Rattle.sheet_reader.specs.declared.Reader.{Reader}
 use Rattle.sheet_reader.proofs.Body as Body′
@@ -77,6 +78,9 @@ config = record {
   Tells = λ h r. r ≡ configIn (drop (h .place) (now (h .sheet)));
 }
 
+abbrev pub run : ReadingMethod
+run = record { type = usize; mir = tyInt w64; typed = λ 𝓤 H A W. uint-lawful 𝓤 H A W w64 .typed; requires = standing; Tells = λ h r. r ≡ limitIn (versionIn (now (h .sheet)) .limits) usualRun (drop (h .place) (now (h .sheet))) configSize }
+
 abbrev pub position : ReadingMethod
 position = record {
   type = Pos′.the-row;
@@ -101,6 +105,9 @@ a-part required tells = record { type = Part′.the-row; mir = PartLaws.mir; typ
 
 abbrev pub sides-list : ReadingMethod
 sides-list = a-part (λ _. no-fact) (λ h. SidesListed (versionIn (now (h .sheet))) (h .place))
+
+abbrev pub config-list : ReadingMethod
+config-list = a-part (λ _. no-fact) (λ h r. r ≡ configAt (versionIn (now (h .sheet))) (h .place))
 
 abbrev pub block-list : ReadingMethod
 block-list = a-part standing (λ h. Listed (now (h .sheet)) (versionIn (now (h .sheet)) .long) (blockSize (versionIn (now (h .sheet)) .long)) (h .place))

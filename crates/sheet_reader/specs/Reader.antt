@@ -15,9 +15,10 @@ use Rattle.job_sheet.specs.declared.Endpoint.{Endpoint}
 use Rattle.job_sheet.specs.declared.places.Layout.{Layout}
 use Rattle.job_sheet.specs.declared.Sinks.{Sinks}
 use Rattle.job_sheet.specs.declared.Version.{Version}
-use Rattle.job_sheet.specs.Version.{versionIn, positionSize, mostSize, sidesPlace, configPlace}
+use Rattle.job_sheet.specs.UsualLimits.{usualRun}
+use Rattle.job_sheet.specs.Version.{versionIn, positionSize, limitSize, mostSize, sidesPlace, configPlace, configSize, runPlace}
 use Rattle.job_sheet.specs.Sheet.{maxSinks, behind, noPart, sinksOf}
-use Rattle.job_sheet.specs.Places.{fourIn, roomIn, configIn, endpointIn, sinksIn, sinksAt, layoutIn}
+use Rattle.job_sheet.specs.Places.{fourIn, roomIn, configIn, limitIn, endpointIn, sinksIn, sinksAt, layoutIn}
 use Rattle.sheet_reader.specs.declared.Head.{Head}
 use Rattle.sheet_reader.specs.declared.Body.{Body}
 use Rattle.sheet_reader.specs.declared.Found.{Found}
@@ -37,7 +38,7 @@ listCountSize = 2
 abbrev pub sinksCountSize : ℕ
 sinksCountSize = 1
 
--- the sides and the source have no count
+-- the sides, the config and the source have no count
 abbrev pub noCountSize : ℕ
 noCountSize = 0
 
@@ -50,6 +51,10 @@ pub record SidesListed (v : Version) (place : ℕ) (r : Part) : Type 0 where
   pub size-most : r .size ≤ mostSize
   pub count-is : r .count ≡ 1
 
+-- the config and the run limit behind it are one record
+abbrev pub configAt : Version → ℕ → Part
+configAt v place = record { from = place; count = 1; size = configSize + limitSize (v .limits); long = v .long }
+
 -- at most sixteen sinks that the sheet has whole, or none
 unfoldable pub wholeSinks : List ℕ → Part → Part
 wholeSinks s p = either (leb (p .count) maxSinks && leb (behind p) (length s)) p noPart
@@ -59,12 +64,13 @@ sinksFound s place = let v = versionIn s in sinksOf (sinksIn v s (wholeSinks s (
 
 -- ---- what a reader finds from the front of a sheet to its end
 
-abbrev pub headOf : ℕ → ℕ → Pos → RouterConfig → Head
-headOf version rest sides config = record {
+abbrev pub headOf : ℕ → ℕ → Pos → RouterConfig → ℕ → Head
+headOf version rest sides config run = record {
   version = version;
   rest = rest;
   room = record { wide = sides .x; high = sides .y; deep = sides .z };
   config = config;
+  run = run;
 }
 
 abbrev pub headIn : List ℕ → Head
@@ -75,6 +81,7 @@ headIn s =
       rest = fourIn (drop 1 s) 0;
       room = roomIn (v .long) (drop sidesPlace s);
       config = configIn (drop (configPlace v) s);
+      run = limitIn (v .limits) usualRun (drop (runPlace v) s) 0;
     }
 
 abbrev pub layoutFound : Part → Part → Part → Part → Part → Part → Part → Layout
@@ -116,6 +123,7 @@ abbrev pub jobFound : Found → Job
 jobFound f = record {
   room = f .head .room;
   config = f .head .config;
+  run = f .head .run;
   blocks = f .body .layout .blocks;
   conductors = f .body .layout .conductors;
   clearances = f .body .layout .clearances;

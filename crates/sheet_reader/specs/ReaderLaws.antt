@@ -1,13 +1,14 @@
 -- A reader that goes through a sheet finds what stands at its places.
 use mathlib.Core.Path.{_≡_, refl, sym, ap, _∙_}
-use mathlib.Core.Bool.{Bool, true}
+use mathlib.Core.Bool.{Bool, true, false}
 use mathlib.Core.List.{List}
 use Prim.Native.Nat.{ℕ, _+_, _*_, _^_, _≤_, _<_}
-use native.Mathlib.Nat.{le-of-lt, le-refl, le-trans, mul-le-mul}
+use native.Mathlib.Nat.{add-zero, le-of-lt, le-refl, le-trans, mul-le-mul}
 use native.Mathlib.Omega.{arith}
 use borrow.Author.Tests.{eqb-true, le-leb, lt-leb, eq-eqb, ne-eqb}
 use lib.Dec.{eqb}
 use lib.ListN.{length, getD, drop, drop-of-length-le}
+use lib.Seq.{getD-drop}
 use Rattle.basics.specs.Tests.{askLess}
 use Rattle.room.specs.declared.Pos.{Pos}
 use Rattle.room.specs.declared.RouterConfig.{RouterConfig}
@@ -15,16 +16,17 @@ use Rattle.job_sheet.specs.declared.Endpoint.{Endpoint}
 use Rattle.job_sheet.specs.declared.Part.{Part}
 use Rattle.job_sheet.specs.declared.Sinks.{Sinks}
 use Rattle.job_sheet.specs.declared.Version.{Version}
-use Rattle.job_sheet.specs.Version.{versionIn, width, positionSize, blockSize, endpointSize, sinkSize, mostSize, sidesPlace, configPlace, configSize, listsPlace}
-use Rattle.job_sheet.specs.VersionLaws.{width-few}
+use Rattle.job_sheet.specs.UsualLimits.{usualRun}
+use Rattle.job_sheet.specs.Version.{versionIn, width, positionSize, blockSize, endpointSize, limitSize, sinkSize, mostSize, sidesPlace, configPlace, configSize, runPlace, listsPlace}
+use Rattle.job_sheet.specs.VersionLaws.{width-few, limit-few}
 use Rattle.job_sheet.specs.Sheet.{maxSinks, sourceAt, behind, noPart, sinksOf, jobOf}
-use Rattle.job_sheet.specs.Places.{twoIn, fourIn, positionIn, configIn, endpointIn, sinksIn, listAt, sinksAt, layoutIn, contentsIn, Listed, SourceListed, SinksListed, Shaped}
+use Rattle.job_sheet.specs.Places.{twoIn, fourIn, positionIn, configIn, limitIn, endpointIn, sinksIn, listAt, sinksAt, layoutIn, contentsIn, Listed, SourceListed, SinksListed, Shaped}
 use Rattle.job_sheet.specs.RecordLaws.{Bytes}
 use Rattle.job_sheet.specs.ReadLaws.{job-forth}
 use Rattle.sheet_reader.specs.declared.Head.{Head}
 use Rattle.sheet_reader.specs.declared.Body.{Body}
 use Rattle.sheet_reader.specs.declared.Found.{Found}
-use Rattle.sheet_reader.specs.Reader.{Stands, onward, listCountSize, sinksCountSize, noCountSize, sidesAt, SidesListed, wholeSinks, sinksFound, headOf, headIn, layoutFound, bodyOf, PartsFound, foundOf, AllFound, jobFound}
+use Rattle.sheet_reader.specs.Reader.{Stands, onward, listCountSize, sinksCountSize, noCountSize, sidesAt, SidesListed, configAt, wholeSinks, sinksFound, headOf, headIn, layoutFound, bodyOf, PartsFound, foundOf, AllFound, jobFound}
 
 -- ---- where a reader stands
 
@@ -143,6 +145,9 @@ module _ {v : Version} {place : ℕ} {r : Part} where
   pub sides-small : SidesListed v place r → noCountSize + r .size * r .count < 2 ^ 64
   sides-small L = few-bytes noCountSize (r .size) (r .count) (omega arith) (L .size-most) (omega (arith, L .count-is))
 
+pub config-small : (v : Version) (place : ℕ) (r : Part) → r ≡ configAt v place → noCountSize + r .size * r .count < 2 ^ 64
+config-small v place r e = rw e (omega (arith, limit-few (v .limits)))
+
 -- ---- from the front to the lists
 
 -- the place that a reader at a place reaches behind the part that stands there
@@ -163,25 +168,34 @@ module _ (s : List ℕ) where
     abbrev configAfter : ℕ
     configAfter = after s noCountSize sidesAfter d
 
-    abbrev listsAfter : ℕ
-    listsAfter = onward s configAfter configSize
+    module _ (c : Part) where
+      abbrev listsAfter : ℕ
+      listsAfter = after s noCountSize configAfter c
 
-    -- the steps through the head are one step to the lists
-    pub lists-reached : d ≡ sidesAt v₀ sidesAfter → listsAfter ≡ onward s 0 (listsPlace v₀)
-    lists-reached e =
-        let m : ℕ = noCountSize + d .size * d .count in
-        let n : m ≡ noCountSize + positionSize (v₀ .long) * 1 = ap (λ x. noCountSize + x .size * x .count) e in
-        let sum : 1 + 4 + m + configSize ≡ listsPlace v₀ = omega (arith, n) in
-        rw (onward-twice s 0 1 4, onward-twice s 0 (1 + 4) m, onward-twice s 0 (1 + 4 + m) configSize, sum)
+      -- the steps through the head are one step to the lists
+      pub lists-reached : d ≡ sidesAt v₀ sidesAfter → c ≡ configAt v₀ configAfter → listsAfter ≡ onward s 0 (listsPlace v₀)
+      lists-reached e f =
+          let m : ℕ = noCountSize + d .size * d .count in
+          let k : ℕ = noCountSize + c .size * c .count in
+          let n : m ≡ noCountSize + positionSize (v₀ .long) * 1 = ap (λ x. noCountSize + x .size * x .count) e in
+          let o : k ≡ noCountSize + (configSize + limitSize (v₀ .limits)) * 1 = ap (λ x. noCountSize + x .size * x .count) f in
+          let sum : 1 + 4 + m + k ≡ listsPlace v₀ = omega (arith, n, o) in
+          rw (onward-twice s 0 1 4, onward-twice s 0 (1 + 4) m, onward-twice s 0 (1 + 4 + m) k, sum)
 
-pub head-read : (s : List ℕ) (version rest : ℕ) (sides : Pos) (d : Part) (config : RouterConfig)
+-- the run limit stands right behind the config
+limit-here : (carried : Bool) (usual : ℕ) (s : List ℕ) (place k : ℕ) → limitIn carried usual (drop place s) k ≡ limitIn carried usual (drop (place + k) s) 0
+limit-here false usual s place k = refl
+limit-here true usual s place k = rw (getD-drop, getD-drop, add-zero)
+
+pub head-read : (s : List ℕ) (version rest : ℕ) (sides : Pos) (d : Part) (config : RouterConfig) (run : ℕ)
     → version ≡ getD (drop 0 s) 0 0
     → rest ≡ fourIn (drop (restPlace s) s) 0
     → sides ≡ positionIn (versionIn s .long) (drop (sidesAfter s) s) 0
     → d ≡ sidesAt (versionIn s) (sidesAfter s)
     → config ≡ configIn (drop (configAfter s d) s)
-    → headOf version rest sides config ≡ headIn s
-head-read s version rest sides d config e₀ e₁ e₂ ed e₃ =
+    → run ≡ limitIn (versionIn s .limits) usualRun (drop (configAfter s d) s) configSize
+    → headOf version rest sides config run ≡ headIn s
+head-read s version rest sides d config run e₀ e₁ e₂ ed e₃ e₄ =
     let v : Version = versionIn s in
     let m : ℕ = noCountSize + d .size * d .count in
     let z : m ≡ noCountSize + positionSize (v .long) * 1 = ap (λ x. noCountSize + x .size * x .count) ed in
@@ -192,7 +206,9 @@ head-read s version rest sides d config e₀ e₁ e₂ ed e₃ =
     let f₁ : rest ≡ fourIn (drop 1 s) 0 = e₁ ∙ ap (λ l. fourIn l 0) (along-drop s _ 1 a₁) in
     let f₂ : sides ≡ positionIn (v .long) (drop sidesPlace s) 0 = e₂ ∙ ap (λ l. positionIn (v .long) l 0) (along-drop s _ sidesPlace a₂) in
     let f₃ : config ≡ configIn (drop (configPlace v) s) = e₃ ∙ ap configIn (along-drop s _ (configPlace v) a₃) in
-    λ i. headOf (e₀ i) (f₁ i) (f₂ i) (f₃ i)
+    let f₄ : run ≡ limitIn (v .limits) usualRun (drop (runPlace v) s) 0 =
+    e₄ ∙ ap (λ l. limitIn (v .limits) usualRun l configSize) (along-drop s _ (configPlace v) a₃) ∙ limit-here (v .limits) usualRun s (configPlace v) configSize in
+    λ i. headOf (e₀ i) (f₁ i) (f₂ i) (f₃ i) (f₄ i)
 
 -- ---- from the lists to the end
 
@@ -333,5 +349,5 @@ module _ (s : List ℕ) (v : Version) (n : v ≡ versionIn s) (f : Found) (F : A
 
   pub found-job : Bytes s → jobFound f ≡ jobOf v (contentsIn v s)
   found-job bytes =
-      job-forth v s bytes S (f .head .room) (f .head .config) (f .body .layout) (f .body .source) (f .body .sinks)
-      (rw n (ap (λ h. h .room) (F .head-is))) (rw n (ap (λ h. h .config) (F .head-is))) found-layout found-source found-sinks
+      job-forth v s bytes S (f .head .room) (f .head .config) (f .head .run) (f .body .layout) (f .body .source) (f .body .sinks)
+      (rw n (ap (λ h. h .room) (F .head-is))) (rw n (ap (λ h. h .config) (F .head-is))) (rw n (ap (λ h. h .run) (F .head-is))) found-layout found-source found-sinks

@@ -8,10 +8,11 @@ ghost use mathlib.Core.Path.{_≡_};
 ghost use Prim.Native.Nat.{_+_, _*_, _<_, _^_};
 ghost use lib.Dec.{eqb};
 ghost use lib.ListN.{length, getD, drop};
-ghost use Rattle.job_sheet.specs.Version.{versionIn, positionSize, blockSize, listsPlace};
+ghost use Rattle.job_sheet.specs.UsualLimits.{usualRun};
+ghost use Rattle.job_sheet.specs.Version.{versionIn, positionSize, blockSize, configSize, listsPlace};
 ghost use Rattle.job_sheet.specs.Sheet.{Read};
-ghost use Rattle.job_sheet.specs.Places.{fourIn, positionIn, configIn, endpointIn, Listed, SourceListed, SinksListed, shaped};
-ghost use Rattle.sheet_reader.specs.Reader.{Stands, onward, SidesListed, sinksFound, headOf, layoutFound, bodyOf, PartsFound, foundOf, AllFound, jobFound};
+ghost use Rattle.job_sheet.specs.Places.{fourIn, positionIn, configIn, limitIn, endpointIn, Listed, SourceListed, SinksListed, shaped};
+ghost use Rattle.sheet_reader.specs.Reader.{Stands, onward, SidesListed, configAt, sinksFound, headOf, layoutFound, bodyOf, PartsFound, foundOf, AllFound, jobFound};
 use job_sheet::Endpoint;
 use job_sheet::Job;
 use job_sheet::Judgement;
@@ -33,7 +34,7 @@ const LIST_COUNT_SIZE: usize = 2;
 // The bytes of the sinks' count.
 const SINKS_COUNT_SIZE: usize = 1;
 
-// The sides and the source have no count.
+// The sides, the config and the source have no count.
 const NO_COUNT_SIZE: usize = 0;
 
 // It stands on the sheet, at its end, or just off it. What is too short for a step leads it off, from where no step leads
@@ -44,12 +45,13 @@ pub struct Reader<'a> {
 }
 
 // What stands before the lists: "version byte, four-byte length of the rest, then X, Y, Z; node limit, horizontal, stair,
-// support cost".
+// support cost", and the run limit.
 struct Head {
     version: u8,
     rest: u32,
     room: Room,
     config: RouterConfig,
+    run: usize,
 }
 
 // The lists, the source and the sinks, and whether the sheet ends right behind them.
@@ -96,6 +98,21 @@ impl<'a> Reader<'a> {
         ensures { λ r. ⌜ r ≡ configIn (drop (self .entry .place) (now (self .entry .sheet))) ⌝ }
     {
         places::config_at(self.sheet, self.place)
+    }
+
+    // The run limit, behind the config that begins here.
+    pub fn run(self) -> usize
+        requires { ⌜ Stands (now (self .sheet)) (self .place) ⌝ }
+        ensures { λ r. ⌜ r ≡ limitIn (versionIn (now (self .entry .sheet)) .limits) usualRun (drop (self .entry .place) (now (self .entry .sheet))) configSize ⌝ }
+    {
+        steps::run(self.sheet, self.place)
+    }
+
+    // Where the config and the run limit stand, that begin here.
+    pub fn config_list(self) -> Part
+        ensures { λ r. ⌜ r ≡ configAt (versionIn (now (self .entry .sheet))) (self .entry .place) ⌝ }
+    {
+        steps::config_list(self.sheet, self.place)
     }
 
     // "X, Y, Z" or "x, y, z".
@@ -191,8 +208,8 @@ impl<'a> Reader<'a> {
 }
 
 // What was read, put together: apart from `read_through`, whose proof by hand needs to know of it no more than its contract.
-fn head_of(version: u8, rest: u32, sides: Pos, config: RouterConfig) -> Head
-    ensures { λ r. ⌜ r ≡ headOf version rest sides config ⌝ }
+fn head_of(version: u8, rest: u32, sides: Pos, config: RouterConfig, run: usize) -> Head
+    ensures { λ r. ⌜ r ≡ headOf version rest sides config run ⌝ }
 {
     Head {
         version,
@@ -203,6 +220,7 @@ fn head_of(version: u8, rest: u32, sides: Pos, config: RouterConfig) -> Head
             deep: sides.z,
         },
         config,
+        run,
     }
 }
 
@@ -295,9 +313,11 @@ fn read_through(sheet: &[u8]) -> Found
     let stands = reader.sides_list();
     let reader = reader.behind(NO_COUNT_SIZE, stands);
     let config = reader.config();
-    let reader = reader.past(versions::CONFIG_SIZE);
+    let run = reader.run();
+    let settings = reader.config_list();
+    let reader = reader.behind(NO_COUNT_SIZE, settings);
     let body = read_body(reader);
-    let head = head_of(version, rest, sides, config);
+    let head = head_of(version, rest, sides, config, run);
     found_of(head, body)
 }
 
@@ -322,6 +342,7 @@ fn job_found(found: Found) -> Job
 {
     let room = found.head.room;
     let config = found.head.config;
+    let run = found.head.run;
     let layout = found.body.layout;
     let blocks = layout.blocks;
     let conductors = layout.conductors;
@@ -333,6 +354,7 @@ fn job_found(found: Found) -> Job
     Job {
         room,
         config,
+        run,
         blocks,
         conductors,
         clearances,

@@ -3,13 +3,15 @@ ghost use mathlib.Core.Path.{_≡_};
 ghost use Prim.Native.Nat.{_+_, _*_, _≤_, _<_, _^_};
 ghost use lib.Dec.{eqb};
 ghost use lib.ListN.{length, drop};
-ghost use Rattle.job_sheet.specs.Version.{versionIn, positionSize, blockSize, mostSize};
-ghost use Rattle.job_sheet.specs.Places.{positionIn, endpointIn, Listed, SourceListed, SinksListed};
-ghost use Rattle.sheet_reader.specs.Reader.{Stands, onward, SidesListed, wholeSinks, sinksFound};
+ghost use Rattle.job_sheet.specs.UsualLimits.{usualRun};
+ghost use Rattle.job_sheet.specs.Version.{versionIn, positionSize, blockSize, mostSize, configSize};
+ghost use Rattle.job_sheet.specs.Places.{positionIn, limitIn, endpointIn, Listed, SourceListed, SinksListed};
+ghost use Rattle.sheet_reader.specs.Reader.{Stands, onward, SidesListed, configAt, wholeSinks, sinksFound};
 use job_sheet::Endpoint;
 use job_sheet::Part;
 use job_sheet::Sinks;
 use job_sheet::places;
+use job_sheet::usual_limits::USUAL_RUN;
 use job_sheet::versions;
 use room::Pos;
 
@@ -70,6 +72,29 @@ pub fn sides_list(sheet: &[u8], place: usize) -> Part
         count: 1,
         size: versions::position_size(long),
         long,
+    }
+}
+
+// The run limit, behind the config that begins at a place, in the sheet's version.
+pub fn run(sheet: &[u8], place: usize) -> usize
+    requires { ⌜ Stands (now sheet) place ⌝ }
+    ensures { λ r. ⌜ r ≡ limitIn (versionIn (now (sheet .entry)) .limits) usualRun (drop place (now (sheet .entry))) configSize ⌝ }
+{
+    let limits = versions::version_in(sheet).limits;
+    places::limit_from(sheet, limits, USUAL_RUN, place, versions::CONFIG_SIZE)
+}
+
+// Where the config and the run limit stand: one record.
+pub fn config_list(sheet: &[u8], place: usize) -> Part
+    ensures { λ r. ⌜ r ≡ configAt (versionIn (now (sheet .entry))) place ⌝ }
+{
+    let version = versions::version_in(sheet);
+    let size = versions::CONFIG_SIZE + versions::limit_size(version.limits);
+    Part {
+        from: place,
+        count: 1,
+        size,
+        long: version.long,
     }
 }
 

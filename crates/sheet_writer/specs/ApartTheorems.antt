@@ -12,7 +12,7 @@ use Rattle.lent.specs.Lent.{filled, outputAfter}
 use Rattle.job_sheet.specs.declared.Job.{Job}
 use Rattle.job_sheet.specs.declared.Part.{Part}
 use Rattle.job_sheet.specs.declared.Reading.{Reading}
-use Rattle.job_sheet.specs.Sheet.{Contents, isGood, numberOf, Read}
+use Rattle.job_sheet.specs.Sheet.{Contents, jobOf, isGood, numberOf, Read}
 use Rattle.job_sheet.specs.Places.{blockIn, positionIn, blocksIn, positionsIn}
 use Rattle.job_sheet.specs.FaultLaws.{many-map}
 use Rattle.job_sheet.specs.Accepted.{Accepted}
@@ -32,9 +32,11 @@ module _ (s : List ℕ) (p : Part) where
   unfolding listIn positionList positionsIn
   positions-listed = ap joined (many-map numbersOfPosition (λ l. positionIn (p .long) l 0) (p .size) (p .count) (drop (p .from) s))
 
--- where no number came back, the sheet is accepted, and the lists are its contents' parts, with zeros behind them
+-- where no number came back, the sheet is accepted, and run limit, lists and sinks are its contents' parts, lists with zeros behind them
 pub record PartsTaken (sheet : List ℕ) (B : Lists) (r : Taking) (B′ : Lists) : Type 0 where
   pub accepted : Accepted sheet (r .job)
+  pub run : r .job .run ≡ partsOf (accepted .contents) .run
+  pub sinks : r .job .sinks ≡ partsOf (accepted .contents) .sinks
   pub blocks : B′ .blocks ≡ filled (partsOf (accepted .contents) .blocks) (B .blocks)
   pub conductors : B′ .conductors ≡ filled (partsOf (accepted .contents) .conductors) (B .conductors)
   pub clearances : B′ .clearances ≡ filled (partsOf (accepted .contents) .clearances) (B .clearances)
@@ -46,7 +48,7 @@ unfolding takenNumber
 read-well q B e = ask (isGood (q .judgement)) (λ t. t) (λ f. absurd (not-done (q .judgement) f (rw f at e)))
 
 pub parts-taken : (sheet : List ℕ) (B : Lists) (r : Taking) (B′ : Lists) → TakesApart sheet B r B′ → r .number ≡ doneNumber → PartsTaken sheet B r B′
-unfolding partsOf
+unfolding partsOf jobOf
 parts-taken sheet B r B′ T d =
     let q = T .reading in
     let A : Accepted sheet (q .job) = accepted-by (T .read) (read-well q B (sym (T .number-is) ∙ d)) in
@@ -54,6 +56,8 @@ parts-taken sheet B r B′ T d =
     let A′ : Accepted sheet (r .job) = record { contents = A .contents; means = A .means; good = A .good; is = T .job-is ∙ A .is } in
     record {
       accepted = A′;
+      run = ap (λ j. j .run) (A′ .is);
+      sinks = ap (λ j. j .sinks) (A′ .is);
       blocks = T .blocks-are ∙ ap (λ n. outputAfter n (listIn Blocks sheet (q .job .blocks)) (B .blocks)) d ∙ ap (λ l. filled l (B .blocks)) (blocks-listed sheet (q .job .blocks) ∙ ap blockList (U .blocks .are));
       conductors = T .conductors-are ∙ ap (λ n. outputAfter n (listIn Positions sheet (q .job .conductors)) (B .conductors)) d ∙ ap (λ l. filled l (B .conductors)) (positions-listed sheet (q .job .conductors) ∙ ap positionList (U .conductors .are));
       clearances = T .clearances-are ∙ ap (λ n. outputAfter n (listIn Positions sheet (q .job .clearances)) (B .clearances)) d ∙ ap (λ l. filled l (B .clearances)) (positions-listed sheet (q .job .clearances) ∙ ap positionList (U .clearances .are));

@@ -3,7 +3,7 @@ use mathlib.Core.Path.{_≡_, refl, sym, ap, _∙_}
 use mathlib.Core.Bool.{Bool, true, false, _&&_}
 use mathlib.Core.List.{List, [], _∷_, _++_, map}
 use Prim.Native.Nat.{ℕ, zero, suc, _+_, _*_, _/_, _%_, _≤_, _<_}
-use native.Mathlib.Nat.{mod-lt, mod-eq-of-lt, div-lt-iff-lt-mul}
+use native.Mathlib.Nat.{mod-lt, mod-eq-of-lt, div-lt-iff-lt-mul, mul-le-mul-right}
 use native.Mathlib.Omega.{arith}
 use lib.Dec.{ltb}
 use lib.ListN.{length, getD, drop}
@@ -14,21 +14,23 @@ use Rattle.basics.specs.Lists.{every, every-map, every-joined, every-append, jo
 use Rattle.room.specs.declared.Room.{Room}
 use Rattle.room.specs.declared.Pos.{Pos}
 use Rattle.room.specs.declared.RouterConfig.{RouterConfig}
-use Rattle.room.specs.Room.{Within, between}
+use Rattle.room.specs.Room.{Within}
+use Rattle.room.specs.RoomLaws.{between-high}
 use Rattle.room.specs.Units.{GoodRanges, maxKind, kindKnown, maxFacing, facingKnown, maxPort, portKnown}
 use Rattle.job_sheet.specs.declared.Block.{Block}
 use Rattle.job_sheet.specs.declared.Endpoint.{Endpoint}
 use Rattle.job_sheet.specs.declared.Sink.{Sink}
 use Rattle.job_sheet.specs.declared.Judgement.the-variants.{Good, Code}
-use Rattle.job_sheet.specs.Version.{versionOne, sidesWithin}
-use Rattle.job_sheet.specs.VersionLaws.{good-ranges}
-use Rattle.job_sheet.specs.Sheet.{Contents, maxBytes, maxSinks, layoutOf, two, four, sides, costs, position, block, endpoint, sink, counted, sinkBytes, rest, bytesOf, bytesBy, isGood, judged, blockFault, positionFault, endpointFault, sinkFault}
+use Rattle.job_sheet.specs.declared.Version.{Version}
+use Rattle.job_sheet.specs.Version.{positionSize, blockSize, sidesWithin, mostLimit, limitWithin, Searchable}
+use Rattle.job_sheet.specs.VersionLaws.{good-config}
+use Rattle.job_sheet.specs.Sheet.{Contents, maxBytes, maxSinks, layoutOf, two, four, coordinate, sides, costs, position, block, endpoint, limit, sink, counted, sinkBytes, rest, bytesBy, isGood, judged, blockFault, positionFault, endpointFault, sinkFault}
 use Rattle.job_sheet.specs.FaultLaws.{good-is}
-use Rattle.job_sheet.specs.AcceptedLaws.{NoFault, no-fault, first-good, faultless, position-within, block-within, endpoint-within}
+use Rattle.job_sheet.specs.AcceptedLaws.{NoFault, no-fault, first-good, faultless, position-within, block-within, endpoint-within, tail-within}
 use Rattle.job_sheet.specs.Places.{many}
 use Rattle.sheet_writer.specs.Writer.{blockNumbers, blockFrom, blocksOf, low}
-use Rattle.sheet_writer.specs.OneLaws.{one-searchable}
-use Rattle.sheet_writer.specs.SizeLaws.{bytes-end}
+use Rattle.sheet_writer.specs.ChoiceLaws.{sideEnd, Writable}
+use Rattle.sheet_writer.specs.SizeLaws.{bytes-end, width-some}
 
 abbrev pub isByte : ℕ → Bool
 isByte n = ltb n 256
@@ -67,30 +69,44 @@ counted-bytes bytes p f xs e h =
 
 -- ---- the records
 
--- a byte holds each side of a room of version 1
-record ByteSides (R : Room) : Type 0 where
-  x-most : R .wide < 256
-  y-most : R .high < 256
-  z-most : R .deep < 256
+coordinate-bytes : (long : Bool) (n : ℕ) → n < sideEnd long → every isByte (coordinate long n) ≡ true
+coordinate-bytes false n h = and-both (byte n h) refl
+coordinate-bytes true n h = two-bytes n h
 
-byte-sides : (R : Room) → sidesWithin (versionOne .ranges) R ≡ true → ByteSides R
-unfolding sidesWithin between
-byte-sides R e =
-    let x : R .wide ≤ versionOne .ranges .side = search passed in
-    let y : R .high ≤ versionOne .ranges .side = search passed in
-    let z : R .deep ≤ versionOne .ranges .side = search passed in record { x-most = omega arith; y-most = omega arith; z-most = omega arith }
+limit-bytes : (carried : Bool) (n : ℕ) → limitWithin n ≡ true → every isByte (limit carried n) ≡ true
+unfolding limitWithin
+limit-bytes false n e = refl
+limit-bytes true n e = and-both (byte n (omega (arith, between-high 1 n mostLimit e))) refl
 
-module _ (R : Room) (G : ByteSides R) where
-  position-bytes : (p : Pos) → Within R p → every isByte (position false p) ≡ true
-  position-bytes p w =
-      and-both (byte (p .x) (omega (arith, w .x-in, G .x-most)))
-      (and-both (byte (p .y) (omega (arith, w .y-in, G .y-most))) (and-both (byte (p .z) (omega (arith, w .z-in, G .z-most))) refl))
+-- sides that a coordinate holds
+record SidesHeld (long : Bool) (R : Room) : Type 0 where
+  pub x-held : R .wide < sideEnd long
+  pub y-held : R .high < sideEnd long
+  pub z-held : R .deep < sideEnd long
+
+sides-held : (v : Version) → v .ranges .side < sideEnd (v .long) → (R : Room) → sidesWithin (v .ranges) R ≡ true → SidesHeld (v .long) R
+unfolding sidesWithin
+sides-held v h R e = record {
+  x-held = omega (arith, h, between-high 1 (R .wide) (v .ranges .side) (search passed));
+  y-held = omega (arith, h, between-high 1 (R .high) (v .ranges .side) (search passed));
+  z-held = omega (arith, h, between-high 1 (R .deep) (v .ranges .side) (search passed));
+}
+
+module _ (long : Bool) (R : Room) (G : SidesHeld long R) where
+  sides-bytes : every isByte (sides long R) ≡ true
+  sides-bytes = rw (every-joined isByte (coordinate long (R .wide) ∷ coordinate long (R .high) ∷ coordinate long (R .deep) ∷ []))
+      (and-both (coordinate-bytes long (R .wide) (G .x-held)) (and-both (coordinate-bytes long (R .high) (G .y-held)) (and-both (coordinate-bytes long (R .deep) (G .z-held)) refl)))
+
+  position-bytes : (p : Pos) → Within R p → every isByte (position long p) ≡ true
+  position-bytes p w = rw (every-joined isByte (coordinate long (p .x) ∷ coordinate long (p .y) ∷ coordinate long (p .z) ∷ []))
+      (and-both (coordinate-bytes long (p .x) (omega (arith, w .x-in, G .x-held)))
+      (and-both (coordinate-bytes long (p .y) (omega (arith, w .y-in, G .y-held))) (and-both (coordinate-bytes long (p .z) (omega (arith, w .z-in, G .z-held))) refl)))
 
   -- a position, and two codes behind it
-  coded-bytes : (p : Pos) (a b : ℕ) → Within R p → a < 256 → b < 256 → every isByte (position false p ++ (a ∷ b ∷ [])) ≡ true
-  coded-bytes p a b w h k = rw (every-append isByte (position false p) (a ∷ b ∷ [])) (and-both (position-bytes p w) (and-both (byte a h) (and-both (byte b k) refl)))
+  coded-bytes : (p : Pos) (a b : ℕ) → Within R p → a < 256 → b < 256 → every isByte (position long p ++ (a ∷ b ∷ [])) ≡ true
+  coded-bytes p a b w h k = rw (every-append isByte (position long p) (a ∷ b ∷ [])) (and-both (position-bytes p w) (and-both (byte a h) (and-both (byte b k) refl)))
 
-  block-bytes : (b : Block) → isGood (blockFault R b) && ltb (b .node) 65536 ≡ true → every isByte (block false b) ≡ true
+  block-bytes : (b : Block) → isGood (blockFault R b) && ltb (b .node) 65536 ≡ true → every isByte (block long b) ≡ true
   unfolding blockFault
   block-bytes b e =
       let g : isGood (blockFault R b) ≡ true = and-left (isGood (blockFault R b)) (ltb (b .node) 65536) e in
@@ -98,9 +114,9 @@ module _ (R : Room) (G : ByteSides R) where
       let all = first-good _ (good-is _ g) in
       let kind : b .kind ≤ maxKind = leb-true (b .kind) maxKind (faultless (kindKnown (b .kind)) Code refl (search passed)) in
       let facing : b .facing ≤ maxFacing = leb-true (b .facing) maxFacing (faultless (facingKnown (b .facing)) Code refl (search passed)) in
-      rw (every-append isByte (two (b .node)) (position false (b .at) ++ (b .kind ∷ b .facing ∷ []))) (and-both (two-bytes (b .node) n) (coded-bytes (b .at) (b .kind) (b .facing) (block-within R b g) (omega arith) (omega arith)))
+      rw (every-append isByte (two (b .node)) (position long (b .at) ++ (b .kind ∷ b .facing ∷ []))) (and-both (two-bytes (b .node) n) (coded-bytes (b .at) (b .kind) (b .facing) (block-within R b g) (omega arith) (omega arith)))
 
-  endpoint-bytes : (e : Endpoint) → isGood (endpointFault R e) ≡ true → every isByte (endpoint false e) ≡ true
+  endpoint-bytes : (e : Endpoint) → isGood (endpointFault R e) ≡ true → every isByte (endpoint long e) ≡ true
   unfolding endpointFault
   endpoint-bytes e g =
       let all = first-good _ (good-is _ g) in
@@ -108,9 +124,11 @@ module _ (R : Room) (G : ByteSides R) where
       let facing : e .facing ≤ maxFacing = leb-true (e .facing) maxFacing (faultless (facingKnown (e .facing)) Code refl (search passed)) in
       coded-bytes (e .at) (e .port) (e .facing) (endpoint-within R e g) (omega arith) (omega arith)
 
-  sink-bytes : (k : Sink) → isGood (sinkFault R k) ≡ true → every isByte (sink versionOne k) ≡ true
+  sink-bytes : (carried : Bool) (k : Sink) → isGood (sinkFault R k) ≡ true → every isByte (endpoint long (k .end) ++ limit carried (k .tail)) ≡ true
   unfolding sinkFault
-  sink-bytes k g = endpoint-bytes (k .end) g
+  sink-bytes carried k g =
+      let all = first-good _ (good-is _ g) in
+      rw (every-append isByte (endpoint long (k .end)) (limit carried (k .tail))) (and-both (endpoint-bytes (k .end) (search passed)) (limit-bytes carried (k .tail) (tail-within R k g)))
 
 costs-bytes : (C : RouterConfig) → GoodRanges C → every isByte (costs C) ≡ true
 costs-bytes C G =
@@ -126,52 +144,65 @@ both-every p q (x ∷ xs) e f =
     and-both (and-both (and-left (p x) (every p xs) e) (and-left (q x) (every q xs) f)) (both-every p q xs (and-right (p x) (every p xs) e) (and-right (q x) (every q xs) f))
 
 -- each count is below what its bytes hold
-record Sized (J : Contents) : Type 0 where
+record Sized (v : Version) (J : Contents) : Type 0 where
   pub blocks : length (J .blocks) < 65536
   pub conductors : length (J .conductors) < 65536
   pub clearances : length (J .clearances) < 65536
   pub terminals : length (J .terminals) < 65536
   pub reserved : length (J .reserved) < 65536
   pub sinks : length (J .sinks) < 256
-  pub rest : length (rest versionOne J) < 4294967296
+  pub rest : length (rest v J) < 4294967296
 
-sized : (J : Contents) → length (bytesOf J) ≤ maxBytes → length (J .sinks) ≤ maxSinks → Sized J
+-- a list has no more records than it takes bytes
+few-within : (size n bytes : ℕ) → 1 ≤ size → size * n ≤ bytes → n ≤ bytes
+few-within size n bytes some h = omega (arith, mul-le-mul-right n some, h)
+
+sized : (v : Version) (J : Contents) → length (bytesBy v J) ≤ maxBytes → length (J .sinks) ≤ maxSinks → Sized v J
 unfolding layoutOf bytesBy
-sized J s k = record {
-  blocks = omega (arith, bytes-end J);
-  conductors = omega (arith, bytes-end J);
-  clearances = omega (arith, bytes-end J);
-  terminals = omega (arith, bytes-end J);
-  reserved = omega (arith, bytes-end J);
-  sinks = omega arith;
-  rest = omega arith;
-}
+sized v J s k =
+    let long = v .long in
+    let some : 1 ≤ positionSize long = omega (arith, width-some long) in
+    let e = bytes-end v J in
+    let b : length (J .blocks) ≤ maxBytes = few-within (blockSize long) (length (J .blocks)) maxBytes (omega arith) (omega (arith, e, s)) in
+    let c : length (J .conductors) ≤ maxBytes = few-within (positionSize long) (length (J .conductors)) maxBytes some (omega (arith, e, s)) in
+    let l : length (J .clearances) ≤ maxBytes = few-within (positionSize long) (length (J .clearances)) maxBytes some (omega (arith, e, s)) in
+    let t : length (J .terminals) ≤ maxBytes = few-within (positionSize long) (length (J .terminals)) maxBytes some (omega (arith, e, s)) in
+    let r : length (J .reserved) ≤ maxBytes = few-within (positionSize long) (length (J .reserved)) maxBytes some (omega (arith, e, s)) in
+    record {
+      blocks = omega (arith, b);
+      conductors = omega (arith, c);
+      clearances = omega (arith, l);
+      terminals = omega (arith, t);
+      reserved = omega (arith, r);
+      sinks = omega arith;
+      rest = omega arith;
+    }
 
 -- a node that two bytes hold
 abbrev pub nodeHeld : Block → Bool
 nodeHeld b = ltb (b .node) 65536
 
-pub good-bytes : (J : Contents) → judged versionOne J ≡ Good → length (bytesOf J) ≤ maxBytes → length (J .sinks) ≤ maxSinks → every nodeHeld (J .blocks) ≡ true
-    → every isByte (bytesOf J) ≡ true
+pub good-bytes : (v : Version) → Writable v → (J : Contents) → judged v J ≡ Good → length (bytesBy v J) ≤ maxBytes → length (J .sinks) ≤ maxSinks → every nodeHeld (J .blocks) ≡ true
+    → every isByte (bytesBy v J) ≡ true
 unfolding bytesBy rest
-good-bytes J g s k n =
+good-bytes v W J g s k n =
     let R = J .room in
-    let N = no-fault versionOne J g in
-    let G = byte-sides R (N .sides) in
-    let Z = sized J s k in
-    let position-good : (p : Pos) → isGood (positionFault R p) ≡ true → every isByte (position false p) ≡ true = λ p e. position-bytes R G p (position-within R p e) in
-    let side : every isByte (sides false R) ≡ true =
-    and-both (byte (R .wide) (omega (arith, G .x-most))) (and-both (byte (R .high) (omega (arith, G .y-most))) (and-both (byte (R .deep) (omega (arith, G .z-most))) refl)) in
-    let all : every isByte (rest versionOne J) ≡ true =
-    rw every-joined (and-both side (and-both (costs-bytes (J .config) (good-ranges (versionOne .ranges) one-searchable (J .config) (N .config)))
-    (and-both (counted-bytes (block false) (λ b. isGood (blockFault R b) && nodeHeld b) (block-bytes R G) (J .blocks) (both-every (λ b. isGood (blockFault R b)) nodeHeld (J .blocks) (rw every-map at (N .blocks)) n) (Z .blocks))
-    (and-both (counted-bytes (position false) (λ p. isGood (positionFault R p)) position-good (J .conductors) (rw every-map at (N .conductors)) (Z .conductors))
-    (and-both (counted-bytes (position false) (λ p. isGood (positionFault R p)) position-good (J .clearances) (rw every-map at (N .clearances)) (Z .clearances))
-    (and-both (counted-bytes (position false) (λ p. isGood (positionFault R p)) position-good (J .terminals) (rw every-map at (N .terminals)) (Z .terminals))
-    (and-both (counted-bytes (position false) (λ p. isGood (positionFault R p)) position-good (J .reserved) (rw every-map at (N .reserved)) (Z .reserved))
-    (and-both (endpoint-bytes R G (J .source) (N .source))
-    (and-both (and-both (byte (length (J .sinks)) (Z .sinks)) (all-bytes (sink versionOne) (λ k. isGood (sinkFault R k)) (sink-bytes R G) (J .sinks) (rw every-map at (N .sinks)))) refl))))))))) in
-    rw (every-append isByte (four (length (rest versionOne J))) (rest versionOne J)) (and-both (four-bytes (length (rest versionOne J)) (Z .rest)) all)
+    let long = v .long in
+    let N = no-fault v J g in
+    let G = sides-held v (W .held) R (N .sides) in
+    let Z = sized v J s k in
+    let position-good : (p : Pos) → isGood (positionFault R p) ≡ true → every isByte (position long p) ≡ true = λ p e. position-bytes long R G p (position-within R p e) in
+    let all : every isByte (rest v J) ≡ true =
+    rw every-joined (and-both (sides-bytes long R G) (and-both (costs-bytes (J .config) (good-config (v .ranges) (J .room) (J .config) (N .config) .ranges))
+    (and-both (limit-bytes (v .limits) (J .run) (N .run))
+    (and-both (counted-bytes (block long) (λ b. isGood (blockFault R b) && nodeHeld b) (block-bytes long R G) (J .blocks) (both-every (λ b. isGood (blockFault R b)) nodeHeld (J .blocks) (rw every-map at (N .blocks)) n) (Z .blocks))
+    (and-both (counted-bytes (position long) (λ p. isGood (positionFault R p)) position-good (J .conductors) (rw every-map at (N .conductors)) (Z .conductors))
+    (and-both (counted-bytes (position long) (λ p. isGood (positionFault R p)) position-good (J .clearances) (rw every-map at (N .clearances)) (Z .clearances))
+    (and-both (counted-bytes (position long) (λ p. isGood (positionFault R p)) position-good (J .terminals) (rw every-map at (N .terminals)) (Z .terminals))
+    (and-both (counted-bytes (position long) (λ p. isGood (positionFault R p)) position-good (J .reserved) (rw every-map at (N .reserved)) (Z .reserved))
+    (and-both (endpoint-bytes long R G (J .source) (N .source))
+    (and-both (and-both (byte (length (J .sinks)) (Z .sinks)) (all-bytes (sink v) (λ k. isGood (sinkFault R k)) (sink-bytes long R G (v .limits)) (J .sinks) (rw every-map at (N .sinks)))) refl)))))))))) in
+    and-both (byte (v .number) (W .numbered)) (rw (every-append isByte (four (length (rest v J))) (rest v J)) (and-both (four-bytes (length (rest v J)) (Z .rest)) all))
 
 -- ---- the nodes of a list of 16-bit numbers
 

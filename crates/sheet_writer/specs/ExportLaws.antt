@@ -18,15 +18,15 @@ use Rattle.job_sheet.specs.declared.Sink.{Sink}
 use Rattle.job_sheet.specs.declared.Sinks.{Sinks}
 use Rattle.job_sheet.specs.declared.Judgement.{Judgement}
 use Rattle.job_sheet.specs.declared.Judgement.the-variants.{Good, Sheet, Sides, Config, Position, Code}
-use Rattle.job_sheet.specs.Sheet.{maxSinks, bytesOf, bytesBy, isGood, numberOf, noSink}
+use Rattle.job_sheet.specs.Sheet.{maxSinks, bytesBy, isGood, numberOf, noSink}
 use Rattle.job_sheet.specs.Places.{many}
 use Rattle.job_sheet.specs.RecordLaws.{many-long, many-snoc}
 use Rattle.sheet_writer.specs.declared.Writing.{Writing}
 use Rattle.sheet_writer.specs.declared.Writing.the-variants.{Written, Refused}
-use Rattle.sheet_writer.specs.Writer.{Parts, contentsOf, judgedParts, numberDue, answerOf, Promise}
+use Rattle.sheet_writer.specs.Writer.{Parts, contentsOf, written, judgedParts, numberDue, answerOf, Promise}
 use Rattle.sheet_writer.specs.PromiseLaws.{due-six}
 use Rattle.sheet_writer.specs.Theorems.{due-judged}
-use Rattle.sheet_writer.specs.Export.{endNumbers, sinkFrom, sinksFrom, endsGood, valueCount, toldNumber, Told}
+use Rattle.sheet_writer.specs.Export.{endNumbers, sinkNumbers, sinkFrom, sinksFrom, endsGood, valueCount, toldNumber, Told}
 
 -- ---- a writing as numbers
 
@@ -46,31 +46,31 @@ Fit (Refused n) values = 0 ≤ 0
 -- ---- the sinks gathered one by one
 
 pub record Gathered (l : List ℕ) (count : ℕ) (ends : List Sink) (k : ℕ) : Type 0 where
-  pub same : ends ≡ many sinkFrom endNumbers k l ++ replicate (maxSinks - k) noSink
+  pub same : ends ≡ many sinkFrom sinkNumbers k l ++ replicate (maxSinks - k) noSink
   pub so-far : k ≤ count
 
 module _ {l : List ℕ} {count : ℕ} {ends : List Sink} {k : ℕ} (I : Gathered l count ends k) where
-  pub gather-on : k < count → count ≤ maxSinks → (e : Sink) → e ≡ sinkFrom (drop (endNumbers * k) l) → Gathered l count (set ends k e) (k + 1)
+  pub gather-on : k < count → count ≤ maxSinks → (e : Sink) → e ≡ sinkFrom (drop (sinkNumbers * k) l) → Gathered l count (set ends k e) (k + 1)
   gather-on h few e n =
-      let p = many sinkFrom endNumbers k l in
+      let p = many sinkFrom sinkNumbers k l in
       let r : List Sink = replicate (maxSinks - (k + 1)) noSink in
       record {
         same =
             ap (λ x. set x k e) (I .same)
-            ∙ padded-next p maxSinks k noSink (many-long sinkFrom endNumbers k l) (omega arith) e
+            ∙ padded-next p maxSinks k noSink (many-long sinkFrom sinkNumbers k l) (omega arith) e
             ∙ ap (λ x. (p ++ (x ∷ [])) ++ r) n
-            ∙ ap (λ x. x ++ r) (sym (many-snoc sinkFrom endNumbers k l))
-            ∙ ap (λ x. many sinkFrom endNumbers x l ++ r) (sym (add-one k));
+            ∙ ap (λ x. x ++ r) (sym (many-snoc sinkFrom sinkNumbers k l))
+            ∙ ap (λ x. many sinkFrom sinkNumbers x l ++ r) (sym (add-one k));
         so-far = omega arith;
       }
 
-pub gather-done : (l : List ℕ) (ends : List Sink) (k : ℕ) → Gathered l (length l / endNumbers) ends k → length l / endNumbers ≤ k
-    → _≡_ {A = Sinks} (record { count = length l / endNumbers; ends = ends }) (sinksFrom l)
+pub gather-done : (l : List ℕ) (ends : List Sink) (k : ℕ) → Gathered l (length l / sinkNumbers) ends k → length l / sinkNumbers ≤ k
+    → _≡_ {A = Sinks} (record { count = length l / sinkNumbers; ends = ends }) (sinksFrom l)
 unfolding sinksFrom
 gather-done l ends k I h =
-    let n : length (many sinkFrom endNumbers (length l / endNumbers) l) ≡ length l / endNumbers = many-long sinkFrom endNumbers (length l / endNumbers) l in
-    let e : k ≡ length l / endNumbers = omega (arith, I .so-far) in
-    let f : ends ≡ many sinkFrom endNumbers (length l / endNumbers) l ++ replicate (maxSinks - length (many sinkFrom endNumbers (length l / endNumbers) l)) noSink = rw n (rw e at (I .same)) in
+    let n : length (many sinkFrom sinkNumbers (length l / sinkNumbers) l) ≡ length l / sinkNumbers = many-long sinkFrom sinkNumbers (length l / sinkNumbers) l in
+    let e : k ≡ length l / sinkNumbers = omega (arith, I .so-far) in
+    let f : ends ≡ many sinkFrom sinkNumbers (length l / sinkNumbers) l ++ replicate (maxSinks - length (many sinkFrom sinkNumbers (length l / sinkNumbers) l)) noSink = rw n (rw e at (I .same)) in
     let n′ = sym n in
     λ i. record { count = n′ i; ends = f i }
 
@@ -99,7 +99,7 @@ due-most : (P : Parts) (lent : ℕ) → numberDue P lent ≤ bufferNumber
 unfolding numberDue
 due-most P lent =
     ask (isGood (judgedParts P))
-    (λ t. ask (leb (length (bytesOf (contentsOf P))) lent) (λ h. rw (t, h) (omega arith)) (λ h. rw (t, h) (omega arith)))
+    (λ t. ask (leb (length (written (contentsOf P))) lent) (λ h. rw (t, h) (omega arith)) (λ h. rw (t, h) (omega arith)))
     (λ f. rw f (fault-most (judgedParts P)))
 
 -- no sheet goes into no bytes
@@ -136,8 +136,8 @@ module _ (P : Parts) (sheet values : List ℕ) {well t : Bool} (e : t ≡ well) 
     part-due : numberDue P (length (take lent sheet)) ≡ numberDue P lent
     part-due = ap (numberDue P) (length-take-le lent sheet lent-inside)
 
-    answer-is : w ≡ answerOf (numberDue P lent) (length (bytesOf (contentsOf P)))
-    answer-is = p .answers ∙ ap (λ d. answerOf d (length (bytesOf (contentsOf P)))) part-due
+    answer-is : w ≡ answerOf (numberDue P lent) (length (written (contentsOf P)))
+    answer-is = p .answers ∙ ap (λ d. answerOf d (length (written (contentsOf P)))) part-due
 
     pub told-fit : Fit w values
     told-fit =
@@ -152,26 +152,26 @@ module _ (P : Parts) (sheet values : List ℕ) {well t : Bool} (e : t ≡ well) 
         fits (Refused n) h = omega arith
 
     -- the part of the output that was lent, and what stands behind it
-    sheet-told : part ++ drop lent sheet ≡ outputAfter (numberDue P lent) (bytesOf (contentsOf P)) sheet
+    sheet-told : part ++ drop lent sheet ≡ outputAfter (numberDue P lent) (written (contentsOf P)) sheet
     sheet-told =
-        let held : part ≡ outputAfter (numberDue P lent) (bytesOf (contentsOf P)) (take lent sheet) = p .holds ∙ ap (λ d. outputAfter d (bytesOf (contentsOf P)) (take lent sheet)) part-due in
+        let held : part ≡ outputAfter (numberDue P lent) (written (contentsOf P)) (take lent sheet) = p .holds ∙ ap (λ d. outputAfter d (written (contentsOf P)) (take lent sheet)) part-due in
         ask (leb valueCount (length values))
         (λ h. let all : lent ≡ length sheet = l ∙ rw h refl in
         let front : take lent sheet ≡ sheet = ap (λ n. take n sheet) all ∙ take-length sheet in
         let none : drop lent sheet ≡ [] = ap (λ n. drop n sheet) all ∙ drop-length sheet in
-        (λ i. held i ++ none i) ∙ append-nil (outputAfter (numberDue P lent) (bytesOf (contentsOf P)) (take lent sheet)) ∙ ap (λ s. outputAfter (numberDue P lent) (bytesOf (contentsOf P)) s) front)
+        (λ i. held i ++ none i) ∙ append-nil (outputAfter (numberDue P lent) (written (contentsOf P)) (take lent sheet)) ∙ ap (λ s. outputAfter (numberDue P lent) (written (contentsOf P)) s) front)
         (λ h. let none : lent ≡ 0 = l ∙ rw h refl in
         let d : eqb (numberDue P lent) doneNumber ≡ false = ne-eqb (numberDue P lent) doneNumber (λ q. due-some P (ap (numberDue P) (sym none) ∙ q)) in
         let most = due-most P lent in
-        ap (λ s. s ++ drop lent sheet) (held ∙ kept (numberDue P lent) most d (bytesOf (contentsOf P)) (take lent sheet)) ∙ take-append-drop lent sheet ∙ sym (kept (numberDue P lent) most d (bytesOf (contentsOf P)) sheet))
+        ap (λ s. s ++ drop lent sheet) (held ∙ kept (numberDue P lent) most d (written (contentsOf P)) (take lent sheet)) ∙ take-append-drop lent sheet ∙ sym (kept (numberDue P lent) most d (written (contentsOf P)) sheet))
 
     pub told : {r : ℕ} {values′ : List ℕ} → r ≡ numberTold w → values′ ≡ valuesTold w values → Told P well sheet values r (part ++ drop lent sheet) values′
     told {r} n v =
-        let d : r ≡ numberDue P lent = n ∙ told-number (numberDue P lent) (length (bytesOf (contentsOf P))) answer-is in
+        let d : r ≡ numberDue P lent = n ∙ told-number (numberDue P lent) (length (written (contentsOf P))) answer-is in
         record {
           number = d ∙ sym number-is;
           sheet-is = rw d sheet-told;
-          values-are = rw d (v ∙ told-values (numberDue P lent) (length (bytesOf (contentsOf P))) answer-is (due-most P lent) values);
+          values-are = rw d (v ∙ told-values (numberDue P lent) (length (written (contentsOf P))) answer-is (due-most P lent) values);
         }
 
 -- ---- two results that keep the promise coincide
@@ -190,8 +190,8 @@ module _ (P : Parts) (well : Bool) (sheet values : List ℕ) where
       let n : r .number ≡ q .number = a .number ∙ sym (b .number) in
       λ i. record {
         number = n i;
-        sheet = (a .sheet-is ∙ ap (λ k. outputAfter k (bytesOf (contentsOf P)) sheet) n ∙ sym (b .sheet-is)) i;
-        values = (a .values-are ∙ ap (λ k. outputAfter k (0 ∷ length (bytesOf (contentsOf P)) ∷ []) values) n ∙ sym (b .values-are)) i;
+        sheet = (a .sheet-is ∙ ap (λ k. outputAfter k (written (contentsOf P)) sheet) n ∙ sym (b .sheet-is)) i;
+        values = (a .values-are ∙ ap (λ k. outputAfter k (0 ∷ length (written (contentsOf P)) ∷ []) values) n ∙ sym (b .values-are)) i;
       }
 
 -- ---- what is known of the ends once number 1 is not due for them
@@ -201,6 +201,6 @@ module _ (source sinks : ℕ) {t : Bool} (e : t ≡ endsGood source sinks) (g : 
   unfolding endsGood
   source-whole = let w : endsGood source sinks ≡ true = test-passes e g in let five : source ≡ endNumbers = search passed in omega (arith, five)
 
-  pub sinks-few : sinks / endNumbers ≤ maxSinks
+  pub sinks-few : sinks / sinkNumbers ≤ maxSinks
   unfolding endsGood
   sinks-few = let w : endsGood source sinks ≡ true = test-passes e g in search passed

@@ -12,8 +12,8 @@ use Rattle.room.specs.declared.Room.{Room}
 use Rattle.job_sheet.specs.declared.Sink.{Sink}
 use Rattle.job_sheet.specs.declared.Sinks.{Sinks}
 use Rattle.job_sheet.specs.declared.Judgement.{Judgement}
-use Rattle.job_sheet.specs.Version.{versionOne}
-use Rattle.job_sheet.specs.Sheet.{maxSinks, isGood, firstFault, sidesFault, configFault, positionFault, blockFault, endpointFault, sinkFault, judged, noSink}
+use Rattle.job_sheet.specs.declared.Version.{Version}
+use Rattle.job_sheet.specs.Sheet.{maxSinks, isGood, firstFault, sidesFault, configFault, limitFault, positionFault, blockFault, endpointFault, sinkFault, judged, noSink}
 use Rattle.job_sheet.specs.Places.{many, headFault}
 use Rattle.job_sheet.specs.FaultLaws.{fault-first, good-first, only-first, first-on, many-map, carried, carried-is}
 use Rattle.sheet_writer.specs.declared.Records.{Records}
@@ -111,10 +111,10 @@ module _ (fault : Sink → Judgement) (s : Sinks) (found : Judgement) (few : s .
 
 -- ---- all of it
 
-module _ (P : Parts) where
+module _ (v : Version) (P : Parts) where
   -- what the code carries from list to list is the judgement
   pub judged-steps : (v₀ v₁ v₂ v₃ v₄ v₅ v₆ v₇ : Judgement)
-      → v₀ ≡ headFault (versionOne .ranges) (P .room) (P .config)
+      → v₀ ≡ headFault (v .ranges) (P .room) (P .config) (P .run)
       → v₁ ≡ firstFault (v₀ ∷ faultsFrom (P .room) Blocks (P .blocks))
       → v₂ ≡ firstFault (v₁ ∷ faultsFrom (P .room) Positions (P .conductors))
       → v₃ ≡ firstFault (v₂ ∷ faultsFrom (P .room) Positions (P .clearances))
@@ -122,11 +122,11 @@ module _ (P : Parts) where
       → v₅ ≡ firstFault (v₄ ∷ faultsFrom (P .room) Positions (P .reserved))
       → v₆ ≡ firstFault (v₅ ∷ endpointFault (P .room) (P .source) ∷ [])
       → v₇ ≡ firstFault (v₆ ∷ map (sinkFault (P .room)) (take (P .sinks .count) (P .sinks .ends)))
-      → v₇ ≡ judged versionOne (contentsOf P)
+      → v₇ ≡ judged v (contentsOf P)
   unfolding carried judged contentsOf
   judged-steps v₀ v₁ v₂ v₃ v₄ v₅ v₆ v₇ e₀ e₁ e₂ e₃ e₄ e₅ e₆ e₇ =
       let R = P .room in
-      let head : List Judgement = sidesFault (versionOne .ranges) R ∷ configFault (versionOne .ranges) (P .config) ∷ [] in
+      let head : List Judgement = sidesFault (v .ranges) R ∷ configFault (v .ranges) R (P .config) ∷ limitFault (P .run) ∷ [] in
       let sinks : List Judgement = map (sinkFault R) (take (P .sinks .count) (P .sinks .ends)) in
       let lists : List (List Judgement) =
       faultsFrom R Blocks (P .blocks)

@@ -1,8 +1,9 @@
 pub mod Writer
-pub mod OneLaws
+pub mod Choice
 pub mod Narrow
 pub mod Sizes
 pub mod SizeLaws
+pub mod ChoiceLaws
 pub mod Faults
 pub mod JudgeLaws
 pub mod Texts

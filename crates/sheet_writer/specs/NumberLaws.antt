@@ -8,7 +8,7 @@ use native.Mathlib.Omega.{arith}
 use lib.ListN.{length, getD, drop, take, length-drop}
 use lib.Seq.{drop-length, take-at}
 use borrow.Author.Tests.{eq-eqb, eqb-true}
-use Rattle.basics.specs.Lists.{joined}
+use Rattle.basics.specs.Lists.{every-all, joined}
 use Rattle.room.specs.declared.Pos.{Pos}
 use Rattle.job_sheet.specs.declared.Block.{Block}
 use Rattle.job_sheet.specs.Sheet.{Contents, maxSinks, sinksOf}
@@ -17,10 +17,10 @@ use Rattle.job_sheet.specs.RecordLaws.{Coding, span-drop, joined-long, many-bac
 use Rattle.sheet_writer.specs.Writer.{Parts, blockNumbers, positionNumbers, blockFrom, positionFrom, blocksOf, positionsOf, contentsOf, whole, wholes, lengthsIn, numbersOfBlock, numbersOfPosition, blockList, positionList, partsOf}
 
 block-numbers : Coding numbersOfBlock blockFrom blockNumbers
-block-numbers = record { sized = λ x. refl; back = λ x l. refl; forth = λ l b h. span-drop 6 0 l h }
+block-numbers = record { sized = λ x. refl; back = λ x t l. refl; forth = λ l b h. span-drop 6 0 l h }
 
 position-numbers : Coding numbersOfPosition (λ l. positionFrom l 0) positionNumbers
-position-numbers = record { sized = λ x. refl; back = λ x l. refl; forth = λ l b h. span-drop 3 0 l h }
+position-numbers = record { sized = λ x. refl; back = λ x t l. refl; forth = λ l b h. span-drop 3 0 l h }
 
 -- ---- records, their numbers, and the records again
 
@@ -32,7 +32,7 @@ module _ {X : Type 0} {numbers : X → List ℕ} {value : List ℕ → X} {size 
   list-whole = eq-eqb (length (joined (map numbers xs)) % size) 0 (ap (λ n. n % size) (joined-long K xs) ∙ mul-mod-right size (length xs))
 
   list-back : many value size (length (joined (map numbers xs)) / size) (joined (map numbers xs)) ≡ xs
-  list-back = rw list-long (ap (λ l. many value size (length xs) l) (sym (append-nil (joined (map numbers xs)))) ∙ many-back K xs [])
+  list-back = rw list-long (ap (λ l. many value size (length xs) l) (sym (append-nil (joined (map numbers xs)))) ∙ many-back K xs (every-all (λ _. true) (λ _. refl) xs) [])
 
 pub blocks-back : (bs : List Block) → blocksOf (blockList bs) ≡ bs
 unfolding blocksOf blockList
@@ -51,6 +51,7 @@ unfolding contentsOf partsOf
 contents-again J i = record {
   room = J .room;
   config = J .config;
+  run = J .run;
   blocks = blocks-back (J .blocks) i;
   conductors = positions-back (J .conductors) i;
   clearances = positions-back (J .clearances) i;

@@ -16,12 +16,14 @@ use Rattle.lent.specs.Lent.{filled, outputAfter}
 use Rattle.putting.specs.Putting.{Put}
 use Rattle.job_sheet.specs.declared.Judgement.{Judgement}
 use Rattle.job_sheet.specs.declared.Judgement.the-variants.{Good, Sheet, Sides, Config, Position, Code}
-use Rattle.job_sheet.specs.Version.{versionOne, sidesPlace}
-use Rattle.job_sheet.specs.Sheet.{Contents, maxBytes, maxSinks, rest, bytesOf, bytesBy, isGood, judged, numberOf}
+use Rattle.job_sheet.specs.declared.Version.{Version}
+use Rattle.job_sheet.specs.Version.{sidesPlace}
+use Rattle.job_sheet.specs.Sheet.{Contents, maxBytes, maxSinks, rest, bytesBy, isGood, judged, numberOf}
 use Rattle.job_sheet.specs.FaultLaws.{good-is}
 use Rattle.sheet_writer.specs.declared.Lengths.{Lengths}
 use Rattle.sheet_writer.specs.declared.Writing.the-variants.{Written, Refused}
-use Rattle.sheet_writer.specs.Writer.{Parts, contentsOf, lengthsIn, formed, judgedParts, numberDue, answerOf, Promise, low}
+use Rattle.sheet_writer.specs.Writer.{Parts, contentsOf, versionFor, written, lengthsIn, formed, judgedParts, numberDue, answerOf, Promise, low}
+use Rattle.sheet_writer.specs.ChoiceLaws.{writable}
 use Rattle.sheet_writer.specs.Sizes.{sheetLength, Few}
 use Rattle.sheet_writer.specs.SizeLaws.{formed-few, formed-sinks, formed-short, sheet-long, sinks-count}
 use Rattle.sheet_writer.specs.Texts.{sheetText, Filling}
@@ -63,7 +65,7 @@ fault-kept Code f cells out = refl
 -- the parts have no fault
 pub record Faultless (P : Parts) : Type 0 where
   pub well : formed P ≡ true
-  pub good : judged versionOne (contentsOf P) ≡ Good
+  pub good : judged (versionFor (contentsOf P)) (contentsOf P) ≡ Good
 
 pub no-faults : (P : Parts) → isGood (judgedParts P) ≡ true → Faultless P
 unfolding judgedParts
@@ -74,13 +76,13 @@ unfolding judgedParts
 faultless-good P F = rw (F .well) (F .good)
 
 module _ (P : Parts) (lent : ℕ) (F : Faultless P) where
-  pub due-none : length (bytesOf (contentsOf P)) ≤ lent → numberDue P lent ≡ doneNumber
+  pub due-none : length (written (contentsOf P)) ≤ lent → numberDue P lent ≡ doneNumber
   unfolding numberDue
-  due-none h = rw (faultless-good P F, le-leb (length (bytesOf (contentsOf P))) lent h)
+  due-none h = rw (faultless-good P F, le-leb (length (written (contentsOf P))) lent h)
 
-  pub due-six : lent < length (bytesOf (contentsOf P)) → numberDue P lent ≡ bufferNumber
+  pub due-six : lent < length (written (contentsOf P)) → numberDue P lent ≡ bufferNumber
   unfolding numberDue
-  due-six h = rw (faultless-good P F, lt-leb (length (bytesOf (contentsOf P))) lent h)
+  due-six h = rw (faultless-good P F, lt-leb (length (written (contentsOf P))) lent h)
 
 -- ---- what the code finds
 
@@ -94,8 +96,8 @@ module _ (P : Parts) (whole : length (P .sinks .ends) ≡ maxSinks) (out : List 
       let f : isGood v ≡ false = test-fails e h in
       let d = due-fault f in
       record {
-        answers = ap Refused is ∙ rw d (fault-told v f (length (bytesOf (contentsOf P))));
-        holds = rw d (fault-kept v f (bytesOf (contentsOf P)) out);
+        answers = ap Refused is ∙ rw d (fault-told v f (length (written (contentsOf P))));
+        holds = rw d (fault-kept v f (written (contentsOf P)) out);
       }
 
   module _ (h : not t ≡ false) where
@@ -108,38 +110,38 @@ module _ (P : Parts) (whole : length (P .sinks .ends) ≡ maxSinks) (out : List 
     pub few-sinks : P .sinks .count ≤ maxSinks
     few-sinks = formed-sinks P (faultless .well)
 
-    module _ {n : Lengths} (of : n ≡ lengthsIn P) {bytes : ℕ} (s : bytes ≡ sheetLength n) where
+    module _ {w : Version} (in-version : w ≡ versionFor (contentsOf P)) {n : Lengths} (of : n ≡ lengthsIn P) {bytes : ℕ} (s : bytes ≡ sheetLength w n) where
       inside : P .sinks .count ≤ length (P .sinks .ends)
       inside = omega (arith, few-sinks, whole)
 
-      bytes-are : bytes ≡ length (bytesOf (contentsOf P))
-      bytes-are = s ∙ ap sheetLength of ∙ sym (sheet-long P inside)
+      bytes-are : bytes ≡ length (written (contentsOf P))
+      bytes-are = s ∙ (λ i. sheetLength (in-version i) (of i)) ∙ sym (sheet-long P inside (versionFor (contentsOf P)))
 
-      rest-is : bytes - sidesPlace ≡ length (rest versionOne (contentsOf P))
+      rest-is : bytes - sidesPlace ≡ length (rest (versionFor (contentsOf P)) (contentsOf P))
       unfolding bytesBy
       rest-is = omega (arith, bytes-are)
 
-      text-is : sheetText (bytes - sidesPlace) P ≡ low (bytesOf (contentsOf P))
-      text-is = ap (λ k. sheetText k P) rest-is ∙ sheet-text P inside
+      text-is : sheetText w (bytes - sidesPlace) P ≡ low (written (contentsOf P))
+      text-is = (λ i. sheetText (in-version i) (rest-is i) P) ∙ sheet-text P inside (versionFor (contentsOf P))
 
       pub promise-short : length out < bytes → Promise P out (Refused bufferNumber) out
       promise-short l =
           let d = due-six P (length out) faultless (omega (arith, bytes-are, l)) in
           record { answers = rw d refl; holds = rw d refl }
 
-      pub filling : bytes ≤ length out → Filling bytes P out
+      pub filling : bytes ≤ length out → Filling w bytes P out
       unfolding bytesBy
       filling l = record {
-        long = ap length text-is ∙ length-map (bytesOf (contentsOf P)) (λ x. x % 256) ∙ sym bytes-are;
+        long = ap length text-is ∙ length-map (written (contentsOf P)) (λ x. x % 256) ∙ sym bytes-are;
         some = omega (arith, bytes-are);
         place = l;
       }
 
-      pub promise-written : bytes ≤ length out → Words (P .blocks) → {out′ : List ℕ} → out′ ≡ filled (sheetText (bytes - sidesPlace) P) out → Promise P out (Written bytes) out′
+      pub promise-written : bytes ≤ length out → Words (P .blocks) → {out′ : List ℕ} → out′ ≡ filled (sheetText w (bytes - sidesPlace) P) out → Promise P out (Written bytes) out′
       unfolding contentsOf
-      promise-written l w f =
+      promise-written l words f =
           let J = contentsOf P in
           let d = due-none P (length out) faultless (omega (arith, bytes-are, l)) in
-          let all = good-bytes J (faultless .good) (formed-short P (faultless .well)) (omega (arith, sinks-count P inside, few-sinks)) (nodes-held (P .blocks) w) in
-          let text : sheetText (bytes - sidesPlace) P ≡ bytesOf J = text-is ∙ low-same (bytesOf J) all in
+          let all = good-bytes (versionFor J) (writable J) J (faultless .good) (formed-short P (faultless .well)) (omega (arith, sinks-count P inside, few-sinks)) (nodes-held (P .blocks) words) in
+          let text : sheetText w (bytes - sidesPlace) P ≡ written J = text-is ∙ low-same (written J) all in
           record { answers = rw d (ap Written bytes-are); holds = rw d (f ∙ ap (λ x. filled x out) text) }

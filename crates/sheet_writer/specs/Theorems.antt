@@ -18,14 +18,14 @@ use Rattle.job_sheet.specs.declared.Job.{Job}
 use Rattle.job_sheet.specs.declared.Reading.{Reading}
 use Rattle.job_sheet.specs.declared.Judgement.{Judgement}
 use Rattle.job_sheet.specs.declared.Judgement.the-variants.{Good, Sheet, Sides, Config, Position, Code}
-use Rattle.job_sheet.specs.Version.{versionOne, versionIn}
-use Rattle.job_sheet.specs.Sheet.{Contents, MeansBy, Means, maxBytes, maxSinks, bytesOf, isGood, judged, numberOf, accepted, Read}
+use Rattle.job_sheet.specs.Version.{versionOne, versionTwo, versionThree, versionIn}
+use Rattle.job_sheet.specs.Sheet.{Contents, MeansBy, Means, maxBytes, maxSinks, usual, bytesBy, isGood, judged, numberOf, accepted, Read}
 use Rattle.job_sheet.specs.Accepted.{Accepted}
 use Rattle.job_sheet.specs.Theorems.{answers-meaning, means-by}
 use Rattle.sheet_writer.specs.declared.Writing.{Writing}
 use Rattle.sheet_writer.specs.declared.Writing.the-variants.{Written, Refused}
-use Rattle.sheet_writer.specs.Writer.{Parts, blockNumbers, positionNumbers, contentsOf, whole, wholes, lengthsIn, formed, judgedParts, numberDue, answerOf, Promise, blockList, positionList, partsOf}
-use Rattle.sheet_writer.specs.OneLaws.{one-known, one-read, only-one}
+use Rattle.sheet_writer.specs.Writer.{Parts, blockNumbers, positionNumbers, contentsOf, holdsFirst, versionFor, written, whole, wholes, lengthsIn, formed, judgedParts, numberDue, answerOf, Promise, blockList, positionList, partsOf}
+use Rattle.sheet_writer.specs.ChoiceLaws.{writable, limits-told, written-version, for-usual, for-others, for-halls, held-first, Lowest, lowest}
 use Rattle.sheet_writer.specs.SizeLaws.{formed-sinks, formed-short}
 use Rattle.sheet_writer.specs.NumberLaws.{contents-again, parts-whole, parts-sinks, blocks-again, positions-again}
 use Rattle.sheet_writer.specs.PromiseLaws.{Faultless, no-faults, faultless-good, due-none}
@@ -61,12 +61,12 @@ due-judged P lent e =
 -- a success has no number, and tells how many bytes
 record Success (P : Parts) (out : List ℕ) (n : ℕ) : Type 0 where
   pub done : numberDue P (length out) ≡ doneNumber
-  pub bytes : n ≡ length (bytesOf (contentsOf P))
+  pub bytes : n ≡ length (written (contentsOf P))
 
 success : (P : Parts) (out out′ : List ℕ) (n : ℕ) → Promise P out (Written n) out′ → Success P out n
 success P out out′ n p =
     ask (eqb (numberDue P (length out)) doneNumber)
-    (λ t. let e : Written n ≡ Written (length (bytesOf (contentsOf P))) = p .answers ∙ rw t refl in record { done = eqb-true _ _ t; bytes = cc })
+    (λ t. let e : Written n ≡ Written (length (written (contentsOf P))) = p .answers ∙ rw t refl in record { done = eqb-true _ _ t; bytes = cc })
     (λ f. let e : Written n ≡ Refused (numberDue P (length out)) = p .answers ∙ rw f refl in never (cc))
 
 few-taken : (P : Parts) → P .sinks .count ≤ maxSinks → length (contentsOf P .sinks) ≤ maxSinks
@@ -74,21 +74,26 @@ unfolding contentsOf
 few-taken P h = rw length-take (omega (arith, min-le-left (P .sinks .count) (length (P .sinks .ends))))
 
 pub record ReadsBack (P : Parts) (sheet : List ℕ) : Type 0 where
-  pub sheet-is : sheet ≡ bytesOf (contentsOf P)
+  pub sheet-is : sheet ≡ written (contentsOf P)
   pub means : Means sheet (contentsOf P)
-  pub reads : (q : Reading) → Read sheet q → q ≡ accepted versionOne (contentsOf P)
+  pub reads : (q : Reading) → Read sheet q → q ≡ accepted (versionFor (contentsOf P)) (contentsOf P)
+
+-- the bytes that are written mean the job, and are read as it
+means-written : (J : Contents) → length (written J) ≤ maxBytes → length (J .sinks) ≤ maxSinks → Means (written J) J
+means-written J s k = means-by (versionFor J) (writable J .known) (record { bytes = refl; limits = limits-told J; short = s; few-sinks = k })
+
+reads-written : (J : Contents) → Means (written J) J → judged (versionFor J) J ≡ Good → (q : Reading) → Read (written J) q → q ≡ accepted (versionFor J) J
+reads-written J m g q r = answers-meaning (written J) J q m r ∙ rw (written-version (written J) J refl, g) refl
 
 pub written-reads : (P : Parts) (out out′ : List ℕ) (n : ℕ) → Promise P out (Written n) out′ → ReadsBack P (take n out′)
 written-reads P out out′ n p =
     let J = contentsOf P in
     let S = success P out out′ n p in
     let F = due-judged P (length out) (S .done) in
-    let holds : out′ ≡ filled (bytesOf J) out = p .holds ∙ rw (S .done) refl in
-    let is : take n out′ ≡ bytesOf J = (λ i. take (S .bytes i) (holds i)) ∙ take-at (bytesOf J) (replicate (length out - length (bytesOf J)) 0) (length (bytesOf J)) refl in
-    let by : MeansBy versionOne (take n out′) J = record { bytes = sym is; short = rw is (formed-short P (F .well)); few-sinks = few-taken P (formed-sinks P (F .well)) } in
-    let m : Means (take n out′) J = means-by versionOne one-known by in
-    let one : versionIn (take n out′) ≡ versionOne = one-read (take n out′) J (sym is) in
-    record { sheet-is = is; means = m; reads = λ q r. answers-meaning (take n out′) J q m r ∙ rw (one, F .good) refl }
+    let holds : out′ ≡ filled (written J) out = p .holds ∙ rw (S .done) refl in
+    let is : take n out′ ≡ written J = (λ i. take (S .bytes i) (holds i)) ∙ take-at (written J) (replicate (length out - length (written J)) 0) (length (written J)) refl in
+    let m : Means (written J) J = means-written J (formed-short P (F .well)) (few-taken P (formed-sinks P (F .well))) in
+    rw is (record { sheet-is = refl; means = m; reads = reads-written J m (F .good) })
 
 -- "order and repeats kept": the lists of what was read, as numbers, are those that went in
 pub record ListsBack (P : Parts) (J : Contents) : Type 0 where
@@ -103,7 +108,7 @@ unfolding contentsOf formed
 lists-back P out out′ n p =
     let S = success P out out′ n p in
     let w : formed P ≡ true = due-judged P (length out) (S .done) .well in
-    let bytes = leb (length (bytesOf (contentsOf P))) maxBytes in
+    let bytes = leb (length (written (contentsOf P))) maxBytes in
     let all : wholes (lengthsIn P) ≡ true = and-left (wholes (lengthsIn P)) bytes (and-right (leb (P .sinks .count) maxSinks) (wholes (lengthsIn P) && bytes) w) in
     record {
       blocks = blocks-again (P .blocks) (search passed);
@@ -119,24 +124,48 @@ pub refuses-nothing : (P : Parts) (sheet : List ℕ) → Means sheet (contentsOf
     → P .sinks .count ≤ maxSinks → wholes (lengthsIn P) ≡ true → (lent : ℕ) → length sheet ≤ lent → numberDue P lent ≡ doneNumber
 unfolding formed
 refuses-nothing P sheet m g k w lent h =
-    let by : MeansBy versionOne sheet (contentsOf P) = rw only-one at m in
-    let F : Faultless P = record { well = and-both (le-leb (P .sinks .count) maxSinks k) (and-both w (le-leb (length (bytesOf (contentsOf P))) maxBytes (rw (by .bytes) (by .short)))); good = rw only-one at g } in
-    due-none P lent F (rw (by .bytes) h)
+    let L : Lowest (versionIn sheet) (contentsOf P) = lowest _ (contentsOf P) (m .limits) g in
+    let most : length (written (contentsOf P)) ≤ length sheet = rw (m .bytes) at (L .bytes-most) in
+    let F : Faultless P = record { well = and-both (le-leb (P .sinks .count) maxSinks k) (and-both w (le-leb (length (written (contentsOf P))) maxBytes (omega (arith, most, m .short)))); good = L .still-good g } in
+    due-none P lent F (omega (arith, most, h))
 
--- ---- each accepted sheet, taken apart and written, gives its own bytes back
+-- ---- an accepted sheet, taken apart and written: one of its job's version gives its own bytes back, any other the same job
 
-pub record GivesBack (sheet out : List ℕ) (r : Writing) (out′ : List ℕ) : Type 0 where
-  pub answers : r ≡ Written (length sheet)
-  pub holds : out′ ≡ filled sheet out
+pub record GivesBack (sheet : List ℕ) (J : Contents) (out : List ℕ) (r : Writing) (out′ : List ℕ) : Type 0 where
+  pub answers : r ≡ Written (length (written J))
+  pub holds : out′ ≡ filled (written J) out
+  pub own-bytes : versionIn sheet ≡ versionFor J → written J ≡ sheet
+  pub same-job : (q : Reading) → Read (written J) q → q ≡ accepted (versionFor J) J
 
 pub gives-back : (sheet : List ℕ) (job : Job) (A : Accepted sheet job) (out : List ℕ) → length sheet ≤ length out
-    → (r : Writing) (out′ : List ℕ) → Promise (partsOf (A .contents)) out r out′ → GivesBack sheet out r out′
+    → (r : Writing) (out′ : List ℕ) → Promise (partsOf (A .contents)) out r out′ → GivesBack sheet (A .contents) out r out′
 gives-back sheet job A out h r out′ p =
     let J = A .contents in
     let P = partsOf J in
     let m = A .means in
+    let L : Lowest (versionIn sheet) J = lowest _ J (m .limits) (A .good) in
+    let most : length (written J) ≤ length sheet = rw (m .bytes) at (L .bytes-most) in
     let again : contentsOf P ≡ J = contents-again J in
-    let bytes : bytesOf (contentsOf P) ≡ sheet = ap bytesOf again ∙ (rw only-one at m) .bytes in
     let m′ : Means sheet (contentsOf P) = rw again m in
     let d = refuses-nothing P sheet m′ (ap (judged (versionIn sheet)) again ∙ A .good) (rw (parts-sinks J) (m .few-sinks)) (parts-whole J) (length out) h in
-    record { answers = p .answers ∙ rw (d, bytes) refl; holds = p .holds ∙ rw (d, bytes) refl }
+    record {
+      answers = p .answers ∙ rw (d, again) refl;
+      holds = p .holds ∙ rw (d, again) refl;
+      own-bytes = λ e. ap (λ v. bytesBy v J) (sym e) ∙ m .bytes;
+      same-job = reads-written J (means-written J (omega (arith, most, m .short)) (m .few-sinks)) (L .still-good (A .good));
+    }
+
+-- accepted version 1 sheets are of their job's version, and so are those of version 2 with other limits, and of version 3 with a job that neither holds
+module _ (sheet : List ℕ) (job : Job) (A : Accepted sheet job) where
+  pub one-own : versionIn sheet ≡ versionOne → versionIn sheet ≡ versionFor (A .contents)
+  one-own e = e ∙ sym (for-usual (A .contents) (held-first versionOne (A .contents) refl (rw e at (A .good))) (rw e at (A .means .limits)))
+
+  pub two-own : versionIn sheet ≡ versionTwo → usual (A .contents) ≡ false → versionIn sheet ≡ versionFor (A .contents)
+  two-own e f = e ∙ sym (for-others (A .contents) (held-first versionTwo (A .contents) refl (rw e at (A .good))) f)
+
+  pub three-own : versionIn sheet ≡ versionThree → holdsFirst (A .contents) ≡ false → versionIn sheet ≡ versionFor (A .contents)
+  three-own e n = e ∙ sym (for-halls (A .contents) n)
+
+-- and no sheet of a lower version is accepted as that job
+pub none-lower : (sheet : List ℕ) (job : Job) (A : Accepted sheet job) → versionFor (A .contents) .number ≤ versionIn sheet .number
+none-lower sheet job A = lowest _ (A .contents) (A .means .limits) (A .good) .number-most

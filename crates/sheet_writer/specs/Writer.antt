@@ -19,8 +19,9 @@ use Rattle.job_sheet.specs.declared.Endpoint.{Endpoint}
 use Rattle.job_sheet.specs.declared.Sinks.{Sinks}
 use Rattle.job_sheet.specs.declared.Judgement.{Judgement}
 use Rattle.job_sheet.specs.declared.Judgement.the-variants.{Sheet}
-use Rattle.job_sheet.specs.Version.{versionOne}
-use Rattle.job_sheet.specs.Sheet.{Contents, maxBytes, maxSinks, bytesOf, isGood, judged, numberOf, sinksOf}
+use Rattle.job_sheet.specs.declared.Version.{Version}
+use Rattle.job_sheet.specs.Version.{firstRanges, versionOne, versionTwo, versionThree, fitsRanges}
+use Rattle.job_sheet.specs.Sheet.{Contents, maxBytes, maxSinks, bytesBy, usual, isGood, judged, numberOf, sinksOf}
 use Rattle.job_sheet.specs.Places.{many}
 use Rattle.sheet_writer.specs.declared.Lengths.{Lengths}
 use Rattle.sheet_writer.specs.declared.Writing.{Writing}
@@ -34,6 +35,7 @@ use Rattle.sheet_writer.specs.declared.Records.the-variants.{Blocks, Pos
 pub record Parts : Type 0 where
   pub room : Room
   pub config : RouterConfig
+  pub run : ℕ
   pub blocks : List ℕ
   pub conductors : List ℕ
   pub clearances : List ℕ
@@ -42,10 +44,11 @@ pub record Parts : Type 0 where
   pub source : Endpoint
   pub sinks : Sinks
 
-abbrev pub parts : Room → RouterConfig → List ℕ → List ℕ → List ℕ → List ℕ → List ℕ → Endpoint → Sinks → Parts
-parts R C b c l t r e k = record {
+abbrev pub parts : Room → RouterConfig → ℕ → List ℕ → List ℕ → List ℕ → List ℕ → List ℕ → Endpoint → Sinks → Parts
+parts R C n b c l t r e k = record {
   room = R;
   config = C;
+  run = n;
   blocks = b;
   conductors = c;
   clearances = l;
@@ -84,6 +87,7 @@ unfoldable pub contentsOf : Parts → Contents
 contentsOf P = record {
   room = P .room;
   config = P .config;
+  run = P .run;
   blocks = blocksOf (P .blocks);
   conductors = positionsOf (P .conductors);
   clearances = positionsOf (P .clearances);
@@ -92,6 +96,20 @@ contentsOf P = record {
   source = P .source;
   sinks = take (P .sinks .count) (P .sinks .ends);
 }
+
+-- ---- the version that is written: "the lowest version that holds the job"
+
+-- sides, node limit and costs are within the ranges of versions 1 and 2
+unfoldable pub holdsFirst : Contents → Bool
+holdsFirst J = fitsRanges firstRanges (J .room) (J .config)
+
+-- "The writer uses version 1 where all are 12 and 8"
+unfoldable pub versionFor : Contents → Version
+versionFor J = either (holdsFirst J) (either (usual J) versionOne versionTwo) versionThree
+
+-- the bytes of its sheet
+abbrev pub written : Contents → List ℕ
+written J = bytesBy (versionFor J) J
 
 -- ---- the number that is due
 
@@ -120,16 +138,16 @@ lengthsIn P = lengthsOf (P .blocks) (P .conductors) (P .clearances) (P .terminal
 
 -- none of the reasons for number 1: "more than 16 sinks, 60,000 bytes or a list that is no whole number of records"
 unfoldable pub formed : Parts → Bool
-formed P = leb (P .sinks .count) maxSinks && (wholes (lengthsIn P) && leb (length (bytesOf (contentsOf P))) maxBytes)
+formed P = leb (P .sinks .count) maxSinks && (wholes (lengthsIn P) && leb (length (written (contentsOf P))) maxBytes)
 
 -- number 1, then "2 to 5 as in the reader, record by record", at the ranges of the version that is written
 unfoldable pub judgedParts : Parts → Judgement
-judgedParts P = either (formed P) (judged versionOne (contentsOf P)) Sheet
+judgedParts P = either (formed P) (judged (versionFor (contentsOf P)) (contentsOf P)) Sheet
 
 -- "then 6 for an output too short"
 unfoldable pub numberDue : Parts → ℕ → ℕ
 numberDue P lent =
-    either (isGood (judgedParts P)) (either (leb (length (bytesOf (contentsOf P))) lent) doneNumber bufferNumber) (numberOf (judgedParts P))
+    either (isGood (judgedParts P)) (either (leb (length (written (contentsOf P))) lent) doneNumber bufferNumber) (numberOf (judgedParts P))
 
 -- ---- the promise
 
@@ -139,8 +157,8 @@ answerOf number bytes = either (eqb number doneNumber) (Written bytes) (Refused 
 
 -- the promise of `write_sheet`: the sheet's bytes and zeros behind them; "none touches the output"
 pub record Promise (P : Parts) (out : List ℕ) (r : Writing) (out′ : List ℕ) : Type 0 where
-  pub answers : r ≡ answerOf (numberDue P (length out)) (length (bytesOf (contentsOf P)))
-  pub holds : out′ ≡ outputAfter (numberDue P (length out)) (bytesOf (contentsOf P)) out
+  pub answers : r ≡ answerOf (numberDue P (length out)) (length (written (contentsOf P)))
+  pub holds : out′ ≡ outputAfter (numberDue P (length out)) (written (contentsOf P)) out
 
 -- the low byte of each number: what is put, of numbers that a byte may not hold
 abbrev pub low : List ℕ → List ℕ
@@ -166,6 +184,7 @@ unfoldable pub partsOf : Contents → Parts
 partsOf J = record {
   room = J .room;
   config = J .config;
+  run = J .run;
   blocks = blockList (J .blocks);
   conductors = positionList (J .conductors);
   clearances = positionList (J .clearances);

@@ -8,13 +8,15 @@ ghost use Rattle.job_sheet.specs.Sheet.{maxSinks};
 ghost use Rattle.sheet_writer.specs.Writer.{Promise};
 ghost use lib.Dec.{leb};
 ghost use Rattle.basics.specs.Tests.{either};
-ghost use Rattle.sheet_writer.specs.Export.{roomOf, configOf, endNumbers, endFrom, sinksFrom, endsGood, valueCount, Told, partsTold};
+ghost use Rattle.sheet_writer.specs.Export.{roomOf, configOf, endNumbers, endFrom, sinkNumbers, sinkFrom, sinksFrom, endsGood, valueCount, Told, partsTold};
 ghost use Rattle.sheet_writer.specs.ExportLaws.{numberTold, valuesTold, Fit};
 use crate::ENDPOINT_NUMBERS;
+use crate::SINK_NUMBERS;
 use crate::Writing;
 use crate::listed::code_of;
 use crate::listed::number;
 use crate::listed::position_from;
+use crate::listed::wide;
 use crate::write_sheet;
 use job_sheet::Endpoint;
 use job_sheet::MAX_SINKS;
@@ -24,12 +26,13 @@ use room::Cost;
 use room::Nodes;
 use room::Room;
 use room::RouterConfig;
+use room::as_index;
 
 // How many values a writing comes to: its detail, and how many bytes were written.
 const VALUES: usize = 2;
 
 // "x, y, z, port, facing": the end whose numbers begin at a place.
-fn end_from(numbers: &[u16], place: usize) -> Endpoint
+pub fn end_from(numbers: &[u16], place: usize) -> Endpoint
     requires { ⌜ place + endNumbers ≤ length (now numbers) ⌝ }
     ensures { λ r. ⌜ r ≡ endFrom (drop place (now (numbers .entry))) ⌝ }
 {
@@ -40,17 +43,28 @@ fn end_from(numbers: &[u16], place: usize) -> Endpoint
     }
 }
 
+// "x, y, z, port, facing, tail limit": the sink whose numbers begin at a place.
+fn sink_from(numbers: &[u16], place: usize) -> Sink
+    requires { ⌜ place + sinkNumbers ≤ length (now numbers) ⌝ }
+    ensures { λ r. ⌜ r ≡ sinkFrom (drop place (now (numbers .entry))) ⌝ }
+{
+    Sink {
+        end: end_from(numbers, place),
+        tail: wide(number(numbers, place, 5)),
+    }
+}
+
 // The sinks of a list of numbers, with their count.
-fn sinks_of(numbers: &[u16]) -> Sinks
-    requires { ⌜ length (now numbers) / endNumbers ≤ maxSinks ⌝ }
+pub fn sinks_of(numbers: &[u16]) -> Sinks
+    requires { ⌜ length (now numbers) / sinkNumbers ≤ maxSinks ⌝ }
     ensures { λ r. ⌜ r ≡ sinksFrom (now (numbers .entry)) ⌝ }
 {
-    let count = numbers.len() / ENDPOINT_NUMBERS;
+    let count = numbers.len() / SINK_NUMBERS;
     let mut ends = [job_sheet::no_sink(); MAX_SINKS];
     let mut k: usize = 0;
     while k < count {
-        let end = end_from(numbers, ENDPOINT_NUMBERS * k);
-        ends[k] = Sink { end };
+        let sink = sink_from(numbers, SINK_NUMBERS * k);
+        ends[k] = sink;
         k += 1;
     }
     Sinks { count, ends }
@@ -63,10 +77,10 @@ fn ends_good(source: usize, sinks: usize) -> bool
     if source != ENDPOINT_NUMBERS {
         return false;
     }
-    if sinks % ENDPOINT_NUMBERS != 0 {
+    if sinks % SINK_NUMBERS != 0 {
         return false;
     }
-    sinks / ENDPOINT_NUMBERS <= MAX_SINKS
+    sinks / SINK_NUMBERS <= MAX_SINKS
 }
 
 // Two values, and zeros behind them.
@@ -111,6 +125,7 @@ pub fn write_sheet_told(
     horizontal: u32,
     stair: u32,
     support: u32,
+    run: u32,
     blocks: &[u16],
     conductors: &[u16],
     clearances: &[u16],
@@ -121,7 +136,7 @@ pub fn write_sheet_told(
     sheet: &mut [u8],
     values: &mut [u64],
 ) -> u32
-    ensures { λ r. ⌜ Told (partsTold wide high deep limit horizontal stair support (now (blocks .entry)) (now (conductors .entry)) (now (clearances .entry)) (now (terminals .entry)) (now (reserved .entry)) (now (source .entry)) (now (sinks .entry))) (endsGood (length (now (source .entry))) (length (now (sinks .entry)))) (now (sheet .entry)) (now (values .entry)) r (now (sheet .exit)) (now (values .exit)) ⌝ }
+    ensures { λ r. ⌜ Told (partsTold wide high deep limit horizontal stair support run (now (blocks .entry)) (now (conductors .entry)) (now (clearances .entry)) (now (terminals .entry)) (now (reserved .entry)) (now (source .entry)) (now (sinks .entry))) (endsGood (length (now (source .entry))) (length (now (sinks .entry)))) (now (sheet .entry)) (now (values .entry)) r (now (sheet .exit)) (now (values .exit)) ⌝ }
 {
     if !ends_good(source.len(), sinks.len()) {
         return numbers::SHEET_NUMBER;
@@ -137,6 +152,7 @@ pub fn write_sheet_told(
     let writing = write_sheet(
         room,
         config,
+        as_index(run),
         blocks,
         conductors,
         clearances,

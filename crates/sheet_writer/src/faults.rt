@@ -1,13 +1,12 @@
 // Numbers 1 to 5 of a job's parts: the lists are looked at as numbers, record by record.
 ghost use mathlib.Core.Path.{_≡_};
-ghost use mathlib.Core.Bool.{false};
 ghost use mathlib.Core.List.{[], _∷_, map};
-ghost use Prim.Native.Nat.{_+_, _^_, _<_, _≤_};
+ghost use Prim.Native.Nat.{_+_, _*_, _^_, _<_, _≤_};
 ghost use lib.ListN.{length, drop, take};
-ghost use Rattle.job_sheet.specs.Version.{versionOne, mostSize};
-ghost use Rattle.job_sheet.specs.Sheet.{maxBytes, maxSinks, listed, behind, firstFault, endpointFault, sinkFault, judged};
-ghost use Rattle.sheet_writer.specs.Writer.{numbersFor, parts, contentsOf, whole, wholes, lengthsOf, judgedParts};
-ghost use Rattle.sheet_writer.specs.Sizes.{fewRecords, Few, sheetLength, lengthsGood};
+ghost use Rattle.job_sheet.specs.Version.{mostSize, Searchable};
+ghost use Rattle.job_sheet.specs.Sheet.{maxBytes, maxSinks, firstFault, endpointFault, sinkFault, judged};
+ghost use Rattle.sheet_writer.specs.Writer.{numbersFor, parts, contentsOf, versionFor, whole, wholes, lengthsOf, judgedParts};
+ghost use Rattle.sheet_writer.specs.Sizes.{fewRecords, Few, BehindList, sheetLength, lengthsGood};
 ghost use Rattle.sheet_writer.specs.Faults.{faultFrom, faultsFrom};
 use crate::BLOCK_NUMBERS;
 use crate::Lengths;
@@ -18,30 +17,16 @@ use crate::listed::position_from;
 use job_sheet::Endpoint;
 use job_sheet::Judgement;
 use job_sheet::MAX_BYTES;
+use job_sheet::Sink;
 use job_sheet::Sinks;
 use job_sheet::Version;
 use job_sheet::faults::block_fault;
 use job_sheet::faults::endpoint_fault;
 use job_sheet::faults::position_fault;
+use job_sheet::faults::sink_fault;
 use job_sheet::versions;
 use room::Room;
 use room::RouterConfig;
-
-// Where the lists begin in the version that is written, and the bytes of its records.
-const LISTS: usize = 24;
-
-const BLOCK_SIZE: usize = 7;
-
-const POSITION_SIZE: usize = 3;
-
-const ENDPOINT_SIZE: usize = 5;
-
-// The version that is written.
-fn written() -> Version
-    ensures { λ r. ⌜ r ≡ versionOne ⌝ }
-{
-    versions::version_of(1)
-}
 
 // Whether so many numbers are a whole number of records.
 fn whole(numbers: usize, size: usize) -> bool
@@ -91,28 +76,39 @@ fn few_records(n: Lengths) -> bool
 // The place right behind a list of so many records whose count stands at a place.
 fn behind_list(place: usize, size: usize, count: usize) -> usize
     requires { ⌜ (place < 2 ^ 32) × (size ≤ mostSize) × (count ≤ maxBytes) ⌝ }
-    ensures { λ r. ⌜ r ≡ behind (listed false size place count) ⌝ }
+    ensures { λ r. ⌜ BehindList place size count r ⌝ }
 {
     place + 2 + size * count
 }
 
-// How many bytes a sheet of such lists has.
-pub fn sheet_length(n: Lengths) -> usize
-    requires { ⌜ Few n ⌝ }
-    ensures { λ r. ⌜ r ≡ sheetLength n ⌝ }
+// The place right behind the source and the sinks, of so many bytes each, that begin at a place.
+fn behind_ends(place: usize, endpoint: usize, sink: usize, sinks: usize) -> usize
+    requires { ⌜ (place < 2 ^ 32) × (endpoint ≤ mostSize) × (sink ≤ mostSize) × (sinks ≤ maxSinks) ⌝ }
+    ensures { λ r. ⌜ r ≡ place + endpoint + 1 + sink * sinks ⌝ }
 {
-    let blocks = n.blocks / BLOCK_NUMBERS;
-    let conductors = behind_list(LISTS, BLOCK_SIZE, blocks);
-    let clearances = behind_list(conductors, POSITION_SIZE, n.conductors / POSITION_NUMBERS);
-    let terminals = behind_list(clearances, POSITION_SIZE, n.clearances / POSITION_NUMBERS);
-    let reserved = behind_list(terminals, POSITION_SIZE, n.terminals / POSITION_NUMBERS);
-    let source = behind_list(reserved, POSITION_SIZE, n.reserved / POSITION_NUMBERS);
-    source + ENDPOINT_SIZE + 1 + ENDPOINT_SIZE * n.sinks
+    place + endpoint + 1 + sink * sinks
 }
 
-// Number 1 is due where this is false.
-fn formed(n: Lengths) -> bool
-    ensures { λ r. ⌜ r ≡ lengthsGood n ⌝ }
+// How many bytes a sheet of such lists has, in a version.
+pub fn sheet_length(version: Version, n: Lengths) -> usize
+    requires { ⌜ Few n ⌝ }
+    ensures { λ r. ⌜ r ≡ sheetLength version n ⌝ }
+{
+    let position = versions::position_size(version.long);
+    let block = versions::block_size(version.long);
+    let lists = versions::lists_place(version);
+    let conductors = behind_list(lists, block, n.blocks / BLOCK_NUMBERS);
+    let clearances = behind_list(conductors, position, n.conductors / POSITION_NUMBERS);
+    let terminals = behind_list(clearances, position, n.clearances / POSITION_NUMBERS);
+    let reserved = behind_list(terminals, position, n.terminals / POSITION_NUMBERS);
+    let source = behind_list(reserved, position, n.reserved / POSITION_NUMBERS);
+    let endpoint = versions::endpoint_size(version.long);
+    behind_ends(source, endpoint, versions::sink_size(version), n.sinks)
+}
+
+// Number 1 is due where this is false, in a version.
+fn formed(version: Version, n: Lengths) -> bool
+    ensures { λ r. ⌜ r ≡ lengthsGood version n ⌝ }
 {
     if job_sheet::MAX_SINKS < n.sinks {
         return false;
@@ -123,7 +119,7 @@ fn formed(n: Lengths) -> bool
     if !few_records(n) {
         return false;
     }
-    sheet_length(n) <= MAX_BYTES
+    sheet_length(version, n) <= MAX_BYTES
 }
 
 // What is wrong with the record at a place of a list.
@@ -156,7 +152,7 @@ fn first_fault(found: Judgement, room: Room, records: Records, numbers: &[u16]) 
     fault
 }
 
-// The fault found so far or, where there is none, that of the source or a sink.
+// The fault found so far or, where there is none, that of the source.
 fn end_fault(found: Judgement, room: Room, end: Endpoint) -> Judgement
     ensures { λ r. ⌜ r ≡ firstFault (found ∷ endpointFault room end ∷ []) ⌝ }
 {
@@ -166,8 +162,18 @@ fn end_fault(found: Judgement, room: Room, end: Endpoint) -> Judgement
     endpoint_fault(room, end)
 }
 
+// The fault found so far or, where there is none, that of a sink.
+fn one_sink_fault(found: Judgement, room: Room, sink: Sink) -> Judgement
+    ensures { λ r. ⌜ r ≡ firstFault (found ∷ sinkFault room sink ∷ []) ⌝ }
+{
+    if !found.is_good() {
+        return found;
+    }
+    sink_fault(room, sink)
+}
+
 // The fault found so far or, where there is none, the first of the sinks.
-fn sink_fault(found: Judgement, room: Room, sinks: Sinks) -> Judgement
+fn sinks_fault(found: Judgement, room: Room, sinks: Sinks) -> Judgement
     requires { ⌜ sinks .count ≤ maxSinks ⌝ }
     ensures { λ r. ⌜ r ≡ firstFault (found ∷ map (sinkFault room) (take (sinks .count) (sinks .ends))) ⌝ }
 {
@@ -177,16 +183,18 @@ fn sink_fault(found: Judgement, room: Room, sinks: Sinks) -> Judgement
     let mut k: usize = 0;
     while k < count {
         let sink = ends[k];
-        fault = end_fault(fault, room, sink.end);
+        fault = one_sink_fault(fault, room, sink);
         k += 1;
     }
     fault
 }
 
-// Numbers 2 and 3, then 4 and 5 "record by record".
+// Numbers 2 and 3 at the ranges of a version, then 4 and 5 "record by record".
 fn judge_records(
+    version: Version,
     room: Room,
     config: RouterConfig,
+    run: usize,
     blocks: &[u16],
     conductors: &[u16],
     clearances: &[u16],
@@ -195,17 +203,17 @@ fn judge_records(
     source: Endpoint,
     sinks: Sinks,
 ) -> Judgement
-    requires { ⌜ sinks .count ≤ maxSinks ⌝ }
-    ensures { λ r. ⌜ r ≡ judged versionOne (contentsOf (parts room config (now (blocks .entry)) (now (conductors .entry)) (now (clearances .entry)) (now (terminals .entry)) (now (reserved .entry)) source sinks)) ⌝ }
+    requires { ⌜ (sinks .count ≤ maxSinks) × Searchable (version .ranges) ⌝ }
+    ensures { λ r. ⌜ r ≡ judged version (contentsOf (parts room config run (now (blocks .entry)) (now (conductors .entry)) (now (clearances .entry)) (now (terminals .entry)) (now (reserved .entry)) source sinks)) ⌝ }
 {
-    let mut fault = written().ranges.head_fault(room, config);
+    let mut fault = version.ranges.head_fault(room, config, run);
     fault = first_fault(fault, room, Records::Blocks, blocks);
     fault = first_fault(fault, room, Records::Positions, conductors);
     fault = first_fault(fault, room, Records::Positions, clearances);
     fault = first_fault(fault, room, Records::Positions, terminals);
     fault = first_fault(fault, room, Records::Positions, reserved);
     fault = end_fault(fault, room, source);
-    sink_fault(fault, room, sinks)
+    sinks_fault(fault, room, sinks)
 }
 
 // How long the lists of a job are, and how many sinks there are.
@@ -229,10 +237,12 @@ pub fn lengths_of(
     }
 }
 
-// Number 1, then 2 to 5.
+// Number 1, then 2 to 5, in the version that is written.
 pub fn judge(
+    version: Version,
     room: Room,
     config: RouterConfig,
+    run: usize,
     blocks: &[u16],
     conductors: &[u16],
     clearances: &[u16],
@@ -241,14 +251,20 @@ pub fn judge(
     source: Endpoint,
     sinks: Sinks,
 ) -> Judgement
-    ensures { λ r. ⌜ r ≡ judgedParts (parts room config (now (blocks .entry)) (now (conductors .entry)) (now (clearances .entry)) (now (terminals .entry)) (now (reserved .entry)) source sinks) ⌝ }
+    requires { ⌜ version ≡ versionFor (contentsOf (parts room config run (now blocks) (now conductors) (now clearances) (now terminals) (now reserved) source sinks)) ⌝ }
+    ensures { λ r. ⌜ r ≡ judgedParts (parts room config run (now (blocks .entry)) (now (conductors .entry)) (now (clearances .entry)) (now (terminals .entry)) (now (reserved .entry)) source sinks) ⌝ }
 {
-    if !formed(lengths_of(blocks, conductors, clearances, terminals, reserved, sinks)) {
+    if !formed(
+        version,
+        lengths_of(blocks, conductors, clearances, terminals, reserved, sinks),
+    ) {
         return Judgement::Sheet;
     }
     judge_records(
+        version,
         room,
         config,
+        run,
         blocks,
         conductors,
         clearances,

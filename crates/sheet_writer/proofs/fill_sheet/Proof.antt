@@ -31,7 +31,7 @@ same-length : tie.Need-same-length
 same-length c = search needs
 
 returns : tie.Need-returns
-returns c = zeros-behind (c .before .before .before .before .before .before .before .before .before .before .before .before .before .before .args .bytes) (sheetText (c .before .before .before .before .before .before .before .before .before .before .before .before .before .before .args .bytes - sidesPlace) (parts (c .before .before .before .before .before .before .before .before .before .before .before .before .before .before .args .room) (c .before .before .before .before .before .before .before .before .before .before .before .before .before .before .args .config) (c .before .before .before .before .before .before .before .before .before .before .before .before .before .before .args .blocks .now) (c .before .before .before .before .before .before .before .before .before .before .before .before .before .before .args .conductors .now) (c .before .before .before .before .before .before .before .before .before .before .before .before .before .before .args .clearances .now) (c .before .before .before .before .before .before .before .before .before .before .before .before .before .before .args .terminals .now) (c .before .before .before .before .before .before .before .before .before .before .before .before .before .before .args .reserved .now) (c .before .before .before .before .before .before .before .before .before .before .before .before .before .before .args .source) (c .before .before .before .before .before .before .before .before .before .before .before .before .before .before .args .sinks))) (c .before .before .before .before .before .before .before .before .before .before .before .before .before .before .args .out .now) (c .before .before .before .before .before .before .before .before .before .before .before .before .before .before .pre .1 .long) (c .before .before .before .before .before .before .before .before .before .before .before .before .before .before .pre .1 .place) (c .before .before .before .before .before .before .put-sheet .ensures) (c .before .before .clear-bytes .ensures)
+returns c = zeros-behind (c .before .before .before .before .before .before .before .before .before .before .before .before .before .before .args .bytes) (sheetText (c .before .before .before .before .before .before .before .before .before .before .before .before .before .before .args .version) (c .before .before .before .before .before .before .before .before .before .before .before .before .before .before .args .bytes - sidesPlace) (parts (c .before .before .before .before .before .before .before .before .before .before .before .before .before .before .args .room) (c .before .before .before .before .before .before .before .before .before .before .before .before .before .before .args .config) (c .before .before .before .before .before .before .before .before .before .before .before .before .before .before .args .run) (c .before .before .before .before .before .before .before .before .before .before .before .before .before .before .args .blocks .now) (c .before .before .before .before .before .before .before .before .before .before .before .before .before .before .args .conductors .now) (c .before .before .before .before .before .before .before .before .before .before .before .before .before .before .args .clearances .now) (c .before .before .before .before .before .before .before .before .before .before .before .before .before .before .args .terminals .now) (c .before .before .before .before .before .before .before .before .before .before .before .before .before .before .args .reserved .now) (c .before .before .before .before .before .before .before .before .before .before .before .before .before .before .args .source) (c .before .before .before .before .before .before .before .before .before .before .before .before .before .before .args .sinks))) (c .before .before .before .before .before .before .before .before .before .before .before .before .before .before .args .out .now) (c .before .before .before .before .before .before .before .before .before .before .before .before .before .before .pre .1 .long) (c .before .before .before .before .before .before .before .before .before .before .before .before .before .before .pre .1 .place) (c .before .before .before .before .before .before .put-sheet .ensures) (c .before .before .clear-bytes .ensures)
 
 pub fill-sheet-spec : {M : Type 1} → statement M
 fill-sheet-spec =

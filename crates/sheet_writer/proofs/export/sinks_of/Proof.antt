@@ -1,9 +1,8 @@
 -- `sinks_of` meets its contract: what is gathered so far stands before places that hold nothing.
-use mathlib.Core.Path.{ap}
 use Prim.Native.Nat.{_-_, _/_, _*_}
 use native.Mathlib.Nat.{mul-div-le}
 use lib.ListN.{length}
-use Rattle.sheet_writer.specs.Export.{endNumbers}
+use Rattle.sheet_writer.specs.Export.{sinkNumbers}
 use Rattle.sheet_writer.specs.ExportLaws.{Gathered, gather-on, gather-done}
 use borrow.Author.Needs.{needs}
 use native.Mathlib.Omega.{arith}
@@ -22,11 +21,11 @@ no-sink-requires c κs = search needs
 loop-holds : tie.Need-loop-holds Inv-loop μ-loop
 loop-holds c = record { same = rw (c .no-sink .ensures); so-far = omega arith }
 
-mul-end-from : tie.Need-mul-end-from Inv-loop μ-loop
-mul-end-from c = omega (arith, c .before .before .before .before .pre)
+mul-sink-from : tie.Need-mul-sink-from Inv-loop μ-loop
+mul-sink-from c = omega (arith, c .before .before .before .before .pre)
 
-end-from-requires : tie.Need-end-from-requires Inv-loop μ-loop
-end-from-requires c κs = omega (arith, mul-div-le (length (c .before .before .before .before .args .numbers .now)) endNumbers, c .loop-test .taken)
+sink-from-requires : tie.Need-sink-from-requires Inv-loop μ-loop
+sink-from-requires c κs = omega (arith, mul-div-le (length (c .before .before .before .before .args .numbers .now)) sinkNumbers, c .loop-test .taken)
 
 mul-ends : tie.Need-mul-ends Inv-loop μ-loop
 mul-ends c = omega (arith, c .before .before .before .before .before .pre)
@@ -41,7 +40,7 @@ loop-less : tie.Need-loop-less Inv-loop μ-loop
 loop-less c = omega arith
 
 loop-again : tie.Need-loop-again Inv-loop μ-loop
-loop-again c = gather-on (c .before .before .loop .inv) (c .before .loop-test .taken) (c .before .before .before .before .before .pre) _ (ap (λ e. record { end = e }) (c .end-from .ensures))
+loop-again c = gather-on (c .before .before .loop .inv) (c .before .loop-test .taken) (c .before .before .before .before .before .pre) _ (c .sink-from .ensures)
 
 returns : tie.Need-returns Inv-loop μ-loop
 returns c = gather-done _ _ _ (c .before .loop .inv) (c .loop-test .left)
@@ -54,8 +53,8 @@ sinks-of-spec =
     μ-loop
     no-sink-requires
     loop-holds
-    mul-end-from
-    end-from-requires
+    mul-sink-from
+    sink-from-requires
     mul-ends
     array-set-from-ends
     add-k

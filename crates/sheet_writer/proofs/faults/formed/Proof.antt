@@ -24,7 +24,7 @@ few-records-requires c κs = search needs
 
 returns-3 : tie.Need-returns-3
 unfolding lengthsGood
-returns-3 c = rw (le-leb _ _ (c .before .before .before .before .if1 .left), test-passes (c .before .before .before .wholes .ensures) (c .before .before .if2 .left), too-many _ (c .before .before .before .before .if1 .left) (test-fails (c .before .few-records .ensures) (c .if3 .taken)))
+returns-3 c = rw (le-leb _ _ (c .before .before .before .before .if1 .left), test-passes (c .before .before .before .wholes .ensures) (c .before .before .if2 .left), too-many _ _ (c .before .before .before .before .if1 .left) (test-fails (c .before .few-records .ensures) (c .if3 .taken)))
 
 sheet-length-requires : tie.Need-sheet-length-requires
 sheet-length-requires c κs = few-by _ (test-passes (c .before .few-records .ensures) (c .if3 .left)) (c .before .before .before .before .if1 .left)

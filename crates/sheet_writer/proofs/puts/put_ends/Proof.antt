@@ -13,10 +13,10 @@ use Rattle.sheet_writer.proofs.puts.put_ends.Statement.{statement}
 use Rattle.sheet_writer.proofs.puts.put_ends.Tie as tie
 
 abbrev Inv-loop : tie.InvT-loop
-Inv-loop out₀ at count ends end₀ k₀ out end k = PutSoFar out₀ at (endsText (take count ends)) (endsText (drop k (take count ends))) out end
+Inv-loop out₀ at version count ends end₀ k₀ out end k = PutSoFar out₀ at (endsText version (take count ends)) (endsText version (drop k (take count ends))) out end
 
 abbrev μ-loop : tie.MeasureT-loop
-μ-loop out₀ at count ends end₀ k₀ out end k = count - k
+μ-loop out₀ at version count ends end₀ k₀ out end k = count - k
 
 loop-holds : tie.Need-loop-holds Inv-loop μ-loop
 loop-holds c = putting-begun
@@ -27,8 +27,8 @@ mul-sink c = omega (arith, c .before .before .before .before .pre .0)
 array-copy-out-sink : tie.Need-array-copy-out-sink Inv-loop μ-loop
 array-copy-out-sink c = omega (arith, c .before .before .before .before .pre .0)
 
-put-endpoint-requires : tie.Need-put-endpoint-requires Inv-loop μ-loop
-put-endpoint-requires c κs = end-fits (c .before .before .before .before .before .before .args .sinks) (c .before .before .before .before .before .before .pre .0) (ends-whole (end .to) (c .before .before .before .before .before .before .args .sinks) (c .before .before .before .before .before .before .good .1 .1 .0 .1 .1 .1 .0 .1 .0 .1)) _ (c .before .before .before .loop .inv) (c .before .before .loop-test .taken) refl (c .before .before .before .before .before .before .pre .1)
+put-sink-requires : tie.Need-put-sink-requires Inv-loop μ-loop
+put-sink-requires c κs = end-fits (c .before .before .before .before .before .before .args .version) (c .before .before .before .before .before .before .args .sinks) (c .before .before .before .before .before .before .pre .0) (ends-whole (end .to) (c .before .before .before .before .before .before .args .sinks) (c .before .before .before .before .before .before .good .1 .1 .1 .0 .1 .1 .1 .0 .1 .0 .1)) _ (c .before .before .before .loop .inv) (c .before .before .loop-test .taken) refl (c .before .before .before .before .before .before .pre .1)
 
 add-k : tie.Need-add-k Inv-loop μ-loop
 add-k c = omega (arith, c .before .before .before .before .before .before .before .before .before .pre .0)
@@ -37,13 +37,13 @@ loop-less : tie.Need-loop-less Inv-loop μ-loop
 loop-less c = omega arith
 
 loop-again : tie.Need-loop-again Inv-loop μ-loop
-loop-again c = ends-on (c .before .before .before .before .before .before .before .before .before .args .sinks) (c .before .before .before .before .before .before .before .before .before .pre .0) (ends-whole (end .to) (c .before .before .before .before .before .before .before .before .before .args .sinks) (c .before .before .before .before .before .before .before .before .before .good .1 .1 .0 .1 .1 .1 .0 .1 .0 .1)) _ (c .before .before .before .before .before .before .loop .inv) (c .before .before .before .before .before .loop-test .taken) refl (c .before .before .put-endpoint .ensures)
+loop-again c = ends-on (c .before .before .before .before .before .before .before .before .before .args .version) (c .before .before .before .before .before .before .before .before .before .args .sinks) (c .before .before .before .before .before .before .before .before .before .pre .0) (ends-whole (end .to) (c .before .before .before .before .before .before .before .before .before .args .sinks) (c .before .before .before .before .before .before .before .before .before .good .1 .1 .1 .0 .1 .1 .1 .0 .1 .0 .1)) _ (c .before .before .before .before .before .before .loop .inv) (c .before .before .before .before .before .loop-test .taken) refl (c .before .before .put-sink .ensures)
 
 same-length : tie.Need-same-length Inv-loop μ-loop
-same-length c = ends-done (c .before .before .before .before .args .sinks) (c .before .before .before .before .pre .0) (ends-whole (end .to) (c .before .before .before .before .args .sinks) (c .before .before .before .before .good .1 .1 .0 .1 .1 .1 .0 .1 .0 .1)) _ (c .before .loop .inv) (c .loop-test .left) .same
+same-length c = ends-done (c .before .before .before .before .args .version) (c .before .before .before .before .args .sinks) (c .before .before .before .before .pre .0) (ends-whole (end .to) (c .before .before .before .before .args .sinks) (c .before .before .before .before .good .1 .1 .1 .0 .1 .1 .1 .0 .1 .0 .1)) _ (c .before .loop .inv) (c .loop-test .left) .same
 
 returns : tie.Need-returns Inv-loop μ-loop
-returns c = ends-done (c .before .before .before .before .args .sinks) (c .before .before .before .before .pre .0) (ends-whole (end .to) (c .before .before .before .before .args .sinks) (c .before .before .before .before .good .1 .1 .0 .1 .1 .1 .0 .1 .0 .1)) _ (c .before .loop .inv) (c .loop-test .left)
+returns c = ends-done (c .before .before .before .before .args .version) (c .before .before .before .before .args .sinks) (c .before .before .before .before .pre .0) (ends-whole (end .to) (c .before .before .before .before .args .sinks) (c .before .before .before .before .good .1 .1 .1 .0 .1 .1 .1 .0 .1 .0 .1)) _ (c .before .loop .inv) (c .loop-test .left)
 
 pub put-ends-spec : {M : Type 1} → statement M
 put-ends-spec =
@@ -54,7 +54,7 @@ put-ends-spec =
     loop-holds
     mul-sink
     array-copy-out-sink
-    put-endpoint-requires
+    put-sink-requires
     add-k
     loop-less
     loop-again

@@ -15,7 +15,7 @@ div-put-two c = numbers-some (c .before .before .before .before .args .records) 
 
 put-two-requires : tie.Need-put-two-requires
 unfolding listText
-put-two-requires c κs = rw (c .before .numbers .ensures) (first-fits (recordsText (c .before .before .before .before .args .records) (c .before .before .before .before .args .numbers .now)) (c .before .before .before .before .pre))
+put-two-requires c κs = rw (c .before .numbers .ensures) (first-fits (recordsText (c .before .before .before .before .args .long) (c .before .before .before .before .args .records) (c .before .before .before .before .args .numbers .now)) (c .before .before .before .before .pre))
 
 put-records-requires : tie.Need-put-records-requires
 unfolding listText

@@ -1,37 +1,31 @@
--- `put_position` meets its contract.
+-- `put_position` meets its contract, one coordinate after another.
+use Rattle.putting.specs.PutLaws.{both, first-fits, then-fits}
+use Rattle.sheet_writer.specs.TextLaws.{position-pieces, fits-as, put-as}
 use borrow.Author.Needs.{needs}
 use Rattle.sheet_writer.proofs.puts.put_position.Statement.{statement}
 use Rattle.sheet_writer.proofs.puts.put_position.Tie as tie
 
-low-byte-requires : tie.Need-low-byte-requires
-low-byte-requires c κs = search needs
+put-coordinate-requires : tie.Need-put-coordinate-requires
+put-coordinate-requires c κs = let a = c .before .before .args in first-fits _ (fits-as (position-pieces (a .long) (a .p)) (c .before .before .pre))
 
-low-byte-requires-2 : tie.Need-low-byte-requires-2
-low-byte-requires-2 c κs = search needs
+put-coordinate-requires-2 : tie.Need-put-coordinate-requires-2
+put-coordinate-requires-2 c κs = let a = c .before .before .before .before .before .before .args in first-fits _ (then-fits (c .before .before .before .put-coordinate .ensures) (fits-as (position-pieces (a .long) (a .p)) (c .before .before .before .before .before .before .pre)))
 
-low-byte-requires-3 : tie.Need-low-byte-requires-3
-low-byte-requires-3 c κs = search needs
-
-slice-aggregate-put-bytes : tie.Need-slice-aggregate-put-bytes
-slice-aggregate-put-bytes c = search needs
-
-put-bytes-requires : tie.Need-put-bytes-requires
-put-bytes-requires c κs = search needs
+put-coordinate-requires-3 : tie.Need-put-coordinate-requires-3
+put-coordinate-requires-3 c κs = let a = c .before .before .before .before .before .before .before .before .before .before .args in then-fits (c .before .before .before .put-coordinate2 .ensures) (then-fits (c .before .before .before .before .before .before .before .put-coordinate .ensures) (fits-as (position-pieces (a .long) (a .p)) (c .before .before .before .before .before .before .before .before .before .before .pre)))
 
 same-length : tie.Need-same-length
 same-length c = search needs
 
 returns : tie.Need-returns
-returns c = rw (c .before .before .before .before .before .before .before .low-byte .ensures, c .before .before .before .before .before .before .low-byte2 .ensures, c .before .before .before .before .before .low-byte3 .ensures) at (c .before .before .put-bytes .ensures)
+returns c = let a = c .before .before .before .before .before .before .before .before .before .before .before .before .before .args in put-as (position-pieces (a .long) (a .p)) (both (c .before .before .before .before .before .before .before .before .before .before .put-coordinate .ensures) (both (c .before .before .before .before .before .before .put-coordinate2 .ensures) (c .before .before .put-coordinate3 .ensures)))
 
 pub put-position-spec : {M : Type 1} → statement M
 put-position-spec =
     tie.close
     (tie.spec
-    low-byte-requires
-    low-byte-requires-2
-    low-byte-requires-3
-    slice-aggregate-put-bytes
-    put-bytes-requires
+    put-coordinate-requires
+    put-coordinate-requires-2
+    put-coordinate-requires-3
     same-length
     returns)

@@ -8,10 +8,10 @@ use Rattle.sheet_writer.proofs.puts.put_records.Statement.{statement}
 use Rattle.sheet_writer.proofs.puts.put_records.Tie as tie
 
 abbrev Inv-loop : tie.InvT-loop
-Inv-loop out₀ at records numbers size end₀ place₀ left₀ out end place left = Recording (bytesFrom records) size numbers out₀ at (recordsText records numbers) place left out end
+Inv-loop out₀ at long records numbers size end₀ place₀ left₀ out end place left = Recording (bytesFrom long records) size numbers out₀ at (recordsText long records numbers) place left out end
 
 abbrev μ-loop : tie.MeasureT-loop
-μ-loop out₀ at records numbers size end₀ place₀ left₀ out end place left = left
+μ-loop out₀ at long records numbers size end₀ place₀ left₀ out end place left = left
 
 numbers-requires : tie.Need-numbers-requires Inv-loop μ-loop
 numbers-requires c κs = search needs
@@ -20,7 +20,7 @@ div-left : tie.Need-div-left Inv-loop μ-loop
 div-left c = numbers-some (c .before .before .before .args .records) _ (c .numbers .ensures)
 
 loop-holds : tie.Need-loop-holds Inv-loop μ-loop
-loop-holds c = recording-begun (c .before .before .before .args .records) _ (c .numbers .ensures)
+loop-holds c = recording-begun (c .before .before .before .args .long) (c .before .before .before .args .records) _ (c .numbers .ensures)
 
 put-record-requires : tie.Need-put-record-requires Inv-loop μ-loop
 put-record-requires c κs = (rw (c .before .before .before .numbers .ensures) at (record-inside (c .before .before .loop .inv) (c .before .loop-test .taken)), record-fits (c .before .before .loop .inv) (c .before .loop-test .taken) (c .before .before .before .before .before .before .pre))

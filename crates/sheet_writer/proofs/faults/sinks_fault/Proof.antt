@@ -1,4 +1,4 @@
--- `sink_fault` meets its contract: the fault so far and the sinks that are left come to that of all.
+-- `sinks_fault` meets its contract: the fault so far and the sinks that are left come to that of all.
 use mathlib.Core.Path.{refl}
 use Prim.Native.Nat.{_-_}
 use lib.ListN.{take}
@@ -8,8 +8,8 @@ use Rattle.sheet_writer.specs.SizeLaws.{ends-whole}
 use Rattle.job_sheet.proofs.Sink.{the-type as end}
 use borrow.Author.Needs.{needs}
 use native.Mathlib.Omega.{arith}
-use Rattle.sheet_writer.proofs.faults.sink_fault.Statement.{statement}
-use Rattle.sheet_writer.proofs.faults.sink_fault.Tie as tie
+use Rattle.sheet_writer.proofs.faults.sinks_fault.Statement.{statement}
+use Rattle.sheet_writer.proofs.faults.sinks_fault.Tie as tie
 
 abbrev Inv-loop : tie.InvT-loop
 Inv-loop room count ends fault₀ k₀ fault k = SinksScanned (sinkFault room) (take count ends) fault₀ fault k
@@ -26,8 +26,8 @@ mul-sink c = omega (arith, c .before .before .before .pre)
 array-copy-out-sink : tie.Need-array-copy-out-sink Inv-loop μ-loop
 array-copy-out-sink c = omega (arith, c .before .before .before .pre)
 
-end-fault-requires : tie.Need-end-fault-requires Inv-loop μ-loop
-end-fault-requires c κs = search needs
+one-sink-fault-requires : tie.Need-one-sink-fault-requires Inv-loop μ-loop
+one-sink-fault-requires c κs = search needs
 
 add-k : tie.Need-add-k Inv-loop μ-loop
 add-k c = omega (arith, c .before .before .before .before .before .pre)
@@ -36,14 +36,13 @@ loop-less : tie.Need-loop-less Inv-loop μ-loop
 loop-less c = omega arith
 
 loop-again : tie.Need-loop-again Inv-loop μ-loop
-unfolding sinkFault
-loop-again c = sink-on _ (c .before .before .before .before .before .args .sinks) _ (c .before .before .before .before .before .pre) (ends-whole (end .to) (c .before .before .before .before .before .args .sinks) (c .before .before .before .before .before .good .1 .1 .0 .1 .1 .1 .0 .1 .0 .1)) (c .before .before .before .loop .inv) (c .before .before .loop-test .taken) _ _ refl (c .end-fault .ensures)
+loop-again c = sink-on _ (c .before .before .before .before .before .args .sinks) _ (c .before .before .before .before .before .pre) (ends-whole (end .to) (c .before .before .before .before .before .args .sinks) (c .before .before .before .before .before .good .1 .1 .0 .1 .1 .1 .0 .1 .0 .1)) (c .before .before .before .loop .inv) (c .before .before .loop-test .taken) _ _ refl (c .one-sink-fault .ensures)
 
 returns : tie.Need-returns Inv-loop μ-loop
 returns c = sink-done _ (c .before .before .before .args .sinks) _ (c .before .before .before .pre) (ends-whole (end .to) (c .before .before .before .args .sinks) (c .before .before .before .good .1 .1 .0 .1 .1 .1 .0 .1 .0 .1)) (c .before .loop .inv) (c .loop-test .left)
 
-pub sink-fault-spec : {M : Type 1} → statement M
-sink-fault-spec =
+pub sinks-fault-spec : {M : Type 1} → statement M
+sinks-fault-spec =
     tie.close
     (tie.spec
     Inv-loop
@@ -51,7 +50,7 @@ sink-fault-spec =
     loop-holds
     mul-sink
     array-copy-out-sink
-    end-fault-requires
+    one-sink-fault-requires
     add-k
     loop-less
     loop-again
