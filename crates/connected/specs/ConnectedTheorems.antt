@@ -3,9 +3,9 @@ use mathlib.Core.Path.{_≡_, refl, sym, ap, _∙_}
 use mathlib.Core.Logic.{_⊎_, inl, inr, ⊎-elim, _≢_}
 use mathlib.Core.Bool.{true, false}
 use mathlib.Core.List.{List, [], _∷_}
-use Prim.Native.Nat.{ℕ, zero, suc, _<_}
+use Prim.Native.Nat.{ℕ, _<_}
 use native.Mathlib.Omega.{arith}
-use lib.ListN.{length, getD, take, length-replicate}
+use lib.ListN.{length, getD, length-replicate}
 use borrow.Author.Tests.{eqb-true}
 use Rattle.basics.specs.Tests.{ask, never}
 use Rattle.basics.specs.Lists.{In}
@@ -13,9 +13,9 @@ use Rattle.room.specs.Room.{volume}
 use Rattle.ground.specs.declared.Mode.{Mode}
 use Rattle.routing_resources.specs.Marks.{isMarked, noMarks}
 use Rattle.routing_resources.specs.MarkLaws.{marked-after}
-use Rattle.ends.specs.declared.Tap.{Tap}
-use Rattle.ends.specs.Ends.{noTap, tapsIn}
-use Rattle.multinet.specs.Tree.{Plot, Tree, grown, growthOf, tapAt, netEndMarks, isNetEnd, repeatersOf}
+use Rattle.ends.specs.Ends.{tapsIn}
+use Rattle.repeaters.specs.NetEnds.{netEndMarks, isNetEnd}
+use Rattle.multinet.specs.Tree.{Plot, Tree, grown, growthOf, tapAt, repeatersOf}
 use Rattle.multinet.specs.Growing.{SoundPlot}
 use Rattle.net_tree.specs.declared.Lengths.{Lengths}
 use Rattle.net_tree.specs.declared.Answer as trees
@@ -24,16 +24,13 @@ use Rattle.net_tree.specs.Answers.{Lent, lengthsOf, TreeOutcome, routed, no-tre
 use Rattle.net_tree.specs.SheetTrees.{TreeOf}
 use Rattle.net_tree.specs.SheetTreeLaws.{tree-of}
 use Rattle.connected.specs.Grafts.{OnSome, TreeFrom}
-use Rattle.connected.specs.GraftLaws.{on-below, neighbour-in, neighbours-on, chain-on}
-use Rattle.connected.specs.TreeWalkLaws.{tree-chained, tree-path, path-ends, path-step, path-goes, repeater-stands-between}
+use Rattle.repeater_claims.specs.Between.{StandsBetween}
+use Rattle.repeater_claims.specs.BothWaysLaws.{neighbour-in}
+use Rattle.repeater_claims.specs.BetweenLaws.{path-ends, path-step, repeater-stands-between}
+use Rattle.connected.specs.GraftLaws.{on-below, neighbours-on, chain-on}
+use Rattle.connected.specs.TreeWalkLaws.{tree-chained, tree-path, path-goes}
 use Rattle.connected.specs.GrownTreeLaws.{tree-from, tree-steps, approach-on-tree, terminal-on-tree, occupied-on-tree, tree-occupied, branch-goes-on, branch-from-to}
-use Rattle.connected.specs.Connected.{neighboursIn, parentsIn, pathIn, TreePath, StandsBetween, Connected, NetConnected, AnswerConnected}
-
-in-taken : (l : List Tap) (n : ℕ) (t : Tap) → In t (take n l) → (k : ℕ) × (k < n) × (getD l k noTap ≡ t)
-in-taken l zero t i = absurd i
-in-taken [] (suc n) t i = absurd i
-in-taken (x ∷ l) (suc n) t (inl e) = (0, omega arith, sym e)
-in-taken (x ∷ l) (suc n) t (inr i) = let r = in-taken l n t i in (suc (r .0), omega (arith, r .1), r .2)
+use Rattle.connected.specs.Connected.{neighboursIn, parentsIn, pathIn, TreePath, Connected, NetConnected, AnswerConnected}
 
 -- ---- of a grown tree
 
@@ -60,17 +57,12 @@ module _ {P : Plot} (S : SoundPlot P) (blocked : List ℕ) (T : Tree) (e : growt
         short = W .short;
       }
 
-  terminals : (tap : Tap) → In tap (tapsIn (P .taps)) → (tap .terminal ≡ P .source) ⊎ OnSome (tap .terminal) (T .branches)
-  terminals tap i =
-      let r = in-taken (P .taps .taps) (P .taps .count) tap i in
-      inr (rw (← r .2) (terminal-on-tree S blocked T e (r .0) (r .1)))
-
   -- ---- a repeater
 
   module _ (v : ℕ) (m : isMarked (repeatersOf P T) v ≡ true) where
     stands : StandsBetween (P .room) (neighboursIn P T) (parentsIn P T) v × (getD (netEndMarks (P .room) (P .source) (P .taps)) v 0 ≢ 1)
     unfolding repeatersOf
-    stands = repeater-stands-between (P .room) from (netEndMarks (P .room) (P .source) (P .taps)) (tapsIn (P .taps)) terminals v m
+    stands = repeater-stands-between (P .room) (P .run) (from .source-in) (T .branches) (netEndMarks (P .room) (P .source) (P .taps)) (tapsIn (P .taps)) v m
 
     before-in : In (stands .0 .before) (neighboursIn P T v)
     before-in = ⊎-elim {C = In (stands .0 .before) (neighboursIn P T v)} (λ q. rw q (inl refl)) (λ q. rw q (inr (inl refl))) (stands .0 .neighbours)

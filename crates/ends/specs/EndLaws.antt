@@ -171,13 +171,20 @@ source-inside R e w n m = go (terminalOf R (e .at) (e .port) (e .facing)) refl n
     go Terminal.NoFacing q a b = absurd (a refl)
     go Terminal.Outside q a b = absurd (b refl)
 
+-- where no number is due for any end, the source's terminal is in the room
+pub source-in-room : {R : Room} (source : Endpoint) → Within R (source .at) → (sinks : List Sink) → faultOf R source sinks ≡ Good → terminalIn (sourceEnd R source) < volume R
+unfolding faultOf
+source-in-room {R} source w sinks good =
+    let z = by-good _ _ good in
+    source-inside R source w (none-due portFacingNumber 0 (endsAt R source sinks) (z .0) 0 (omega arith) Realized.Outside) (none-due endOutsideNumber 0 (endsAt R source sinks) (z .1) 0 (omega arith) Realized.Outside)
+
 tap-inside : (R : Room) (k : Sink) → Within R (k .end .at) → (dueFor (sinkEnd R k) ≢ portFacingNumber) → (dueFor (sinkEnd R k) ≢ endOutsideNumber)
     → (tapOf R k .terminal < volume R) × (tapOf R k .approach < volume R)
 unfolding tapOf sinkEnd
 tap-inside R k w n m = go (sinkEnd R k) refl n m
   where
     go : (r : Realized) → sinkEnd R k ≡ r → (dueFor r ≢ portFacingNumber) → (dueFor r ≢ endOutsideNumber)
-        → (tapFrom (eqb (k .end .port) wire) r .terminal < volume R) × (tapFrom (eqb (k .end .port) wire) r .approach < volume R)
+        → (tapFrom (eqb (k .end .port) wire) (k .tail) r .terminal < volume R) × (tapFrom (eqb (k .end .port) wire) (k .tail) r .approach < volume R)
     go (Realized.At t a) q x y = let E = sink-inside R (k .end .at) w (k .end .port) (k .end .facing) t a q in (E .terminal-below, E .approach-below)
     go Realized.NoFacing q x y = absurd (x refl)
     go Realized.Outside q x y = absurd (y refl)
@@ -217,7 +224,7 @@ module _ {R : Room} (source : Endpoint) {k : Sinks} (w : Within R (source .at)) 
       let inside : (i : ℕ) → i < length l → (tapOf R (getD (k .ends) i noSink) .terminal < volume R) × (tapOf R (getD (k .ends) i noSink) .approach < volume R) =
       λ i h. tap-inside R _ (S .within i (omega (arith, n))) (none portFacingNumber (z .0) i (omega (arith, n))) (none endOutsideNumber (z .1) i (omega (arith, n))) in
       record {
-        source-in = source-inside R source w (none-due portFacingNumber 0 (endsAt R source l) (z .0) 0 (omega arith) Realized.Outside) (none-due endOutsideNumber 0 (endsAt R source l) (z .1) 0 (omega arith) Realized.Outside);
+        source-in = source-in-room source w l good;
         taps-in = record {
           few = omega (arith, n, S .few);
           whole = padded-long (map (tapOf R) l) maxSinks (length l) noTap (length-map l (tapOf R)) (omega (arith, n, S .few));

@@ -59,17 +59,17 @@ endsAt R source sinks = sourceEnd R source ∷ map (sinkEnd R) sinks
 
 -- what stands in a place of `Taps` that no sink takes
 abbrev pub noTap : Tap
-noTap = record { terminal = 0; approach = 0; wire = false }
+noTap = record { terminal = 0; approach = 0; wire = false; tail = 0 }
 
--- where an end meets the wire, and what its port is
-abbrev pub tapFrom : Bool → Realized → Tap
-tapFrom isWire (Realized.At t a) = record { terminal = t; approach = a; wire = isWire }
-tapFrom isWire Realized.NoFacing = noTap
-tapFrom isWire Realized.Outside = noTap
+-- where an end meets the wire, what its port is, and its tail limit
+abbrev pub tapFrom : Bool → ℕ → Realized → Tap
+tapFrom isWire limit (Realized.At t a) = record { terminal = t; approach = a; wire = isWire; tail = limit }
+tapFrom isWire limit Realized.NoFacing = noTap
+tapFrom isWire limit Realized.Outside = noTap
 
--- a sink's tap: its terminal and approach, and whether its port is Wire
+-- a sink's tap: its terminal and approach, whether its port is Wire, and its tail limit
 unfoldable pub tapOf : Room → Sink → Tap
-tapOf R k = tapFrom (eqb (k .end .port) wire) (sinkEnd R k)
+tapOf R k = tapFrom (eqb (k .end .port) wire) (k .tail) (sinkEnd R k)
 
 -- the taps in use, one a sink
 abbrev pub tapsIn : Taps → List Tap

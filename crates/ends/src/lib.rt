@@ -11,11 +11,12 @@ ghost use Rattle.room.specs.Room.{Good, Within};
 ghost use Rattle.job_sheet.specs.Accepted.{SinkList};
 ghost use Rattle.ends.specs.Ends.{sinksIn, sourceEnd, sinkEnd, dueFor, firstDue, endsAt, noTap, tapOf, tapsOf, terminalIn, faultOf, endsOf};
 
-// A sink as the wire meets it: where its branch ends, where its searches start, and whether its port is Wire.
+// A sink as the wire meets it: where its branch ends, where its searches start, whether its port is Wire, and its tail limit.
 pub struct Tap {
     pub terminal: usize,
     pub approach: usize,
     pub wire: bool,
+    pub tail: usize,
 }
 
 // The sinks' taps with their count, as one value.
@@ -104,6 +105,7 @@ fn no_tap() -> Tap
         terminal: 0,
         approach: 0,
         wire: false,
+        tail: 0,
     }
 }
 
@@ -117,6 +119,7 @@ fn tap_of(room: Room, sink: Sink) -> Tap
             terminal,
             approach,
             wire: sink.end.port == room::WIRE,
+            tail: sink.tail,
         },
         Realized::NoFacing => no_tap(),
         Realized::Outside => no_tap(),

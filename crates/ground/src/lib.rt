@@ -10,9 +10,11 @@ pub enum Mode {
     Strict,
 }
 
-// The room, what steps cost in it and how many cells a search may expand, and the mode.
+// The room, what steps cost in it and how many cells a search may expand, the mode, and the run limit of the net's
+// repeaters.
 pub struct Ground {
     pub room: Room,
     pub config: RouterConfig,
     pub mode: Mode,
+    pub run: usize,
 }

@@ -9,19 +9,13 @@ use Rattle.room.specs.Room.{Good, volume}
 use Rattle.routing_resources.specs.Marks.{markedBy, noMarks, AllCells}
 use Rattle.job_sheet.specs.Sheet.{maxSinks}
 use Rattle.ends.specs.declared.Taps.{Taps}
-use Rattle.ends.specs.Ends.{tapsIn, NetInside}
+use Rattle.ends.specs.Ends.{NetInside}
 use Rattle.geometry.specs.Geometry.{standsIn}
 use Rattle.branches.specs.declared.BranchLengths.{BranchLengths}
 use Rattle.branches.specs.Branches.{SheetOrder, LengthsOf, Short}
-use Rattle.repeaters.specs.Repeaters.{repeaterMarks}
-use Rattle.multinet.specs.Tree.{netEndMarks, sourceMarks}
+use Rattle.repeaters.specs.NetEnds.{netRepeaters}
+use Rattle.multinet.specs.Tree.{sourceMarks}
 use Rattle.repeaters.specs.Masks.{Steps}
-
--- the net's ends are in a room that has these marks, one a cell
-pub record EndsIn (source : ℕ) (taps : Taps) (marks : List ℕ) : Type 0 where
-  pub room : Room
-  pub net : NetInside room source taps
-  pub long : length marks ≡ volume room
 
 -- the buffer has these branches in sheet order
 pub record BufferHolds (L : BranchLengths) (branches : List ℕ) (bs : List (List ℕ)) : Type 0 where
@@ -47,6 +41,6 @@ pub record Finishable (R : Room) (source : ℕ) (taps : Taps) (L : BranchLengths
   pub line-long : length line ≡ volume R
 
 -- what the branches occupy, and their repeaters
-pub record Finished (R : Room) (source : ℕ) (taps : Taps) (L : BranchLengths) (branches occupied repeaters : List ℕ) : Type 0 where
+pub record Finished (R : Room) (run source : ℕ) (taps : Taps) (L : BranchLengths) (branches occupied repeaters : List ℕ) : Type 0 where
   pub occupied-are : (bs : List (List ℕ)) → BufferHolds L branches bs → occupied ≡ markedBy (standsIn (joined bs)) (sourceMarks R source)
-  pub repeaters-are : (bs : List (List ℕ)) → BufferHolds L branches bs → repeaters ≡ repeaterMarks R source (tapsIn taps) bs (netEndMarks R source taps)
+  pub repeaters-are : (bs : List (List ℕ)) → BufferHolds L branches bs → repeaters ≡ netRepeaters R run source taps bs

@@ -1,4 +1,4 @@
--- Laws of finishing: the ends marked, and the branches read back from the buffer.
+-- Laws of finishing: the branches read back from the buffer.
 use mathlib.Core.Path.{_≡_, refl, sym, ap, _∙_}
 use mathlib.Core.List.{List, [], _∷_, _++_, map}
 use Prim.Native.Nat.{ℕ, suc, _≤_, _<_}
@@ -6,43 +6,21 @@ use native.Mathlib.Omega.{arith}
 use lib.Dec.{eqb}
 use lib.ListN.{length, getD, take, drop, length-map, take-append-drop, List·getD-map}
 use lib.Seq.{getD-take, ext-getD}
-use Rattle.basics.specs.Lists.{any, joined}
+use Rattle.basics.specs.Lists.{joined}
 use Rattle.basics.specs.Zeros.{zeros-long}
 use Rattle.room.specs.declared.Room.{Room}
 use Rattle.room.specs.Room.{volume}
 use Rattle.routing_resources.specs.Marks.{markedBy, AllCells, CellsBelow}
-use Rattle.routing_resources.specs.MarkLaws.{with-length, with-or}
-use Rattle.ends.specs.declared.Tap.{Tap}
 use Rattle.ends.specs.declared.Taps.{Taps}
-use Rattle.ends.specs.Ends.{noTap, tapsIn}
 use Rattle.geometry.specs.Geometry.{standsIn}
 use Rattle.branches.specs.declared.BranchLengths.{BranchLengths}
 use Rattle.branches.specs.Branches.{lengthsIn, cutInto, branchesOf}
 use Rattle.branches.specs.BranchLaws.{below-append, lengths-count, lengths-sum, cut-joined}
-use Rattle.repeaters.specs.Repeaters.{repeaterMarks}
+use Rattle.repeaters.specs.NetEnds.{netRepeaters}
 use Rattle.repeaters.specs.Masks.{Steps, AllSteps}
 use Rattle.repeaters.specs.Sinks.{Placeable}
-use Rattle.multinet.specs.Tree.{tapHolds, isNetEnd}
-use Rattle.multinet.specs.Finishing.{EndsIn, BufferHolds, Finishable, Finished}
+use Rattle.multinet.specs.Finishing.{BufferHolds, Finishable, Finished}
 use Rattle.multinet.specs.Adding.{usedBy}
-
--- ---- the ends
-
-pub end-marked : {marks marks′ marks″ : List ℕ} (m : List ℕ) (t : Tap) → marks ≡ m → marks′ ≡ markedBy (eqb (t .terminal)) marks → marks″ ≡ markedBy (eqb (t .approach)) marks′
-    → marks″ ≡ markedBy (λ v. tapHolds v t) m
-end-marked m t e a b = b ∙ rw (a, e) (with-or 1 (eqb (t .terminal)) (eqb (t .approach)) m)
-
-module _ {source : ℕ} {taps : Taps} {marks : List ℕ} (E : EndsIn source taps marks) where
-  pub source-there : source < length marks
-  source-there = rw (E .long) (E .net .source-in)
-
-  pub tap-there : (i : ℕ) → i < taps .count → (getD (taps .taps) i noTap .terminal < length marks) × (getD (taps .taps) i noTap .approach < length marks)
-  tap-there i h = (rw (E .long) (E .net .taps-in .terminal-in i h), rw (E .long) (E .net .taps-in .approach-in i h))
-
-  pub ends-marked : {marks′ marks″ : List ℕ} → marks′ ≡ markedBy (eqb source) marks → marks″ ≡ markedBy (λ v. any (tapHolds v) (tapsIn taps)) marks′
-      → marks″ ≡ markedBy (isNetEnd source taps) marks
-  unfolding isNetEnd
-  ends-marked a b = b ∙ rw a (with-or 1 (eqb source) (λ v. any (tapHolds v) (tapsIn taps)) marks)
 
 -- ---- the branches
 
@@ -84,32 +62,27 @@ module _ {R : Room} {source : ℕ} {taps : Taps} {L : BranchLengths} {branches o
   cells-occupied u e =
       rw (u, used-part (F .holds), e, zeros-long {n = volume R} (F .occupied-clear)) (all-below R (F .bs) (λ i h. F .cells-in i (omega (arith, F .holds .count-is))))
 
-  pub ends-in : EndsIn source taps forbidden
-  ends-in = record { room = R; net = F .net; long = zeros-long (F .forbidden-clear) }
-
-  pub placeable : {forbidden′ : List ℕ} → forbidden′ ≡ markedBy (isNetEnd source taps) forbidden → Placeable R source taps L branches forbidden′ repeaters links parents line
-  placeable f = record {
+  pub placeable : Placeable R source taps L branches repeaters forbidden links parents line
+  placeable = record {
     good = F .good;
-    source-in = F .net .source-in;
-    taps-in = F .net .taps-in;
+    net = F .net;
     laid = record {
       branched = record { whole = F .lengths-short .whole; few = F .few; within = used-fits refl };
       steps = rw (branches-back (F .holds)) (all-steps R (F .bs) (λ i h. F .steps i (omega (arith, F .holds .count-is))));
     };
-    forbidden-long = rw f (with-length 1 (isNetEnd source taps) forbidden ∙ zeros-long (F .forbidden-clear));
-    unmarked = F .repeaters-clear;
+    repeaters-clear = F .repeaters-clear;
+    forbidden-clear = F .forbidden-clear;
     links-long = F .links-long;
     parents-long = F .parents-long;
     line-long = F .line-long;
   }
 
-  pub finished : {used : ℕ} {occupied′ occupied″ forbidden′ repeaters′ : List ℕ} → used ≡ usedBy L
+  pub finished : {run used : ℕ} {occupied′ occupied″ repeaters′ : List ℕ} → used ≡ usedBy L
       → occupied′ ≡ markedBy (eqb source) occupied
       → occupied″ ≡ markedBy (standsIn (take used branches)) occupied′
-      → forbidden′ ≡ markedBy (isNetEnd source taps) forbidden
-      → repeaters′ ≡ repeaterMarks R source (tapsIn taps) (branchesOf L branches) forbidden′
-      → Finished R source taps L branches occupied″ repeaters′
-  finished u a b f r = record {
+      → repeaters′ ≡ netRepeaters R run source taps (branchesOf L branches)
+      → Finished R run source taps L branches occupied″ repeaters′
+  finished u a b r = record {
     occupied-are = λ bs H. b ∙ rw (u, used-part H, a, F .occupied-clear) refl;
-    repeaters-are = λ bs H. r ∙ rw (branches-back H, f, F .forbidden-clear) refl;
+    repeaters-are = λ bs H. r ∙ rw (branches-back H) refl;
   }

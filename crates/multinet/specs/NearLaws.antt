@@ -26,9 +26,9 @@ use Rattle.room.specs.RoomLaws.{same-cell}
 
 module _ {R : Room} (G : Good R) where
   -- "Approach: terminal plus a horizontal facing, else the terminal itself."
-  faced : (facing t a : ℕ) (w : Bool) → t < volume R → approachOf R t facing ≡ Inside a → Near R (record { terminal = t; approach = a; wire = w })
+  faced : (facing t a : ℕ) (w : Bool) (limit : ℕ) → t < volume R → approachOf R t facing ≡ Inside a → Near R (record { terminal = t; approach = a; wire = w; tail = limit })
   unfolding approachOf ahead
-  faced facing t a w h e =
+  faced facing t a w limit h e =
       ask (facingHorizontal facing)
       (λ f. inr (step-back (record { from-in = h; move = facingMove facing; listed = facing-in facing; leads = rw f at e }) G))
       (λ n. inl (same-cell t a (rw n at e)))
@@ -40,8 +40,8 @@ module _ {R : Room} (G : Good R) where
       e : Endpoint
       e = k .end
 
-      go : (r : Realized) → sinkEnd R k ≡ r → Near R (tapFrom (eqb (e .port) wire) r)
-      go (Realized.At t a) q = let E = sink-inside R (e .at) w (e .port) (e .facing) t a q in faced (e .facing) t a (eqb (e .port) wire) (E .terminal-below) (E .approach-is)
+      go : (r : Realized) → sinkEnd R k ≡ r → Near R (tapFrom (eqb (e .port) wire) (k .tail) r)
+      go (Realized.At t a) q = let E = sink-inside R (e .at) w (e .port) (e .facing) t a q in faced (e .facing) t a (eqb (e .port) wire) (k .tail) (E .terminal-below) (E .approach-is)
       go Realized.NoFacing q = inl refl
       go Realized.Outside q = inl refl
 

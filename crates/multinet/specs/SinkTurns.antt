@@ -36,6 +36,7 @@ plotOf ground kinds queue branches source taps = record {
   room = ground .room;
   config = ground .config;
   mode = ground .mode;
+  run = ground .run;
   kinds = kinds;
   places = placesOf queue;
   buffer = length branches;

@@ -1,13 +1,13 @@
 -- docs/RULES.md, The tree of one net, from the outset to the repeaters: a tree grows by one branch a sink. Definitions alone; their laws are in
 -- the files named Laws.
-use mathlib.Core.Bool.{Bool, _||_}
+use mathlib.Core.Bool.{Bool}
 use mathlib.Core.List.{List, []}
 use Prim.Native.Nat.{ℕ, zero, suc, _+_}
 use lib.Dec.{leb, eqb}
 use lib.ListN.{length, getD, set, replicate}
 use Rattle.numbers.specs.Refusals.{queueFullNumber, noGoalNumber, branchesFullNumber}
 use Rattle.basics.specs.Tests.{either}
-use Rattle.basics.specs.Lists.{any, joined}
+use Rattle.basics.specs.Lists.{joined}
 use Rattle.room.specs.declared.Room.{Room}
 use Rattle.room.specs.declared.RouterConfig.{RouterConfig}
 use Rattle.room.specs.Room.{volume}
@@ -16,18 +16,19 @@ use Rattle.routing_resources.specs.Marks.{markedBy, noMarks}
 use Rattle.routing_resources.specs.Resources.{isClearance}
 use Rattle.ends.specs.declared.Tap.{Tap}
 use Rattle.ends.specs.declared.Taps.{Taps}
-use Rattle.ends.specs.Ends.{noTap, tapsIn}
+use Rattle.ends.specs.Ends.{noTap}
 use Rattle.geometry.specs.Geometry.{standsIn}
 use Rattle.turns.specs.Turns.{far, sinkAt}
 use Rattle.goals.specs.Goals.{Site, Trial, found, failed, full, routeToTree}
 use Rattle.branches.specs.Branches.{branchOf, allButLast}
-use Rattle.repeaters.specs.Repeaters.{repeaterMarks}
+use Rattle.repeaters.specs.NetEnds.{netRepeaters}
 
--- what a tree grows over: the room, the config, the mode, the room's kinds, the places of the queue, the cells of the branch buffer, and the net's ends
+-- what a tree grows over: the room, the config, the mode, the run limit of its repeaters, the room's kinds, the places of the queue, the cells of the branch buffer, and the net's ends
 pub record Plot : Type 0 where
   pub room : Room
   pub config : RouterConfig
   pub mode : Mode
+  pub run : ℕ
   pub kinds : List ℕ
   pub places : ℕ
   pub buffer : ℕ
@@ -109,18 +110,6 @@ growFrom (suc n) P turn T =
 unfoldable pub growthOf : Plot → List ℕ → Growth
 growthOf P blocked = growFrom (P .taps .count) P 0 (planted P blocked)
 
--- no repeater stands on "a terminal or approach of this net"
-abbrev pub tapHolds : ℕ → Tap → Bool
-tapHolds v t = eqb (t .terminal) v || eqb (t .approach) v
-
--- the source's terminal, for a source has no approach, and each sink's terminal and approach
-unfoldable pub isNetEnd : ℕ → Taps → ℕ → Bool
-isNetEnd source taps v = eqb source v || any (tapHolds v) (tapsIn taps)
-
--- their marks
-abbrev pub netEndMarks : Room → ℕ → Taps → List ℕ
-netEndMarks R source taps = markedBy (isNetEnd source taps) (noMarks (volume R))
-
 -- marks of the repeaters of a grown tree
 unfoldable pub repeatersOf : Plot → Tree → List ℕ
-repeatersOf P T = repeaterMarks (P .room) (P .source) (tapsIn (P .taps)) (T .branches) (netEndMarks (P .room) (P .source) (P .taps))
+repeatersOf P T = netRepeaters (P .room) (P .run) (P .source) (P .taps) (T .branches)

@@ -76,6 +76,7 @@ plotFor mode J L O kinds = record {
   room = J .room;
   config = J .config;
   mode = mode;
+  run = J .run;
   kinds = kinds;
   places = placesIn (L .queue);
   buffer = L .branches;

@@ -45,9 +45,9 @@ pub record Harvestable (R : Room) (source : ℕ) (taps : Taps) (L : BranchLength
   pub finishable : Finishable R source taps L branches occupied repeaters (noMarks (volume R)) known previous path
 
 -- what the tree occupies and its repeaters, marked and counted
-pub record Harvested (R : Room) (source : ℕ) (taps : Taps) (L : BranchLengths) (branches : List ℕ) (r : Answer) (occupied repeaters : List ℕ) : Type 0 where
+pub record Harvested (R : Room) (run source : ℕ) (taps : Taps) (L : BranchLengths) (branches : List ℕ) (r : Answer) (occupied repeaters : List ℕ) : Type 0 where
   pub answer : r ≡ record { ended = Routed (markedCount occupied) (markedCount repeaters); lengths = L }
-  pub finished : Finished R source taps L branches occupied repeaters
+  pub finished : Finished R run source taps L branches occupied repeaters
 
 -- the number that ended the growth
 abbrev pub refusedBy : Stop → TreeOutcome
@@ -58,9 +58,9 @@ pub record Gatherable (R : Room) (source : ℕ) (taps : Taps) (g : GrownBranches
   pub harvestable : g .end ≡ Whole → Harvestable R source taps (g .lengths) branches occupied repeaters classes known previous path
 
 -- the harvest of a whole tree, or a refusal
-pub data Gathered (R : Room) (source : ℕ) (taps : Taps) (g : GrownBranches) (branches : List ℕ) (r : Answer) (occupied repeaters : List ℕ) : Type 0 where
-  ended-early : (stop : Stop) (sink : ℕ) → g .end ≡ Early stop sink → r ≡ answerOf (refusedBy stop) → Gathered R source taps g branches r occupied repeaters
-  in-whole : g .end ≡ Whole → Harvested R source taps (g .lengths) branches r occupied repeaters → Gathered R source taps g branches r occupied repeaters
+pub data Gathered (R : Room) (run source : ℕ) (taps : Taps) (g : GrownBranches) (branches : List ℕ) (r : Answer) (occupied repeaters : List ℕ) : Type 0 where
+  ended-early : (stop : Stop) (sink : ℕ) → g .end ≡ Early stop sink → r ≡ answerOf (refusedBy stop) → Gathered R run source taps g branches r occupied repeaters
+  in-whole : g .end ≡ Whole → Harvested R run source taps (g .lengths) branches r occupied repeaters → Gathered R run source taps g branches r occupied repeaters
 
 -- a plot that no number refuses, these cells blocked, cleared outputs, and work memory of exactly V cells
 pub record Growable (P : Plot) (B : Lent) : Type 0 where

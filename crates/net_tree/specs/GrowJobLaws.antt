@@ -143,7 +143,7 @@ module _ {P : Plot} {B : Lent} (A : Growable P B) where
           sym (take-append-drop (length (joined bs)) branches)
           ∙ rw (all-in .in-order .in-order, all-in .behind) (ap (λ l. joined bs ++ drop (length (joined bs)) l) (A .branches-clear) ∙ ap (λ l. joined bs ++ l) (drop-zeros (length (joined bs)) (length (B .branches))))
 
-      harvested : {r : Answer} {occupied repeaters : List ℕ} → Harvested (P .room) (P .source) (P .taps) (g .lengths) branches r occupied repeaters
+      harvested : {r : Answer} {occupied repeaters : List ℕ} → Harvested (P .room) (P .run) (P .source) (P .taps) (g .lengths) branches r occupied repeaters
           → TreeGrown P B r branches occupied repeaters
       unfolding repeatersOf
       harvested {occupied = occupied} {repeaters = repeaters} H =
@@ -161,7 +161,7 @@ module _ {P : Plot} {B : Lent} (A : Growable P B) where
         → Gatherable (P .room) (P .source) (P .taps) g branches (B .occupied) (B .repeaters) classes known previous path
     gatherable cl kn pr pa = record { harvestable = λ w. harvestable w cl kn pr pa }
 
-    pub gathered : {r : Answer} {occupied repeaters : List ℕ} → Gathered (P .room) (P .source) (P .taps) g branches r occupied repeaters
+    pub gathered : {r : Answer} {occupied repeaters : List ℕ} → Gathered (P .room) (P .run) (P .source) (P .taps) g branches r occupied repeaters
         → TreeGrown P B r branches occupied repeaters
     gathered (ended-early stop sink e a) = refused-grown stop sink e a
     gathered (in-whole w H) = harvested w H

@@ -89,6 +89,7 @@ module _ {sheet : List ℕ} {job : Job} (A : Accepted sheet job) {O : Outset} {k
       room = job .room;
       config = job .config;
       mode = mode;
+      run = job .run;
       kinds = kinds;
       places = placesIn (L .queue);
       buffer = L .branches;
@@ -101,6 +102,7 @@ module _ {sheet : List ℕ} {job : Job} (A : Accepted sheet job) {O : Outset} {k
       room = sym (use-of A .room-is) i;
       config = sym (use-of A .config-is) i;
       mode = mode;
+      run = sym (use-of A .run-is) i;
       kinds = kinds;
       places = placesIn (L .queue);
       buffer = L .branches;
@@ -150,7 +152,7 @@ module _ {sheet : List ℕ} {job : Job} {B : Lent} (A : Routable sheet job B) wh
 
     module _ (r : readyBy (O .placement) (O .ends .fault) ≡ true) where
       abbrev P : Plot
-      P = plotOf (record { room = job .room; config = job .config; mode = mode }) kinds (B .queue) (B .branches) (O .ends .source) (O .ends .taps)
+      P = plotOf (record { room = job .room; config = job .config; mode = mode; run = job .run }) kinds (B .queue) (B .branches) (O .ends .source) (O .ends .taps)
 
       -- the memory as it is lent on: kinds and what is blocked are set out, and the nodes stand where the known costs will
       abbrev laid-out : Lent

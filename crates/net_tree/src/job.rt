@@ -9,7 +9,6 @@ use job_sheet::Job;
 use multinet::GrownBranches;
 use multinet::GrowthEnd;
 use multinet::Stop;
-use room::Room;
 ghost use mathlib.Core.Path.{_≡_};
 ghost use Prim.Native.Nat.{_<_};
 ghost use lib.Dec.{eqb};
@@ -42,7 +41,7 @@ pub fn plant(source: usize, joinable: &mut [u8])
 // `classes` for the marks of the cells that may hold none, `known` for the links between the tree's cells, `previous` for
 // the parents, `path` for the line to a sink.
 fn harvest(
-    room: Room,
+    ground: Ground,
     source: usize,
     taps: Taps,
     lengths: BranchLengths,
@@ -54,12 +53,12 @@ fn harvest(
     previous: &mut [u32],
     path: &mut [u32],
 ) -> Answer
-    requires { ⌜ Harvestable room source taps lengths (now branches) (now occupied) (now repeaters) (now classes) (now known) (now previous) (now path) ⌝ }
-    ensures { λ r. ⌜ Harvested room source taps lengths (now (branches .entry)) r (now (occupied .exit)) (now (repeaters .exit)) ⌝ }
+    requires { ⌜ Harvestable (ground .room) source taps lengths (now branches) (now occupied) (now repeaters) (now classes) (now known) (now previous) (now path) ⌝ }
+    ensures { λ r. ⌜ Harvested (ground .room) (ground .run) source taps lengths (now (branches .entry)) r (now (occupied .exit)) (now (repeaters .exit)) ⌝ }
 {
     lent::clear_bytes(classes);
     multinet::finish_tree(
-        room,
+        ground,
         source,
         taps,
         lengths,
@@ -93,7 +92,7 @@ fn refusal_of(stop: Stop) -> Answer
 
 // What comes of a growth: the harvest of a whole tree, or a refusal.
 fn gather(
-    room: Room,
+    ground: Ground,
     source: usize,
     taps: Taps,
     growth: GrownBranches,
@@ -105,8 +104,8 @@ fn gather(
     previous: &mut [u32],
     path: &mut [u32],
 ) -> Answer
-    requires { ⌜ Gatherable room source taps growth (now branches) (now occupied) (now repeaters) (now classes) (now known) (now previous) (now path) ⌝ }
-    ensures { λ r. ⌜ Gathered room source taps growth (now (branches .entry)) r (now (occupied .exit)) (now (repeaters .exit)) ⌝ }
+    requires { ⌜ Gatherable (ground .room) source taps growth (now branches) (now occupied) (now repeaters) (now classes) (now known) (now previous) (now path) ⌝ }
+    ensures { λ r. ⌜ Gathered (ground .room) (ground .run) source taps growth (now (branches .entry)) r (now (occupied .exit)) (now (repeaters .exit)) ⌝ }
 {
     let end = growth.end;
     let lengths = growth.lengths;
@@ -114,7 +113,7 @@ fn gather(
         return refusal_of(stop);
     }
     harvest(
-        room,
+        ground,
         source,
         taps,
         lengths,
@@ -129,7 +128,7 @@ fn gather(
 }
 
 // Grows and harvests the tree of a plot in which these cells are blocked; or number 13, 14 or 15 is due.
-fn grow_job(
+pub fn grow_job(
     ground: Ground,
     source: usize,
     taps: Taps,
@@ -166,7 +165,7 @@ fn grow_job(
         branches,
     );
     gather(
-        ground.room,
+        ground,
         source,
         taps,
         growth,
@@ -213,7 +212,13 @@ pub fn route_job(
     }
     let room = job.room;
     let config = job.config;
-    let ground = Ground { room, config, mode };
+    let run = job.run;
+    let ground = Ground {
+        room,
+        config,
+        mode,
+        run,
+    };
     grow_job(
         ground,
         ends.source,

@@ -4,6 +4,7 @@ mod job; // job.rt: an accepted job, over work memory of exactly V cells
 
 pub use entry::clear_work;
 pub use entry::route_net_tree;
+pub use job::grow_job;
 pub use job::plant;
 pub use job::refuse;
 

@@ -13,3 +13,5 @@ pub mod StrideLaws
 pub mod TailLaws
 pub mod Sinks
 pub mod SinkLaws
+pub mod NetEnds
+pub mod NetEndLaws

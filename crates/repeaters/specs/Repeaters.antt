@@ -115,7 +115,7 @@ unfoldable pub resume : List ℕ → RunWalk → ℕ → RunWalk
 resume path w c = either (eqb c 0) (runWalk (w .marks) (w .reset) (w .place + 1)) (runWalk (withRepeater path (w .marks) c) c (c + 1))
 
 module _ (limit : ℕ) (fit : ℕ → Bool) (path : List ℕ) where
-  -- "A repeater met is a reset"; "at a cell more than 12 steps past the last reset" one is due
+  -- "A repeater met is a reset"; "at a cell more than" the limit "steps past the last reset" one is due
   unfoldable pub stride : RunWalk → RunWalk
   stride w =
       either (repeaterAt path (w .marks) (w .place)) (runWalk (w .marks) (w .place) (w .place + 1))
@@ -148,43 +148,35 @@ abbrev pub tailFit : (ℕ → Bool) → List ℕ → List ℕ → ℕ → Bool
 tailFit fit path marks i = fit i && alone path marks i
 
 module _ (limit : ℕ) (fit : ℕ → Bool) (path : List ℕ) where
-  -- "the earliest such cell among the last 8 before the end"
+  -- "the earliest such cell among the last" so many as the limit says "before the end"
   abbrev pub tailPlace : List ℕ → ℕ
   tailPlace marks = earliest (tailFit fit path marks) limit (end path - limit)
 
-  -- "with over 8 steps after its last repeater (or the source)"
+  -- "with over" the limit's "steps after its last repeater (or the source)"
   unfoldable pub reinforced : List ℕ → List ℕ
   reinforced marks = either (ltb (lastReset path marks + limit) (end path)) (withRepeater path marks (tailPlace marks)) marks
 
 -- ---- "sink by sink"
-
--- "more than 12 steps past the last reset"
-abbrev pub maxRun : ℕ
-maxRun = 12
-
--- "over 8 steps after its last repeater (or the source)"; "the last 8 before the end"
-abbrev pub maxTail : ℕ
-maxTail = 8
 
 module _ (R : Room) (next : ℕ → List ℕ) (parents forbidden : List ℕ) where
   -- "the path from the source"
   abbrev pub pathTo : Tap → List ℕ
   pathTo tap = rootPath parents (tap .terminal)
 
-  -- the run to one sink
-  abbrev pub runOf : Tap → List ℕ → List ℕ
-  runOf tap marks = run maxRun (fits R next forbidden (pathTo tap)) (pathTo tap) marks
+  -- the run to one sink, at the job's run limit
+  abbrev pub runOf : ℕ → Tap → List ℕ → List ℕ
+  runOf limit tap marks = run limit (fits R next forbidden (pathTo tap)) (pathTo tap) marks
 
-  -- "per Wire sink"
+  -- "per Wire sink", at the sink's own tail limit
   abbrev pub tailOf : Tap → List ℕ → List ℕ
-  tailOf tap marks = either (tap .wire) (reinforced maxTail (fits R next forbidden (pathTo tap)) (pathTo tap) marks) marks
+  tailOf tap marks = either (tap .wire) (reinforced (tap .tail) (fits R next forbidden (pathTo tap)) (pathTo tap) marks) marks
 
   -- the runs of all sinks, one after the other, and then the tails
-  unfoldable pub planned : List Tap → List ℕ → List ℕ
-  planned taps marks = along tailOf taps (along runOf taps marks)
+  unfoldable pub planned : ℕ → List Tap → List ℕ → List ℕ
+  planned limit taps marks = along tailOf taps (along (runOf limit) taps marks)
 
 -- one byte a cell: 1 where a repeater stands
-unfoldable pub repeaterMarks : Room → ℕ → List Tap → List (List ℕ) → List ℕ → List ℕ
-repeaterMarks R source taps branches forbidden =
-    planned R (treeNeighbours branches (volume R)) (parentsFrom (treeNeighbours branches (volume R)) (volume R) source) forbidden taps
+unfoldable pub repeaterMarks : Room → ℕ → ℕ → List Tap → List (List ℕ) → List ℕ → List ℕ
+repeaterMarks R limit source taps branches forbidden =
+    planned R (treeNeighbours branches (volume R)) (parentsFrom (treeNeighbours branches (volume R)) (volume R) source) forbidden limit taps
     (noMarks (volume R))

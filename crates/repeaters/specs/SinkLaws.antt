@@ -17,7 +17,7 @@ use Rattle.repeaters.specs.Repeaters.{treeNeighbours, runOf, tailOf, pla
 use Rattle.repeaters.specs.Links.{linkedCells, PathReady}
 use Rattle.repeaters.specs.Roots.{Rooted, Traced}
 use Rattle.repeaters.specs.RootLaws.{path-cells}
-use Rattle.repeaters.specs.Sinks.{TreeReady, Placeable}
+use Rattle.repeaters.specs.Sinks.{TreeReady, Plannable}
 use Rattle.basics.specs.Folds.{along, Folding, fold-first, fold-next, fold-last}
 use Rattle.ends.specs.EndLaws.{taps-long, tap-is}
 
@@ -37,7 +37,7 @@ path-ready {R} {links} {parents} G {cell} h T = record {
 }
 
 -- once the parents are known, the tree is ready for its sinks
-pub tree-ready : {R : Room} {source : ℕ} {T : Taps} {L : BranchLengths} {cells forbidden repeaters links parents line : List ℕ} → Placeable R source T L cells forbidden repeaters links parents line
+pub tree-ready : {R : Room} {source : ℕ} {T : Taps} {L : BranchLengths} {cells forbidden repeaters links parents line : List ℕ} → Plannable R source T L cells forbidden repeaters links parents line
     → {links′ parents′ : List ℕ} → length links′ ≡ length links → Rooted R source links′ parents′ → TreeReady R links′ parents′ forbidden
 tree-ready P e r = record { good = P .good; links-long = e ∙ P .links-long; parents-long = r .long; parents-inside = r .parents-inside; forbidden-long = P .forbidden-long }
 
@@ -61,13 +61,13 @@ module _ {put : Tap → List ℕ → List ℕ} {T : Taps} {start : List ℕ} whe
     pub sown-all : {R : Room} → TapsInside R T → T .count ≤ k → marks ≡ along put (tapsIn T) start
     sown-all f h = fold-last put (tapsIn T) (I .walk) (rw (taps-long f) h)
 
-module _ (R : Room) (source : ℕ) (taps : List Tap) (branches : List (List ℕ)) (forbidden links parents : List ℕ) where
+module _ (R : Room) (limit source : ℕ) (taps : List Tap) (branches : List (List ℕ)) (forbidden links parents : List ℕ) where
   pub placed : linkedCells R links ≡ treeNeighbours branches (volume R) → parents ≡ parentsFrom (linkedCells R links) (volume R) source
-      → (none runs tails : List ℕ) → none ≡ noMarks (volume R) → runs ≡ along (runOf R (linkedCells R links) parents forbidden) taps none
-      → tails ≡ along (tailOf R (linkedCells R links) parents forbidden) taps runs → tails ≡ repeaterMarks R source taps branches forbidden
+      → (none runs tails : List ℕ) → none ≡ noMarks (volume R) → runs ≡ along (runOf R (linkedCells R links) parents forbidden limit) taps none
+      → tails ≡ along (tailOf R (linkedCells R links) parents forbidden) taps runs → tails ≡ repeaterMarks R limit source taps branches forbidden
   unfolding repeaterMarks planned
   placed near rooted none runs tails e f g =
       g
-      ∙ ap (along (tailOf R (linkedCells R links) parents forbidden) taps) (f ∙ ap (along (runOf R (linkedCells R links) parents forbidden) taps) e)
-      ∙ ap (λ (ps : List ℕ). planned R (linkedCells R links) ps forbidden taps (noMarks (volume R))) rooted
-      ∙ ap (λ (next : ℕ → List ℕ). planned R next (parentsFrom next (volume R) source) forbidden taps (noMarks (volume R))) near
+      ∙ ap (along (tailOf R (linkedCells R links) parents forbidden) taps) (f ∙ ap (along (runOf R (linkedCells R links) parents forbidden limit) taps) e)
+      ∙ ap (λ (ps : List ℕ). planned R (linkedCells R links) ps forbidden limit taps (noMarks (volume R))) rooted
+      ∙ ap (λ (next : ℕ → List ℕ). planned R next (parentsFrom next (volume R) source) forbidden limit taps (noMarks (volume R))) near

@@ -1,4 +1,5 @@
-// Repeaters "sink by sink on the path from the source", in sheet order: the runs of all sinks, and then the tails.
+// Repeaters "sink by sink on the path from the source", in sheet order: the runs of all sinks, at one limit, and then the
+// tails, each at its own.
 use crate::roots::root_path;
 use crate::strides::plan_path;
 use crate::tails::reinforce_path;
@@ -15,12 +16,6 @@ ghost use Rattle.repeaters.specs.Links.{linkedCells};
 ghost use Rattle.repeaters.specs.Sinks.{TreeReady};
 ghost use Rattle.basics.specs.Folds.{along};
 
-// "At a cell more than 12 steps past the last reset".
-const MAX_RUN: usize = 12;
-
-// "Over 8 steps after its last repeater (or the source)".
-const MAX_TAIL: usize = 8;
-
 // The run to one sink.
 fn plan_sink(
     room: Room,
@@ -30,15 +25,16 @@ fn plan_sink(
     tap: Tap,
     repeaters: &mut [u8],
     line: &mut [u32],
+    limit: usize,
 )
     requires { ⌜ TreeReady room (now links) (now parents) (now forbidden) ⌝ }
     requires { ⌜ tap .terminal < volume room ⌝ }
     requires { ⌜ length (now repeaters) ≡ volume room ⌝ }
     requires { ⌜ length (now line) ≡ volume room ⌝ }
-    ensures { λ _. ⌜ now (repeaters .exit) ≡ runOf room (linkedCells room (now (links .entry))) (now (parents .entry)) (now (forbidden .entry)) tap (now (repeaters .entry)) ⌝ }
+    ensures { λ _. ⌜ now (repeaters .exit) ≡ runOf room (linkedCells room (now (links .entry))) (now (parents .entry)) (now (forbidden .entry)) limit tap (now (repeaters .entry)) ⌝ }
 {
     let count = root_path(parents, tap.terminal, line);
-    plan_path(room, links, forbidden, &line[..count], repeaters, MAX_RUN);
+    plan_path(room, links, forbidden, &line[..count], repeaters, limit);
 }
 
 // The runs to all sinks.
@@ -50,18 +46,19 @@ pub fn plan_repeaters(
     taps: Taps,
     repeaters: &mut [u8],
     line: &mut [u32],
+    limit: usize,
 )
     requires { ⌜ TreeReady room (now links) (now parents) (now forbidden) ⌝ }
     requires { ⌜ TapsInside room taps ⌝ }
     requires { ⌜ length (now repeaters) ≡ volume room ⌝ }
     requires { ⌜ length (now line) ≡ volume room ⌝ }
-    ensures { λ _. ⌜ now (repeaters .exit) ≡ along (runOf room (linkedCells room (now (links .entry))) (now (parents .entry)) (now (forbidden .entry))) (tapsIn taps) (now (repeaters .entry)) ⌝ }
+    ensures { λ _. ⌜ now (repeaters .exit) ≡ along (runOf room (linkedCells room (now (links .entry))) (now (parents .entry)) (now (forbidden .entry)) limit) (tapsIn taps) (now (repeaters .entry)) ⌝ }
 {
     let count = taps.count;
     let mut k: usize = 0;
     while k < count {
         let tap = taps.taps[k];
-        plan_sink(room, links, parents, forbidden, tap, repeaters, line);
+        plan_sink(room, links, parents, forbidden, tap, repeaters, line, limit);
         k += 1;
     }
 }
@@ -86,7 +83,7 @@ fn reinforce_sink(
         return;
     }
     let count = root_path(parents, tap.terminal, line);
-    reinforce_path(room, links, forbidden, &line[..count], repeaters, MAX_TAIL);
+    reinforce_path(room, links, forbidden, &line[..count], repeaters, tap.tail);
 }
 
 // The tails of all Wire sinks.

@@ -1,4 +1,4 @@
-// Repeaters along the runs: "at a cell more than 12 steps past the last reset", the latest cell that may hold one.
+// Repeaters along the runs: at a cell more steps past the last reset than the run limit, the latest cell that may hold one.
 use crate::Stride;
 use crate::candidates::may_stand;
 use room::Room;

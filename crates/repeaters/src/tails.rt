@@ -1,5 +1,6 @@
-// Repeaters near the ends of Wire sinks: "with over 8 steps after its last repeater (or the source): the earliest such cell
-// among the last 8 before the end, not the first cell, with no repeater next to it on the path".
+// Repeaters near the ends of Wire sinks, by the sink's tail limit, which is 8 in: "with over 8 steps after its last repeater
+// (or the source): the earliest such cell among the last 8 before the end, not the first cell, with no repeater next to it
+// on the path".
 use crate::candidates::may_stand;
 use crate::strides::later;
 use room::Room;

@@ -129,7 +129,7 @@ module _ {mode : Mode} {sheet : List ℕ} {job : Job} {queue branches : List ℕ
   counted = record { count = here .taps .count; each = R .growth .lengths .each }
 
   abbrev ground : Ground
-  ground = record { room = job .room; config = job .config; mode = mode }
+  ground = record { room = job .room; config = job .config; mode = mode; run = job .run }
 
   sink-here : R .sink < here .taps .count
   sink-here = sink-now here (R .early .turn) (R .sink) (R .early .sink-is) (R .early .turn-in) .0

@@ -91,7 +91,7 @@ memoryOf job branches kinds blocked classes joinable known previous path best qu
 -- what the tree of a job grows over
 abbrev pub jobPlot : Mode → Job → Outset → List ℕ → List ℕ → List ℕ → Plot
 jobPlot mode job O kinds queue branches =
-    plotOf (record { room = job .room; config = job .config; mode = mode }) kinds queue branches (O .ends .source) (O .ends .taps)
+    plotOf (record { room = job .room; config = job .config; mode = mode; run = job .run }) kinds queue branches (O .ends .source) (O .ends .taps)
 
 -- a growth that stops
 pub record Stops (P : Plot) (blocked : List ℕ) : Type 0 where

@@ -137,6 +137,9 @@ module _ {mode : Mode} {sheet : List ℕ} {job : Job} (B : Lent) {reached walls 
   config-is : job .config ≡ stop .contents .config
   config-is = use-of taken-as .config-is ∙ ap (λ J. J .config) (one-meaning sheet (taken-as .contents) (stop .contents) (taken-as .means) (stop .unrefused .means))
 
+  run-is : job .run ≡ stop .contents .run
+  run-is = use-of taken-as .run-is ∙ ap (λ J. J .run) (one-meaning sheet (taken-as .contents) (stop .contents) (taken-as .means) (stop .unrefused .means))
+
   work : (f : Lent → List ℕ) → f (lentAfter (no-tree number detail) B) ≡ workAfter number (f B) → f B₁ ≡ replicate (length (f B)) 0
   work f e = work-zero number t (f B) (ap f l ∙ e)
 
@@ -152,6 +155,7 @@ module _ {mode : Mode} {sheet : List ℕ} {job : Job} (B : Lent) {reached walls 
     room = sym room-is i;
     config = sym config-is i;
     mode = mode;
+    run = sym run-is i;
     kinds = kinds;
     places = placesIn (sym (long (λ x. x .queue) refl) i);
     buffer = sym (zeros-long {n = length (B .branches)} branches-zero) i;

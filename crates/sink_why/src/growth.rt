@@ -82,7 +82,13 @@ fn regrow(
     net_tree::plant(source, joinable);
     let room = job.room;
     let config = job.config;
-    let ground = Ground { room, config, mode };
+    let run = job.run;
+    let ground = Ground {
+        room,
+        config,
+        mode,
+        run,
+    };
     let growth = multinet::grow_tree(
         ground,
         source,
@@ -144,7 +150,13 @@ pub fn tell_growth(
     let tap = taps.taps[sink];
     let room = job.room;
     let config = job.config;
-    let ground = Ground { room, config, mode };
+    let run = job.run;
+    let ground = Ground {
+        room,
+        config,
+        mode,
+        run,
+    };
     let verdict = tell_reason(
         ground,
         sheet,
@@ -162,8 +174,6 @@ pub fn tell_growth(
         walls,
         causes,
     );
-    Told {
-        place: sink + 1,
-        verdict,
-    }
+    let place = sink + 1;
+    Told { place, verdict }
 }

@@ -104,7 +104,7 @@ abbrev pub sinkApproach : Plot → ℕ → ℕ
 sinkApproach P k = tapAt P k .approach
 
 abbrev pub groundOf : Plot → Ground
-groundOf P = record { room = P .room; config = P .config; mode = P .mode }
+groundOf P = record { room = P .room; config = P .config; mode = P .mode; run = P .run }
 
 -- ".. and 13"
 abbrev pub verdictOf : Plot → Tree → ℕ → ℕ → ℕ

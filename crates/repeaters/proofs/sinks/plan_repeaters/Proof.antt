@@ -10,10 +10,10 @@ use Rattle.repeaters.proofs.sinks.plan_repeaters.Statement.{statement}
 use Rattle.repeaters.proofs.sinks.plan_repeaters.Tie as tie
 
 abbrev Inv-loop : tie.InvT-loop
-Inv-loop room links parents forbidden repeaters₀ line₀ taps count k₀ repeaters line k = (length line ≡ length line₀) × Sown (runOf room (linkedCells room links) parents forbidden) taps repeaters₀ repeaters k
+Inv-loop room links parents forbidden repeaters₀ line₀ limit taps count k₀ repeaters line k = (length line ≡ length line₀) × Sown (runOf room (linkedCells room links) parents forbidden limit) taps repeaters₀ repeaters k
 
 abbrev μ-loop : tie.MeasureT-loop
-μ-loop room links parents forbidden repeaters₀ line₀ taps count k₀ repeaters line k = count - k
+μ-loop room links parents forbidden repeaters₀ line₀ limit taps count k₀ repeaters line k = count - k
 
 loop-holds : tie.Need-loop-holds Inv-loop μ-loop
 loop-holds c = (refl, sown-none)

@@ -1,9 +1,9 @@
 -- `mark_tap` meets its contract: the terminal, then the approach.
 use mathlib.Core.Path.{refl}
-use Rattle.multinet.specs.FinishingLaws.{end-marked}
+use Rattle.repeaters.specs.NetEndLaws.{end-marked}
 use borrow.Author.Needs.{needs}
-use Rattle.multinet.proofs.finishing.mark_tap.Statement.{statement}
-use Rattle.multinet.proofs.finishing.mark_tap.Tie as tie
+use Rattle.repeaters.proofs.net_ends.mark_tap.Statement.{statement}
+use Rattle.repeaters.proofs.net_ends.mark_tap.Tie as tie
 
 mark-requires : tie.Need-mark-requires
 mark-requires c κs = search needs

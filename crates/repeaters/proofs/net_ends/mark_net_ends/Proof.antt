@@ -5,10 +5,10 @@ use native.Mathlib.Omega.{arith}
 use Rattle.ends.specs.EndLaws.{taps-long, tap-is}
 use Rattle.routing_resources.specs.MarkLaws.{MarkedSoFar, marking-none, restOf, marking-on, marking-all}
 use Rattle.ends.specs.Ends.{noTap, tapsIn}
-use Rattle.multinet.specs.Tree.{tapHolds}
-use Rattle.multinet.specs.FinishingLaws.{ends-marked, source-there, tap-there}
-use Rattle.multinet.proofs.finishing.mark_net_ends.Statement.{statement}
-use Rattle.multinet.proofs.finishing.mark_net_ends.Tie as tie
+use Rattle.repeaters.specs.NetEnds.{tapHolds}
+use Rattle.repeaters.specs.NetEndLaws.{ends-marked, source-there, tap-there}
+use Rattle.repeaters.proofs.net_ends.mark_net_ends.Statement.{statement}
+use Rattle.repeaters.proofs.net_ends.mark_net_ends.Tie as tie
 
 abbrev Inv-loop : tie.InvT-loop
 Inv-loop source marks₀ taps i₀ marks i = MarkedSoFar 1 (restOf tapHolds (tapsIn taps)) marks₀ marks i

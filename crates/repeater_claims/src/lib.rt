@@ -1,0 +1,1 @@
+// Repeaters over any branches: definitions and theorems alone, no code. See specs/.
