@@ -3,6 +3,7 @@
 mod drawing_export; // drawing_export.rt: one route drawn
 mod function_export; // function_export.rt: a function file
 mod plain_export; // plain_export.rt: the plain engine
+mod repeaters_export; // repeaters_export.rt: one call for repeaters
 mod sheet_export; // sheet_export.rt: a sheet written
 mod tree_export; // tree_export.rt: the tree
 mod tree_why_export; // tree_why_export.rt: why a sink couldn't be reached
@@ -13,6 +14,7 @@ pub use drawing_export::dustroute_materialize_route;
 pub use function_export::dustroute_read_function;
 pub use function_export::dustroute_write_function;
 pub use plain_export::dustroute_plain;
+pub use repeaters_export::dustroute_place_repeaters;
 pub use sheet_export::dustroute_write_sheet;
 pub use tree_export::dustroute_tree;
 pub use tree_export::dustroute_tree_mode;

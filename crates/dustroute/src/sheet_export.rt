@@ -14,6 +14,7 @@ pub extern "C" fn dustroute_write_sheet(
     horizontal: u32,
     stair: u32,
     support: u32,
+    run: u32,
     blocks: &[u16],
     conductors: &[u16],
     clearances: &[u16],
@@ -24,7 +25,7 @@ pub extern "C" fn dustroute_write_sheet(
     sheet: &mut [u8],
     values: &mut [u64],
 ) -> u32
-    ensures { λ r. ⌜ Told (partsTold wide high deep limit horizontal stair support (now (blocks .entry)) (now (conductors .entry)) (now (clearances .entry)) (now (terminals .entry)) (now (reserved .entry)) (now (source .entry)) (now (sinks .entry))) (endsGood (length (now (source .entry))) (length (now (sinks .entry)))) (now (sheet .entry)) (now (values .entry)) r (now (sheet .exit)) (now (values .exit)) ⌝ }
+    ensures { λ r. ⌜ Told (partsTold wide high deep limit horizontal stair support run (now (blocks .entry)) (now (conductors .entry)) (now (clearances .entry)) (now (terminals .entry)) (now (reserved .entry)) (now (source .entry)) (now (sinks .entry))) (endsGood (length (now (source .entry))) (length (now (sinks .entry)))) (now (sheet .entry)) (now (values .entry)) r (now (sheet .exit)) (now (values .exit)) ⌝ }
 {
     sheet_writer::write_sheet_told(
         wide,
@@ -34,6 +35,7 @@ pub extern "C" fn dustroute_write_sheet(
         horizontal,
         stair,
         support,
+        run,
         blocks,
         conductors,
         clearances,
