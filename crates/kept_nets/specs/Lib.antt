@@ -1,0 +1,3 @@
+pub mod BranchSound
+pub mod Keep
+pub mod KeepLaws

@@ -1,0 +1,14 @@
+pub mod Laying
+pub mod Bearing
+pub mod Layable
+pub mod PassingLaws
+pub mod PlacingLaws
+pub mod BearingLaws
+pub mod OwnerLaws
+pub mod NetLaws
+pub mod Statements
+pub mod KeepLaws
+pub mod StandLaws
+pub mod FacingLaws
+pub mod Theorems
+pub mod Directions

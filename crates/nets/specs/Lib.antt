@@ -1,0 +1,4 @@
+pub mod Nets
+pub mod Routes
+pub mod RouteLaws
+pub mod Theorems
