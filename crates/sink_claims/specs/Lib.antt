@@ -7,4 +7,5 @@ pub mod VerdictLaws
 pub mod CauseTrueLaws
 pub mod AnswerStatements
 pub mod Theorems
+pub mod ExportTheorems
 pub mod Samples

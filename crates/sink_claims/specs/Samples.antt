@@ -20,6 +20,7 @@ use Rattle.port_realization.specs.Ports.{terminalOf, approachOf, realizedOf}
 use Rattle.job_sheet.specs.declared.Block.{Block}
 use Rattle.job_sheet.specs.declared.Endpoint.{Endpoint}
 use Rattle.job_sheet.specs.Sheet.{Contents}
+use Rattle.job_sheet.specs.UsualLimits.{usualRun, usualTail}
 use Rattle.blocks.specs.declared.Placement.{Placement}
 use Rattle.blocks.specs.Blocks.{ofBlock, tabulated, kindsOf, nodesOf}
 use Rattle.ends.specs.Ends as endings
@@ -51,13 +52,14 @@ abbrev job : Room → RouterConfig → List Block → List Pos → Pos → Pos �
 job R C blocks conductors source sink = record {
   room = R;
   config = C;
+  run = usualRun;
   blocks = blocks;
   conductors = conductors;
   clearances = [];
   terminals = [];
   reserved = [];
   source = wireAt source;
-  sinks = record { end = wireAt sink } ∷ [];
+  sinks = record { end = wireAt sink; tail = usualTail } ∷ [];
 }
 
 abbrev room : ℕ → ℕ → ℕ → Room
