@@ -14,8 +14,8 @@ use cases::stats::Tally;
 use cases::text::{number, parse_hex, parse_search, search_answer_lines, tree_answer_lines};
 use cases::tree::ROUTE_LIMITS;
 use oracle::{
-    Drawing, Profile, Rng, Search, Sheet, StrictSheet, TreeWhy, Why, check_route, check_search,
-    check_sheet,
+    Drawing, LimitSheet, Plan, Profile, Rng, Search, Sheet, StrictSheet, TreeWhy, Why, check_route,
+    check_search, check_sheet,
 };
 
 use crate::Trouble;
@@ -38,14 +38,13 @@ oracle compare KIND --seed N --count N [--profile P]
                                             answers random cases, writes none
 oracle show KIND FILE [INDEX]               cases and answers for a reader
 oracle stats KIND FILE                      how many of which cases
-KIND is `searches`, `sheets`, `strict-sheets`, sheets in strict mode, `whys`, searches with their reason, `tree-whys`, sheets with theirs,
-`functions`, function files written and read, `drawings`, routes drawn, or `writes`, parts of jobs written as sheets; P is tiny, small,
+KIND is `searches`, `sheets`, `limit-sheets`, sheets of both versions, `strict-sheets`, sheets in strict mode, `whys`, searches with their reason, `tree-whys`, sheets with theirs,
+`functions`, function files written and read, `drawings`, routes drawn, `repeaters`, a net's in one call, or `writes`, parts of jobs written as sheets; P is tiny, small,
 middle, large or mixed (the default); `-` is standard input.
 Status 0: done; 1: answers differ; 2: bad input.
 ";
 
-const KINDS: &str =
-    "`searches`, `sheets`, `strict-sheets`, `whys`, `tree-whys`, `functions`, `drawings`, `writes`";
+const KINDS: &str = "`searches`, `sheets`, `limit-sheets`, `strict-sheets`, `whys`, `tree-whys`, `functions`, `drawings`, `repeaters`, `writes`";
 
 pub fn run(raw: impl Iterator<Item = OsString>) -> Result<(), Trouble> {
     let mut arguments = Arguments::sort(raw)?;
@@ -60,11 +59,13 @@ pub fn run(raw: impl Iterator<Item = OsString>) -> Result<(), Trouble> {
             match arguments.word(KINDS)?.as_str() {
                 "searches" => run_lists::<Search>(&command, arguments),
                 "sheets" => run_lists::<Sheet>(&command, arguments),
+                "limit-sheets" => run_lists::<LimitSheet>(&command, arguments),
                 "strict-sheets" => run_lists::<StrictSheet>(&command, arguments),
                 "whys" => run_lists::<Why>(&command, arguments),
                 "tree-whys" => run_lists::<TreeWhy>(&command, arguments),
                 "functions" => run_lists::<Function>(&command, arguments),
                 "drawings" => run_lists::<Drawing>(&command, arguments),
+                "repeaters" => run_lists::<Plan>(&command, arguments),
                 "writes" => run_lists::<Parts>(&command, arguments),
                 kind => Err(format!("none of {KINDS}: {kind}").into()),
             }

@@ -13,7 +13,7 @@ use published::physical::PhysicalError;
 use published::port_realization::{realize_sink_endpoint, terminal_for_endpoint};
 use published::world::Pos;
 
-use crate::published_side::{PublishedJob, cell_at, endpoint, guarded};
+use crate::published_side::{PublishedJob, cell_at, endpoint, guarded, planned_repeaters};
 use crate::{Disagreement, Refusal, agreed};
 
 /// The answer to a sheet as the library's tree gives it, or how the published Rust and the plain router differ on it.
@@ -66,7 +66,7 @@ fn repeats_within_a_node(job: &Job) -> bool {
 fn published_answer(job: &Job, room: &Room) -> Result<TreeAnswer, String> {
     let refused = |number, detail| Ok(TreeAnswer::Refused(Refusal::new(number, detail)));
     match guarded(|| PublishedJob::new(room, job).route())? {
-        Ok(net) => tree_of(room, &net),
+        Ok(net) => tree_of(room, &at_limits(job, net)?),
         Err(MultiNetError::Physical(PhysicalError::CellOverlap(pos))) => {
             refused(7, cell(room, pos)? as u32)
         }
@@ -76,6 +76,16 @@ fn published_answer(job: &Job, room: &Room) -> Result<TreeAnswer, String> {
     }
 }
 
+/// The net with the repeaters that the job's limits ask for: `route_net_tree` has 12 and 8 alone, and gives the same there.
+fn at_limits(job: &Job, net: RoutedNet) -> Result<RoutedNet, String> {
+    let planned = guarded(|| planned_repeaters(job, &net.branches))?;
+    let repeaters = planned.map_err(|error| error.to_string())?;
+    if job.has_usual_limits() && repeaters != net.repeaters {
+        return Err("the two planning functions differ from route_net_tree at 12 and 8".into());
+    }
+    Ok(RoutedNet { repeaters, ..net })
+}
+
 /// The Rust doesn't say which port has number 8: its two functions are asked port by port.
 fn first_bad_port(job: &Job) -> Result<u32, String> {
     if terminal_for_endpoint(&endpoint(&job.source)).is_err() {
@@ -83,7 +93,7 @@ fn first_bad_port(job: &Job) -> Result<u32, String> {
     }
     let sinks = job.sinks.iter().zip(1..);
     sinks
-        .filter(|(sink, _)| realize_sink_endpoint(&endpoint(sink)).is_err())
+        .filter(|(sink, _)| realize_sink_endpoint(&endpoint(&sink.port)).is_err())
         .map(|(_, number)| number)
         .next()
         .ok_or("a port error without a bad port".into())
@@ -106,7 +116,10 @@ pub fn tree_of(room: &Room, net: &RoutedNet) -> Result<TreeAnswer, String> {
     })
 }
 
-fn cells<'a>(room: &Room, list: impl IntoIterator<Item = &'a Pos>) -> Result<Vec<u16>, String> {
+pub(crate) fn cells<'a>(
+    room: &Room,
+    list: impl IntoIterator<Item = &'a Pos>,
+) -> Result<Vec<u16>, String> {
     let cells: Vec<_> = list
         .into_iter()
         .map(|pos| cell(room, *pos))

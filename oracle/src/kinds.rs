@@ -1,27 +1,28 @@
-//! Searches, sheets in both modes, both with their reasons, function files, drawings and parts of jobs under one roof, so that each
-//! command is written once.
+//! Searches, sheets in both modes and at any limits, both with their reasons, function files, drawings, plans of repeaters and parts of jobs under one roof,
+//! so that each command is written once.
 
 use cases::examples::{
-    drawing_cases, function_cases, parts_cases, search_cases, sheet_cases, strict_cases,
-    tree_why_cases, why_cases,
+    drawing_cases, function_cases, limit_cases, parts_cases, plan_cases, search_cases, sheet_cases,
+    strict_cases, tree_why_cases, why_cases,
 };
 use cases::files::Case;
 use cases::function::{Function, FunctionAnswer};
 use cases::generate::{random_function, random_parts};
 use cases::parts::{Parts, PartsAnswer};
 use cases::stats::{
-    Tally, count_drawing, count_function, count_parts, count_search, count_sheet, count_strict,
-    count_tree_why, count_why,
+    Tally, count_drawing, count_function, count_parts, count_plan, count_search, count_sheet,
+    count_strict, count_tree_why, count_why,
 };
 use cases::text::{
     drawing_answer_lines, drawing_lines, function_answer_lines, function_lines, parts_answer_lines,
-    parts_lines, search_answer_lines, search_lines, sheet_lines, tree_answer_lines,
-    tree_why_answer_lines, tree_why_lines, why_answer_lines, why_lines,
+    parts_lines, plan_answer_lines, plan_lines, search_answer_lines, search_lines, sheet_lines,
+    tree_answer_lines, tree_why_answer_lines, tree_why_lines, why_answer_lines, why_lines,
 };
 use oracle::{
-    Disagreement, Drawing, DrawingAnswer, Profile, Rng, Search, SearchAnswer, Sheet, StrictSheet,
-    TreeAnswer, TreeWhy, TreeWhyAnswer, Why, WhyAnswer, check_drawing, check_search, check_sheet,
-    check_strict, check_tree_why, check_why, random_drawing, random_search, random_sheet,
+    Disagreement, Drawing, DrawingAnswer, LimitSheet, Plan, PlanAnswer, Profile, Rng, Search,
+    SearchAnswer, Sheet, StrictSheet, TreeAnswer, TreeWhy, TreeWhyAnswer, Why, WhyAnswer,
+    check_drawing, check_repeaters, check_search, check_sheet, check_strict, check_tree_why,
+    check_why, random_drawing, random_limit_sheet, random_plan, random_search, random_sheet,
     random_strict, random_tree_why, random_why,
 };
 
@@ -80,6 +81,32 @@ impl Asked for Sheet {
 
     fn lines(&self) -> String {
         sheet_lines(self)
+    }
+
+    fn answer_lines(answer: &TreeAnswer) -> String {
+        tree_answer_lines(answer)
+    }
+}
+
+impl Asked for LimitSheet {
+    fn random(rng: &mut Rng, profile: Profile) -> Self {
+        random_limit_sheet(rng, profile)
+    }
+
+    fn examples() -> Vec<Self> {
+        limit_cases()
+    }
+
+    fn check(&self) -> Result<TreeAnswer, Disagreement> {
+        check_sheet(&self.0)
+    }
+
+    fn count(&self, answer: &TreeAnswer, tally: &mut Tally) {
+        count_sheet(tally, &self.0, answer);
+    }
+
+    fn lines(&self) -> String {
+        sheet_lines(&self.0)
     }
 
     fn answer_lines(answer: &TreeAnswer) -> String {
@@ -242,5 +269,31 @@ impl Asked for Parts {
 
     fn answer_lines(answer: &PartsAnswer) -> String {
         parts_answer_lines(answer)
+    }
+}
+
+impl Asked for Plan {
+    fn random(rng: &mut Rng, profile: Profile) -> Self {
+        random_plan(rng, profile)
+    }
+
+    fn examples() -> Vec<Self> {
+        plan_cases()
+    }
+
+    fn check(&self) -> Result<PlanAnswer, Disagreement> {
+        check_repeaters(self)
+    }
+
+    fn count(&self, answer: &PlanAnswer, tally: &mut Tally) {
+        count_plan(tally, self, answer);
+    }
+
+    fn lines(&self) -> String {
+        plan_lines(self)
+    }
+
+    fn answer_lines(answer: &PlanAnswer) -> String {
+        plan_answer_lines(answer)
     }
 }

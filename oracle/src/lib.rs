@@ -2,6 +2,8 @@
 //! is also answered by the plain router of `cases`; where the two could both speak and differ, that is a hard error.
 
 mod compare_drawing;
+mod compare_list;
+mod compare_plan;
 mod compare_search;
 mod compare_tree;
 mod compare_tree_why;
@@ -13,9 +15,12 @@ use std::fmt::{Display, Formatter};
 pub use cases::Refusal;
 pub use cases::drawing::{Drawing, DrawingAnswer};
 pub use cases::generate::{
-    Profile, random_drawing, random_search, random_sheet, random_strict, random_tree_why,
-    random_why,
+    Profile, random_drawing, random_limit_sheet, random_list, random_plan, random_search,
+    random_sheet, random_strict, random_tree_why, random_why,
 };
+pub use cases::limits::LimitSheet;
+pub use cases::lists::{List, NetRefusal, Routed};
+pub use cases::plan::{Plan, PlanAnswer};
 pub use cases::rng::Rng;
 pub use cases::search::{Search, SearchAnswer};
 pub use cases::sheet::{Sheet, TreeAnswer};
@@ -24,6 +29,8 @@ pub use cases::tree_why::{TreeWhy, TreeWhyAnswer};
 pub use cases::why::{Why, WhyAnswer};
 
 pub use compare_drawing::check_drawing;
+pub use compare_list::check_list;
+pub use compare_plan::{check_plan, check_repeaters};
 pub use compare_search::check_search;
 pub use compare_tree::{check_route, check_sheet, check_strict, tree_of};
 pub use compare_tree_why::check_tree_why;

@@ -9,6 +9,10 @@ use published::cells::{PhysicalCell, PlacedCell, PortKind, RotationY};
 use published::logic::GateKind;
 use published::multinet::{MultiNetError, NetId, RoutedNet, route_net_tree};
 use published::physical::{CellId, Endpoint, PhysicalNode, PlacementCircuit};
+use published::planning;
+use published::port_realization::{
+    PortRealizationError, realize_sink_endpoint, terminal_for_endpoint,
+};
 use published::routing::RouterConfig;
 use published::routing_resources::RoutingResources;
 use published::world::{Block, BlockKind, Facing, Pos, World};
@@ -50,7 +54,7 @@ pub fn pos_of(room: &Room, cell: usize) -> Pos {
     pos(room.place(cell))
 }
 
-fn pos_at(at: [u8; 3]) -> Pos {
+fn pos_at(at: [u16; 3]) -> Pos {
     pos(Place::from(at))
 }
 
@@ -158,7 +162,7 @@ pub fn endpoint(port: &Port) -> Endpoint {
     PlacementCircuit::boundary("", pos_at(port.at), kind, facing)
 }
 
-fn positions(list: &[[u8; 3]]) -> BTreeSet<Pos> {
+fn positions(list: &[[u16; 3]]) -> BTreeSet<Pos> {
     list.iter().map(|at| pos_at(*at)).collect()
 }
 
@@ -177,7 +181,7 @@ impl PublishedJob {
         Self {
             circuit: circuit_of(room, job),
             source: endpoint(&job.source),
-            sinks: job.sinks.iter().map(endpoint).collect(),
+            sinks: job.sinks.iter().map(|sink| endpoint(&sink.port)).collect(),
             others: RoutingResources::from_conductors(
                 positions(&job.conductors),
                 positions(&job.clearances),
@@ -190,16 +194,56 @@ impl PublishedJob {
 
     /// Runs `route_net_tree`.
     pub fn route(&self) -> Result<RoutedNet, MultiNetError> {
+        self.route_beside(0, &RoutingResources::default(), &BTreeSet::new())
+    }
+
+    /// The same as a net of a list: beside the job's own lists, what the nets before hold and the other jobs' protected cells.
+    pub fn route_beside(
+        &self,
+        net: u32,
+        held: &RoutingResources,
+        protected: &BTreeSet<Pos>,
+    ) -> Result<RoutedNet, MultiNetError> {
         route_net_tree(
             &self.circuit,
-            NetId(0),
+            NetId(net),
             self.source.clone(),
             self.sinks.clone(),
-            &self.others,
-            &self.reserved,
+            &self.others.clone().merged(held),
+            &(&self.reserved | protected),
             self.config,
         )
     }
+
+    pub fn circuit(&self) -> &PlacementCircuit {
+        &self.circuit
+    }
+}
+
+/// The repeaters that the published Rust's two planning functions give at a job's limits: the runs of all sinks, and then, on the growing
+/// set, each sink's tail in sheet order.
+pub fn planned_repeaters(
+    job: &Job,
+    branches: &[Vec<Pos>],
+) -> Result<BTreeSet<Pos>, PortRealizationError> {
+    let source = terminal_for_endpoint(&endpoint(&job.source))?;
+    let sinks: Vec<_> = job.sinks.iter().map(|sink| endpoint(&sink.port)).collect();
+    let realized: Vec<_> = sinks
+        .iter()
+        .map(realize_sink_endpoint)
+        .collect::<Result<_, _>>()?;
+    let terminals: Vec<_> = realized.iter().map(|sink| sink.terminal).collect();
+    let own: BTreeSet<_> = realized
+        .iter()
+        .flat_map(|sink| [sink.terminal, sink.approach])
+        .chain([source])
+        .collect();
+    let mut repeaters = planning::runs(source, &terminals, branches, &own, job.run.into());
+    for (sink, end) in job.sinks.iter().zip(&sinks) {
+        let limit = sink.tail.into();
+        planning::tail(source, end, branches, &own, &mut repeaters, limit);
+    }
+    Ok(repeaters)
 }
 
 /// Runs the published Rust; a panic in it, such as a sum that would wrap, comes back as an error.

@@ -100,6 +100,7 @@ fn lists_are_made_answered_shown_and_checked() {
     for kind in [
         "searches",
         "sheets",
+        "limit-sheets",
         "strict-sheets",
         "whys",
         "tree-whys",
@@ -208,7 +209,7 @@ fn bad_input_gets_a_message() {
         (&["sheet", "--hex", "--hex", "-"], "--hex is given twice"),
         (
             &["answer", "rooms", "a", "b"],
-            "none of `searches`, `sheets`, `strict-sheets`, `whys`, `tree-whys`, `functions`, `drawings`, `writes`: rooms",
+            "none of `searches`, `sheets`, `limit-sheets`, `strict-sheets`, `whys`, `tree-whys`, `functions`, `drawings`, `writes`: rooms",
         ),
         (&["answer", "searches", &noise], "OUT is missing"),
         (

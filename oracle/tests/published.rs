@@ -1,13 +1,15 @@
 //! The published Rust against docs/RULES.md and against the plain router.
 
 use cases::files::write_answered;
+use cases::room::MOST_CELLS;
 use cases::samples::{HEX_SHEET, HEX_SHEET_LINES, Sample, default_job, samples};
 use cases::smallest::{Input, points};
 use cases::text::{parse_hex, tree_answer_lines};
+use cases::tree::{Limits, route_net_tree};
 use cases::{answers, examples, generate};
 use oracle::{
-    Profile, answer_drawing, answer_search, answer_sheet, answer_strict, answer_tree_why,
-    answer_why, check_route, check_search,
+    Profile, Rng, answer_drawing, answer_search, answer_sheet, answer_strict, answer_tree_why,
+    answer_why, check_list, check_plan, check_route, check_search, random_list,
 };
 
 #[test]
@@ -39,6 +41,16 @@ fn the_smallest_inputs_have_one_answer() {
 }
 
 #[test]
+fn random_lists() {
+    for index in 0..400 {
+        let case = random_list(&mut Rng::for_case(31, index), Profile::Small);
+        if let Err(difference) = check_list(&case) {
+            panic!("{index}: {difference}");
+        }
+    }
+}
+
+#[test]
 fn route_has_fewer_cells() {
     let printed = |sides| {
         let answer = check_route(default_job(sides, &[]).bytes()).unwrap();
@@ -58,6 +70,14 @@ fn examples_of_searches() {
 #[test]
 fn examples_of_sheets() {
     for (name, case, answer) in examples::sheets() {
+        assert_eq!(answer_sheet(&case), answer, "{name}");
+    }
+}
+
+/// Branches and occupied cells by the Rust's tree, repeaters by its two planning functions at the sheet's limits.
+#[test]
+fn examples_of_limits() {
+    for (name, case, answer) in examples::limits() {
         assert_eq!(answer_sheet(&case), answer, "{name}");
     }
 }
@@ -114,6 +134,40 @@ fn random_sheets_agree() {
 }
 
 #[test]
+fn random_limit_sheets_agree() {
+    for (profile, count) in [
+        (Profile::Tiny, 2_000),
+        (Profile::Small, 300),
+        (Profile::Large, 3),
+    ] {
+        let sheets = generate::limit_sheets(25, count, profile).into_iter();
+        answered(sheets.map(|case| case.0).collect(), answer_sheet);
+    }
+}
+
+/// The same branches at several limits.
+#[test]
+fn random_plans_agree() {
+    let mut plans = 0;
+    for (index, case) in (0..).zip(generate::limit_sheets(26, 400, Profile::Small)) {
+        let Ok((mut job, room)) = case.0.judge(MOST_CELLS) else {
+            continue;
+        };
+        let Ok(net) = route_net_tree(&job, &room, Limits::NONE) else {
+            continue;
+        };
+        let mut rng = Rng::for_case(27, index);
+        for _ in 0..5 {
+            generate::set_limits(&mut rng, &mut job);
+            let planned = check_plan(&job, &room, &net.branches);
+            planned.unwrap_or_else(|difference| panic!("{difference}"));
+            plans += 1;
+        }
+    }
+    assert!(plans > 1_000, "{plans}");
+}
+
+#[test]
 fn random_whys_agree() {
     for (profile, count) in [
         (Profile::Tiny, 4_000),
@@ -166,6 +220,12 @@ fn stored_searches_are_made_again() {
 fn stored_sheets_are_made_again() {
     let made = answered(answers::sheets(), answer_sheet);
     assert!(write_answered(&made) == answers::SHEETS.bytes());
+}
+
+#[test]
+fn stored_limit_sheets_are_made_again() {
+    let made = answered(answers::limit_sheets(), |case| answer_sheet(&case.0));
+    assert!(write_answered(&made) == answers::LIMIT_SHEETS.bytes());
 }
 
 #[test]

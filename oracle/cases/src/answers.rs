@@ -4,12 +4,14 @@ use std::path::PathBuf;
 
 use crate::drawing::Drawing;
 use crate::examples::{
-    drawing_cases, function_cases, parts_cases, search_cases, sheet_cases, strict_cases,
-    tree_why_cases, why_cases,
+    drawing_cases, function_cases, limit_cases, parts_cases, plan_cases, search_cases, sheet_cases,
+    strict_cases, tree_why_cases, why_cases,
 };
 use crate::function::Function;
 use crate::generate::{self, Profile};
+use crate::limits::LimitSheet;
 use crate::parts::Parts;
+use crate::plan::Plan;
 use crate::search::Search;
 use crate::sheet::Sheet;
 use crate::strict::StrictSheet;
@@ -17,7 +19,7 @@ use crate::tree_why::TreeWhy;
 use crate::why::Why;
 
 /// A file of the samples and examples, followed by random cases of the mixed profile, function files, drawings and parts of jobs of the
-/// tiny one. It lies in the repository beside the proved program, or the tests, that replay it.
+/// tiny one, plans of repeaters of the small one. It lies in the repository beside the proved program, or the tests, that replay it.
 pub struct Stored {
     pub file: &'static str,
     pub seed: u64,
@@ -34,6 +36,12 @@ pub const SHEETS: Stored = Stored {
     file: "crates/replay_sheets/data/sheets.bin",
     seed: 100,
     count: 990,
+};
+
+pub const LIMIT_SHEETS: Stored = Stored {
+    file: "tests/bindings/limits.bin",
+    seed: 8,
+    count: 400,
 };
 
 pub const STRICT_SHEETS: Stored = Stored {
@@ -57,13 +65,19 @@ pub const TREE_WHYS: Stored = Stored {
 pub const FUNCTIONS: Stored = Stored {
     file: "tests/bindings/functions.bin",
     seed: 1,
-    count: 250,
+    count: 300,
 };
 
 pub const DRAWINGS: Stored = Stored {
     file: "tests/bindings/drawings.bin",
     seed: 1,
     count: 400,
+};
+
+pub const PLANS: Stored = Stored {
+    file: "tests/bindings/repeaters.bin",
+    seed: 1,
+    count: 500,
 };
 
 pub const WRITES: Stored = Stored {
@@ -91,6 +105,12 @@ pub fn searches() -> Vec<Search> {
 pub fn sheets() -> Vec<Sheet> {
     let random = generate::sheets(SHEETS.seed, SHEETS.count, Profile::Mixed);
     sheet_cases().into_iter().chain(random).collect()
+}
+
+/// The cases of `limits.bin`, made anew.
+pub fn limit_sheets() -> Vec<LimitSheet> {
+    let random = generate::limit_sheets(LIMIT_SHEETS.seed, LIMIT_SHEETS.count, Profile::Mixed);
+    limit_cases().into_iter().chain(random).collect()
 }
 
 /// The cases of `strict.bin`, made anew.
@@ -121,6 +141,12 @@ pub fn functions() -> Vec<Function> {
 pub fn drawings() -> Vec<Drawing> {
     let random = generate::drawings(DRAWINGS.seed, DRAWINGS.count, Profile::Tiny);
     drawing_cases().into_iter().chain(random).collect()
+}
+
+/// The cases of `repeaters.bin`, made anew.
+pub fn plans() -> Vec<Plan> {
+    let random = generate::plans(PLANS.seed, PLANS.count, Profile::Small);
+    plan_cases().into_iter().chain(random).collect()
 }
 
 /// The cases of `writes.bin`, made anew.

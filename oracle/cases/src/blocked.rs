@@ -36,7 +36,7 @@ pub fn blocked_at_outset(job: &Job, room: &Room, ends: &Ends, reading: Reading) 
 }
 
 /// Other nets' conductors, clearances and terminals, and the reserved cells.
-fn lists(job: &Job) -> [&[[u8; 3]]; 4] {
+fn lists(job: &Job) -> [&[[u16; 3]]; 4] {
     [
         &job.conductors,
         &job.clearances,

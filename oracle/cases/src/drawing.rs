@@ -7,7 +7,7 @@ use crate::room::{DOWN, MOST_CELLS, Room, facing, kind};
 /// Nothing is promised about the values: `judge` decides.
 #[derive(Clone, Debug, Eq, PartialEq)]
 pub struct Drawing {
-    pub sides: [u8; 3],
+    pub sides: [u16; 3],
     pub support: u32,
     pub run: u32,
     pub kinds: Vec<u8>,

@@ -1,20 +1,25 @@
 //! Small cases beside the samples, each for one rule: open points as docs/DECISIONS.md settles them, every refusal, and the
-//! order in which refusals are judged. Searches stand here, sheets in `trees`, sheets for both modes in `modes`, the reasons of
-//! searches in `reasons`, those of sheets in `sinks`, function files in `functions`, routes drawn in `drawings`, parts of jobs in `parts`.
+//! order in which refusals are judged. Searches stand here, sheets in `trees`, those at any limits in `limits`, sheets for both modes in `modes`, the reasons of
+//! searches in `reasons`, those of sheets in `sinks`, function files in `functions`, routes drawn in `drawings`, parts of jobs in `parts`,
+//! repeaters in one call in `plans`.
 //! Whoever answers cases can run them.
 
 mod drawings;
 mod functions;
+mod limits;
 mod modes;
 mod parts;
+mod plans;
 mod reasons;
 mod sinks;
 mod trees;
 
 pub use drawings::{drawing_cases, drawings};
 pub use functions::{function_cases, functions};
+pub use limits::{limit_cases, limits};
 pub use modes::{modes, strict_cases};
 pub use parts::{parts, parts_cases};
+pub use plans::{plan_cases, plans};
 pub use reasons::{why_cases, whys};
 pub use sinks::{tree_why_cases, tree_whys};
 pub use trees::sheets;
@@ -56,7 +61,7 @@ pub fn sheet_cases() -> Vec<Sheet> {
 }
 
 /// A search in a room of Air with these costs.
-fn priced(sides: [u8; 3], [horizontal, stair, support]: [u32; 3], ends: [u32; 2]) -> Search {
+fn priced(sides: [u16; 3], [horizontal, stair, support]: [u32; 3], ends: [u32; 2]) -> Search {
     let mut case = default_search(sides, ends[0], ends[1], &[]);
     case.config = Config {
         horizontal,
@@ -100,8 +105,13 @@ fn search_readings() -> Vec<(&'static str, Search, SearchAnswer)> {
         ),
         (
             "the dearest step is counted in full",
-            priced([2, 2, 1], [100_000; 3], [1, 3]),
-            route(&[1, 3], 200_000, 2),
+            priced([2, 2, 1], [1_000_000; 3], [1, 3]),
+            route(&[1, 3], 2_000_000, 2),
+        ),
+        (
+            "a side of 255, more than a sheet of version 2 has",
+            default_search([255, 1, 1], 0, 3, &[]),
+            route(&[0, 1, 2, 3], 30, 3),
         ),
     ]
 }
@@ -116,14 +126,19 @@ fn search_refusals() -> Vec<(&'static str, Search, SearchAnswer)> {
         |name, number, change: fn(&mut Search)| (name, but(b(), change), search_refused(number, 0));
     vec![
         refused("a side of 0", 2, |case| case.sides[1] = 0),
-        refused("a side of 65", 2, |case| case.sides[0] = 65),
-        refused("16,399 cells", 2, |case| case.sides = [23, 23, 31]),
+        refused("65,600 cells", 2, |case| case.sides = [41, 40, 40]),
+        refused("65,790 cells", 2, |case| case.sides = [2, 129, 255]),
         refused("horizontal cost", 3, |case| {
-            case.config.horizontal = 100_001
+            case.config.horizontal = 1_000_001
         }),
-        refused("stair cost", 3, |case| case.config.stair = 100_001),
+        refused("stair cost", 3, |case| case.config.stair = 1_000_001),
         refused("support cost", 3, |case| case.config.support = u32::MAX),
-        refused("node limit", 3, |case| case.config.node_limit = 200_001),
+        refused("node limit", 3, |case| case.config.node_limit = 800_001),
+        refused("the product, before the kinds", 3, |case| {
+            case.sides = [13, 127, 1];
+            case.config.stair = 1_000_000;
+            case.config.support = 1_000_000;
+        }),
         refused("a kind too few", 6, |case| case.kinds.truncate(2)),
         refused("a kind too many", 6, |case| case.kinds.push(0)),
         refused("a buffer under V", 6, |case| case.lent = 2),
@@ -143,7 +158,7 @@ fn search_refusals() -> Vec<(&'static str, Search, SearchAnswer)> {
 fn search_order() -> Vec<(&'static str, Search, SearchAnswer)> {
     let mut case = b();
     case.sides = [0, 1, 1];
-    case.config.stair = 100_001;
+    case.config.stair = 1_000_001;
     case.queue = 0;
     case.kinds = vec![kind::LEVER, 13, kind::AIR];
     case.goal = 3;

@@ -1,11 +1,14 @@
-//! Files of cases, big-endian throughout. `DRS1`, `DRT1`, `DRM1`, `DRW1`, `DRY1`, `DRF1`, `DRD1` and `DRP1` hold searches, sheets, sheets
-//! in strict mode, searches with their reason, sheets with theirs, function files, drawings and parts of jobs, each with its answer;
+//! Files of cases, big-endian throughout. `DRS1`, `DRT1`, `DRM1`, `DRW1`, `DRY1`, `DRF1`, `DRD1`, `DRR1` and `DRP1` hold searches, sheets, sheets
+//! in strict mode, searches with their reason, sheets with theirs, function files, drawings, plans of repeaters and parts of jobs, each with its
+//! answer;
 //! with 0 in place of 1 the same records without answers.
 
 use crate::Refusal;
 use crate::drawing::{Drawing, DrawingAnswer, Repeater};
 use crate::function::{Function, FunctionAnswer, Laid, Reading, Writing};
+use crate::limits::LimitSheet;
 use crate::parts::{Parts, PartsAnswer};
+use crate::plan::{Plan, PlanAnswer};
 use crate::room::Config;
 use crate::search::{Search, SearchAnswer};
 use crate::sheet::{Sheet, TreeAnswer};
@@ -101,6 +104,11 @@ impl<'a> Input<'a> {
         self.take().map(u32::from_be_bytes)
     }
 
+    /// A room's sides, a byte each.
+    fn sides(&mut self) -> Result<[u16; 3], String> {
+        self.take().map(|sides: [u8; 3]| sides.map(u16::from))
+    }
+
     fn bytes(&mut self, length: usize) -> Result<&'a [u8], String> {
         let (taken, rest) = self
             .rest
@@ -126,6 +134,12 @@ impl<'a> Input<'a> {
             .collect())
     }
 
+    /// A four-byte count and that many four-byte numbers.
+    fn numbers(&mut self) -> Result<Vec<u32>, String> {
+        let count = self.number()?;
+        (0..count).map(|_| self.number()).collect()
+    }
+
     /// So many cells, each with its twelve moves.
     fn told(&mut self, count: u32) -> Result<Vec<Told>, String> {
         let told = |_| {
@@ -149,6 +163,11 @@ fn put(out: &mut Vec<u8>, number: usize) {
     );
 }
 
+/// A room's sides, a byte each: larger rooms are kept in sheets alone.
+fn put_sides(out: &mut Vec<u8>, sides: [u16; 3]) {
+    out.extend(sides.map(|side| u8::try_from(side).expect("a side of one byte")));
+}
+
 fn put32(out: &mut Vec<u8>, number: u32) {
     out.extend(number.to_be_bytes());
 }
@@ -161,6 +180,11 @@ fn put_bytes(out: &mut Vec<u8>, bytes: &[u8]) {
 fn put_cells(out: &mut Vec<u8>, cells: &[u16]) {
     put(out, cells.len());
     out.extend(cells.iter().flat_map(|cell| cell.to_be_bytes()));
+}
+
+fn put_numbers(out: &mut Vec<u8>, numbers: &[u32]) {
+    put(out, numbers.len());
+    out.extend(numbers.iter().flat_map(|number| number.to_be_bytes()));
 }
 
 /// A count, and so many cells with their twelve moves.
@@ -186,7 +210,7 @@ impl Case for Search {
     const ANSWERED: [u8; 4] = *b"DRS1";
 
     fn write(&self, out: &mut Vec<u8>) {
-        out.extend(self.sides);
+        put_sides(out, self.sides);
         let config = &self.config;
         put32(out, config.node_limit);
         put32(out, config.horizontal);
@@ -201,7 +225,7 @@ impl Case for Search {
 
     fn read(input: &mut Input) -> Result<Self, String> {
         Ok(Self {
-            sides: input.take()?,
+            sides: input.sides()?,
             config: Config {
                 node_limit: input.number()?,
                 horizontal: input.number()?,
@@ -316,6 +340,29 @@ impl Case for Sheet {
             }) => Ok(TreeAnswer::Refused(refusal)),
             refusal => Err(format!("no answer of a tree: {refusal:?}")),
         }
+    }
+}
+
+/// A file of sheets, whatever limits they carry: `Sheet` reads it as well.
+impl Case for LimitSheet {
+    type Answer = TreeAnswer;
+    const BARE: [u8; 4] = Sheet::BARE;
+    const ANSWERED: [u8; 4] = Sheet::ANSWERED;
+
+    fn write(&self, out: &mut Vec<u8>) {
+        self.0.write(out);
+    }
+
+    fn read(input: &mut Input) -> Result<Self, String> {
+        Sheet::read(input).map(Self)
+    }
+
+    fn write_answer(answer: &TreeAnswer, out: &mut Vec<u8>) {
+        Sheet::write_answer(answer, out);
+    }
+
+    fn read_answer(input: &mut Input) -> Result<TreeAnswer, String> {
+        Sheet::read_answer(input)
     }
 }
 
@@ -449,7 +496,7 @@ impl Case for Parts {
     fn write(&self, out: &mut Vec<u8>) {
         let config = &self.config;
         let costs = [config.horizontal, config.stair, config.support];
-        for number in [&self.sides[..], &[config.node_limit], &costs].concat() {
+        for number in [&self.sides[..], &[config.node_limit], &costs, &[self.run]].concat() {
             put32(out, number);
         }
         put_cells(out, &self.blocks);
@@ -470,6 +517,7 @@ impl Case for Parts {
                 stair: input.number()?,
                 support: input.number()?,
             },
+            run: input.number()?,
             blocks: input.cells()?,
             lists: [
                 input.cells()?,
@@ -512,14 +560,14 @@ impl Case for Function {
         match self {
             Self::Write(case) => {
                 out.push(WRITE);
-                out.extend(case.sides);
+                put_sides(out, case.sides);
                 put32(out, case.lent);
                 put_bytes(out, &case.kinds);
                 put_bytes(out, &case.facings);
             }
             Self::Read(case) => {
                 out.push(READ);
-                out.extend(case.sides);
+                put_sides(out, case.sides);
                 put32(out, case.kinds);
                 put32(out, case.facings);
                 put_bytes(out, &case.text);
@@ -530,13 +578,13 @@ impl Case for Function {
     fn read(input: &mut Input) -> Result<Self, String> {
         match input.byte()? {
             WRITE => Ok(Self::Write(Writing {
-                sides: input.take()?,
+                sides: input.sides()?,
                 lent: input.number()?,
                 kinds: input.counted_bytes()?,
                 facings: input.counted_bytes()?,
             })),
             READ => Ok(Self::Read(Reading {
-                sides: input.take()?,
+                sides: input.sides()?,
                 kinds: input.number()?,
                 facings: input.number()?,
                 text: input.counted_bytes()?,
@@ -593,30 +641,24 @@ impl Case for Drawing {
     const ANSWERED: [u8; 4] = *b"DRD1";
 
     fn write(&self, out: &mut Vec<u8>) {
-        out.extend(self.sides);
+        put_sides(out, self.sides);
         put32(out, self.support);
         put32(out, self.run);
         put32(out, self.cells);
         put32(out, self.facings);
         put_bytes(out, &self.kinds);
-        put(out, self.path.len());
-        out.extend(self.path.iter().flat_map(|cell| cell.to_be_bytes()));
+        put_numbers(out, &self.path);
     }
 
     fn read(input: &mut Input) -> Result<Self, String> {
         Ok(Self {
-            sides: input.take()?,
+            sides: input.sides()?,
             support: input.number()?,
             run: input.number()?,
             cells: input.number()?,
             facings: input.number()?,
             kinds: input.counted_bytes()?,
-            path: {
-                let count = input.number()?;
-                (0..count)
-                    .map(|_| input.number())
-                    .collect::<Result<_, _>>()?
-            },
+            path: input.numbers()?,
         })
     }
 
@@ -654,5 +696,64 @@ impl Case for Drawing {
             repeatered,
             repeaters: (0..count).map(entry).collect::<Result<_, String>>()?,
         })
+    }
+}
+
+impl Case for Plan {
+    type Answer = PlanAnswer;
+    const BARE: [u8; 4] = *b"DRR0";
+    const ANSWERED: [u8; 4] = *b"DRR1";
+
+    fn write(&self, out: &mut Vec<u8>) {
+        put_sides(out, self.sides);
+        put32(out, self.run);
+        put_cells(out, &self.source);
+        put_cells(out, &self.sinks);
+        put_numbers(out, &self.branches);
+        put_numbers(out, &self.lengths);
+        put32(out, self.marks);
+        for length in self.work {
+            put32(out, length);
+        }
+    }
+
+    fn read(input: &mut Input) -> Result<Self, String> {
+        Ok(Self {
+            sides: input.sides()?,
+            run: input.number()?,
+            source: input.cells()?,
+            sinks: input.cells()?,
+            branches: input.numbers()?,
+            lengths: input.numbers()?,
+            marks: input.number()?,
+            work: [
+                input.number()?,
+                input.number()?,
+                input.number()?,
+                input.number()?,
+            ],
+        })
+    }
+
+    fn write_answer(answer: &PlanAnswer, out: &mut Vec<u8>) {
+        match answer {
+            PlanAnswer::Refused(refusal) => put_refusal(out, *refusal),
+            PlanAnswer::Repeaters(cells) => {
+                put_refusal(out, NO_REFUSAL);
+                put_cells(out, cells);
+            }
+        }
+    }
+
+    fn read_answer(input: &mut Input) -> Result<PlanAnswer, String> {
+        match input.refusal()? {
+            NO_REFUSAL => input.cells().map(PlanAnswer::Repeaters),
+            refusal @ (Refusal {
+                number: 2..=6,
+                detail: 0,
+            }
+            | Refusal { number: 8 | 9, .. }) => Ok(PlanAnswer::Refused(refusal)),
+            refusal => Err(format!("no answer of a plan: {refusal:?}")),
+        }
     }
 }

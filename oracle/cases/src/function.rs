@@ -10,7 +10,7 @@ pub const LINE_BYTES: usize = 76;
 /// A room that is written, and how long the lent text is.
 #[derive(Clone, Debug, Eq, PartialEq)]
 pub struct Writing {
-    pub sides: [u8; 3],
+    pub sides: [u16; 3],
     pub kinds: Vec<u8>,
     pub facings: Vec<u8>,
     pub lent: u32,
@@ -19,7 +19,7 @@ pub struct Writing {
 /// A text that is read, and how long the lent kinds and facings are.
 #[derive(Clone, Debug, Eq, PartialEq)]
 pub struct Reading {
-    pub sides: [u8; 3],
+    pub sides: [u16; 3],
     pub text: Vec<u8>,
     pub kinds: u32,
     pub facings: u32,
@@ -162,7 +162,7 @@ impl Reading {
 }
 
 impl Function {
-    pub fn sides(&self) -> [u8; 3] {
+    pub fn sides(&self) -> [u16; 3] {
         match self {
             Self::Write(case) => case.sides,
             Self::Read(case) => case.sides,

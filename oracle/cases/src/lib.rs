@@ -12,7 +12,11 @@ pub mod examples;
 pub mod files;
 pub mod function;
 pub mod generate;
+pub mod laying;
+pub mod limits;
+pub mod lists;
 pub mod parts;
+pub mod plan;
 pub mod reading;
 pub mod repeaters;
 pub mod rng;
@@ -26,6 +30,7 @@ pub mod strict;
 pub mod text;
 pub mod tree;
 pub mod tree_why;
+pub mod version;
 pub mod why;
 
 /// A refusal: its number and detail in docs/RULES.md, Numbers that come back.

@@ -4,13 +4,8 @@ use std::collections::{BTreeMap, BTreeSet, VecDeque};
 
 use crate::reading::{Other, Reading};
 use crate::room::{Room, port};
-use crate::sheet::Job;
-use crate::tree::{Ends, source_approach};
-
-/// Steps past the last reset that need no repeater.
-const RUN: usize = 12;
-/// Steps after the last repeater that a Wire sink bears.
-const TAIL: usize = 8;
+use crate::sheet::{Job, Sink};
+use crate::tree::{Ends, realize, sink_order, source_approach};
 
 /// A tree whose branches are laid.
 pub struct Laid<'a> {
@@ -40,9 +35,22 @@ impl Laid<'_> {
     fn planned(&self, as_searched: Other) -> Vec<usize> {
         match self.reads(as_searched) {
             true => self.order.to_vec(),
-            false => (0..self.branches.len()).collect(),
+            false => (0..self.ends.sinks.len()).collect(),
         }
     }
+}
+
+/// The repeaters of a judged job whose ends are good and whose branches are given, at its limits.
+pub fn plan(job: &Job, room: &Room, branches: &[Vec<usize>]) -> BTreeSet<usize> {
+    let ends = realize(job, room).expect("good ends");
+    place_repeaters(&Laid {
+        job,
+        room,
+        ends: &ends,
+        branches,
+        order: &sink_order(room, &ends),
+        reading: Reading::PUBLISHED,
+    })
 }
 
 /// The repeaters of a tree.
@@ -165,35 +173,36 @@ impl<'a> Wires<'a> {
         }
     }
 
-    /// At a cell more than 12 steps past the reset: the latest cell after that reset, up to and including this one, that
+    /// At a cell farther past the reset than the run limit: the latest cell after that reset, up to and including this one, that
     /// fits.
     fn due(&self, path: &[usize], reset: usize, index: usize) -> Option<usize> {
-        if index - reset <= RUN {
+        if index - reset <= usize::from(self.laid.job.run) {
             return None;
         }
         (reset + 1..=index).rev().find(|fit| self.fits(path, *fit))
     }
 
     fn tail_of(&self, sink: usize, repeaters: &mut BTreeSet<usize>) {
-        if self.laid.job.sinks[sink].kind == port::WIRE {
-            self.tail(&self.path_to(sink), repeaters);
+        let Sink { port, tail } = self.laid.job.sinks[sink];
+        if port.kind == port::WIRE {
+            self.tail(&self.path_to(sink), tail.into(), repeaters);
         }
     }
 
-    /// With over 8 steps after the last repeater: the earliest cell that fits among the last 8 before the end, with no
-    /// repeater next to it on the path.
-    fn tail(&self, path: &[usize], repeaters: &mut BTreeSet<usize>) {
+    /// With more steps after the last repeater than the sink's tail limit: the earliest cell that fits among so many last ones before the
+    /// end, with no repeater next to it on the path.
+    fn tail(&self, path: &[usize], limit: usize, repeaters: &mut BTreeSet<usize>) {
         let is_repeater = |index: &usize| repeaters.contains(&path[*index]);
         let end = path.len() - 1;
         let reset = (0..=end).rev().find(is_repeater).unwrap_or(0);
-        if end - reset <= TAIL {
+        if end - reset <= limit {
             return;
         }
         let fits = match self.laid.reads(Other::TailOnOwnEnds) {
             true => Self::fits_between,
             false => Self::fits,
         };
-        let fit = (end - TAIL..end).find(|index| {
+        let fit = (end - limit..end).find(|index| {
             fits(self, path, *index) && !is_repeater(&(index - 1)) && !is_repeater(&(index + 1))
         });
         repeaters.extend(fit.map(|index| path[index]));

@@ -1,9 +1,46 @@
 //! docs/RULES.md, The room: sides, cell numbers, kinds, facings, the twelve moves, and the costs with their ranges.
 
-pub const MOST_SIDE: u8 = 64;
-pub const MOST_CELLS: usize = 16_384;
-pub const MOST_COST: u32 = 100_000;
-pub const MOST_NODES: u32 = 200_000;
+pub const MOST_SIDE: u16 = Ranges::WIDE.side;
+pub const MOST_CELLS: usize = Ranges::WIDE.cells;
+pub const MOST_NODES: u32 = Ranges::WIDE.nodes;
+
+/// How large a room's sides, V, a cost and the node limit may be.
+#[derive(Clone, Copy, Debug, Eq, PartialEq)]
+pub struct Ranges {
+    pub side: u16,
+    pub cells: usize,
+    pub cost: u32,
+    pub nodes: u32,
+    /// V times the sum of the support cost and the dearer step.
+    pub product: u64,
+}
+
+impl Ranges {
+    /// Of sheets of versions 1 and 2: the product follows from the others.
+    pub const OLD: Self = Self {
+        side: 64,
+        cells: 16_384,
+        cost: 100_000,
+        nodes: 200_000,
+        product: 16_384 * 200_000,
+    };
+
+    /// Of larger halls: of searches and whatever takes a room, and of sheets of version 3.
+    pub const WIDE: Self = Self {
+        side: 300,
+        cells: 65_536,
+        cost: 1_000_000,
+        nodes: 800_000,
+        product: 3_300_000_000,
+    };
+
+    /// Whether these are the sides of a room, else number 2.
+    pub fn sides_in(&self, sides: [u32; 3]) -> bool {
+        let cells: u128 = sides.iter().map(|side| u128::from(*side)).product();
+        let side = |side: &u32| (1..=u32::from(self.side)).contains(side);
+        sides.iter().all(side) && cells <= self.cells as u128
+    }
+}
 
 /// Kinds by number, in the order of the Rust's `BlockKind`.
 pub mod kind {
@@ -90,8 +127,8 @@ impl Place {
     }
 }
 
-impl From<[u8; 3]> for Place {
-    fn from([x, y, z]: [u8; 3]) -> Self {
+impl From<[u16; 3]> for Place {
+    fn from([x, y, z]: [u16; 3]) -> Self {
         Self::new(x.into(), y.into(), z.into())
     }
 }
@@ -103,10 +140,13 @@ pub struct Room {
 
 impl Room {
     /// A room of lawful sides and at most `most_cells` cells, else none: number 2.
-    pub fn new(sides: [u8; 3], most_cells: usize) -> Option<Self> {
-        let cells: usize = sides.iter().map(|side| usize::from(*side)).product();
-        let lawful = sides.iter().all(|side| (1..=MOST_SIDE).contains(side)) && cells <= most_cells;
-        lawful.then(|| Self {
+    pub fn new(sides: [u16; 3], most_cells: usize) -> Option<Self> {
+        Self::within(&Ranges::WIDE, sides).filter(|room| room.cells() <= most_cells)
+    }
+
+    /// A room in such ranges, else none: number 2.
+    pub fn within(ranges: &Ranges, sides: [u16; 3]) -> Option<Self> {
+        ranges.sides_in(sides.map(u32::from)).then(|| Self {
             sides: sides.map(i32::from),
         })
     }
@@ -166,11 +206,22 @@ impl Config {
         support: 15,
     };
 
-    /// Each cost and the node limit in range, else number 3.
-    pub fn in_range(&self) -> bool {
-        self.node_limit <= MOST_NODES
+    /// Each cost and the node limit in range, and the product in a room of so many cells; else number 3.
+    pub fn in_range(&self, cells: usize) -> bool {
+        self.is_within(&Ranges::WIDE) && self.product_in(&Ranges::WIDE, cells)
+    }
+
+    /// Each single number in these ranges.
+    pub fn is_within(&self, ranges: &Ranges) -> bool {
+        self.node_limit <= ranges.nodes
             && [self.horizontal, self.stair, self.support]
                 .iter()
-                .all(|cost| *cost <= MOST_COST)
+                .all(|cost| *cost <= ranges.cost)
+    }
+
+    /// V times the sum of the support cost and the dearer step in these ranges.
+    pub fn product_in(&self, ranges: &Ranges, cells: usize) -> bool {
+        let dearest = u64::from(self.support) + u64::from(self.horizontal.max(self.stair));
+        cells as u64 * dearest <= ranges.product
     }
 }

@@ -3,7 +3,8 @@
 use crate::Refusal;
 use crate::room::{Config, facing, kind, port};
 use crate::search::{Search, SearchAnswer};
-use crate::sheet::{Block, Job, Port, Sheet, TreeAnswer};
+use crate::sheet::{Block, Job, Port, Sheet, Sink, TreeAnswer};
+use crate::version::{USUAL_RUN, Version};
 
 pub enum Sample {
     Search(Search, SearchAnswer),
@@ -19,7 +20,7 @@ pub fn samples() -> Vec<(&'static str, Sample)> {
 }
 
 /// A search at the default costs in a room of Air but for the given cells, with a queue of 12V.
-pub fn default_search(sides: [u8; 3], start: u32, goal: u32, changes: &[(usize, u8)]) -> Search {
+pub fn default_search(sides: [u16; 3], start: u32, goal: u32, changes: &[(usize, u8)]) -> Search {
     let cells: usize = sides.iter().map(|side| usize::from(*side)).product();
     let mut kinds = vec![kind::AIR; cells];
     for (cell, kind) in changes {
@@ -98,22 +99,24 @@ fn searches() -> Vec<(&'static str, Sample)> {
         .collect()
 }
 
-/// A job at the default costs in an empty room, with a Wire source at cell 0.
-pub fn default_job(sides: [u8; 3], sinks: &[Port]) -> Job {
+/// A job at the default costs and the usual limits in an empty room, with a Wire source at cell 0.
+pub fn default_job(sides: [u16; 3], sinks: &[Port]) -> Job {
     Job {
+        version: Version::ONE,
         sides,
         config: Config::DEFAULT,
+        run: USUAL_RUN,
         blocks: Vec::new(),
         conductors: Vec::new(),
         clearances: Vec::new(),
         terminals: Vec::new(),
         reserved: Vec::new(),
         source: wire([0, 0, 0], facing::NONE),
-        sinks: sinks.to_vec(),
+        sinks: sinks.iter().copied().map(Sink::from).collect(),
     }
 }
 
-pub fn wire(at: [u8; 3], facing: u8) -> Port {
+pub fn wire(at: [u16; 3], facing: u8) -> Port {
     Port {
         at,
         kind: port::WIRE,
@@ -121,7 +124,7 @@ pub fn wire(at: [u8; 3], facing: u8) -> Port {
     }
 }
 
-pub fn block_power(at: [u8; 3], facing: u8) -> Port {
+pub fn block_power(at: [u16; 3], facing: u8) -> Port {
     Port {
         at,
         kind: port::BLOCK_POWER,
@@ -130,7 +133,7 @@ pub fn block_power(at: [u8; 3], facing: u8) -> Port {
 }
 
 /// A block without facing.
-pub fn block(node: u16, at: [u8; 3], kind: u8) -> Block {
+pub fn block(node: u16, at: [u16; 3], kind: u8) -> Block {
     Block {
         node,
         at,
@@ -143,6 +146,10 @@ pub fn block(node: u16, at: [u8; 3], kind: u8) -> Block {
 pub const HEX_SHEET: &str = "01 00000028 0A0101 00007530 0000000A 00000019 0000000F \
     0000 0000 0000 0000 0000 0000000000 01 0900000000";
 pub const HEX_SHEET_LINES: &str = "net 1 10\nbranch 0 1 2 3 4 5 6 7 8 9\nrepeaters 1\n";
+
+/// The same row with a tail limit of 3, as docs/RULES.md has it: version 2.
+pub const TAIL_SHEET: &str = "02 0000002A 0A0101 00007530 0000000A 00000019 0000000F 0C \
+    0000 0000 0000 0000 0000 0000000000 01 0900000000 03";
 
 /// A tree of one branch that runs straight along x from cell 0 to cell `last`.
 fn line(last: u16, repeaters: &[u16]) -> TreeAnswer {

@@ -9,7 +9,7 @@ use crate::room::{Config, DOWN, MOST_CELLS, Offset, Room, kind, kind_at, moves};
 /// One search as it is asked for. Nothing is promised about its values: `judge` decides.
 #[derive(Clone, Debug, Eq, PartialEq)]
 pub struct Search {
-    pub sides: [u8; 3],
+    pub sides: [u16; 3],
     pub config: Config,
     pub start: u32,
     pub goal: u32,
@@ -77,7 +77,7 @@ impl Search {
         let room = Room::new(self.sides, MOST_CELLS).ok_or(Refusal::bare(2))?;
         let cells = room.cells();
         let outside = |end: u32| end as usize >= cells;
-        if !self.config.in_range() {
+        if !self.config.in_range(cells) {
             Err(Refusal::bare(3))
         } else if self.kinds.len() != cells || (self.lent as usize) < cells || self.queue == 0 {
             Err(Refusal::bare(6))
@@ -167,7 +167,7 @@ impl Searched {
     }
 }
 
-/// Cell numbers as the answers keep them; V is at most 16,384.
+/// Cell numbers as the answers keep them; V is at most 65,536.
 pub fn cells16(cells: &[usize]) -> Vec<u16> {
     cells.iter().map(|cell| *cell as u16).collect()
 }

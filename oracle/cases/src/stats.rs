@@ -1,18 +1,21 @@
 //! What answered cases hold, by count.
 
-use std::collections::BTreeMap;
+use std::collections::{BTreeMap, BTreeSet};
 use std::fmt::Display;
 
 use crate::conflict::stairs;
 use crate::drawing::{Drawing, DrawingAnswer};
 use crate::function::{Function, FunctionAnswer};
-use crate::parts::{Parts, PartsAnswer};
+use crate::parts::{Parts, PartsAnswer, SINK};
+use crate::plan::{Plan, PlanAnswer};
+use crate::repeaters::from_source;
 use crate::room::{MOST_CELLS, Room, kind, port, sideways};
 use crate::search::{Search, SearchAnswer};
-use crate::sheet::{Job, MOST_BYTES, Port, Sheet, TreeAnswer};
+use crate::sheet::{Job, MOST_BYTES, MOST_SINKS, Sheet, Sink, TreeAnswer};
 use crate::strict::{Apart, StrictSheet};
-use crate::tree::Mode;
+use crate::tree::{Mode, realize};
 use crate::tree_why::{TreeWhy, TreeWhyAnswer, cause, kept, verdict};
+use crate::version::Version;
 use crate::why::{MOVES, Why, WhyAnswer, reason};
 
 /// Counts under names, printed in the order of the names.
@@ -41,8 +44,10 @@ fn size(room: &Room) -> &'static str {
         0..=64 => "room: V up to 64",
         65..=512 => "room: V up to 512",
         513..=4_096 => "room: V up to 4,096",
-        4_097..MOST_CELLS => "room: V above 4,096",
-        _ => "room: V = 16,384",
+        4_097..16_384 => "room: V above 4,096",
+        16_384 => "room: V = 16,384",
+        16_385..MOST_CELLS => "room: V above 16,384",
+        _ => "room: V = 65,536",
     }
 }
 
@@ -85,9 +90,41 @@ pub fn count_parts(tally: &mut Tally, case: &Parts, answer: &PartsAnswer) {
         10_000..MOST_BYTES => "sheet: 10,000 bytes and more",
         _ => "sheet: 60,000 bytes",
     });
-    tally.add_if("sheet: sixteen sinks", case.sinks.len() == 80);
+    tally.add(format!("sheet: version {}", bytes[0]));
+    tally.add_if(
+        "sheet: sixteen sinks",
+        case.sinks.len() == MOST_SINKS * SINK,
+    );
     let just = bytes.len() == case.lent as usize;
     tally.add_if("sheet: an output of just its length", just);
+}
+
+/// Counts a net of which repeaters are asked.
+pub fn count_plan(tally: &mut Tally, case: &Plan, answer: &PlanAnswer) {
+    tally.add("plans");
+    tally.add(format!("number {}", answer.number()));
+    let (Ok(planned), PlanAnswer::Repeaters(repeaters)) = (case.judge(), answer) else {
+        return;
+    };
+    tally.add(size(&planned.room));
+    tally.add(match repeaters.len() {
+        0 => "no repeater",
+        1 => "1 repeater",
+        _ => "2 or more repeaters",
+    });
+    let ends = realize(&planned.job, &planned.room).expect("it is judged");
+    let joined = from_source(ends.source, &planned.branches);
+    let is_apart = |terminal: usize| terminal != ends.source && !joined.contains_key(&terminal);
+    let apart = ends.sinks.iter().any(|sink| is_apart(sink.terminal));
+    tally.add_if("a sink that no chain joins", apart);
+    let steps: BTreeSet<_> = planned
+        .branches
+        .iter()
+        .flat_map(|branch| branch.windows(2))
+        .map(|step| [step[0].min(step[1]), step[0].max(step[1])])
+        .collect();
+    let cells: BTreeSet<_> = steps.iter().flatten().collect();
+    tally.add_if("rings", steps.len() >= cells.len() && !steps.is_empty());
 }
 
 /// Counts a drawing.
@@ -267,6 +304,13 @@ pub fn count_strict(tally: &mut Tally, case: &StrictSheet, answer: &TreeAnswer) 
 
 fn count_job(tally: &mut Tally, job: &Job) {
     let sinks = &job.sinks;
+    if job.version != Version::ONE {
+        tally.add(format!("well formed: version {}", job.version.number));
+        tally.add_if(
+            "well formed: a version above 1 with limits of 12 and 8",
+            job.has_usual_limits(),
+        );
+    }
     tally.add_if(
         "well formed: with other nets' conductors",
         !job.conductors.is_empty(),
@@ -275,9 +319,10 @@ fn count_job(tally: &mut Tally, job: &Job) {
         "well formed: source BlockPower",
         job.source.kind == port::BLOCK_POWER,
     );
-    let block_power = sinks.iter().any(|sink| sink.kind == port::BLOCK_POWER);
+    let block_power = sinks.iter().any(|sink| sink.port.kind == port::BLOCK_POWER);
     tally.add_if("well formed: a sink BlockPower", block_power);
-    let approached = |sink: &Port| sink.kind == port::WIRE && sideways(sink.facing).is_some();
+    let approached =
+        |sink: &Sink| sink.port.kind == port::WIRE && sideways(sink.port.facing).is_some();
     let wire = sinks.iter().any(approached);
     tally.add_if("well formed: a Wire sink with an approach", wire);
 }

@@ -6,6 +6,7 @@ use crate::Refusal;
 use crate::drawing::{Drawing, DrawingAnswer};
 use crate::function::{Function, FunctionAnswer};
 use crate::parts::{Parts, PartsAnswer};
+use crate::plan::{Plan, PlanAnswer};
 use crate::room::{Config, kind};
 use crate::search::{Search, SearchAnswer};
 use crate::sheet::{Job, Port, Sheet, TreeAnswer};
@@ -113,16 +114,38 @@ pub fn function_answer_lines(answer: &FunctionAnswer) -> String {
     }
 }
 
-/// A drawing for a reader.
+/// A net of which repeaters are asked, for a reader.
+pub fn plan_lines(case: &Plan) -> String {
+    format!(
+        "# room{} run {} marks {} work{}\n# source{}\n# sinks{}\n# branches{}\n# lengths{}\n",
+        listed(case.sides),
+        case.run,
+        case.marks,
+        listed(case.work),
+        listed(&case.source),
+        listed(&case.sinks),
+        listed(&case.branches),
+        listed(&case.lengths)
+    )
+}
+
+pub fn plan_answer_lines(answer: &PlanAnswer) -> String {
+    match answer {
+        PlanAnswer::Refused(refusal) => refused(refusal),
+        PlanAnswer::Repeaters(cells) => format!("repeaters{}\n", listed(cells)),
+    }
+}
+
 /// A job's parts, for a reader.
 pub fn parts_lines(case: &Parts) -> String {
     let config = &case.config;
     let costs = [config.horizontal, config.stair, config.support];
     let mut lines = format!(
-        "# room{} limit {} costs{} lent {}\n",
+        "# room{} limit {} costs{} run {} lent {}\n",
         listed(case.sides),
         config.node_limit,
         listed(costs),
+        case.run,
         case.lent
     );
     let names = ["conductors", "clearances", "terminals", "reserved"];
@@ -144,6 +167,7 @@ pub fn parts_answer_lines(answer: &PartsAnswer) -> String {
     }
 }
 
+/// A drawing for a reader.
 pub fn drawing_lines(case: &Drawing) -> String {
     format!(
         "# room{} support {} run {} cells {} facings {}\n# kinds{}\n# path{}\n",
@@ -296,7 +320,7 @@ impl Draft {
             .unwrap_or(vec![default.horizontal, default.stair, default.support]);
         let one = |line: Option<Vec<u32>>, default| line.map_or(default, |numbers| numbers[0]);
         Ok(Search {
-            sides: [sides[0], sides[1], sides[2]],
+            sides: [sides[0], sides[1], sides[2]].map(u16::from),
             config: Config {
                 node_limit: one(self.limit, default.node_limit),
                 horizontal: costs[0],
@@ -399,6 +423,9 @@ fn job_lines(job: &Job) -> String {
         "room{}\nlimit {node_limit}\ncosts {horizontal} {stair} {support}\n",
         listed(job.sides)
     );
+    if job.version.limits {
+        text += &format!("version {}\nrun {}\n", job.version.number, job.run);
+    }
     for block in &job.blocks {
         let (node, kind, facing) = (block.node, block.kind, block.facing);
         let _ = writeln!(
@@ -417,16 +444,20 @@ fn job_lines(job: &Job) -> String {
             let _ = writeln!(text, "{name}{}", listed(at));
         }
     }
-    text += &port_line("source", &job.source);
+    let _ = writeln!(text, "{}", port_line("source", &job.source));
     for sink in &job.sinks {
-        text += &port_line("sink", sink);
+        text += &port_line("sink", &sink.port);
+        if job.version.limits {
+            text += &format!(" tail {}", sink.tail);
+        }
+        text.push('\n');
     }
     text
 }
 
 fn port_line(name: &str, port: &Port) -> String {
     format!(
-        "{name}{} port {} facing {}\n",
+        "{name}{} port {} facing {}",
         listed(port.at),
         port.kind,
         port.facing

@@ -218,7 +218,7 @@ pub fn stopped_in_mode(job: &Job, room: &Room, limits: Limits, mode: Mode) -> Op
 
 /// The cell of the repeat: of all blocks whose cell a lower node or an earlier record of the same node holds, the one of
 /// least node, then least cell.
-fn overlap(job: &Job, room: &Room) -> Option<usize> {
+pub fn overlap(job: &Job, room: &Room) -> Option<usize> {
     let blocks = job.blocks.iter();
     let mut blocks: Vec<_> = blocks.map(|b| (b.node, cell(room, b.at))).collect();
     blocks.sort_by_key(|(node, _)| *node); // stable: records of one node keep their order
@@ -228,7 +228,7 @@ fn overlap(job: &Job, room: &Room) -> Option<usize> {
 }
 
 /// The cell of a position that was judged to lie in the room.
-fn cell(room: &Room, at: [u8; 3]) -> usize {
+fn cell(room: &Room, at: [u16; 3]) -> usize {
     room.cell(Place::from(at)).expect("a judged position")
 }
 
@@ -270,7 +270,7 @@ pub fn realize(job: &Job, room: &Room) -> Result<Ends, Refusal> {
     let source = terminal(&job.source).ok_or(Refusal::new(8, 0))?;
     let mut terminals = Vec::new();
     for (sink, number) in job.sinks.iter().zip(1..) {
-        terminals.push(terminal(sink).ok_or(Refusal::new(8, number))?);
+        terminals.push(terminal(&sink.port).ok_or(Refusal::new(8, number))?);
     }
     let inside = |place, number| room.cell(place).ok_or(Refusal::new(9, number));
     let source = inside(source, 0)?;
@@ -278,7 +278,7 @@ pub fn realize(job: &Job, room: &Room) -> Result<Ends, Refusal> {
     for ((sink, place), number) in job.sinks.iter().zip(terminals).zip(1..) {
         sinks.push(SinkEnds {
             terminal: inside(place, number)?,
-            approach: inside(approach(sink, place), number)?,
+            approach: inside(approach(&sink.port, place), number)?,
         });
     }
     Ok(Ends { source, sinks })

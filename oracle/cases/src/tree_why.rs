@@ -296,7 +296,7 @@ impl Turn<'_> {
     fn causes(&self, cell: usize) -> u8 {
         let job = self.job;
         let place = self.room.place(cell);
-        let listed = |list: &[[u8; 3]]| list.iter().any(|at| Place::from(*at) == place);
+        let listed = |list: &[[u16; 3]]| list.iter().any(|at| Place::from(*at) == place);
         let beside = |at: Place| is_in_keepout(at, place);
         let foreign = [
             (cause::CONDUCTOR, listed(&job.conductors)),

@@ -4,18 +4,22 @@ use std::collections::BTreeMap;
 use std::fmt::Debug;
 
 use cases::answers::{
-    DRAWINGS, FUNCTIONS, SEARCHES, SHEETS, STRICT_SHEETS, Stored, TREE_WHYS, WHYS, WRITES,
-    drawings, functions, searches, sheets, strict_sheets, tree_whys, whys, writes,
+    DRAWINGS, FUNCTIONS, LIMIT_SHEETS, PLANS, SEARCHES, SHEETS, STRICT_SHEETS, Stored, TREE_WHYS,
+    WHYS, WRITES, drawings, functions, limit_sheets, plans, searches, sheets, strict_sheets,
+    tree_whys, whys, writes,
 };
 use cases::drawing::{Drawing, DrawingAnswer};
 use cases::files::{Case, read};
 use cases::function::Function;
+use cases::limits::LimitSheet;
 use cases::parts::Parts;
+use cases::plan::{Plan, PlanAnswer};
 use cases::room::MOST_CELLS;
 use cases::search::Search;
 use cases::sheet::{MOST_BYTES, Sheet, TreeAnswer};
 use cases::strict::StrictSheet;
 use cases::tree_why::{TreeWhy, TreeWhyAnswer};
+use cases::version::Version;
 use cases::why::Why;
 
 /// The cases of a file with their answers: they are those that are made, and the plain router agrees.
@@ -72,6 +76,36 @@ fn stored_sheets() {
 }
 
 #[test]
+fn stored_limit_sheets() {
+    let stored = agreed(&LIMIT_SHEETS, limit_sheets(), LimitSheet::plain_answer);
+    let numbers = stored.iter().map(|(_, answer)| answer.number());
+    is_common(&[0, 1, 2, 3, 4, 5, 6, 7, 8, 9, 13, 14, 15], 3, numbers);
+    let accepted = |version: Version| {
+        let jobs = stored.iter().map(|(case, _)| case.0.judge(MOST_CELLS));
+        jobs.filter(|job| job.as_ref().is_ok_and(|(job, _)| job.version == version))
+            .count()
+    };
+    let counts = [Version::ONE, Version::TWO].map(accepted);
+    assert!(counts[0] >= 50 && counts[1] >= 200, "{counts:?}");
+    // at 12 and 8 many of them would have other repeaters
+    let another = |(case, answer): &&(LimitSheet, TreeAnswer)| {
+        let Ok((mut job, _)) = case.0.judge(MOST_CELLS) else {
+            return false;
+        };
+        job.version = Version::ONE;
+        let bytes = job.bytes();
+        Sheet {
+            bytes,
+            ..case.0.clone()
+        }
+        .plain_answer()
+            != *answer
+    };
+    let apart = stored.iter().filter(another).count();
+    assert!(apart >= 60, "{apart}");
+}
+
+#[test]
 fn stored_strict_sheets() {
     let stored = agreed(&STRICT_SHEETS, strict_sheets(), StrictSheet::plain_answer);
     let numbers = stored.iter().map(|(_, answer)| answer.number());
@@ -122,6 +156,18 @@ fn stored_writes() {
     let numbers = || stored.iter().map(|(_, answer)| answer.number());
     is_common(&[1, 2, 3, 4, 5, 6], 5, numbers());
     is_common(&[0], 200, numbers());
+}
+
+#[test]
+fn stored_plans() {
+    let stored = agreed(&PLANS, plans(), Plan::plain_answer);
+    let numbers = || stored.iter().map(|(_, answer)| answer.number());
+    is_common(&[2, 3, 4, 5, 6, 8, 9], 5, numbers());
+    is_common(&[0], 300, numbers());
+    let several =
+        |answer: &PlanAnswer| matches!(answer, PlanAnswer::Repeaters(cells) if cells.len() >= 2);
+    let several = stored.iter().filter(|(_, answer)| several(answer));
+    assert!(several.count() >= 30);
 }
 
 #[test]

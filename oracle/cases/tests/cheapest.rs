@@ -85,7 +85,7 @@ fn few_sweeps() {
 
 fn row(kinds: &[u8], costs: [u32; 3]) -> Search {
     Search {
-        sides: [kinds.len() as u8, 1, 1],
+        sides: [kinds.len() as u16, 1, 1],
         config: Config {
             node_limit: 0,
             horizontal: costs[0],

@@ -23,7 +23,7 @@ struct Input {
 
 impl Input {
     fn random(rng: &mut Rng) -> Self {
-        let sides = [(); 3].map(|()| rng.between(1, 6) as u8);
+        let sides = [(); 3].map(|()| rng.between(1, 6) as u16);
         let room = Room::new(sides, 216).unwrap();
         let filled = rng.pick(&[0, 5, 20, 50]);
         let kinds = (0..room.cells())

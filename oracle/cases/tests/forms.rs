@@ -4,16 +4,20 @@ use cases::drawing::Drawing;
 use cases::files::{Case, read, write_answered, write_bare};
 use cases::function::Function;
 use cases::generate::{
-    Profile, drawings, functions, searches, sheets, strict_sheets, tree_whys, whys, writes,
+    Profile, drawings, functions, limit_sheets, plans, searches, sheets, strict_sheets, tree_whys,
+    whys, writes,
 };
+use cases::limits::LimitSheet;
 use cases::parts::Parts;
+use cases::plan::Plan;
 use cases::room::Config;
 use cases::samples::HEX_SHEET;
 use cases::search::Search;
-use cases::sheet::{Block, Job, Port, Sheet};
+use cases::sheet::{Block, Job, Port, Sheet, Sink};
 use cases::strict::StrictSheet;
 use cases::text::{parse_hex, parse_search, search_lines, sheet_lines};
 use cases::tree_why::TreeWhy;
+use cases::version::{USUAL_RUN, Version};
 use cases::why::Why;
 
 fn some_searches() -> Vec<Search> {
@@ -22,6 +26,10 @@ fn some_searches() -> Vec<Search> {
 
 fn some_sheets() -> Vec<Sheet> {
     sheets(7, 200, Profile::Tiny)
+}
+
+fn some_limit_sheets() -> Vec<LimitSheet> {
+    limit_sheets(7, 200, Profile::Tiny)
 }
 
 fn some_strict_sheets() -> Vec<StrictSheet> {
@@ -44,6 +52,10 @@ fn some_drawings() -> Vec<Drawing> {
     drawings(7, 300, Profile::Tiny)
 }
 
+fn some_plans() -> Vec<Plan> {
+    plans(7, 300, Profile::Tiny)
+}
+
 fn some_writes() -> Vec<Parts> {
     writes(7, 300, Profile::Tiny)
 }
@@ -59,11 +71,13 @@ fn bare_round_trip<C: Case + Clone + PartialEq>(cases: &[C]) {
 fn bare_files_are_read_back() {
     bare_round_trip(&some_searches());
     bare_round_trip(&some_sheets());
+    bare_round_trip(&some_limit_sheets());
     bare_round_trip(&some_strict_sheets());
     bare_round_trip(&some_whys());
     bare_round_trip(&some_tree_whys());
     bare_round_trip(&some_functions());
     bare_round_trip(&some_drawings());
+    bare_round_trip(&some_plans());
     bare_round_trip(&some_writes());
 }
 
@@ -86,11 +100,13 @@ where
 fn answered_files_are_read_back() {
     answered_round_trip(&some_searches(), Search::plain_answer);
     answered_round_trip(&some_sheets(), Sheet::plain_answer);
+    answered_round_trip(&some_limit_sheets(), LimitSheet::plain_answer);
     answered_round_trip(&some_strict_sheets(), StrictSheet::plain_answer);
     answered_round_trip(&some_whys(), Why::plain_answer);
     answered_round_trip(&some_tree_whys(), TreeWhy::plain_answer);
     answered_round_trip(&some_functions(), Function::plain_answer);
     answered_round_trip(&some_drawings(), Drawing::plain_answer);
+    answered_round_trip(&some_plans(), Plan::plain_answer);
     answered_round_trip(&some_writes(), Parts::plain_answer);
 }
 
@@ -163,11 +179,13 @@ fn bad_text_is_refused_by_line() {
 
 #[test]
 fn accepted_sheets_give_their_bytes_back() {
+    let limited = some_limit_sheets().into_iter().map(|sheet| sheet.0);
     let jobs: Vec<_> = some_sheets()
         .into_iter()
+        .chain(limited)
         .filter_map(|sheet| Some((Job::read(&sheet.bytes).ok()?, sheet.bytes)))
         .collect();
-    assert!(jobs.len() > 150);
+    assert!(jobs.len() > 300);
     for (job, bytes) in jobs {
         assert_eq!(job.bytes(), bytes);
     }
@@ -196,9 +214,9 @@ fn told(text: &str, word: &str) -> Vec<Vec<u32>> {
         .collect()
 }
 
-fn place(numbers: &[u32]) -> [u8; 3] {
+fn place(numbers: &[u32]) -> [u16; 3] {
     let place = <[u32; 3]>::try_from(numbers).unwrap();
-    place.map(|number| number as u8)
+    place.map(|number| number as u16)
 }
 
 fn told_port(line: &[u32]) -> Port {
@@ -206,6 +224,14 @@ fn told_port(line: &[u32]) -> Port {
         at: place(&line[..3]),
         kind: line[3] as u8,
         facing: line[4] as u8,
+    }
+}
+
+fn told_sink(line: &[u32]) -> Sink {
+    let sink = Sink::from(told_port(line));
+    Sink {
+        tail: line.get(5).map_or(sink.tail, |tail| *tail as u8),
+        ..sink
     }
 }
 
@@ -223,7 +249,14 @@ fn told_job(text: &str) -> Job {
     let one = |word| <[_; 1]>::try_from(told(text, word)).unwrap()[0].clone();
     let places = |word| told(text, word).iter().map(|line| place(line)).collect();
     let costs = one("costs");
+    let version = told(text, "version").concat();
+    let run = told(text, "run").concat();
     Job {
+        version: match version[..] {
+            [] => Version::ONE,
+            _ => Version::TWO,
+        },
+        run: run.first().map_or(USUAL_RUN, |run| *run as u8),
         sides: place(&one("room")),
         config: Config {
             node_limit: one("limit")[0],
@@ -242,7 +275,7 @@ fn told_job(text: &str) -> Job {
         source: told_port(&one("source")),
         sinks: told(text, "sink")
             .iter()
-            .map(|line| told_port(line))
+            .map(|line| told_sink(line))
             .collect(),
     }
 }
@@ -251,7 +284,8 @@ fn told_job(text: &str) -> Job {
 #[test]
 fn sheets_are_shown() {
     let (mut jobs, mut whole, mut cut) = (0, 0, 0);
-    for sheet in some_sheets() {
+    let limited = some_limit_sheets().into_iter().map(|sheet| sheet.0);
+    for sheet in some_sheets().into_iter().chain(limited) {
         let text = sheet_lines(&sheet);
         let length = sheet.bytes.len();
         let head = ["queue", "branch", "lent", "bytes"].map(|word| told(&text, word).concat());
@@ -269,7 +303,7 @@ fn sheets_are_shown() {
         whole += usize::from(length <= 64);
         cut += usize::from(length > 64);
     }
-    assert!(jobs > 150 && whole > 0 && cut > 0, "{jobs} {whole} {cut}");
+    assert!(jobs > 300 && whole > 0 && cut > 0, "{jobs} {whole} {cut}");
 }
 
 #[test]

@@ -3,12 +3,13 @@
 use cases::answers::{SHEETS, STRICT_SHEETS, TREE_WHYS};
 use cases::examples;
 use cases::files;
-use cases::generate::{Profile, writes};
+use cases::generate::{Profile, limit_sheets, writes};
 use cases::parts::{Parts, PartsAnswer};
 use cases::room::MOST_CELLS;
 use cases::sheet::{Job, MOST_BYTES, Sheet};
 use cases::strict::StrictSheet;
 use cases::tree_why::TreeWhy;
+use cases::version::Version;
 
 #[test]
 fn examples_of_parts() {
@@ -50,7 +51,7 @@ fn parts_go_out_and_back() {
 fn the_longest_sheet() {
     let (_, mut case, _) = examples::parts().swap_remove(0);
     case.lent = u32::MAX;
-    // 45 bytes; 19,985 positions are 59,955 more
+    // 45 bytes in version 1; 19,985 positions are 59,955 more
     case.lists[2] = vec![0; 3 * 19_985];
     assert_eq!(case.size(), MOST_BYTES);
     assert!(matches!(case.plain_answer(), PartsAnswer::Sheet(bytes) if bytes.len() == MOST_BYTES));
@@ -63,6 +64,52 @@ fn the_longest_sheet() {
         (case.size(), case.plain_answer().number()),
         (MOST_BYTES + 1, 1)
     );
+}
+
+/// In version 2 a sheet has a byte more, and one for each sink: the same job is too long with a tail of 3.
+#[test]
+fn the_longest_sheet_of_version_2() {
+    let (_, mut case, _) = examples::parts().swap_remove(0);
+    case.lent = u32::MAX;
+    case.lists[2] = vec![0; 3 * 19_985];
+    assert_eq!((case.size(), case.plain_answer().number()), (MOST_BYTES, 0));
+    case.sinks[5] = 3;
+    assert_eq!(
+        (case.size(), case.plain_answer().number()),
+        (MOST_BYTES + 2, 1)
+    );
+    case.lists[2].truncate(3 * 19_984);
+    assert_eq!(
+        (case.size(), case.plain_answer().number()),
+        (MOST_BYTES - 1, 0)
+    );
+}
+
+/// A sheet of its job's version gives its own bytes back, any other accepted sheet the same job.
+fn given_back(case: &Sheet) -> Option<Version> {
+    let (job, _) = case.judge(MOST_CELLS).ok()?;
+    let PartsAnswer::Sheet(bytes) = Parts::of(&job).plain_answer() else {
+        panic!("an accepted sheet is refused");
+    };
+    let lowest = job.lowest(Version::KNOWN);
+    assert_eq!(bytes == case.bytes, job.version == lowest);
+    let again = Job::read(&bytes).unwrap();
+    assert_eq!(
+        again,
+        Job {
+            version: lowest,
+            ..job.clone()
+        }
+    );
+    Some(job.version)
+}
+
+#[test]
+fn sheets_of_both_versions_are_given_back() {
+    let made = limit_sheets(9, 3_000, Profile::Tiny);
+    let given: Vec<_> = made.iter().filter_map(|case| given_back(&case.0)).collect();
+    let first = given.iter().filter(|version| **version == Version::ONE);
+    assert!(first.count() > 300 && given.len() > 2_000);
 }
 
 /// An accepted sheet's parts, written, give its own bytes.

@@ -53,14 +53,14 @@ fn route_has_fewer_cells() {
     let mut large = default_job([64, 2, 33], &[]);
     large.config.support = 100_001;
     assert_eq!(printed(&large), "refused 2 0\n");
-    large.sinks = vec![large.source; 17];
+    large.sinks = vec![large.source.into(); 17];
     assert_eq!(printed(&large), "refused 1 0\n");
 }
 
 /// The totals of the paths that the plain search answers: a support is new beneath each cell but the start that has Air there.
 #[test]
 fn totals_of_paths() {
-    let asked = |sides: [u8; 3], levers: &[usize], start, goal, config| {
+    let asked = |sides: [u16; 3], levers: &[usize], start, goal, config| {
         let cells = sides.map(usize::from).iter().product();
         let mut kinds = vec![kind::AIR; cells];
         levers.iter().for_each(|cell| kinds[*cell] = kind::LEVER);

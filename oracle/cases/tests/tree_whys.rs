@@ -169,7 +169,7 @@ fn has_a_good_way(turn: &Turn) -> bool {
 }
 
 /// Each room of so many cells, with no block or with Solid in one cell, and each source and sink of it.
-fn each_small_job(cells: u8, mut with: impl FnMut(&Job)) {
+fn each_small_job(cells: u16, mut with: impl FnMut(&Job)) {
     let sides = (1..=cells)
         .flat_map(|x| (1..=cells).flat_map(move |y| (1..=cells).map(move |z| [x, y, z])));
     for sides in
@@ -178,7 +178,7 @@ fn each_small_job(cells: u8, mut with: impl FnMut(&Job)) {
         let room = Room::new(sides, MOST_CELLS).unwrap();
         let at = |cell: usize| {
             let place = room.place(cell);
-            [place.x, place.y, place.z].map(|part| part as u8)
+            [place.x, place.y, place.z].map(|part| part as u16)
         };
         let cells = || 0..room.cells();
         for (source, sink) in cells().flat_map(|source| cells().map(move |sink| (source, sink))) {
@@ -221,9 +221,9 @@ fn fourteen_with_a_way() {
             .min()
     };
     assert_eq!((least(1), least(0)), (Some(8), Some(12)));
-    let is_there = |sides: [u8; 3], sink: [u8; 3]| {
+    let is_there = |sides: [u16; 3], sink: [u16; 3]| {
         found.iter().any(|(_, _, job)| {
-            job.sides == sides && job.source.at == [0; 3] && job.sinks[0].at == sink
+            job.sides == sides && job.source.at == [0; 3] && job.sinks[0].port.at == sink
         })
     };
     assert!(is_there([2, 2, 2], [0, 1, 1]) && is_there([2, 3, 2], [0, 2, 0]));

@@ -42,7 +42,7 @@ pub fn bench() {
     }
 }
 
-fn search(sides: [u8; 3], kinds: Vec<u8>, start: usize, goal: usize) -> Search {
+fn search(sides: [u16; 3], kinds: Vec<u8>, start: usize, goal: usize) -> Search {
     let cells = kinds.len() as u32;
     Search {
         sides,
@@ -89,7 +89,7 @@ fn maze() -> Load {
 }
 
 /// A room with so many cells of a hundred Solid, both ends Air.
-pub fn random_room(rng: &mut Rng, side: u8, solid: usize, ends: [usize; 2]) -> Search {
+pub fn random_room(rng: &mut Rng, side: u16, solid: usize, ends: [usize; 2]) -> Search {
     let mut kinds: Vec<u8> = (0..usize::from(side).pow(3))
         .map(|_| {
             if rng.percent(solid) {

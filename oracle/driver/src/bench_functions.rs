@@ -1,4 +1,4 @@
-//! Times of function files in the largest room: written, read, and plain Rust that makes and takes apart strings. A time is as in the
+//! Times of function files in large rooms and in the largest: written, read, and plain Rust that makes and takes apart strings. A time is as in the
 //! file bench.rs.
 
 use std::hint::black_box;
@@ -13,20 +13,29 @@ use oracle::Rng;
 use crate::bench::best;
 
 const RUNS: usize = 15;
-const SIDES: [u8; 3] = [64, 4, 64];
+/// 16,384 cells, and 65,536.
+const ROOMS: [[u16; 3]; 2] = [[64, 4, 64], [64, 16, 64]];
 
 pub fn bench() {
-    println!(
-        "{:<26}{:>8}{:>10}{:>12}{:>12}{:>14}{:>12}",
-        "64x4x64", "lines", "bytes", "written", "read", "plain write", "plain read"
-    );
-    for (name, filled) in [("all Air", 0), ("one in four a block", 25), ("no Air", 100)] {
-        measure(name, filled);
+    for [wide, high, deep] in ROOMS {
+        println!(
+            "{:<26}{:>8}{:>10}{:>12}{:>12}{:>14}{:>12}",
+            format!("{wide}x{high}x{deep}"),
+            "lines",
+            "bytes",
+            "written",
+            "read",
+            "plain write",
+            "plain read"
+        );
+        for (name, filled) in [("all Air", 0), ("one in four a block", 25), ("no Air", 100)] {
+            measure([wide, high, deep], name, filled);
+        }
     }
 }
 
 /// A room of which so many of a hundred cells hold a block, each of those that can be written.
-fn measure(name: &str, filled: usize) {
+fn measure(sides: [u16; 3], name: &str, filled: usize) {
     let all: Vec<(u8, u8)> = blocks().collect();
     let mut rng = Rng::new(7);
     let block = |_| {
@@ -36,21 +45,21 @@ fn measure(name: &str, filled: usize) {
             (kind::AIR, 0)
         }
     };
-    let (kinds, facings): (Vec<u8>, Vec<u8>) = (0..MOST_CELLS).map(block).unzip();
-    let room = Room::new(SIDES, MOST_CELLS).expect("a lawful room");
+    let room = Room::new(sides, MOST_CELLS).expect("a lawful room");
+    let (kinds, facings): (Vec<u8>, Vec<u8>) = (0..room.cells()).map(block).unzip();
     let text = text_of(&room, &kinds, &facings);
     let lines = kinds.iter().filter(|block| **block != kind::AIR).count();
     let written = Function::Write(Writing {
-        sides: SIDES,
+        sides,
         kinds: kinds.clone(),
         facings: facings.clone(),
         lent: text.len() as u32,
     });
     let read = Function::Read(Reading {
-        sides: SIDES,
+        sides,
         text: text.clone(),
-        kinds: MOST_CELLS as u32,
-        facings: MOST_CELLS as u32,
+        kinds: room.cells() as u32,
+        facings: room.cells() as u32,
     });
     let times = [
         proved(&written),

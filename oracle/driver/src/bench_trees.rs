@@ -11,6 +11,7 @@ use std::time::Duration;
 use cases::room::{MOST_CELLS, facing, kind};
 use cases::samples::{block, default_job, wire};
 use cases::sheet::{Block, Job, Port};
+use cases::version::Version;
 use dustroute::lent::{TREE_VALUES, TreeMemory};
 use oracle::{PublishedJob, Rng, Sheet, tree_of};
 
@@ -81,36 +82,99 @@ fn load(name: &'static str, job: Job) -> Load {
     Load { name, job, runs: 5 }
 }
 
+/// The hall of the examples beside the published Rust, and how the time grows up to it.
+pub fn bench_halls(only: &[String]) {
+    if !only.iter().any(|word| word == "growth") {
+        println!(
+            "{:<44}{:>7}{:>10}{:>12}{:>14}{:>9}",
+            "halls", "cells", "occupied", "proved", "published", "faster"
+        );
+        let hall = include_bytes!("../../../examples/hall.sheet");
+        let job = Job::read(hall).expect("the hall's sheet");
+        measure(&load("the hall 300x8x27", job));
+    }
+    println!();
+    println!(
+        "{:<44}{:>7}{:>7}{:>12}{:>14}",
+        "how it grows", "cells", "sinks", "proved", "memory lent"
+    );
+    for wide in [20, 38, 75, 150, 300] {
+        hall_growth([wide, 8, 27]);
+    }
+    for side in [16, 20, 25, 32, 40] {
+        hall_growth([side; 3]);
+    }
+}
+
+/// The proved tree's time in an open hall, at a node limit that always suffices; and how much memory it was lent.
+fn hall_growth(sides: [u16; 3]) {
+    let mut job = open(sides, 0);
+    let cells: usize = sides.iter().map(|side| usize::from(*side)).product();
+    job.config.node_limit = 5 * cells as u32;
+    job.version = job.lowest(Version::KNOWN);
+    let (sheet, mut lent) = sheet_of(&job);
+    let time = proved_time(5, &sheet, &mut lent, 0);
+    let [wide, high, deep] = sides;
+    println!(
+        "{:<44}{cells:>7}{:>7}{:>9.3} ms{:>11.1} MB",
+        format!("open {wide}x{high}x{deep}"),
+        job.sinks.len(),
+        time.as_secs_f64() * 1e3,
+        lent_bytes(&lent) as f64 / 1e6
+    );
+}
+
+fn lent_bytes(lent: &TreeMemory) -> usize {
+    let bytes = [
+        &lent.occupied,
+        &lent.repeaters,
+        &lent.kinds,
+        &lent.blocked,
+        &lent.classes,
+        &lent.joinable,
+    ];
+    let words = [
+        &lent.branches,
+        &lent.known,
+        &lent.previous,
+        &lent.path,
+        &lent.best,
+    ];
+    let bytes: usize = bytes.iter().map(|slice| slice.len()).sum();
+    let words: usize = words.iter().map(|slice| slice.len()).sum();
+    bytes + 4 * words + 8 * (lent.queue.len() + lent.values.len())
+}
+
 /// Sixteen Wire sinks, four by four over the room's ground plan, on three levels above `floor`.
-fn sinks([wide, high, deep]: [u8; 3], floor: u8) -> Vec<Port> {
-    let part = |side: u8, k: u8| side * (2 * k + 1) / 8;
+fn sinks([wide, high, deep]: [u16; 3], floor: u16) -> Vec<Port> {
+    let part = |side: u16, k: u16| side * (2 * k + 1) / 8;
     (0..16)
-        .map(|k: u8| {
+        .map(|k: u16| {
             let level = floor + (k % 3) * (high - 1 - floor) / 3;
             wire([part(wide, k % 4), level, part(deep, k / 4)], facing::NONE)
         })
         .collect()
 }
 
-fn open(sides: [u8; 3], floor: u8) -> Job {
+fn open(sides: [u16; 3], floor: u16) -> Job {
     let mut job = default_job(sides, &sinks(sides, floor));
     job.source = wire([0, floor, 0], facing::NONE);
     job
 }
 
-fn solid(node: u16, at: [u8; 3]) -> Block {
+fn solid(node: u16, at: [u16; 3]) -> Block {
     block(node, at, kind::SOLID)
 }
 
 /// A floor of Solid, and a pillar to half the height at every fourth place, where no end stands.
-fn ground_and_pillars(sides: [u8; 3]) -> Job {
+fn ground_and_pillars(sides: [u16; 3]) -> Job {
     let [wide, high, deep] = sides;
     let mut job = open(sides, 1);
     let mut blocks = Vec::new();
     for x in 0..wide {
         for z in 0..deep {
             blocks.push(solid(0, [x, 0, z]));
-            let ends = job.sinks.iter().chain([&job.source]);
+            let ends = job.sinks.iter().map(|sink| &sink.port).chain([&job.source]);
             let free = ends.into_iter().all(|end| end.at[0] != x || end.at[2] != z);
             if x % 4 == 1 && z % 4 == 1 && free {
                 blocks.extend((1..high / 2).map(|y| solid(1, [x, y, z])));
@@ -122,7 +186,7 @@ fn ground_and_pillars(sides: [u8; 3]) -> Job {
 }
 
 /// Four storeys: slabs of Solid, each but the lowest with a stairwell of eight by eight, in two corners by turns.
-fn storeys(sides: [u8; 3]) -> Job {
+fn storeys(sides: [u16; 3]) -> Job {
     let [wide, high, deep] = sides;
     let mut job = open(sides, 1);
     for y in (0..high).step_by(4) {
@@ -143,10 +207,10 @@ fn storeys(sides: [u8; 3]) -> Job {
 }
 
 /// One lane that winds through the whole room: a wall at every other place, open at its ends by turns. A sink in every other lane.
-fn serpentine(sides: [u8; 3]) -> Job {
+fn serpentine(sides: [u16; 3]) -> Job {
     let [wide, high, deep] = sides;
     let lanes: Vec<Port> = (0..16)
-        .map(|k: u8| wire([4 * k + 2, 0, (17 * k) % deep], facing::NONE))
+        .map(|k: u16| wire([4 * k + 2, 0, (17 * k) % deep], facing::NONE))
         .collect();
     let mut job = default_job(sides, &lanes);
     job.source = wire([0, 0, 0], facing::NONE);
@@ -160,14 +224,14 @@ fn serpentine(sides: [u8; 3]) -> Job {
 }
 
 /// Solid in a quarter of the cells, but for those by the net's ends.
-fn noise(sides: [u8; 3]) -> Job {
+fn noise(sides: [u16; 3]) -> Job {
     let [wide, high, deep] = sides;
     let mut job = open(sides, 1);
     let mut rng = Rng::new(11);
     for x in 0..wide {
         for y in 0..high {
             for z in 0..deep {
-                let ends = job.sinks.iter().chain([&job.source]);
+                let ends = job.sinks.iter().map(|sink| &sink.port).chain([&job.source]);
                 let near = ends
                     .into_iter()
                     .any(|end| (0..3).all(|i| end.at[i].abs_diff([x, y, z][i]) <= 1));
@@ -181,16 +245,17 @@ fn noise(sides: [u8; 3]) -> Job {
 }
 
 /// A floor, some three hundred single blocks, and four other nets that lie across the room in straight lines.
-fn blocks_and_other_nets(sides: [u8; 3]) -> Job {
+fn blocks_and_other_nets(sides: [u16; 3]) -> Job {
     let [wide, high, deep] = sides;
     let mut job = open(sides, 1);
-    let own: Vec<[u8; 3]> = job
+    let own: Vec<[u16; 3]> = job
         .sinks
         .iter()
+        .map(|sink| &sink.port)
         .chain([&job.source])
         .map(|end| end.at)
         .collect();
-    let near = |at: [u8; 3]| {
+    let near = |at: [u16; 3]| {
         own.iter()
             .any(|end| (0..3).all(|i| end[i].abs_diff(at[i]) <= 2))
     };
@@ -200,8 +265,8 @@ fn blocks_and_other_nets(sides: [u8; 3]) -> Job {
         }
     }
     let mut rng = Rng::new(7);
-    let mut below = |side: u8| rng.below(usize::from(side)) as u8;
-    let mut singles: Vec<[u8; 3]> = (0..300)
+    let mut below = |side: u16| rng.below(usize::from(side)) as u16;
+    let mut singles: Vec<[u16; 3]> = (0..300)
         .map(|_| [below(wide), 1 + below(high - 1), below(deep)])
         .filter(|at| !near(*at))
         .collect();
@@ -264,18 +329,18 @@ fn measure(load: &Load) {
 }
 
 /// The proved tree's time in an open room of this side, for so many sinks.
-fn growth(side: u8, count: usize) {
+fn growth(side: u16, count: usize) {
     let mut job = open([side; 3], 0);
     job.sinks.truncate(count);
     growth_line(&format!("open {side}x{side}x{side}"), &job, 0);
 }
 
 /// The same where the last of sixteen sinks stands in a closet: each goal is searched for, and number 14 said.
-fn in_a_closet(side: u8) {
+fn in_a_closet(side: u16) {
     growth_line(&closet_name(side), &closet_job(side), 14);
 }
 
-fn closet_name(side: u8) -> String {
+fn closet_name(side: u16) -> String {
     format!("the last in a closet {side}x{side}x{side}")
 }
 
@@ -286,9 +351,9 @@ pub fn closets() -> Vec<(String, Job)> {
         .into()
 }
 
-fn closet_job(side: u8) -> Job {
+fn closet_job(side: u16) -> Job {
     let mut job = open([side; 3], 0);
-    let at = job.sinks[15].at;
+    let at = job.sinks[15].port.at;
     let round = |i: usize| at[i].saturating_sub(1)..=(at[i] + 1).min(side - 1);
     for x in round(0) {
         for y in round(1) {

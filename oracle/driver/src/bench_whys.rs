@@ -13,7 +13,7 @@ use oracle::{Rng, Search, Why};
 use crate::bench::{best, random_room};
 use crate::proved::{self, search_memory, why_memory};
 
-const SIDE: u8 = 25;
+const SIDE: u16 = 25;
 const GOAL: usize = 15_624;
 const RUNS: usize = 51;
 

@@ -17,7 +17,7 @@ use crate::bench::best;
 const RUNS: usize = 25;
 /// A run takes so many of a sheet: one alone is too short for the clock.
 const TIMES: u32 = 20;
-const SIDES: [u8; 3] = [64, 4, 64];
+const SIDES: [u16; 3] = [64, 4, 64];
 
 pub fn bench() {
     println!(
@@ -37,7 +37,7 @@ pub fn bench() {
 /// A job of sixteen sinks, so many blocks and so many positions, at random.
 fn job(blocks: usize, positions: usize) -> Job {
     let mut rng = Rng::new(7);
-    let mut at = || SIDES.map(|side| rng.below(side.into()) as u8);
+    let mut at = || SIDES.map(|side| rng.below(side.into()) as u16);
     let mut job = default_job(SIDES, &[wire([63, 0, 63], 0); MOST_SINKS]);
     job.blocks = (0..blocks)
         .map(|node| block(node as u16, at(), 1))

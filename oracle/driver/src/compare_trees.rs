@@ -5,16 +5,25 @@ use cases::text::{sheet_lines, tree_answer_lines};
 use cases::tree::Mode;
 use checks::tree_due;
 use dustroute::lent::{TREE_VALUES, TreeMemory};
-use oracle::{Refusal, Rng, Sheet, TreeAnswer, check_sheet, random_sheet};
+use oracle::{Profile, Refusal, Rng, Sheet, TreeAnswer, check_sheet, random_limit_sheet, random_sheet};
 
 use crate::compare::{Differences, Draw, extra, told_unless_same};
 use crate::proved::tree_memory;
 
-/// Compares `count` random sheets and prints a summary; false if anything differs.
+/// Compares `count` random sheets of version 1 and prints a summary; false if anything differs.
 pub fn compare(draw: &Draw) -> bool {
+    compare_made(draw, random_sheet)
+}
+
+/// The same with sheets of both versions, at any limits.
+pub fn compare_limits(draw: &Draw) -> bool {
+    compare_made(draw, |rng, profile| random_limit_sheet(rng, profile).0)
+}
+
+fn compare_made(draw: &Draw, made: fn(&mut Rng, Profile) -> Sheet) -> bool {
     let mut tally = Tally::default();
     let mut differences = Differences::default();
-    for (index, case) in sheets(draw).take(draw.count as usize) {
+    for (index, case) in sheets(draw, made).take(draw.count as usize) {
         let found = expected_answer(draw, &case).and_then(|expected| {
             count_sheet(&mut tally, &case, &expected);
             differs(&case, &expected, Call::Plain, index as u8)
@@ -29,13 +38,14 @@ pub fn compare(draw: &Draw) -> bool {
 }
 
 /// The sheets of the seed that are wanted, each with its index.
-fn sheets(draw: &Draw) -> impl Iterator<Item = (u64, Sheet)> {
+fn sheets(
+    draw: &Draw,
+    made: fn(&mut Rng, Profile) -> Sheet,
+) -> impl Iterator<Item = (u64, Sheet)> {
     (0..)
-        .map(|index| {
-            (
-                index,
-                random_sheet(&mut Rng::for_case(draw.seed, index), draw.profile),
-            )
+        .map(move |index| {
+            let mut rng = Rng::for_case(draw.seed, index);
+            (index, made(&mut rng, draw.profile))
         })
         .filter(|(_, case)| !draw.rich || has_rich_tree(case, &case.plain_answer()))
 }

@@ -78,6 +78,9 @@ fn read_back(case: &Parts, written: &SheetMemory) -> Result<(), String> {
     if let Err(refusal) = job.judge(MOST_CELLS) {
         return Err(format!("read, and refused: {refusal:?}"));
     }
+    if job.version != case.version() {
+        return Err(format!("written in version {}", job.version.number));
+    }
     let lent = case.lent;
     let parts = Parts {
         lent,

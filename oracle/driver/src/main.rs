@@ -15,6 +15,9 @@ mod compare_drawings;
 mod compare_functions;
 mod compare_modes;
 mod compare_plain;
+mod compare_plans;
+mod compare_repeaters;
+mod compare_rounds;
 mod compare_smallest;
 mod compare_tree_whys;
 mod compare_trees;
@@ -31,9 +34,16 @@ use oracle::Profile;
 
 const HELP: &str = "\
 driver compare searches|sheets|modes|whys --seed N --count N [--profile P] [--against oracle|plain] [--only rich]
-                compares random cases, of whys the reason as well, of modes sheets in both; P is tiny, small, middle, large or mixed (the default).
+                compares random cases, of whys the reason as well, of modes sheets in both; P is tiny, small, middle, large, halls or mixed (the default).
                 oracle (the default): the published Rust and the plain router, which must agree; plain: the latter alone.
                 rich: of the sheets only those that have a tree of two or more sinks with stairs and repeaters
+driver compare limits --seed N --count N [--profile P] [--against oracle|plain] [--only rich]
+                compares random sheets of both versions, at any limits
+driver compare plans --seed N --count N [--profile P]
+                compares the repeaters of random trees at eight limits each: the proved tree, the one call over its branches, the published
+                Rust's two planning functions and the plain planning
+driver compare repeaters --seed N --count N [--profile P] [--against oracle|plain]
+                compares the one call for repeaters over random nets, trees' branches and arbitrary ones, a fifth of them damaged
 driver compare plain --seed N --count N [--profile P]
                 compares the plain engine with Dijkstra's rule and with the proved search, a fifth of the inputs damaged
 driver compare tree-whys --seed N --count N [--profile P] [--against oracle|plain]
@@ -42,6 +52,8 @@ driver compare functions --seed N --count N [--profile P]
                 compares function files, written and read, with the plain writer and reader; rooms go out and back, texts are damaged
 driver compare writes --seed N --count N [--profile P]
                 compares job sheets written from a job's parts with the plain writer, and reads them back; a third is damaged
+driver compare rounds --seed N --count N [--profile P]
+                sends random jobs round in three versions of the sheet: each is answered, taken apart and written again
 driver compare drawings --seed N --count N [--profile P] [--against oracle|plain]
                 compares routes drawn and their repeaters, a fifth of the inputs damaged
 driver compare smallest compares the smallest inputs of docs/SMALLEST.md
@@ -56,6 +68,8 @@ driver bench writes     times sheets of up to 60,000 bytes, written and read
 driver bench plain      times the plain engine beside the proved search, with the number of its sweeps
 driver bench trees [NAME..]
                 times the proved tree and the published Rust: of trees whose names begin so, or all
+driver bench halls [growth]
+                times the hall of the examples beside the published Rust, which takes minutes, and how the time grows up to it; or that alone
 driver wraps            shows costs at which the published Rust's sums wrap, and both answers
 Status 0: done; 1: answers differ; 2: bad input.
 ";
@@ -123,6 +137,15 @@ fn run(words: &[String]) -> Result<bool, String> {
             draw => Ok(compare_tree_whys::compare(&draw)),
         },
         ["compare", "sheets"] => Ok(compare_trees::compare(&draw(&words[2..])?)),
+        ["compare", "limits"] => Ok(compare_trees::compare_limits(&draw(&words[2..])?)),
+        ["compare", "plans"] => match draw(&words[2..])? {
+            draw if draw.rich || !draw.published => Err("no --against, no --only".into()),
+            draw => Ok(compare_plans::compare(&draw)),
+        },
+        ["compare", "repeaters"] => match draw(&words[2..])? {
+            draw if draw.rich => Err("--only rich is for sheets".into()),
+            draw => Ok(compare_repeaters::compare(&draw)),
+        },
         ["compare", "plain"] => match draw(&words[2..])? {
             draw if draw.rich || !draw.published => Err("no --against, no --only".into()),
             draw => Ok(compare_plain::compare(&draw)),
@@ -134,6 +157,10 @@ fn run(words: &[String]) -> Result<bool, String> {
         ["compare", "writes"] => match draw(&words[2..])? {
             draw if draw.rich || !draw.published => Err("no --against, no --only".into()),
             draw => Ok(compare_writes::compare(&draw)),
+        },
+        ["compare", "rounds"] => match draw(&words[2..])? {
+            draw if draw.rich || !draw.published => Err("no --against, no --only".into()),
+            draw => Ok(compare_rounds::compare(&draw)),
         },
         ["compare", "drawings"] => match draw(&words[2..])? {
             draw if draw.rich => Err("--only rich is for sheets".into()),
@@ -174,6 +201,10 @@ fn run(words: &[String]) -> Result<bool, String> {
         }
         ["wraps"] => {
             wraps::show();
+            Ok(true)
+        }
+        ["bench", "halls"] => {
+            bench_trees::bench_halls(&words[2..]);
             Ok(true)
         }
         ["bench", "trees"] => {

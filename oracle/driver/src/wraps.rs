@@ -12,7 +12,7 @@ use crate::proved;
 const STAIR: u32 = 2_147_483_648;
 
 /// A row of three cells under a second one, with a block in the middle of the lower: the only way is over it, by two stairs.
-const SIDES: [u8; 3] = [3, 2, 1];
+const SIDES: [u16; 3] = [3, 2, 1];
 
 pub fn show() {
     let mut case = default_search(SIDES, 0, 4, &[(2, kind::SOLID)]);
@@ -27,10 +27,10 @@ pub fn show() {
     let mut lent = proved::search_memory(cells, 24 * cells, SEARCH_VALUES, 0);
     let number = proved::search(&case, &mut lent);
     println!("the proved search: number {number}");
-    case.config.stair = 100_000;
+    case.config.stair = 1_000_000;
     let number = proved::search(&case, &mut lent);
     println!(
-        "the proved search at the dearest stair, 100000: number {number}, cost {}, cells {:?}",
+        "the proved search at the dearest stair, 1000000: number {number}, cost {}, cells {:?}",
         lent.values[2],
         &lent.path[..lent.values[1] as usize]
     );

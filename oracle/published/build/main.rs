@@ -30,6 +30,9 @@ fn write_modules() -> Result<(), String> {
     let out =
         PathBuf::from(env::var_os("OUT_DIR").ok_or("OUT_DIR is not set: run this through cargo")?);
     let modules: String = files.iter().map(|file| module_line(file)).collect();
+    for file in files.iter().filter(|file| file.ends_with("multinet.rs")) {
+        println!("cargo::rustc-env=MULTINET={}", file.display());
+    }
     fs::write(out.join("published.rs"), modules).map_err(|error| error.to_string())
 }
 

@@ -10,6 +10,7 @@ extern crate self as dustroute_physical;
 
 pub mod blocks;
 pub mod logic;
+pub mod planning;
 mod topology;
 
 pub use topology::{

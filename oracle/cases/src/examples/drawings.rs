@@ -4,7 +4,7 @@ use crate::drawing::{Drawing, DrawingAnswer, Repeater};
 use crate::room::{facing, kind};
 
 /// A path in a room of Air, with Solid supports and a list that just suffices.
-fn drawing(sides: [u8; 3], run: u32, path: &[u32]) -> Drawing {
+fn drawing(sides: [u16; 3], run: u32, path: &[u32]) -> Drawing {
     Drawing {
         sides,
         support: kind::SOLID.into(),

@@ -41,7 +41,7 @@ const TABLE: [(u8, u8, &str); 31] = [
 ];
 
 /// A room of 11x1x8 with one block in its last cell.
-const SIDES: [u8; 3] = [11, 1, 8];
+const SIDES: [u16; 3] = [11, 1, 8];
 const CELLS: usize = 88;
 
 fn one_block(block: u8, facing: u8) -> Laid {
@@ -55,7 +55,7 @@ fn one_block(block: u8, facing: u8) -> Laid {
     laid
 }
 
-fn write(sides: [u8; 3], kinds: &[u8], facings: &[u8], lent: usize) -> Function {
+fn write(sides: [u16; 3], kinds: &[u8], facings: &[u8], lent: usize) -> Function {
     Function::Write(Writing {
         sides,
         kinds: kinds.to_vec(),
@@ -64,7 +64,7 @@ fn write(sides: [u8; 3], kinds: &[u8], facings: &[u8], lent: usize) -> Function 
     })
 }
 
-fn read(sides: [u8; 3], text: &[u8], lent: usize) -> Function {
+fn read(sides: [u16; 3], text: &[u8], lent: usize) -> Function {
     Function::Read(Reading {
         sides,
         text: text.to_vec(),
@@ -99,7 +99,7 @@ fn table() -> Vec<Example> {
 }
 
 /// A row of three cells, wire in the first and the last.
-const ROW: [u8; 3] = [3, 1, 1];
+const ROW: [u16; 3] = [3, 1, 1];
 const FIRST: &str = "setblock ~ ~ ~ minecraft:redstone_wire replace\n";
 const LAST: &str = "setblock ~2 ~ ~ minecraft:redstone_wire replace\n";
 
@@ -246,8 +246,8 @@ fn order() -> Vec<Example> {
         ),
         ("2 before 6", write([0, 1, 1], &[13], &[], 0), refused(2, 0)),
         (
-            "over 64",
-            write([65, 1, 1], &[0; 65], &[0; 65], 0),
+            "65,600 cells",
+            write([41, 40, 40], &[0; 65], &[0; 65], 0),
             refused(2, 0),
         ),
         (
@@ -265,7 +265,7 @@ fn order() -> Vec<Example> {
         ("6 before 19", read(ROW, b"#", 2), refused(6, 0)),
         (
             "2 before 6, reading",
-            read([1, 65, 1], b"#", 0),
+            read([255, 2, 129], b"#", 0),
             refused(2, 0),
         ),
         (

@@ -26,7 +26,7 @@ pub fn strict_cases() -> Vec<StrictSheet> {
 }
 
 /// Along z on the upper level of a room one cell wide and two high, from its first cell to its last.
-fn upper(deep: u8) -> Job {
+fn upper(deep: u16) -> Job {
     let mut job = default_job([1, 2, deep], &[wire([0, 1, deep - 1], facing::NONE)]);
     job.source = wire([0, 1, 0], facing::NONE);
     job
@@ -45,7 +45,7 @@ fn routed_strictly_alone() -> Both {
 }
 
 fn over_another_net() -> [Both; 4] {
-    let over = |deep: u8, cell: u8| {
+    let over = |deep: u16, cell: u16| {
         let mut job = upper(deep);
         job.conductors.push([0, 0, cell]);
         job

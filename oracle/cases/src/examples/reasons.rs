@@ -33,7 +33,7 @@ fn untold(search: SearchAnswer) -> WhyAnswer {
 }
 
 /// A search in a room of Air but for the given cells.
-fn why(sides: [u8; 3], ends: [u32; 2], changes: &[(usize, u8)]) -> Why {
+fn why(sides: [u16; 3], ends: [u32; 2], changes: &[(usize, u8)]) -> Why {
     Why::of(default_search(sides, ends[0], ends[1], changes))
 }
 
@@ -125,7 +125,7 @@ fn order() -> Vec<(&'static str, Why, WhyAnswer)> {
     let faults: [(u8, fn(&mut Why)); 6] = [
         (6, |_| {}),
         (2, |case| case.search.sides[1] = 0),
-        (3, |case| case.search.config.support = 100_001),
+        (3, |case| case.search.config.support = 1_000_001),
         (6, |case| case.search.kinds[1] = 13),
         (6, |case| case.search.goal = 3),
         (6, |case| case.search.kinds[0] = kind::LEVER),

@@ -12,7 +12,7 @@ use crate::why::{MOVES, Told};
 pub type Named = (&'static str, TreeWhy, TreeWhyAnswer);
 
 /// A row of so many cells along z, from its first cell to its last.
-fn row(deep: u8) -> Job {
+fn row(deep: u16) -> Job {
     default_job([1, 1, deep], &[wire([0, 0, deep - 1], facing::NONE)])
 }
 
@@ -98,7 +98,7 @@ fn shut_in_cases() -> Vec<Named> {
     let reserved = but(row(5), |job| job.reserved.push([0, 0, 2]));
     let second = but(row(6), |job| {
         job.source.at = [0, 0, 2];
-        job.sinks.push(wire([0, 0, 1], facing::NONE));
+        job.sinks.push(wire([0, 0, 1], facing::NONE).into());
         job.blocks.push(block(0, [0, 0, 4], kind::SOLID));
     });
     let mut over = default_job([1, 2, 3], &[wire([0, 1, 2], facing::NONE)]);
@@ -276,9 +276,9 @@ fn order() -> Vec<Named> {
         (6, |_| {}),
         (2, |job| job.sides[1] = 0),
         (3, |job| job.config.support = 100_001),
-        (4, |job| job.sinks[0].at = [0, 0, 3]),
+        (4, |job| job.sinks[0].port.at = [0, 0, 3]),
         (6, |job| job.blocks.push(block(0, [0, 0, 1], kind::SOLID))),
-        (6, |job| job.sinks[0].kind = 1),
+        (6, |job| job.sinks[0].port.kind = 1),
     ];
     let mut list = Vec::new();
     for shorten in short {

@@ -3,7 +3,7 @@
 use super::{Mend, but};
 use crate::Refusal;
 use crate::generate::count_places;
-use crate::room::{Config, MOST_CELLS, MOST_COST, MOST_NODES, facing, kind};
+use crate::room::{Config, Ranges, facing, kind};
 use crate::samples::{block, block_power, default_job, wire};
 use crate::sheet::{Block, Job, MOST_SINKS, Port, Sheet, TreeAnswer};
 
@@ -41,7 +41,7 @@ pub fn sheet(job: &Job) -> Sheet {
     Sheet::of_route(job.bytes())
 }
 
-fn blocked_by(sides: [u8; 3], sinks: &[Port], blocks: &[Block]) -> Job {
+fn blocked_by(sides: [u16; 3], sinks: &[Port], blocks: &[Block]) -> Job {
     Job {
         blocks: blocks.to_vec(),
         ..default_job(sides, sinks)
@@ -49,7 +49,7 @@ fn blocked_by(sides: [u8; 3], sinks: &[Port], blocks: &[Block]) -> Job {
 }
 
 /// A sink at (x, 0, 0) without facing.
-fn plain_sink(x: u8) -> Port {
+fn plain_sink(x: u16) -> Port {
     wire([x, 0, 0], facing::NONE)
 }
 
@@ -94,17 +94,14 @@ fn tree_readings() -> Vec<(&'static str, Sheet, TreeAnswer)> {
 /// A way of one cell's width: 13 steps without a straight cell, then straight on to a BlockPower sink, which has no tail.
 fn zigzag() -> (&'static str, Sheet, TreeAnswer) {
     let steps = (0..7).flat_map(|i| [[i, 0, i], [i + 1, 0, i]]);
-    let way: Vec<[u8; 3]> = steps.chain((7..12).map(|z| [7, 0, z])).collect();
+    let way: Vec<[u16; 3]> = steps.chain((7..12).map(|z| [7, 0, z])).collect();
     let room = (0..8).flat_map(|x| (0..14).map(move |z| [x, 0, z]));
     let mut job = default_job([8, 1, 14], &[block_power([7, 0, 12], facing::NORTH)]);
     job.blocks = room
         .filter(|at| !way.contains(at))
         .map(|at| block(0, at, kind::SOLID))
         .collect();
-    let branch: Vec<u16> = way
-        .iter()
-        .map(|[x, _, z]| u16::from(*x) * 14 + u16::from(*z))
-        .collect();
+    let branch: Vec<u16> = way.iter().map(|[x, _, z]| *x * 14 + *z).collect();
     let first_straight = branch[14];
     (
         "where no cell fits for a repeater, the walk goes on to the next cell",
@@ -184,19 +181,19 @@ fn record_refusals() -> Vec<(&'static str, Sheet, TreeAnswer)> {
             job.reserved.push([255; 3])
         }),
         changed("the source outside", 4, |job| job.source.at[0] = 3),
-        changed("a sink outside", 4, |job| job.sinks[0].at[0] = 3),
+        changed("a sink outside", 4, |job| job.sinks[0].port.at[0] = 3),
         changed("Air in a block record", 5, |job| job.blocks[0].kind = 0),
         changed("kind 13", 5, |job| job.blocks[0].kind = 13),
         changed("a block's facing 7", 5, |job| job.blocks[0].facing = 7),
         changed("port kind 2", 5, |job| job.source.kind = 2),
-        changed("a sink's facing 7", 5, |job| job.sinks[0].facing = 7),
+        changed("a sink's facing 7", 5, |job| job.sinks[0].port.facing = 7),
         changed("4 before 5 in one record", 4, |job| {
             job.blocks[0].kind = 13;
             job.blocks[0].at[0] = 3;
         }),
         changed("an earlier record's 5 before a later one's 4", 5, |job| {
             job.blocks[0].kind = 13;
-            job.sinks[0].at[0] = 3;
+            job.sinks[0].port.at[0] = 3;
         }),
     ]
 }
@@ -326,7 +323,7 @@ fn tree_order() -> Vec<(&'static str, Sheet, TreeAnswer)> {
     job.config.node_limit = 200_001;
     job.reserved = vec![[5, 0, 0]];
     job.source = block_power([0, 0, 0], facing::NONE);
-    job.sinks = vec![wire([4, 0, 0], facing::EAST); 17];
+    job.sinks = vec![wire([4, 0, 0], facing::EAST).into(); 17];
     let mut queue = 0;
     let mends: [(u8, u32, Mend<Job>); 9] = [
         (1, 0, |job| job.sinks.truncate(1)),
@@ -336,7 +333,7 @@ fn tree_order() -> Vec<(&'static str, Sheet, TreeAnswer)> {
         (6, 0, |_| {}),
         (7, 1, |job| job.blocks.truncate(1)),
         (8, 0, |job| job.source = wire([0, 0, 0], facing::NONE)),
-        (9, 1, |job| job.sinks[0].facing = facing::NONE),
+        (9, 1, |job| job.sinks[0].port.facing = facing::NONE),
         (14, 4, |_| {}),
     ];
     let mut list = Vec::new();
@@ -352,7 +349,7 @@ fn tree_order() -> Vec<(&'static str, Sheet, TreeAnswer)> {
 
 /// A job in the largest room, with buffers that just hold it.
 fn large(job: &Job) -> Sheet {
-    lent(job, |sheet| sheet.lent = MOST_CELLS as u32)
+    lent(job, |sheet| sheet.lent = Ranges::OLD.cells as u32)
 }
 
 /// Rooms at their limits: what is in range, and what is refused one further on.
@@ -390,7 +387,11 @@ fn room_limits() -> Vec<(&'static str, Sheet, TreeAnswer)> {
 /// Sixteen sinks, and the last of them at fault. Seventeen are among the sheets that number 1 refuses.
 fn sink_limits() -> [(&'static str, Sheet, TreeAnswer); 3] {
     let full = default_job([2, 1, 1], &[plain_sink(1); MOST_SINKS]);
-    let last = |port| sheet(&but(full.clone(), |job| job.sinks[MOST_SINKS - 1] = port));
+    let last = |port| {
+        sheet(&but(full.clone(), |job| {
+            job.sinks[MOST_SINKS - 1].port = port
+        }))
+    };
     [
         (
             "16 sinks",
@@ -413,11 +414,12 @@ fn sink_limits() -> [(&'static str, Sheet, TreeAnswer); 3] {
 /// The node limit and each cost at its limit, and one over.
 fn config_limits() -> Vec<(&'static str, Sheet, TreeAnswer)> {
     let job = default_job([2, 1, 1], &[plain_sink(1)]);
+    let most = Ranges::OLD;
     let numbers: [(u32, fn(&mut Config, u32)); 4] = [
-        (MOST_NODES, |config, number| config.node_limit = number),
-        (MOST_COST, |config, number| config.horizontal = number),
-        (MOST_COST, |config, number| config.stair = number),
-        (MOST_COST, |config, number| config.support = number),
+        (most.nodes, |config, number| config.node_limit = number),
+        (most.cost, |config, number| config.horizontal = number),
+        (most.cost, |config, number| config.stair = number),
+        (most.cost, |config, number| config.support = number),
     ];
     let mut list = Vec::new();
     for (most, set) in numbers {

@@ -1,12 +1,14 @@
 //! Cases that the numbers 1 to 9 refuse.
 
+use super::is_hall;
 use crate::rng::Rng;
-use crate::room::{MOST_COST, MOST_NODES, Room, facing, kind, port};
+use crate::room::{Ranges, Room, facing, kind, port};
 use crate::search::Search;
 use crate::sheet::{HEAD, Job, MOST_SINKS, Port, Sheet};
+use crate::version::{MOST_LIMIT, Version};
 
-/// Sides that are no room: 0, over 64, or more than 16,384 cells; the last is the room of least cells above.
-const BAD_SIDES: [[u8; 3]; 6] = [
+/// Sides that a sheet of version 1 or 2 can't have: 0, over 64, or more than 16,384 cells; the last is the room of least cells above.
+const BAD_SIDES: [[u16; 3]; 6] = [
     [0, 1, 1],
     [3, 0, 2],
     [65, 1, 1],
@@ -14,6 +16,30 @@ const BAD_SIDES: [[u8; 3]; 6] = [
     [64, 5, 64],
     [23, 23, 31],
 ];
+
+/// Sides that are no room: 0, or more than 65,536 cells. They can be stored, a byte each.
+const NO_ROOMS: [[u16; 3]; 6] = [
+    [0, 1, 1],
+    [3, 0, 2],
+    [255, 255, 2],
+    [2, 129, 255],
+    [41, 40, 40],
+    [64, 200, 6],
+];
+
+/// The same with sides over 300; some have a low byte that would be one.
+const NO_HALLS: [[u16; 3]; 6] = [
+    [300, 0, 1],
+    [301, 1, 1],
+    [2, 3, 256 + 64],
+    [257, 256, 1],
+    [300, 9, 25],
+    [1, 65_535, 1],
+];
+
+fn no_room(rng: &mut Rng, is_hall: bool) -> [u16; 3] {
+    rng.pick(if is_hall { &NO_HALLS } else { &NO_ROOMS })
+}
 
 /// One or two faults of a search.
 pub fn damage_search(rng: &mut Rng, room: &Room, case: &mut Search) {
@@ -27,8 +53,8 @@ fn damage_search_once(rng: &mut Rng, room: &Room, case: &mut Search) {
     let cells = room.cells() as u32;
     let outside = rng.pick(&[cells, cells + 1, u32::MAX]);
     match rng.below(10) {
-        0 | 1 => case.sides = rng.pick(&BAD_SIDES),
-        2 | 3 => damage_config(rng, &mut case.config),
+        0 | 1 => case.sides = no_room(rng, is_hall(room)),
+        2 | 3 => damage_config(rng, &Ranges::WIDE, &mut case.config),
         4 => case.kinds.push(kind::AIR),
         5 => case.kinds.truncate(rng.pick(&[0, room.cells() - 1])),
         6 if rng.percent(50) => case.lent = rng.pick(&[0, cells - 1]),
@@ -43,10 +69,10 @@ fn damage_search_once(rng: &mut Rng, room: &Room, case: &mut Search) {
     }
 }
 
-pub fn damage_config(rng: &mut Rng, config: &mut crate::room::Config) {
-    let over = rng.pick(&[MOST_COST + 1, u32::MAX]);
+pub fn damage_config(rng: &mut Rng, ranges: &Ranges, config: &mut crate::room::Config) {
+    let over = rng.pick(&[ranges.cost + 1, u32::MAX]);
     match rng.below(4) {
-        0 => config.node_limit = rng.pick(&[MOST_NODES + 1, u32::MAX]),
+        0 => config.node_limit = rng.pick(&[ranges.nodes + 1, u32::MAX]),
         1 => config.horizontal = over,
         2 => config.stair = over,
         _ => config.support = over,
@@ -80,8 +106,9 @@ pub fn damage_buffers(rng: &mut Rng, cells: u32, sheet: &mut Sheet) {
 
 fn damage_job(rng: &mut Rng, job: &mut Job) {
     match rng.below(18) {
+        0 | 1 if job.version == Version::THREE => job.sides = no_room(rng, true),
         0 | 1 => job.sides = rng.pick(&BAD_SIDES),
-        2 | 3 => damage_config(rng, &mut job.config),
+        2 | 3 => damage_config(rng, &job.version.ranges, &mut job.config),
         4..8 => {
             for _ in 0..rng.pick(&[1, 1, 2]) {
                 damage_record(rng, job);
@@ -95,7 +122,7 @@ fn damage_job(rng: &mut Rng, job: &mut Job) {
 
 /// A record of a sheet: its position, and its codes, each with bad values.
 struct Record<'a> {
-    at: &'a mut [u8; 3],
+    at: &'a mut [u16; 3],
     codes: Vec<(&'a mut u8, &'static [u8])>,
 }
 
@@ -111,7 +138,8 @@ fn block_records(job: &mut Job) -> Vec<Record<'_>> {
 }
 
 fn port_records(job: &mut Job) -> Vec<Record<'_>> {
-    let ports = std::iter::once(&mut job.source).chain(&mut job.sinks);
+    let sinks = job.sinks.iter_mut().map(|sink| &mut sink.port);
+    let ports = std::iter::once(&mut job.source).chain(sinks);
     let ports = ports.map(|port| Record {
         at: &mut port.at,
         codes: vec![
@@ -177,7 +205,8 @@ fn damage_ports(rng: &mut Rng, job: &mut Job) {
     let last = job.sides.map(|side| side.wrapping_sub(1));
     for _ in 0..rng.between(1, 3) {
         let chosen = rng.below(job.sinks.len() + 2);
-        let port = job.sinks.get_mut(chosen).unwrap_or(&mut job.source);
+        let sink = job.sinks.get_mut(chosen);
+        let port = sink.map_or(&mut job.source, |sink| &mut sink.port);
         if rng.percent(40) {
             turn_port(rng, port);
         } else {
@@ -193,7 +222,7 @@ fn turn_port(rng: &mut Rng, port: &mut Port) {
 }
 
 /// A port at a wall that looks out of the room: number 9.
-fn push_out_port(rng: &mut Rng, port: &mut Port, last: [u8; 3]) {
+fn push_out_port(rng: &mut Rng, port: &mut Port, last: [u16; 3]) {
     let (axis, at, facing) = rng.pick(&[
         (2, 0, facing::NORTH),
         (0, last[0], facing::EAST),
@@ -205,8 +234,25 @@ fn push_out_port(rng: &mut Rng, port: &mut Port, last: [u8; 3]) {
     port.facing = facing;
 }
 
+/// A limit that is none, of the run or of a sink: number 3. Sometimes the sink has another fault as well.
+pub fn damage_limits(rng: &mut Rng, job: &mut Job) {
+    let last = job.sides;
+    let bad = rng.pick(&[0, MOST_LIMIT + 1, 255]);
+    let chosen = rng.below(job.sinks.len() + 1);
+    let Some(sink) = job.sinks.get_mut(chosen) else {
+        job.run = bad;
+        return;
+    };
+    sink.tail = bad;
+    match rng.below(5) {
+        0 => sink.port.at[0] = last[0],
+        1 => sink.port.facing = facing::LAST + 1,
+        _ => {}
+    }
+}
+
 fn too_many_sinks(job: &mut Job) {
-    let sink = job.sinks.first().copied().unwrap_or(job.source);
+    let sink = job.sinks.first().copied().unwrap_or(job.source.into());
     job.sinks.resize(MOST_SINKS + 1, sink);
 }
 
@@ -218,7 +264,14 @@ fn damage_bytes(rng: &mut Rng, job: &Job, bytes: &mut Vec<u8>) {
             bytes.truncate(rng.between(HEAD, bytes.len() - 1));
             set_length(bytes, 0);
         }
-        2 => bytes[0] = rng.pick(&[0, 2, 255]),
+        2 => {
+            let others = match job.version.number {
+                1 => [0, 2, 255],
+                2 => [1, 3, 255],
+                _ => [1, 2, 4],
+            };
+            bytes[0] = rng.pick(&others);
+        }
         3 => set_length(bytes, rng.pick(&[1, u32::MAX])),
         4 => bytes.push(0),
         5 => {
@@ -244,11 +297,13 @@ fn set_length(bytes: &mut [u8], by: u32) {
 
 /// Where the low byte of each count stands.
 pub fn count_places(job: &Job) -> [usize; 6] {
-    let blocks = HEAD + 3 + 16 + 1;
-    let conductors = blocks + 2 + 7 * job.blocks.len();
-    let clearances = conductors + 2 + 3 * job.conductors.len();
-    let terminals = clearances + 2 + 3 * job.clearances.len();
-    let reserved = terminals + 2 + 3 * job.terminals.len();
-    let sinks = reserved + 1 + 3 * job.reserved.len() + 5;
+    let version = &job.version;
+    let position = version.position_bytes();
+    let blocks = version.lists_at() + 1;
+    let conductors = blocks + 2 + version.block_bytes() * job.blocks.len();
+    let clearances = conductors + 2 + position * job.conductors.len();
+    let terminals = clearances + 2 + position * job.clearances.len();
+    let reserved = terminals + 2 + position * job.terminals.len();
+    let sinks = reserved + 1 + position * job.reserved.len() + version.source_bytes();
     [blocks, conductors, clearances, terminals, reserved, sinks]
 }

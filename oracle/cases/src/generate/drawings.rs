@@ -81,6 +81,7 @@ fn damage(rng: &mut Rng, case: &mut Drawing) {
     let faults = rng.pick(&[1, 1, 2]);
     for _ in 0..faults {
         match rng.below(7) {
+            0 if rng.percent(50) => case.sides = [255, 2, 129],
             0 => case.sides[rng.below(3)] = rng.pick(&[0, 65, 255]),
             1 => case.kinds.truncate(rng.pick(&[0, cells as usize - 1])),
             2 => case.kinds.push(kind::AIR),

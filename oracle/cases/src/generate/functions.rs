@@ -24,8 +24,8 @@ pub fn random_function(rng: &mut Rng, profile: Profile) -> Function {
     Function::Read(case)
 }
 
-fn sides_of(room: &Room) -> [u8; 3] {
-    room.sides().map(|side| side as u8)
+fn sides_of(room: &Room) -> [u16; 3] {
+    room.sides().map(|side| side as u16)
 }
 
 /// Known blocks, Air among them as often as it may be.
@@ -84,11 +84,11 @@ fn put_one(rng: &mut Rng, bytes: &mut [u8], byte: impl Fn(&mut Rng) -> u8) {
     }
 }
 
-fn damage_sides(rng: &mut Rng, sides: &mut [u8; 3]) {
+fn damage_sides(rng: &mut Rng, sides: &mut [u16; 3]) {
     let axis = rng.below(3);
     sides[axis] = rng.pick(&[0, 65, 200, 255]);
     if rng.percent(30) {
-        *sides = [64, 64, 5];
+        *sides = rng.pick(&[[64, 64, 5], [41, 40, 40], [255, 129, 2]]);
     }
 }
 

@@ -3,7 +3,11 @@
 mod damage;
 mod drawings;
 mod functions;
+mod halls;
+mod limits;
+mod lists;
 mod parts;
+mod plans;
 mod searches;
 mod sheets;
 mod site;
@@ -15,18 +19,25 @@ mod whys;
 pub use damage::count_places;
 pub use drawings::random_drawing;
 pub use functions::random_function;
+pub use limits::{random_limit_sheet, set_limits};
+pub use lists::random_list;
 pub use parts::random_parts;
+pub use plans::random_plan;
 pub use searches::{random_plain_search, random_search};
 pub use sheets::random_sheet;
 pub use strict::random_strict;
 pub use tree_whys::random_tree_why;
 pub use whys::random_why;
 
+use halls::{hall_config, hall_sides, is_hall};
+
 use crate::drawing::Drawing;
 use crate::function::Function;
+use crate::limits::LimitSheet;
 use crate::parts::Parts;
+use crate::plan::Plan;
 use crate::rng::Rng;
-use crate::room::{Config, MOST_CELLS, MOST_COST, MOST_NODES, Room};
+use crate::room::{Config, Ranges, Room};
 use crate::search::Search;
 use crate::sheet::Sheet;
 use crate::strict::StrictSheet;
@@ -44,16 +55,19 @@ pub enum Profile {
     Middle,
     /// Up to 16,384 cells.
     Large,
-    /// All of them, mostly tiny and small.
+    /// At and above the limits that rooms and costs once had: a side over 64, up to 65,536 cells, costs that are just good or one too dear.
+    Halls,
+    /// All but halls, mostly tiny and small.
     Mixed,
 }
 
 impl Profile {
-    pub const NAMES: [(&'static str, Self); 5] = [
+    pub const NAMES: [(&'static str, Self); 6] = [
         ("tiny", Self::Tiny),
         ("small", Self::Small),
         ("middle", Self::Middle),
         ("large", Self::Large),
+        ("halls", Self::Halls),
         ("mixed", Self::Mixed),
     ];
 
@@ -72,6 +86,13 @@ pub fn drawings(seed: u64, count: u32, profile: Profile) -> Vec<Drawing> {
         .collect()
 }
 
+/// A list of random nets of which repeaters are asked.
+pub fn plans(seed: u64, count: u32, profile: Profile) -> Vec<Plan> {
+    (0..u64::from(count))
+        .map(|index| random_plan(&mut Rng::for_case(seed, index), profile))
+        .collect()
+}
+
 /// A list of random searches.
 pub fn searches(seed: u64, count: u32, profile: Profile) -> Vec<Search> {
     (0..u64::from(count))
@@ -83,6 +104,13 @@ pub fn searches(seed: u64, count: u32, profile: Profile) -> Vec<Search> {
 pub fn sheets(seed: u64, count: u32, profile: Profile) -> Vec<Sheet> {
     (0..u64::from(count))
         .map(|index| random_sheet(&mut Rng::for_case(seed, index), profile))
+        .collect()
+}
+
+/// A list of random sheets at any limits.
+pub fn limit_sheets(seed: u64, count: u32, profile: Profile) -> Vec<LimitSheet> {
+    (0..u64::from(count))
+        .map(|index| random_limit_sheet(&mut Rng::for_case(seed, index), profile))
         .collect()
 }
 
@@ -133,12 +161,14 @@ fn random_room(rng: &mut Rng, profile: Profile, shares: [usize; 4]) -> Room {
             Profile::Small => small_sides(rng),
             Profile::Middle => [rng.between(4, 24), rng.between(1, 10), rng.between(4, 24)],
             Profile::Large | Profile::Mixed => large_sides(rng),
+            Profile::Halls => hall_sides(rng),
         };
         let most_cells = match size {
             Profile::Middle => 2_400,
-            _ => MOST_CELLS,
+            Profile::Halls => Ranges::WIDE.cells,
+            _ => Ranges::OLD.cells,
         };
-        if let Some(room) = Room::new(sides.map(|side| side as u8), most_cells) {
+        if let Some(room) = Room::new(sides.map(|side| side as u16), most_cells) {
             return room;
         }
     }
@@ -185,8 +215,13 @@ fn large_sides(rng: &mut Rng) -> [usize; 3] {
     }
 }
 
-/// Costs in range: the default, above 10 and 20, below, none, at the limits, anywhere.
+/// Costs in range: the default, above 10 and 20, below, none, at the limits, anywhere. In a hall they may be those of halls.
 fn random_config(rng: &mut Rng, room: &Room) -> Config {
+    if is_hall(room) && rng.percent(60) {
+        return hall_config(rng, room);
+    }
+    const MOST_COST: u32 = Ranges::OLD.cost;
+    const MOST_NODES: u32 = Ranges::OLD.nodes;
     let [horizontal, stair, support] = match rng.below(20) {
         0..9 => {
             let default = Config::DEFAULT;

@@ -4,11 +4,12 @@
 use super::damage::damage_config;
 use super::sheets::random_job;
 use super::{Profile, around, random_config, random_room};
-use crate::parts::{BLOCK, END, POSITION, Parts};
+use crate::parts::{BLOCK, POSITION, Parts, SINK, SOURCE};
 use crate::rng::Rng;
-use crate::room::{MOST_SIDE, Room, facing, kind, port};
+use crate::room::{MOST_SIDE, Ranges, Room, facing, kind, port};
 use crate::samples::default_job;
 use crate::sheet::{MOST_BYTES, MOST_SINKS};
+use crate::version::{MOST_LIMIT, USUAL_RUN, USUAL_TAIL};
 
 /// One in three is damaged; of one in four the output isn't of just the sheet's length. The tiny profile has no long sheets.
 pub fn random_parts(rng: &mut Rng, profile: Profile) -> Parts {
@@ -18,6 +19,9 @@ pub fn random_parts(rng: &mut Rng, profile: Profile) -> Parts {
     } else {
         arbitrary(rng, &room)
     };
+    if rng.percent(60) {
+        set_limits(rng, &mut parts);
+    }
     if profile != Profile::Tiny && rng.percent(1) {
         lengthen(rng, &mut parts);
     }
@@ -50,8 +54,24 @@ fn arbitrary(rng: &mut Rng, room: &Room) -> Parts {
     }
     parts.source = end(rng, sides).to_vec();
     let sinks = rng.pick(&[0, 1, 2, 3, 7, MOST_SINKS - 1, MOST_SINKS]);
-    parts.sinks = (0..sinks).flat_map(|_| end(rng, sides)).collect();
+    parts.sinks = (0..sinks).flat_map(|_| sink(rng, sides)).collect();
     parts
+}
+
+/// Other limits than the usual ones: of all, of the run alone, or of one sink alone, so that a single number asks for version 2.
+fn set_limits(rng: &mut Rng, parts: &mut Parts) {
+    let limit = |rng: &mut Rng| rng.between(1, MOST_LIMIT.into()) as u16;
+    let which = rng.below(4);
+    if which < 3 {
+        parts.run = limit(rng).into();
+    }
+    let sinks = parts.sinks.len() / SINK;
+    let one = rng.below(sinks.max(1));
+    for (place, sink) in parts.sinks.chunks_exact_mut(SINK).enumerate() {
+        if which < 2 || which == 3 && place == one {
+            sink[SOURCE] = limit(rng);
+        }
+    }
 }
 
 fn count(rng: &mut Rng) -> usize {
@@ -74,10 +94,15 @@ fn block(rng: &mut Rng, sides: [u32; 3]) -> [u16; BLOCK] {
     [node, x, y, z, code, code_up_to(rng, facing::LAST)]
 }
 
-fn end(rng: &mut Rng, sides: [u32; 3]) -> [u16; END] {
+fn end(rng: &mut Rng, sides: [u32; 3]) -> [u16; SOURCE] {
     let [x, y, z] = position(rng, sides);
     let port = code_up_to(rng, port::LAST);
     [x, y, z, port, code_up_to(rng, facing::LAST)]
+}
+
+fn sink(rng: &mut Rng, sides: [u32; 3]) -> [u16; SINK] {
+    let [x, y, z, port, facing] = end(rng, sides);
+    [x, y, z, port, facing, USUAL_TAIL.into()]
 }
 
 fn code_up_to(rng: &mut Rng, last: u8) -> u16 {
@@ -107,12 +132,16 @@ fn lengthen(rng: &mut Rng, parts: &mut Parts) {
 fn damage(rng: &mut Rng, parts: &mut Parts) {
     match rng.below(12) {
         0 => damage_sides(rng, parts),
-        1 => damage_config(rng, &mut parts.config),
+        1 if rng.percent(50) => {
+            let ranges = rng.pick(&[Ranges::OLD, Ranges::WIDE]);
+            damage_config(rng, &ranges, &mut parts.config);
+        }
+        1 => damage_limit(rng, parts),
         2..4 => damage_length(rng, parts),
         4 => {
             let sides = parts.sides.map(|side| side.clamp(1, MOST_SIDE.into()));
             let sinks = rng.pick(&[MOST_SINKS + 1, MOST_SINKS + 2, 51, 52, 256, 257]);
-            parts.sinks = (0..sinks).flat_map(|_| end(rng, sides)).collect();
+            parts.sinks = (0..sinks).flat_map(|_| sink(rng, sides)).collect();
         }
         _ => damage_number(rng, parts),
     }
@@ -123,15 +152,39 @@ fn damage_sides(rng: &mut Rng, parts: &mut Parts) {
     let axis = rng.below(3);
     let low = parts.sides[axis];
     let over = |by: u32| low.wrapping_add(by);
-    parts.sides[axis] = rng.pick(&[0, 65, 255, over(1 << 8), over(1 << 16), u32::MAX, 1 << 31]);
+    parts.sides[axis] = rng.pick(&[
+        0,
+        65,
+        255,
+        300,
+        301,
+        over(1 << 8),
+        over(1 << 16),
+        u32::MAX,
+        1 << 31,
+    ]);
     if rng.percent(30) {
         parts.sides = rng.pick(&[
             [64, 5, 64],
             [23, 23, 31],
+            [256, 257, 1],
+            [300, 8, 28],
             [1 << 16, 1 << 16, 1],
             [u32::MAX; 3],
         ]);
     }
+}
+
+/// A limit that is none: 0, 16, or one whose low byte or low bits would be a limit.
+fn damage_limit(rng: &mut Rng, parts: &mut Parts) {
+    let sinks = parts.sinks.len() / SINK;
+    if sinks == 0 || rng.percent(50) {
+        let low = u32::from(USUAL_RUN);
+        parts.run = rng.pick(&[0, 16, 255, 256 + low, (1 << 16) + low, u32::MAX]);
+        return;
+    }
+    let place = rng.below(sinks) * SINK + SOURCE;
+    parts.sinks[place] = rng.pick(&[0, 16, 255, 256 + u16::from(USUAL_TAIL), u16::MAX]);
 }
 
 /// Every list, with the numbers of a record.
@@ -144,7 +197,7 @@ fn every_list(parts: &mut Parts) -> Vec<(&mut Vec<u16>, usize)> {
         ..
     } = parts;
     let positions = lists.iter_mut().map(|list| (list, POSITION));
-    let others = [(blocks, BLOCK), (source, END), (sinks, END)];
+    let others = [(blocks, BLOCK), (source, SOURCE), (sinks, SINK)];
     others.into_iter().chain(positions).collect()
 }
 

@@ -41,7 +41,7 @@ pub fn sound_search(
     build(rng, &room, &mut kinds, [start, goal]);
     let cells = room.cells();
     let mut case = Search {
-        sides: room.sides().map(|side| side as u8),
+        sides: room.sides().map(|side| side as u16),
         config: random_config(rng, &room),
         start: start as u32,
         goal: goal as u32,

@@ -3,13 +3,14 @@
 use super::damage::{damage_buffers, damage_sheet};
 use super::site::{Site, at, is_large};
 use super::terrain::random_terrain;
-use super::{Profile, around, random_config, random_room};
+use super::{Profile, around, is_hall, random_config, random_room};
 use crate::Refusal;
 use crate::rng::Rng;
 use crate::room::{Room, facing, kind};
 use crate::samples::{block, default_job, wire};
 use crate::sheet::{Block, Job, MOST_BYTES, MOST_SINKS, Sheet};
 use crate::tree::{Limits, ROUTE_LIMITS, realize, route_net_tree};
+use crate::version::Version;
 
 /// Of 200 rooms of the mixed profile: tiny, small, middle, large.
 const SHARES: [usize; 4] = [40, 125, 31, 4];
@@ -25,6 +26,9 @@ pub fn random_sheet(rng: &mut Rng, profile: Profile) -> Sheet {
     } else {
         random_job(rng, &room)
     };
+    if is_hall(&room) {
+        job.version = Version::THREE;
+    }
     let cells = room.cells() as u32;
     let mut sheet = Sheet {
         queue: 12 * cells,
@@ -45,7 +49,7 @@ pub fn random_sheet(rng: &mut Rng, profile: Profile) -> Sheet {
 /// A sink whose goal needs some 64 attempts. A terrace one step high has about as many places to step up to it; all but the
 /// farthest have a block in the clearance, and each is met as a conflict before that one is tried.
 fn terrace(rng: &mut Rng) -> Sheet {
-    let (wide, deep) = (rng.between(4, 6) as u8, rng.between(62, 64) as u8);
+    let (wide, deep) = (rng.between(4, 6) as u16, rng.between(62, 64) as u16);
     let solid = |at| block(0, at, kind::SOLID);
     let mut job = default_job([wide, 2, deep], &[wire([0, 0, 0], facing::NONE)]);
     job.source.at = [wide - 1, 1, 0];
@@ -58,7 +62,7 @@ fn terrace(rng: &mut Rng) -> Sheet {
         }
     }
     if rng.percent(50) {
-        std::mem::swap(&mut job.source, &mut job.sinks[0]);
+        std::mem::swap(&mut job.source, &mut job.sinks[0].port);
     }
     Sheet::of_route(job.bytes())
 }
@@ -79,7 +83,7 @@ pub(super) fn random_job(rng: &mut Rng, room: &Room) -> Job {
     let mut job = Job {
         config: random_config(rng, room),
         blocks: random_blocks(rng, room, &kinds),
-        ..default_job(room.sides().map(|side| side as u8), &[])
+        ..default_job(room.sides().map(|side| side as u16), &[])
     };
     let mut site = Site { room, kinds };
     if rng.percent(40) {
@@ -181,15 +185,15 @@ fn tighten(rng: &mut Rng, job: &Job, room: &Room, sheet: &mut Sheet) {
     }
 }
 
-/// A sheet of exactly 60,000 bytes, which is read, or of one byte more, which is not. Sinks are repeated or taken out until
-/// reserved cells of three bytes each fill it exactly.
+/// A sheet of version 1 of exactly 60,000 bytes, which is read, or of one byte more, which is not. Sinks, of five bytes there, are
+/// repeated or taken out until reserved cells of three bytes each fill it exactly.
 fn fill_up(rng: &mut Rng, job: &mut Job, sheet: &mut Sheet) {
     let length = MOST_BYTES + rng.below(2);
-    if job.bytes().len() + 10 > length {
+    if job.version.number != 1 || job.bytes().len() + 10 > length {
         return;
     }
     let missing = |job: &Job| length - job.bytes().len();
-    let sink = job.sinks.first().copied().unwrap_or(job.source);
+    let sink = job.sinks.first().copied().unwrap_or(job.source.into());
     let repeat = job.sinks.len() <= MOST_SINKS - 2;
     while missing(job) % 3 != 0 {
         if repeat {

@@ -10,8 +10,8 @@ pub fn is_large(room: &Room) -> bool {
     room.cells() > 3_000
 }
 
-pub fn at(place: Place) -> [u8; 3] {
-    [place.x, place.y, place.z].map(|side| side as u8)
+pub fn at(place: Place) -> [u16; 3] {
+    [place.x, place.y, place.z].map(|side| side as u16)
 }
 
 /// Kinds with a keepout and kinds that look like it.
@@ -62,12 +62,12 @@ impl Site<'_> {
         job.source = self.random_port(rng, &mut job.blocks, terminal);
         for _ in 0..sinks {
             let sink = self.random_sink(rng, job);
-            job.sinks.push(sink);
+            job.sinks.push(sink.into());
         }
     }
 
     fn random_sink(&mut self, rng: &mut Rng, job: &mut Job) -> Port {
-        let last = job.sinks.last().unwrap_or(&job.source).at;
+        let last = job.sinks.last().map_or(&job.source, |sink| &sink.port).at;
         match rng.below(10) {
             // Two branches that meet in one terminal make a ring.
             0 => {
@@ -220,7 +220,10 @@ impl Site<'_> {
         let port = job.sinks.get(rng.below(job.sinks.len() + 1));
         match rng.below(2) {
             0 => self.random_place(rng),
-            _ => self.near(rng, Place::from(port.unwrap_or(&job.source).at), [2, 1, 2]),
+            _ => {
+                let port = port.map_or(&job.source, |sink| &sink.port);
+                self.near(rng, Place::from(port.at), [2, 1, 2])
+            }
         }
     }
 

@@ -27,11 +27,11 @@ fn block_more(rng: &mut Rng, room: &Room, job: &mut Job) {
     let [wide, _, deep] = room.sides();
     let mut at = || room.place(rng.below(room.cells()));
     let (first, any) = (at(), [at(), at(), at(), at()]);
-    let byte = |place: crate::room::Place| [place.x, place.y, place.z].map(|part| part as u8);
+    let byte = |place: crate::room::Place| [place.x, place.y, place.z].map(|part| part as u16);
     let [x, y, z] = byte(first);
     match rng.below(4) {
-        0 => job.conductors.extend((0..wide).map(|x| [x as u8, y, z])),
-        1 => job.conductors.extend((0..deep).map(|z| [x, y, z as u8])),
+        0 => job.conductors.extend((0..wide).map(|x| [x as u16, y, z])),
+        1 => job.conductors.extend((0..deep).map(|z| [x, y, z as u16])),
         2 => job.reserved.extend(any.map(byte)),
         _ => job.clearances.extend(any.map(byte)),
     }

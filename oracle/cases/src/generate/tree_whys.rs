@@ -68,7 +68,7 @@ fn damage(rng: &mut Rng, room: &Room, job: &mut Job, case: &mut TreeWhy) {
 
 /// A small empty room, or one with few blocks, and some sinks: where branches are in each other's way.
 fn tight(rng: &mut Rng) -> (Room, Job) {
-    let sides = [rng.between(1, 4), rng.between(2, 5), rng.between(1, 4)].map(|side| side as u8);
+    let sides = [rng.between(1, 4), rng.between(2, 5), rng.between(1, 4)].map(|side| side as u16);
     let room = Room::new(sides, 80).expect("a small room");
     let mut place = || at(room.place(rng.below(room.cells())));
     let ports: Vec<_> = (0..5).map(|_| wire(place(), facing::NONE)).collect();
@@ -125,7 +125,7 @@ fn shut_off(rng: &mut Rng, room: &Room, job: &mut Job, approach: usize) {
 }
 
 /// The cells of a closet round an end, from the floor to the ceiling; now and then without one of them.
-fn closet_cells(rng: &mut Rng, room: &Room, end: usize) -> Vec<[u8; 3]> {
+fn closet_cells(rng: &mut Rng, room: &Room, end: usize) -> Vec<[u16; 3]> {
     let high = room.sides()[1];
     let columns = closet(rng, room, end).into_iter();
     let mut cells: Vec<_> = columns
@@ -173,7 +173,7 @@ fn live_round(rng: &mut Rng, room: &Room, job: &mut Job, end: usize) {
 }
 
 /// Puts a block in its place, unless it is Air or one stands there.
-fn put_block(job: &mut Job, node: u16, at: [u8; 3], kind: u8) {
+fn put_block(job: &mut Job, node: u16, at: [u16; 3], kind: u8) {
     if kind != kind::AIR && job.blocks.iter().all(|other| other.at != at) {
         job.blocks.push(block(node, at, kind));
     }

@@ -6,7 +6,7 @@ use super::signs::{
 };
 use super::space::{AIR, FACINGS, Jobs, Searches};
 use super::{Fewer, Input, Point, Sign, draw};
-use crate::room::{Config, MOST_NODES, facing, kind, port};
+use crate::room::{Config, Ranges, facing, kind, port};
 use crate::samples::{default_job, default_search, wire};
 use crate::search::Search;
 use crate::sheet::{Job, MOST_SINKS};
@@ -43,7 +43,7 @@ const OPEN_ROOMS: Searches = Searches {
 };
 
 /// A search in a room of Air at these costs.
-fn priced(sides: [u8; 3], [horizontal, stair, support]: [u32; 3], ends: [u32; 2]) -> Search {
+fn priced(sides: [u16; 3], [horizontal, stair, support]: [u32; 3], ends: [u32; 2]) -> Search {
     let mut search = default_search(sides, ends[0], ends[1], &[]);
     search.config = Config {
         horizontal,
@@ -175,14 +175,14 @@ fn opposed() -> Job {
 /// A room with one sink, at these costs of a flat step, a stair and a support and at the highest node limit. Flat steps cost
 /// much, and stairs and supports next to nothing: cells are reached again and again at lower costs.
 fn steep(
-    sides: [u8; 3],
-    [source, sink]: [[u8; 3]; 2],
+    sides: [u16; 3],
+    [source, sink]: [[u16; 3]; 2],
     [horizontal, stair, support]: [u32; 3],
 ) -> Job {
     let mut job = default_job(sides, &[wire(sink, facing::NONE)]);
     job.source = wire(source, facing::NONE);
     job.config = Config {
-        node_limit: MOST_NODES,
+        node_limit: Ranges::OLD.nodes,
         horizontal,
         stair,
         support,

@@ -73,11 +73,11 @@ const THREE_SINKS: Jobs = Jobs {
     ..TWO_SINKS
 };
 
-fn plain(at: [u8; 3]) -> Port {
+fn plain(at: [u16; 3]) -> Port {
     wire(at, facing::NONE)
 }
 
-fn job(sides: [u8; 3], source: Port, sinks: &[Port], change: impl FnOnce(&mut Job)) -> Job {
+fn job(sides: [u16; 3], source: Port, sinks: &[Port], change: impl FnOnce(&mut Job)) -> Job {
     let mut job = default_job(sides, sinks);
     job.source = source;
     change(&mut job);
@@ -302,7 +302,7 @@ fn many_conflicts() -> Job {
 }
 
 /// A line of cells with the source at its beginning.
-fn line(cells: u8, sinks: &[u8]) -> Job {
+fn line(cells: u16, sinks: &[u16]) -> Job {
     let sinks: Vec<_> = sinks.iter().map(|x| plain([*x, 0, 0])).collect();
     default_job([cells, 1, 1], &sinks)
 }

@@ -6,17 +6,17 @@ use crate::search::Search;
 use crate::sheet::{Job, Port};
 
 /// The sides of every room of so many cells.
-pub fn rooms(cells: usize) -> Vec<[u8; 3]> {
+pub fn rooms(cells: usize) -> Vec<[u16; 3]> {
     let sides = || 1..=cells;
     let all = sides().flat_map(|x| sides().flat_map(move |y| sides().map(move |z| [x, y, z])));
     all.filter(|sides| sides.iter().product::<usize>() == cells)
-        .map(|sides| sides.map(|side| side as u8))
+        .map(|sides| sides.map(|side| side as u16))
         .collect()
 }
 
-fn position(room: &Room, cell: usize) -> [u8; 3] {
+fn position(room: &Room, cell: usize) -> [u16; 3] {
     let place = room.place(cell);
-    [place.x, place.y, place.z].map(|side| side as u8)
+    [place.x, place.y, place.z].map(|side| side as u16)
 }
 
 /// Counts up through all lists of digits, each below its base.
@@ -150,7 +150,7 @@ impl Jobs {
 
     fn walk_room(
         &self,
-        sides: [u8; 3],
+        sides: [u16; 3],
         sinks: usize,
         blocks: usize,
         shows: &dyn Fn(&Job) -> bool,
@@ -178,7 +178,7 @@ impl Jobs {
     }
 
     /// The job of these digits; none if its blocks are not in ascending order of their cells.
-    fn job(&self, room: &Room, sides: [u8; 3], sinks: usize, digits: &[usize]) -> Option<Job> {
+    fn job(&self, room: &Room, sides: [u16; 3], sinks: usize, digits: &[usize]) -> Option<Job> {
         let cells = room.cells();
         let (sinks, blocks) = digits[3..].split_at(sinks);
         if !blocks.is_sorted_by(|a, b| a % cells < b % cells) {
@@ -213,7 +213,7 @@ impl Jobs {
     }
 }
 
-fn list(job: &mut Job, which: usize) -> &mut Vec<[u8; 3]> {
+fn list(job: &mut Job, which: usize) -> &mut Vec<[u16; 3]> {
     match which {
         CONDUCTORS => &mut job.conductors,
         CLEARANCES => &mut job.clearances,
