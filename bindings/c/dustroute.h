@@ -17,7 +17,7 @@
  * `path` of a drawing, the lists of a sheet that is written, `sheet` of a tree, `kinds` and `facings` where a function file is
  * written, and its `text` where it is read.
  *
- * A room has sides of 1 to 64 and V = wide * high * deep cells, at most 16,384. The cell at (x, y, z) has the number
+ * A room has sides of 1 to 300 and V = wide * high * deep cells, at most 65,536. The cell at (x, y, z) has the number
  * (x * high + y) * deep + z.
  *
  * WHAT COMES BACK: a number, 0 for a route, a sheet, a tree, a text or a room, else one of those below.
@@ -41,7 +41,7 @@ enum dustroute_number {
     DUSTROUTE_DONE = 0,
     DUSTROUTE_SHEET = 1,          /* the sheet's length, version or counts, bytes left over, over 16 sinks; parts too long for one */
     DUSTROUTE_SIDES = 2,          /* a side or V is out of range */
-    DUSTROUTE_CONFIG = 3,         /* a cost is over 100,000 or the node limit over 200,000 */
+    DUSTROUTE_CONFIG = 3,         /* a cost, the node limit, a run or tail limit is out of range; or V times the dearest step is */
     DUSTROUTE_POSITION = 4,       /* a position is outside the room; a search's end or a drawn path's cell is V or more */
     DUSTROUTE_CODE = 5,           /* an unknown kind, facing or port kind; Air in a block record */
     DUSTROUTE_BUFFER = 6,         /* a buffer is too short, or kinds of a search or a drawing are not exactly V */
@@ -59,8 +59,8 @@ enum dustroute_number {
 };
 
 enum {
-    DUSTROUTE_MAX_SIDE = 64,
-    DUSTROUTE_MAX_CELLS = 16384,
+    DUSTROUTE_MAX_SIDE = 300,
+    DUSTROUTE_MAX_CELLS = 65536,
     DUSTROUTE_MAX_SINKS = 16,
     DUSTROUTE_MAX_SHEET = 60000,
     DUSTROUTE_SEARCH_VALUES = 4,
@@ -68,6 +68,7 @@ enum {
     DUSTROUTE_PLAIN_VALUES = 3,
     DUSTROUTE_ROUTE_VALUES = 1,
     DUSTROUTE_LIST_VALUES = 2,
+    DUSTROUTE_PLAN_VALUES = 2,
     DUSTROUTE_TREE_VALUES = 20,
     DUSTROUTE_TREE_WHY_VALUES = 22,
     DUSTROUTE_FUNCTION_VALUES = 2,
@@ -75,7 +76,11 @@ enum {
     DUSTROUTE_BLOCK_NUMBERS = 6,
     DUSTROUTE_POSITION_NUMBERS = 3,
     DUSTROUTE_END_NUMBERS = 5,
-    DUSTROUTE_LINE_BYTES = 76,
+    DUSTROUTE_SINK_NUMBERS = 6,
+    DUSTROUTE_USUAL_RUN = 12,
+    DUSTROUTE_USUAL_TAIL = 8,
+    DUSTROUTE_MAX_STEPS = 15,
+    DUSTROUTE_LINE_BYTES = 77,
     DUSTROUTE_MOVES = 12
 };
 
@@ -130,15 +135,16 @@ enum dustroute_cause {
 #define DUSTROUTE_WALLS_LENGTH(V) ((size_t)DUSTROUTE_MOVES * (V))
 #define DUSTROUTE_BRANCHES_LENGTH(V) ((size_t)DUSTROUTE_MAX_SINKS * ((V) + 1))
 
-/* A line of a function file has at most 76 bytes: so many for each cell that isn't Air hold its text, and never give 18. */
+/* A line of a function file has at most 77 bytes: so many for each cell that isn't Air hold its text, and never give 18. */
 #define DUSTROUTE_TEXT_LENGTH(blocks) ((size_t)DUSTROUTE_LINE_BYTES * (blocks))
 
 /* One search from `start` to `goal` in a room whose cells hold these kinds. May return 0, 2 to 6 and 10 to 13, and
  * judges 2, 3, 6, 5, 4, 10 in that order.
  *
- * limit          the most cells that may be expanded, up to 200,000
+ * limit          the most cells that may be expanded, up to 800,000
  * horizontal, stair, support
- *                what a flat step, a stair and a new support cost, in tenths, each up to 100,000
+ *                what a flat step, a stair and a new support cost, in tenths, each up to 1,000,000; V times the sum of
+ *                support and the dearer step is at most 3,300,000,000
  * kinds          V exactly: each cell's kind, 0 Air to 12 Piston; only read
  * path           V at least. Output: the route's cells, from start to goal
  * known, previous, classes
@@ -205,20 +211,25 @@ uint32_t dustroute_plain(
     uint8_t *classes, size_t classes_length,
     uint64_t *values, size_t values_length);
 
-/* The job sheet of a job's parts, told as 16-bit numbers. What was written is read as these parts, and the parts of a sheet that
- * is accepted give its own bytes back. May return 0 to 6, and judges 1, 2, 3, then 4 and 5 record by record, then 6. 1 is for
- * over 16 sinks, over 60,000 bytes, a list that is no whole number of records, or a source of another length.
+/* The job sheet of a job's parts, told as 16-bit numbers, in the lowest version that holds it. Version 1 means a `run` of
+ * DUSTROUTE_USUAL_RUN and tail limits of DUSTROUTE_USUAL_TAIL; version 2 has any; version 3 is for a side over 64, over 16,384 cells,
+ * a cost over 100,000 or a node limit over 200,000. What was written is read as these parts. The parts of a sheet that is accepted
+ * give its own bytes back; those of a sheet in a higher version than they need, the same job in the lower. May return 0 to 6, and judges 1,
+ * 2, 3, then record by record 4 and 5 and of a sink then 3, then 6. 1 is for over 16 sinks, over 60,000 bytes, a list that is no
+ * whole number of records, or a source of another length.
  *
+ * run            the run limit: so many steps past the last repeater need none. 1 to DUSTROUTE_MAX_STEPS
  * blocks         DUSTROUTE_BLOCK_NUMBERS a record: node, x, y, z, kind, facing; only read, as all lists
  * conductors, clearances, terminals, reserved
  *                DUSTROUTE_POSITION_NUMBERS a record: x, y, z
  * source         DUSTROUTE_END_NUMBERS: x, y, z, port kind, facing
- * sinks          as many for each sink
+ * sinks          DUSTROUTE_SINK_NUMBERS a record: as the source, and the tail limit: so many steps past its last repeater a Wire
+ *                sink bears, 1 to DUSTROUTE_MAX_STEPS
  * sheet          any length; DUSTROUTE_MAX_SHEET always suffices. Output: the sheet's bytes, and zeros behind them
  * values         DUSTROUTE_WRITE_VALUES at least. Output, untouched by numbers 1 to 6: 0, and how many bytes were written */
 uint32_t dustroute_write_sheet(
     size_t wide, size_t high, size_t deep,
-    uint32_t limit, uint32_t horizontal, uint32_t stair, uint32_t support,
+    uint32_t limit, uint32_t horizontal, uint32_t stair, uint32_t support, uint32_t run,
     const uint16_t *blocks, size_t blocks_length,
     const uint16_t *conductors, size_t conductors_length,
     const uint16_t *clearances, size_t clearances_length,
@@ -229,8 +240,8 @@ uint32_t dustroute_write_sheet(
     uint8_t *sheet, size_t sheet_length,
     uint64_t *values, size_t values_length);
 
-/* The tree of the one net that a job sheet describes. May return 0 to 9 and 13 to 15, and judges 1, 2, 3, then 4 and 5
- * record by record, then 6, 7, 8, 9, then per sink 13 or 14, then 15.
+/* The tree of the one net that a job sheet of any version describes. May return 0 to 9 and 13 to 15, and judges 1, 2, 3, then
+ * record by record 4 and 5 and of a sink then 3, then 6, 7, 8, 9, then per sink 13 or 14, then 15.
  *
  * sheet          the sheet's bytes, any number of them; only read
  * branches       any length; see DUSTROUTE_BRANCHES_LENGTH. Output: each sink's branch in sheet order, one behind another, from
@@ -384,6 +395,36 @@ uint32_t dustroute_insert_repeaters(
     uint8_t *facings, size_t facings_length,
     uint64_t *values, size_t values_length);
 
+/* ONE CALL FOR REPEATERS: where the repeaters of a net stand, by its source, sinks, branches and limits. The runs of all sinks are planned,
+ * and only then the tails; a sink that no branch joins to the source is passed over. The branches need be neither as many as the sinks nor
+ * end at their terminals; their order and direction change nothing. May return 0, 2, 3, 4, 5, 6, 8 and 9, judged so: 2; 3 for the run
+ * limit; the source by 4, then 5; each sink by 4, 5, then 3 for its tail limit; each branch by 4; then 6; all of 8; all of 9. The detail of
+ * 8 and 9 is 0 for the source, k for the k-th sink. 2 to 6 touch nothing; 8 and 9 leave everything lent zero.
+ *
+ * run            the run limit, 1 to 15; any other number is 3
+ * source         5 numbers: x, y, z, port (0 Wire, 1 BlockPower, as in a sheet), facing. Another length is 6, and then nothing of it is judged
+ * sinks          6 numbers each: those of the source, and the tail limit, 1 to 15, of a BlockPower sink too. No whole number of sinks, or over
+ *                sixteen, is 6; the whole ones, up to sixteen, are judged before
+ * branches       cells, one branch behind another; one of V or more, or a step that is none of the twelve moves, is 4. Only read
+ * lengths        one a branch, at most sixteen; over sixteen, or a sum of over branches_length, is 6; what is there is judged before
+ * repeaters      V at least. Output: 1 where a repeater stands, else 0, zeros behind
+ * classes, known, previous, path
+ *                V at least each: work memory, zero afterwards
+ * values         DUSTROUTE_PLAN_VALUES at least. Output, untouched by 2 to 6: the detail, and how many repeaters there are */
+uint32_t dustroute_place_repeaters(
+    size_t wide, size_t high, size_t deep,
+    uint32_t run,
+    const uint16_t *source, size_t source_length,
+    const uint16_t *sinks, size_t sinks_length,
+    const uint32_t *branches, size_t branches_length,
+    const uint32_t *lengths, size_t lengths_length,
+    uint8_t *repeaters, size_t repeaters_length,
+    uint8_t *classes, size_t classes_length,
+    uint32_t *known, size_t known_length,
+    uint32_t *previous, size_t previous_length,
+    uint32_t *path, size_t path_length,
+    uint64_t *values, size_t values_length);
+
 /* ONE LENT ARENA FOR A TREE, instead of thirteen buffers: ask dustroute_arena_size for the bytes that suffice, lend so many, and call
  * dustroute_tree_in_arena, or dustroute_tree_mode_in_arena with a mode. The answer's pointers go into the arena. Any arena is lawful, NULL of size 0 too: in one that is too short a
  * sheet that would need more is refused with 6. */
@@ -402,17 +443,21 @@ static inline uint32_t dustroute_sheet_number(const uint8_t *sheet, size_t place
 
 /* How many cells and queue numbers a sheet's tree needs; both 0 where the sheet is refused before memory counts. */
 static inline size_t dustroute_sheet_cells(const uint8_t *sheet, size_t sheet_length, size_t *queue_length) {
-    size_t cells = 1;
+    int is_hall = sheet_length > 0 && sheet[0] == 3; /* version 3: two bytes a side, larger rooms */
+    size_t cells = 1, at = 5, most_side = is_hall ? DUSTROUTE_MAX_SIDE : 64, most_cells = is_hall ? DUSTROUTE_MAX_CELLS : 16384;
     *queue_length = 0;
-    if (sheet_length < 24)
+    if (sheet_length < (is_hall ? 27u : 24u))
         return 0;
-    for (int side = 5; side < 8; side++) {
-        if (sheet[side] < 1 || sheet[side] > DUSTROUTE_MAX_SIDE)
+    for (int axis = 0; axis < 3; axis++) {
+        size_t side = sheet[at++];
+        if (is_hall)
+            side = side << 8 | sheet[at++];
+        if (side < 1 || side > most_side)
             return 0;
-        cells *= sheet[side];
+        cells *= side;
     }
-    uint32_t limit = dustroute_sheet_number(sheet, 8), flat = dustroute_sheet_number(sheet, 12), stair = dustroute_sheet_number(sheet, 16);
-    if (cells > DUSTROUTE_MAX_CELLS || limit > 200000)
+    uint32_t limit = dustroute_sheet_number(sheet, at), flat = dustroute_sheet_number(sheet, at + 4), stair = dustroute_sheet_number(sheet, at + 8);
+    if (cells > most_cells || limit > (is_hall ? 800000u : 200000u))
         return 0;
     *queue_length = flat >= 10 && stair >= 20 ? DUSTROUTE_QUEUE_LENGTH(cells) : DUSTROUTE_QUEUE_LENGTH_AT_ANY_COST(limit);
     return cells;

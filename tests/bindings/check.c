@@ -425,6 +425,37 @@ static void check_drawing(void) {
     expect_listed(row, 5, 5, 0, DUSTROUTE_BUFFER);
 }
 
+/* One call for repeaters: a row of ten cells at run limit 4 and tail limit 3. */
+static void expect_planned(size_t marks, size_t work, size_t value_count, uint32_t second, uint32_t number) {
+    static const uint16_t source[DUSTROUTE_END_NUMBERS] = {0, 0, 0, 0, 0}, sink[DUSTROUTE_SINK_NUMBERS] = {9, 0, 0, 0, 0, 3};
+    const uint32_t cells[10] = {0, second, 2, 3, 4, 5, 6, 7, 8, 9}, length[1] = {10};
+    struct buffer lent[6] = {lend(marks, 1), lend(work, 1), lend(work, 4), lend(work, 4), lend(work, 4), lend(value_count, 8)};
+    EXPECT(dustroute_place_repeaters(10, 1, 1, 4, source, 5, sink, 6, cells, 10, length, 1, at(lent[0]), marks, at(lent[1]), work,
+                                     at(lent[2]), work, at(lent[3]), work, at(lent[4]), work, at(lent[5]), value_count) == number);
+    if (number == DUSTROUTE_DONE) {
+        const uint8_t *marked = at(lent[0]);
+        const uint64_t *told = at(lent[5]);
+        for (size_t i = 0; i < marks; i++)
+            EXPECT(marked[i] == (i == 5 || i == 7));
+        for (size_t i = 0; i < value_count; i++)
+            EXPECT(told[i] == (i == 1 ? 2 : 0));
+    } else
+        for (int i = 0; i < 6; i++)
+            EXPECT(untouched(lent[i]));
+    for (int i = 0; i < 6; i++)
+        give_back(lent[i]);
+}
+
+static void check_repeaters(void) {
+    expect_planned(10, 10, 2, 1, DUSTROUTE_DONE);
+    expect_planned(13, 11, 5, 1, DUSTROUTE_DONE);
+    expect_planned(9, 10, 2, 1, DUSTROUTE_BUFFER);
+    expect_planned(10, 9, 2, 1, DUSTROUTE_BUFFER);
+    expect_planned(10, 10, 1, 1, DUSTROUTE_BUFFER);
+    expect_planned(0, 0, 0, 3, DUSTROUTE_POSITION);
+    expect_planned(10, 10, 2, 10, DUSTROUTE_POSITION);
+}
+
 /* ---- one tree */
 
 enum {
@@ -849,7 +880,7 @@ static void check_functions(void) {
     expect_read(WIRES, WIRES_LENGTH, 3, 1, DUSTROUTE_BUFFER, 0);
     uint64_t values[2] = {7, 7};
     EXPECT(dustroute_write_function(0, 1, 1, NULL, 0, NULL, 0, NULL, 0, values, 0) == DUSTROUTE_SIDES && values[0] == 7);
-    EXPECT(dustroute_read_function(1, 65, 1, NULL, 0, NULL, 0, NULL, 0, values, 2) == DUSTROUTE_SIDES && values[1] == 7);
+    EXPECT(dustroute_read_function(1, 301, 1, NULL, 0, NULL, 0, NULL, 0, values, 2) == DUSTROUTE_SIDES && values[1] == 7);
     /* from x to x + 1 a signal runs through a repeater that faces west in the game */
     static const char west[] = "setblock ~ ~ ~ minecraft:repeater[facing=west] replace\n";
     uint8_t repeater = 5, east = 2, text[DUSTROUTE_LINE_BYTES];
@@ -864,22 +895,28 @@ enum { BLOCKS, CONDUCTORS, CLEARANCES, TERMINALS, RESERVED, SOURCE, SINKS, PART_
 /* A job's lists as 16-bit numbers, at the usual costs in a room of 5x2x3. */
 struct parts {
     size_t wide, high, deep;
-    uint32_t limit;
+    uint32_t limit, run;
     uint16_t numbers[PART_LISTS][12];
     size_t lengths[PART_LISTS];
 };
 
 static const struct parts PARTS = {
-    5, 2, 3, 30000,
+    5, 2, 3, 30000, DUSTROUTE_USUAL_RUN,
     {{0x0102, 3, 0, 0, 1, 0, 0xFFFF, 1, 1, 1, 5, 2}, {4, 1, 0}, {0, 1, 0}, {1, 1, 0}, {2, 1, 0, 2, 1, 0}, {0, 0, 1, 0, 0},
-     {4, 0, 1, 0, 0, 2, 0, 2, 1, 4}},
-    {12, 3, 3, 3, 6, 5, 10}};
+     {4, 0, 1, 0, 0, 8, 2, 0, 2, 1, 4, 8}},
+    {12, 3, 3, 3, 6, 5, 12}};
 
 /* Their sheet. */
 static const uint8_t PARTS_SHEET[79] = {
     1, 0, 0, 0, 74, 5, 2, 3, 0, 0, 0x75, 0x30, 0, 0, 0, 10, 0, 0, 0, 25, 0, 0, 0, 15,
     0, 2, 1, 2, 3, 0, 0, 1, 0, 0xFF, 0xFF, 1, 1, 1, 5, 2, 0, 1, 4, 1, 0, 0, 1, 0, 1, 0, 0, 1, 1, 1, 0, 0, 2, 2, 1, 0, 2, 1, 0,
     0, 0, 1, 0, 0, 2, 4, 0, 1, 0, 0, 2, 0, 2, 1, 4};
+
+/* The same with a tail limit of 3 in the last sink: version 2, three bytes longer. */
+static const uint8_t TAIL_SHEET[82] = {
+    2, 0, 0, 0, 77, 5, 2, 3, 0, 0, 0x75, 0x30, 0, 0, 0, 10, 0, 0, 0, 25, 0, 0, 0, 15, 12,
+    0, 2, 1, 2, 3, 0, 0, 1, 0, 0xFF, 0xFF, 1, 1, 1, 5, 2, 0, 1, 4, 1, 0, 0, 1, 0, 1, 0, 0, 1, 1, 1, 0, 0, 2, 2, 1, 0, 2, 1, 0,
+    0, 0, 1, 0, 0, 2, 4, 0, 1, 0, 0, 8, 2, 0, 2, 1, 4, 3};
 
 /* These parts over an output and values of these lengths: the number, all bytes, and lists as they were. */
 static void expect_sheet(const struct parts *parts, size_t length, size_t count, uint32_t number) {
@@ -890,15 +927,17 @@ static void expect_sheet(const struct parts *parts, size_t length, size_t count,
     }
     const size_t *n = parts->lengths;
     uint32_t found = dustroute_write_sheet(
-        parts->wide, parts->high, parts->deep, parts->limit, 10, 25, 15, at(lists[BLOCKS]), n[BLOCKS],
+        parts->wide, parts->high, parts->deep, parts->limit, 10, 25, 15, parts->run, at(lists[BLOCKS]), n[BLOCKS],
         at(lists[CONDUCTORS]), n[CONDUCTORS], at(lists[CLEARANCES]), n[CLEARANCES], at(lists[TERMINALS]), n[TERMINALS],
         at(lists[RESERVED]), n[RESERVED], at(lists[SOURCE]), n[SOURCE], at(lists[SINKS]), n[SINKS],
         at(sheet), length, at(values), count);
     const uint64_t *told = at(values);
     EXPECT(found == number);
     if (found == DUSTROUTE_DONE && number == found) {
-        EXPECT(memcmp(at(sheet), PARTS_SHEET, 79) == 0 && all(sheet.elements + 79, length - 79, 0));
-        EXPECT(told[0] == 0 && told[1] == 79 && all(values.elements + 16, 8 * count - 16, 0));
+        int is_usual = parts->numbers[SINKS][11] == DUSTROUTE_USUAL_TAIL;
+        size_t due = is_usual ? sizeof PARTS_SHEET : sizeof TAIL_SHEET;
+        EXPECT(memcmp(at(sheet), is_usual ? PARTS_SHEET : TAIL_SHEET, due) == 0 && all(sheet.elements + due, length - due, 0));
+        EXPECT(told[0] == 0 && told[1] == due && all(values.elements + 16, 8 * count - 16, 0));
     } else {
         EXPECT(untouched(sheet) && untouched(values));
     }
@@ -919,6 +958,27 @@ static void expect_sheet_refused(int list, size_t place, uint16_t value, uint32_
     expect_sheet(&parts, 79, DUSTROUTE_WRITE_VALUES, number);
 }
 
+/* Limits of 1 to 15 are written, others refused: the run limit's 3 before the records, a tail limit's 3 in its record. */
+static void check_limits_written(void) {
+    struct parts parts = PARTS;
+    parts.numbers[SINKS][11] = 3;
+    expect_sheet(&parts, 82, DUSTROUTE_WRITE_VALUES, DUSTROUTE_DONE);
+    expect_sheet(&parts, 90, DUSTROUTE_WRITE_VALUES, DUSTROUTE_DONE);
+    expect_sheet(&parts, 81, DUSTROUTE_WRITE_VALUES, DUSTROUTE_BUFFER);
+    const uint32_t bad[] = {0, 16, 256 + 12, 1 << 16 | 12, (uint32_t)-1};
+    for (size_t i = 0; i < sizeof bad / sizeof *bad; i++) {
+        parts = PARTS;
+        parts.run = bad[i];
+        parts.numbers[BLOCKS][1] = 300;
+        expect_sheet(&parts, 82, DUSTROUTE_WRITE_VALUES, DUSTROUTE_CONFIG);
+    }
+    const uint16_t tails[] = {0, 16, 256 + 8, (uint16_t)-1};
+    for (size_t i = 0; i < sizeof tails / sizeof *tails; i++) {
+        expect_sheet_refused(SINKS, 5, tails[i], DUSTROUTE_CONFIG);
+        expect_sheet_refused(SINKS, 11, tails[i], DUSTROUTE_CONFIG);
+    }
+}
+
 static void check_write_sheet(void) {
     expect_sheet(&PARTS, 79, DUSTROUTE_WRITE_VALUES, DUSTROUTE_DONE);
     expect_sheet(&PARTS, DUSTROUTE_MAX_SHEET, 5, DUSTROUTE_DONE);
@@ -935,7 +995,7 @@ static void check_write_sheet(void) {
     for (int axis = 0; axis < 3; axis++) {
         struct parts parts = PARTS;
         size_t *sides[3] = {&parts.wide, &parts.high, &parts.deep};
-        const size_t bad[] = {0, 65, 256 + 5, (size_t)-1, (size_t)1 << 32 | 5};
+        const size_t bad[] = {0, 301, 512 + 5, (size_t)-1, (size_t)1 << 32 | 5};
         for (size_t i = 0; i < sizeof bad / sizeof *bad; i++) {
             *sides[axis] = bad[i];
             expect_sheet(&parts, 79, DUSTROUTE_WRITE_VALUES, DUSTROUTE_SIDES);
@@ -945,30 +1005,35 @@ static void check_write_sheet(void) {
     parts.wide = parts.high = parts.deep = (size_t)1 << 32; /* their product wraps to 0 */
     expect_sheet(&parts, 79, DUSTROUTE_WRITE_VALUES, DUSTROUTE_SIDES);
     parts = PARTS;
-    parts.limit = 200001;
+    parts.limit = 800001;
     expect_sheet(&parts, 79, DUSTROUTE_WRITE_VALUES, DUSTROUTE_CONFIG);
     expect_sheet_refused(BLOCKS, 1, 300, DUSTROUTE_POSITION);
     expect_sheet_refused(RESERVED, 5, 256, DUSTROUTE_POSITION);
-    expect_sheet_refused(SINKS, 5, 5, DUSTROUTE_POSITION);
+    expect_sheet_refused(SINKS, 6, 5, DUSTROUTE_POSITION);
     expect_sheet_refused(BLOCKS, 10, 300, DUSTROUTE_CODE);
     expect_sheet_refused(BLOCKS, 4, 0, DUSTROUTE_CODE);
     expect_sheet_refused(SOURCE, 3, 256, DUSTROUTE_CODE);
-    expect_sheet_refused(SINKS, 9, 7, DUSTROUTE_CODE);
+    expect_sheet_refused(SINKS, 10, 7, DUSTROUTE_CODE);
+    check_limits_written();
 }
 
 /* Sixteen sinks are written, seventeen are not; nor is more than 60,000 bytes, or a list of which no count can tell. */
 static void check_longest_sheet(void) {
-    static uint16_t numbers[3 * 65537];
+    static uint16_t numbers[3 * 65537], sinks[17 * DUSTROUTE_SINK_NUMBERS];
     static uint8_t sheet[DUSTROUTE_MAX_SHEET];
-    static const struct { size_t positions, sinks; uint32_t number; } cases[] = {
-        {0, 16, DUSTROUTE_DONE}, {0, 17, DUSTROUTE_SHEET}, {19985, 1, DUSTROUTE_DONE}, {19986, 1, DUSTROUTE_SHEET},
-        {65535, 0, DUSTROUTE_SHEET}, {65536, 0, DUSTROUTE_SHEET}, {65537, 0, DUSTROUTE_SHEET}};
+    static const struct { size_t positions, sinks; uint32_t run, number; } cases[] = {
+        {0, 16, 12, DUSTROUTE_DONE}, {0, 17, 12, DUSTROUTE_SHEET}, {19985, 1, 12, DUSTROUTE_DONE}, {19986, 1, 12, DUSTROUTE_SHEET},
+        {19985, 1, 11, DUSTROUTE_SHEET}, {19984, 1, 11, DUSTROUTE_DONE}, {0, 16, 15, DUSTROUTE_DONE},
+        {65535, 0, 12, DUSTROUTE_SHEET}, {65536, 0, 12, DUSTROUTE_SHEET}, {65537, 0, 12, DUSTROUTE_SHEET}};
+    for (size_t i = 0; i < 17; i++)
+        sinks[DUSTROUTE_SINK_NUMBERS * i + 5] = DUSTROUTE_USUAL_TAIL;
     for (size_t i = 0; i < sizeof cases / sizeof *cases; i++) {
         uint64_t values[DUSTROUTE_WRITE_VALUES] = {7, 7};
-        size_t due = 40 + 3 * cases[i].positions + 5 * cases[i].sinks;
+        size_t limits = cases[i].run == DUSTROUTE_USUAL_RUN ? 0 : 1 + cases[i].sinks;
+        size_t due = 40 + 3 * cases[i].positions + 5 * cases[i].sinks + limits;
         uint32_t found = dustroute_write_sheet(
-            1, 1, 1, 0, 0, 0, 0, NULL, 0, NULL, 0, NULL, 0, NULL, 0, numbers, 3 * cases[i].positions,
-            numbers, DUSTROUTE_END_NUMBERS, numbers, DUSTROUTE_END_NUMBERS * cases[i].sinks,
+            1, 1, 1, 0, 0, 0, 0, cases[i].run, NULL, 0, NULL, 0, NULL, 0, NULL, 0, numbers, 3 * cases[i].positions,
+            numbers, DUSTROUTE_END_NUMBERS, sinks, DUSTROUTE_SINK_NUMBERS * cases[i].sinks,
             sheet, sizeof sheet, values, DUSTROUTE_WRITE_VALUES);
         EXPECT(found == cases[i].number);
         EXPECT(found == DUSTROUTE_DONE ? values[0] == 0 && values[1] == due : values[0] == 7 && values[1] == 7);
@@ -982,6 +1047,7 @@ int main(void) {
         check_why();
         check_plain();
         check_drawing();
+        check_repeaters();
         check_tree();
         check_arena();
         check_modes();

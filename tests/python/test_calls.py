@@ -43,8 +43,8 @@ class Searches(unittest.TestCase):
     def test_refusals(self):
         lever = [Kind.AIR, Kind.AIR, Kind.LEVER]
         for due, words, run in (
-                ((2, 0), "a side is not 1 to 64", lambda: search(Room(65, 1, 1), [0] * 65, 0, 1)),
-                ((3, 0), "the node limit over 200000", lambda: search(ROW, [0] * 3, 0, 2, Config(limit=200_001))),
+                ((2, 0), "a side is not 1 to 300", lambda: search(Room(301, 1, 1), [0] * 301, 0, 1)),
+                ((3, 0), "the node limit over 800000", lambda: search(ROW, [0] * 3, 0, 2, Config(limit=800_001))),
                 ((4, 0), "the start or the goal is outside the room", lambda: search(ROW, [0] * 3, 0, 3)),
                 ((5, 0), "an unknown kind; kinds are 0 to 12", lambda: search(ROW, [0, 13, 0], 0, 2)),
                 ((6, 0), "not as many kinds as the room has cells", lambda: search(ROW, [0] * 2, 0, 2)),
@@ -65,7 +65,7 @@ class Searches(unittest.TestCase):
     def test_positions(self):
         room = Room(4, 3, 5)
         self.assertEqual([room.cell(*room.position(cell)) for cell in range(room.cells())], list(range(60)))
-        self.assertEqual((room.position(17), Room(65, 1, 1).cells(), Room(64, 64, 5).cells()), ((1, 0, 2), 0, 0))
+        self.assertEqual((room.position(17), Room(301, 1, 1).cells(), Room(64, 64, 17).cells()), ((1, 0, 2), 0, 0))
 
 
 class PlainEngine(unittest.TestCase):
@@ -94,8 +94,8 @@ class PlainEngine(unittest.TestCase):
 
     def test_refusals(self):
         for due, words, run in (
-                ((2, 0), "a side is not 1 to 64", lambda: plain(Room(65, 1, 1), [0] * 65, 0, 1)),
-                ((3, 0), "a cost is over 100000", lambda: plain(ROW, [0] * 3, 0, 2, Config(stair=100_001))),
+                ((2, 0), "a side is not 1 to 300", lambda: plain(Room(301, 1, 1), [0] * 301, 0, 1)),
+                ((3, 0), "a cost is over 1000000", lambda: plain(ROW, [0] * 3, 0, 2, Config(stair=1_000_001))),
                 ((4, 0), "the start or the goal is outside the room", lambda: plain(ROW, [0] * 3, 0, 3)),
                 ((5, 0), "an unknown kind; kinds are 0 to 12", lambda: plain(ROW, [0, 13, 0], 0, 2)),
                 ((6, 0), "not as many kinds as the room has cells", lambda: plain(ROW, [0] * 2, 0, 2)),
@@ -145,7 +145,7 @@ class Trees(unittest.TestCase):
 
     def test_refusals(self):
         for text, due, words in (
-                ("room 65 1 1\nsource 0 0 0", (2, 0), "each side is 1 to 64"),
+                ("room 301 1 1\nsource 0 0 0", (2, 0), "each side is 1 to 300"),
                 ("room 5 2 5\nblock code-13 1 1 1\nsource 0 0 0", (5, 0), "block 1: unknown kind, code 13"),
                 ("room 5 2 5\nsource 0 0 0\n" + "block solid 1 1 1\n" * 2, (7, 16), "two blocks stand in one cell: (1, 1, 1), number 16"),
                 ("room 5 2 5\nsource 0 0 0\nsink block-power 1 1 1", (8, 1), "sink 1 is block-power and must face"),
@@ -155,7 +155,7 @@ class Trees(unittest.TestCase):
                 refused = refusal(lambda: route(text))
                 self.assertEqual((refused.number, refused.detail), due)
                 self.assertIn(words, refused.words)
-        for sheet, words in ((b"", "the sheet ends at byte 0"), (b"\2", "the version byte is 2"), (b"\xff", "the version byte is 255"), (b"\1\0\0\0\1", "1 bytes follow, but 0 do")):
+        for sheet, words in ((b"", "the sheet ends at byte 0"), (b"\2", "the sheet ends at byte 1"), (b"\3", "the sheet ends at byte 1"), (b"\4", "the version byte is 4"), (b"\xff", "the version byte is 255"), (b"\1\0\0\0\1", "1 bytes follow, but 0 do")):
             refused = refusal(lambda: route(sheet))
             self.assertEqual((refused.number, refused.detail), (1, 0))
             self.assertIn(words, refused.words)

@@ -38,8 +38,8 @@ class Functions(unittest.TestCase):
         self.assertIn(words, caught.exception.words)
 
     def test_refusals(self):
-        self.refused((2, 0), "a side is not 1 to 64", lambda: write_function((65, 1, 1), bytes(65), bytes(65)))
-        self.refused((2, 0), "a side is not 1 to 64", lambda: read_function((0, 1, 1), b""))
+        self.refused((2, 0), "a side is not 1 to 300", lambda: write_function((301, 1, 1), bytes(301), bytes(301)))
+        self.refused((2, 0), "a side is not 1 to 300", lambda: read_function((0, 1, 1), b""))
         self.refused((5, 0), "an unknown kind", lambda: write_function(ROW, [13, 0, 0], [0] * 3))
         self.refused((6, 0), "as many kinds or facings", lambda: write_function(ROW, [0] * 3, [0] * 2))
         self.refused((19, 2), "line 2 is none", lambda: read_function(ROW, WIRES[:-1]))

@@ -47,7 +47,7 @@ class Reading(unittest.TestCase):
 
     def test_the_constants(self):
         constants = header.read(HEADER).constants
-        self.assertEqual((constants["DUSTROUTE_MAX_CELLS"], constants["DUSTROUTE_TREE_VALUES"]), (16384, 20))
+        self.assertEqual((constants["DUSTROUTE_MAX_CELLS"], constants["DUSTROUTE_TREE_VALUES"]), (65536, 20))
 
     def test_comments_and_inline_helpers_are_no_functions(self):
         text = ("/* uint32_t dustroute_no(size_t wide); */\nstatic inline uint32_t dustroute_help(size_t wide) { return 0; }\n"

@@ -39,7 +39,7 @@ class Verdicts(unittest.TestCase):
         self.assertEqual((told.sink, told.detail, told.reached), (1, 5, (5,)))
 
     def test_refusals(self):
-        for text, due in (("room 65 1 1\nsource 0 0 0\n", 2), ("room 3 1 1\nsource 0 0 0\nsink 3 0 0\n", 4),
+        for text, due in (("room 301 1 1\nsource 0 0 0\n", 2), ("room 3 1 1\nsource 0 0 0\nsink 3 0 0\n", 4),
                           ("room 3 1 1\nsource 0 0 0\nsink block-power 2 0 0\n", 8)):
             with self.assertRaises(Refusal) as caught:
                 why_tree(text)

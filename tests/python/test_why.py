@@ -39,7 +39,7 @@ class Reasons(unittest.TestCase):
         self.assertEqual(why((3, 1, 1), b"\0\0\0", 0, 2, (30_000, 10, 25, 15)), Route((0, 1, 2), cost=20, expanded=2, steps=20, supports=0, laid=0))
 
     def test_refusals(self):
-        for due, run in (((2, 0), lambda: why(Room(65, 1, 1), [0] * 65, 0, 1)), ((6, 0), lambda: why(Room(3, 1, 1), [0] * 2, 0, 2)),
+        for due, run in (((2, 0), lambda: why(Room(301, 1, 1), [0] * 301, 0, 1)), ((6, 0), lambda: why(Room(3, 1, 1), [0] * 2, 0, 2)),
                          ((4, 0), lambda: why(Room(3, 1, 1), [0] * 3, 0, 3)), ((5, 0), lambda: why(Room(3, 1, 1), [0, 13, 0], 0, 2)),
                          ((10, 2), lambda: why(Room(3, 1, 1), [0, 0, Kind.LEVER], 0, 2)),
                          ((12, 1), lambda: why(Room(3, 1, 1), [0, 1, 0], 0, 2, Config(limit=0)))):

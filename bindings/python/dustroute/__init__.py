@@ -15,7 +15,9 @@
     dustroute.plain(room, [dustroute.Kind.AIR] * 3, start=0, goal=2)       # the same cost by other means, to check against
     dustroute.draw(room, [dustroute.Kind.AIR] * 3, [0, 1, 2]).kinds        # the room with wire, supports and repeaters along a path
 
-    dustroute.write_sheet(dustsheet.job.from_bytes(sheet)) == sheet        # a job as a sheet, by the proved writer
+    job = dustsheet.job.from_bytes(sheet)
+    dustroute.write_sheet(job) == sheet                                    # a job as a sheet, by the proved writer
+    dustroute.place_repeaters(job, tree.branches) == tree.repeaters        # the repeaters of any branches, in one call
 
     text = dustroute.write_function(room, [0, dustroute.Kind.REPEATER, 0], [0, 2, 0])    # a room as commands for the game
     dustroute.read_function(room, text).kinds                                           # and back
@@ -31,11 +33,12 @@ from .drawing import Drawn, Repeater, draw, insert_repeaters, materialize_route
 from .library import Library, library
 from .memory import Memory
 from .reasons import MOVES, Reason, Wall, WalledIn, why
+from .repeaters import place_repeaters
 from .sinks import Cause, Unreached, Verdict, why_tree
 
 __version__ = "0.1.0"
 
 __all__ = ["BadText", "Cause", "Config", "Drawn", "Kind", "LaidRoom", "Library", "MOVES", "Memory", "NotBuilt", "PlainRoute", "Reason", "Refusal",
            "Repeater", "Room", "Route", "Tree", "Unreached", "Verdict", "Wall", "WalledIn", "draw", "insert_repeaters", "library",
-           "materialize_route", "plain", "read_function", "route", "search", "sheet_made", "sheet_of", "why", "why_tree", "write_function",
+           "materialize_route", "place_repeaters", "plain", "read_function", "route", "search", "sheet_made", "sheet_of", "why", "why_tree", "write_function",
            "write_sheet"]

@@ -12,7 +12,7 @@ Kind.__doc__ = "What a cell holds: AIR is 0, PISTON 12."
 
 
 class Room(NamedTuple):
-    """A room's sides: x to the east, y up, z to the south. Each is 1 to 64, with at most 16,384 cells; others are refused."""
+    """A room's sides: x to the east, y up, z to the south. Each is 1 to 300, with at most 65,536 cells; others are refused."""
     wide: int
     high: int
     deep: int
@@ -32,7 +32,7 @@ class Room(NamedTuple):
 
 
 class Config(NamedTuple):
-    """The node limit, up to 200,000, and what a flat step, a stair and a new support cost, in tenths, up to 100,000 each."""
+    """The node limit, up to 800,000, and what a flat step, a stair and a new support cost, in tenths, up to 1,000,000 each."""
     limit: int = 30_000
     horizontal: int = 10
     stair: int = 25

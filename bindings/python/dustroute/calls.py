@@ -5,6 +5,7 @@ length is said."""
 from __future__ import annotations
 
 import ctypes
+import dataclasses
 from array import array
 from typing import Dict, Iterable, NamedTuple, Optional, Sequence, Tuple, Union
 
@@ -29,7 +30,7 @@ def queue_length(cells: int, config: Config) -> int:
     return 2 * places
 
 
-def call(name: str, room: Room, config: Config, memory: Optional[Memory], lengths: Dict[str, int], **given: object) -> Called:
+def call(name: str, room: Room, config: Config, memory: Optional[Memory], lengths: Dict[str, int], /, **given: object) -> Called:
     """Calls the function `dustroute_NAME`. Room and config are handed on where it takes them."""
     function = library()["dustroute_" + name]
     lengths = {"queue": queue_length(room.cells(), config), **lengths}
@@ -82,18 +83,21 @@ def plain(room: Room, kinds: Sequence[int], start: int, goal: int, config: Confi
 def write_sheet(job: Job, memory: Optional[Memory] = None) -> bytes:
     """The sheet of a job, by the proved writer: what the router reads of it is this job, its records in their order.
 
-        dustroute.write_sheet(dustsheet.job.from_bytes(sheet)) == sheet      # of every sheet that the router accepts
+        dustroute.write_sheet(dustsheet.job.from_bytes(sheet)) == sheet      # of every sheet of its job's version that the router accepts
 
-    Raises Refusal with number 1 (over 16 sinks or 60,000 bytes) or 2 to 5, as the router would of its sheet. The numbers of a record
-    fit sixteen bits, the limit and the costs 32; others raise OverflowError."""
+    It is of the lowest version that holds the job (`Job.version`). Raises Refusal with number 1 (over 16 sinks
+    or 60,000 bytes) or 2 to 5, as the router would of its sheet. The numbers of a record fit sixteen bits, the limits and the costs 32;
+    others raise OverflowError."""
     room, config = Room(*job.sides), Config(job.limit, *job.costs)
     lists = {name: array("H", _flat(getattr(job, name))) for name in jobs.PLACE_LISTS}
     blocks = array("H", _flat((block.node, *block.at, block.kind, block.facing) for block in job.blocks))
-    source, *sinks = (array("H", (*end.at, end.port, end.facing)) for end in (job.source, *job.sinks))
+    source = array("H", (*job.source.at, job.source.port, job.source.facing))
+    sinks = array("H", _flat((*sink.at, sink.port, sink.facing, sink.tail) for sink in job.sinks))
     lengths = {"sheet": min(jobs.size(job), jobs.MAX_BYTES), "values": library().constants["DUSTROUTE_WRITE_VALUES"]}
-    called = call("write_sheet", room, config, memory, lengths, blocks=blocks, source=source, sinks=sum(sinks, array("H")), **lists)
+    called = call("write_sheet", room, config, memory, lengths, run=job.run, blocks=blocks, source=source, sinks=sinks, **lists)
     if called.number:
-        raise Refusal(called.number, called.detail, words.of_job(called.number, called.detail, job))
+        unread = dataclasses.replace(job, read_as=None)  # the writer has no sheet, in whose version it would be judged
+        raise Refusal(called.number, called.detail, words.of_job(called.number, called.detail, unread))
     return bytes(called.lent["sheet"][:called.lent["values"][1]])
 
 

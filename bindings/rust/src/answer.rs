@@ -247,8 +247,12 @@ impl fmt::Display for Refusal {
     fn fmt(&self, out: &mut fmt::Formatter) -> fmt::Result {
         match self {
             Self::Sheet => write!(out, "the bytes are no job sheet, or the job is too long for one"),
-            Self::Sides => write!(out, "a side is not 1 to 64, or the room has over 16,384 cells"),
-            Self::Config => write!(out, "a cost is over 100,000 or the node limit over 200,000"),
+            Self::Sides => write!(out, "a side is not 1 to 300, or the room has over 65,536 cells"),
+            Self::Config => write!(
+                out,
+                "a cost is over 1,000,000, the node limit over 800,000, or a run or tail limit isn't 1 to 15; or the cells times the sum of the \
+                 support cost and the dearer step are over 3,300,000,000"
+            ),
             Self::Position => write!(out, "something stands outside the room"),
             Self::Code => write!(out, "an unknown kind, facing or port"),
             Self::Buffer => write!(out, "a lent buffer is too short, or kinds are not one for each cell"),

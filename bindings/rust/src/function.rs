@@ -8,7 +8,7 @@ use crate::job::{Code, Room, bytes_of};
 pub const FUNCTION_VALUES: usize = 2;
 
 /// No line of a function file is longer: so many bytes for each cell that isn't Air hold the text.
-pub const LINE_BYTES: usize = 76;
+pub const LINE_BYTES: usize = 77;
 
 /// A room as a text lays it: a kind and a facing for each cell, by their codes, in number order.
 #[derive(Clone, Debug, Eq, PartialEq)]

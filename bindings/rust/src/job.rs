@@ -1,16 +1,16 @@
 //! A room, its costs, a [`Job`], and the job sheet: bytes that come from elsewhere, or a job that was written.
 
-/// A room's sides. Each is 1 to 64, and the room has at most 16,384 cells; others are refused.
+/// A room's sides. Each is 1 to 300, and the room has at most 65,536 cells; others are refused.
 #[derive(Clone, Copy, Debug, Eq, PartialEq)]
 pub struct Room {
-    pub wide: u8,
-    pub high: u8,
-    pub deep: u8,
+    pub wide: u16,
+    pub high: u16,
+    pub deep: u16,
 }
 
 impl Room {
-    pub const MAX_SIDE: u8 = 64;
-    pub const MAX_CELLS: usize = 16_384;
+    pub const MAX_SIDE: u16 = 300;
+    pub const MAX_CELLS: usize = 65_536;
 
     /// How many cells the room has, or none for a room that is refused.
     pub fn cells(self) -> Option<usize> {
@@ -29,7 +29,7 @@ impl Room {
     /// The position of a cell, or none for a number that no cell of the room has.
     pub fn position(self, cell: usize) -> Option<Position> {
         let (high, deep) = (usize::from(self.high), usize::from(self.deep));
-        let place = |number: usize| u8::try_from(number).ok();
+        let place = |number: usize| u16::try_from(number).ok();
         (cell < self.cells()?).then_some(())?;
         Some(Position {
             x: place(cell / deep / high)?,
@@ -41,12 +41,13 @@ impl Room {
 
 #[derive(Clone, Copy, Debug, Eq, PartialEq)]
 pub struct Position {
-    pub x: u8,
-    pub y: u8,
-    pub z: u8,
+    pub x: u16,
+    pub y: u16,
+    pub z: u16,
 }
 
-/// The node limit, up to 200,000, and three costs in tenths, up to 100,000 each; others are refused.
+/// The node limit, up to 800,000, and three costs in tenths, up to 1,000,000 each; the room's cells times the sum of the support cost and the
+/// dearer step are at most 3,300,000,000. Others are refused.
 #[derive(Clone, Copy, Debug, Eq, PartialEq)]
 pub struct Config {
     pub limit: u32,
@@ -67,7 +68,7 @@ impl Default for Config {
     }
 }
 
-/// What a flat step, a stair and a new support cost, in tenths, up to 100,000 each; others are refused.
+/// What a flat step, a stair and a new support cost, in tenths, as in [`Config`].
 #[derive(Clone, Copy, Debug, Eq, PartialEq)]
 pub struct Costs {
     pub horizontal: u32,
@@ -159,7 +160,7 @@ pub struct Block {
     pub facing: Facing,
 }
 
-/// The source or a sink.
+/// The source, or where a sink is.
 #[derive(Clone, Copy, Debug, Eq, PartialEq)]
 pub struct Endpoint {
     pub at: Position,
@@ -167,33 +168,59 @@ pub struct Endpoint {
     pub facing: Facing,
 }
 
+/// A sink: its end, and how many steps past its last repeater it bears if it is Wire, 1 to 15; other limits are refused. With dust
+/// inside what it feeds, 14 less that many leave a signal at the far end.
+#[derive(Clone, Copy, Debug, Eq, PartialEq)]
+pub struct Sink {
+    pub end: Endpoint,
+    pub tail: u8,
+}
+
+impl Sink {
+    pub const USUAL_TAIL: u8 = 8;
+}
+
+impl From<Endpoint> for Sink {
+    /// A sink with the usual tail limit.
+    fn from(end: Endpoint) -> Self {
+        let tail = Self::USUAL_TAIL;
+        Self { end, tail }
+    }
+}
+
 /// What a sheet says: the room with its blocks, what belongs to other nets, and this net's ends.
 #[derive(Clone, Debug, Eq, PartialEq)]
 pub struct Job {
     pub room: Room,
     pub config: Config,
+    /// So many steps past the last repeater need none, 1 to 15; other limits are refused.
+    pub run: u8,
     pub blocks: Vec<Block>,
     pub conductors: Vec<Position>,
     pub clearances: Vec<Position>,
     pub terminals: Vec<Position>,
     pub reserved: Vec<Position>,
     pub source: Endpoint,
-    pub sinks: Vec<Endpoint>,
+    pub sinks: Vec<Sink>,
 }
 
 impl Job {
-    /// A job with nothing in its room but the net's ends.
-    pub fn new(room: Room, config: Config, source: Endpoint, sinks: Vec<Endpoint>) -> Self {
+    pub const USUAL_RUN: u8 = 12;
+
+    /// A job with nothing in its room but the net's ends, at the usual run limit. Sinks may be bare ends: then each has the usual tail
+    /// limit.
+    pub fn new<S: Into<Sink>>(room: Room, config: Config, source: Endpoint, sinks: Vec<S>) -> Self {
         Self {
             room,
             config,
+            run: Self::USUAL_RUN,
             blocks: Vec::new(),
             conductors: Vec::new(),
             clearances: Vec::new(),
             terminals: Vec::new(),
             reserved: Vec::new(),
             source,
-            sinks,
+            sinks: sinks.into_iter().map(Into::into).collect(),
         }
     }
 }
@@ -209,7 +236,8 @@ impl Sheet {
     pub const MAX_SINKS: usize = 16;
     /// Where the sides begin: behind the version and the length of the rest.
     const SIDES: usize = 5;
-    const CONFIG: usize = 8;
+    /// The version that has two bytes for a side.
+    const OF_HALLS: u8 = 3;
 
     pub fn from_bytes(bytes: impl Into<Vec<u8>>) -> Self {
         Self { bytes: bytes.into() }
@@ -221,14 +249,26 @@ impl Sheet {
 
     /// The room that the sheet names, if its bytes go that far.
     pub fn room(&self) -> Option<Room> {
-        let [wide, high, deep] = *self.bytes.get(Self::SIDES..)?.first_chunk()?;
+        let sides = self.bytes.get(Self::SIDES..)?;
+        let [wide, high, deep] = if self.side_bytes() == 2 {
+            let [a, b, c, d, e, f] = *sides.first_chunk()?;
+            [[a, b], [c, d], [e, f]].map(u16::from_be_bytes)
+        } else {
+            let short: [u8; 3] = *sides.first_chunk()?;
+            short.map(u16::from)
+        };
         Some(Room { wide, high, deep })
+    }
+
+    fn side_bytes(&self) -> usize {
+        if self.bytes.first() == Some(&Self::OF_HALLS) { 2 } else { 1 }
     }
 
     /// The config that the sheet names, if its bytes go that far.
     pub fn config(&self) -> Option<Config> {
         let number = |place: usize| {
-            let bytes = self.bytes.get(Self::CONFIG + 4 * place..)?.first_chunk()?;
+            let config = Self::SIDES + 3 * self.side_bytes();
+            let bytes = self.bytes.get(config + 4 * place..)?.first_chunk()?;
             Some(u32::from_be_bytes(*bytes))
         };
         Some(Config {

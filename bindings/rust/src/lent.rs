@@ -1,5 +1,5 @@
-//! The memory that the router is lent. [`crate::search`], [`crate::why`], [`crate::plain`], [`crate::write_sheet`], [`crate::route_tree`]
-//! and the functions over a function file make their own; here a caller keeps it from one call to the next, or lends another length. Any length and any content is lawful: what is too short is refused.
+//! The memory that the router is lent. [`crate::search`], [`crate::why`], [`crate::plain`], [`crate::write_sheet`], [`crate::route_tree`],
+//! [`crate::place_repeaters`] and the functions over a function file make their own; here a caller keeps it from one call to the next, or lends another length. Any length and any content is lawful: what is too short is refused.
 
 use crate::answer::{Cost, Nodes, PlainRefusal, PlainRoute, Refusal, Route, Tree};
 use crate::ffi::{dustroute_plain, dustroute_search, dustroute_tree, dustroute_tree_mode, dustroute_tree_why, dustroute_why};
@@ -9,6 +9,7 @@ use crate::tree_why::{ShutIn, TreeWhy, Unreached, Verdict};
 use crate::why::{MOVES, Walled, WalledIn, Why};
 
 pub use crate::function::{FUNCTION_VALUES, LINE_BYTES, ReadMemory, WriteMemory};
+pub use crate::plan::{PLAN_VALUES, PlanMemory};
 pub use crate::sheet::{SheetMemory, WRITE_VALUES};
 
 /// How many values a search, a plain route and a tree come to, a search with its totals, and a tree with its reason.
@@ -22,7 +23,7 @@ pub const TREE_WHY_VALUES: usize = 22;
 const NUMBERS_A_PLACE: usize = 2;
 
 /// The highest node limit that isn't refused.
-const MAX_LIMIT: u32 = 200_000;
+const MAX_LIMIT: u32 = 800_000;
 
 /// How many places of the queue are never all taken at once. With a flat step of at least 10 and a stair of at least 20, five for
 /// each cell. At lower costs 11 for each node of the limit, and one: a cell that is expanded leaves its place and enters at most
@@ -476,12 +477,12 @@ impl TreeWhyMemory {
 }
 
 /// Numbers 1 to 6 write no values; their detail is 0.
-fn detail(number: u32, values: &[u64]) -> u64 {
+pub(crate) fn detail(number: u32, values: &[u64]) -> u64 {
     if number <= 6 { 0 } else { values[0] }
 }
 
 /// The cells that are marked, ascending.
-fn marked(marks: &[u8]) -> Vec<u32> {
+pub(crate) fn marked(marks: &[u8]) -> Vec<u32> {
     let cells = (0..).zip(marks);
     cells.filter(|(_, mark)| **mark != 0).map(|(cell, _)| cell).collect()
 }

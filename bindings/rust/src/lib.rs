@@ -1,7 +1,8 @@
 //! DustRoute's router for one net, proved in Rattle, behind safe functions: [`search`] looks for one route in a room of kinds, [`why`]
 //! tells the reason as well where there is none, [`plain`] looks for a cheapest route by other means, to check against,
 //! [`write_sheet`], or [`Job::sheet`], writes a job sheet, [`route_tree`] makes the tree that a job sheet asks for, [`route_tree_in`] in strict mode as well, and [`why_tree`] tells why a sink
-//! wasn't reached. [`materialize_route`] and [`insert_repeaters`] draw one route into a room of kinds. [`write_function`] writes a room
+//! wasn't reached. [`place_repeaters`] plans the repeaters of branches that are given.
+//! [`materialize_route`] and [`insert_repeaters`] draw one route into a room of kinds. [`write_function`] writes a room
 //! as the text of commands that lays it in the game, and [`read_function`] reads one.
 //!
 //! Every input gets an answer: a bad room, cost, position or sheet comes back as a [`Refusal`]. The functions lend the router
@@ -16,6 +17,7 @@ mod function;
 mod job;
 pub mod lent;
 mod mode;
+mod plan;
 mod sheet;
 mod tree_why;
 mod why;
@@ -23,13 +25,14 @@ mod why;
 pub use answer::{Cost, End, Nodes, PlainRefusal, PlainRoute, Reached, Refusal, Route, Tree};
 pub use draw::{Repeater, insert_repeaters, materialize_route};
 pub use function::LaidRoom;
-pub use job::{Block, Code, Config, Costs, Endpoint, Facing, Job, Kind, Port, Position, Room, Sheet};
+pub use job::{Block, Code, Config, Costs, Endpoint, Facing, Job, Kind, Port, Position, Room, Sheet, Sink};
 pub use mode::Mode;
+pub use plan::Net;
 pub use sheet::Parts;
 pub use tree_why::{Cause, ShutIn, TreeWhy, Unreached, Verdict};
 pub use why::{MOVES, Reason, Wall, WalledIn, Why};
 
-use lent::{LINE_BYTES, PlainMemory, ReadMemory, SearchMemory, SheetMemory, TreeMemory, TreeWhyMemory, WhyMemory, WriteMemory};
+use lent::{LINE_BYTES, PlainMemory, PlanMemory, ReadMemory, SearchMemory, SheetMemory, TreeMemory, TreeWhyMemory, WhyMemory, WriteMemory};
 
 /// One search from cell `start` to cell `goal` in a room whose cells hold `kinds`, one for each cell in number order: a slice of
 /// [`Kind`] or of bytes.
@@ -67,6 +70,14 @@ pub fn route_tree_in(mode: Mode, sheet: &Sheet) -> Result<Tree, Refusal> {
 /// The same, and where a sink wasn't reached why: which one, and what may be said of it.
 pub fn why_tree(mode: Mode, sheet: &Sheet) -> TreeWhy {
     TreeWhyMemory::for_sheet(sheet).why_tree(mode, sheet)
+}
+
+/// Where the repeaters of a net stand, ascending: the runs of all sinks at the run limit, and only then the tails, each at its sink's limit.
+/// The branches are cells, each step one of the twelve moves; they need be neither as many as the sinks nor end at their terminals, and a
+/// sink that none of them joins to the source is passed over. Of a tree's branches these are the tree's repeaters.
+pub fn place_repeaters(room: Room, run: u8, source: &Endpoint, sinks: &[Sink], branches: &[Vec<u32>]) -> Result<Vec<u32>, Refusal> {
+    let net = Net::new(room, run, source, sinks, branches);
+    PlanMemory::new(room.cells().unwrap_or(0)).place_repeaters(&net)
 }
 
 /// The text of `setblock` commands that lays a room in the game, one line for each cell that isn't Air. Kinds and facings are one for

@@ -2,15 +2,16 @@
 
 use crate::answer::Refusal;
 use crate::ffi::dustroute_write_sheet;
-use crate::job::{Block, Config, Endpoint, Job, Position, Sheet};
+use crate::job::{Block, Config, Endpoint, Job, Position, Sheet, Sink};
 
 /// How many values a written sheet comes to.
 pub const WRITE_VALUES: usize = 2;
 
-/// So many numbers a record: node, x, y, z, kind, facing; x, y, z; x, y, z, port kind, facing.
+/// So many numbers a record: node, x, y, z, kind, facing; x, y, z; x, y, z, port kind, facing; the same and the tail limit.
 pub const BLOCK_NUMBERS: usize = 6;
 pub const POSITION_NUMBERS: usize = 3;
 pub const END_NUMBERS: usize = 5;
+pub const SINK_NUMBERS: usize = 6;
 
 /// A job's parts as numbers, record behind record in the order of the sheet. Nothing is promised of them: a number may be out of range
 /// and a list cut short, and is refused then. [`Job::parts`] gives those of a job.
@@ -18,6 +19,7 @@ pub const END_NUMBERS: usize = 5;
 pub struct Parts {
     pub sides: [usize; 3],
     pub config: Config,
+    pub run: u32,
     pub blocks: Vec<u16>,
     pub conductors: Vec<u16>,
     pub clearances: Vec<u16>,
@@ -32,7 +34,25 @@ impl Parts {
     pub fn sheet_bytes(&self) -> usize {
         let positions = [&self.conductors, &self.clearances, &self.terminals, &self.reserved];
         let positions: usize = positions.iter().map(|list| list.len() / POSITION_NUMBERS).sum();
-        40 + 7 * (self.blocks.len() / BLOCK_NUMBERS) + 3 * positions + 5 * (self.sinks.len() / END_NUMBERS)
+        let place = if self.are_of_a_hall() { 6 } else { 3 };
+        let limit = usize::from(self.are_of_a_hall() || !self.has_usual_limits());
+        let blocks = (4 + place) * (self.blocks.len() / BLOCK_NUMBERS);
+        let sinks = (place + 2 + limit) * (self.sinks.len() / SINK_NUMBERS);
+        34 + 2 * place + limit + blocks + place * positions + sinks
+    }
+
+    /// Whether they are written as a sheet of version 3, which has two bytes for a side or a coordinate: a room, a cost or a node limit that
+    /// the sheets before it couldn't have.
+    pub fn are_of_a_hall(&self) -> bool {
+        let Config { limit, horizontal, stair, support } = self.config;
+        let small = self.sides.iter().all(|side| (1..=64).contains(side)) && self.sides.iter().product::<usize>() <= 16_384;
+        !small || limit > 200_000 || [horizontal, stair, support].iter().any(|cost| *cost > 100_000)
+    }
+
+    /// Whether their limits are those of a sheet of version 1, which carries none: it means a run limit of 12 and tail limits of 8.
+    pub fn has_usual_limits(&self) -> bool {
+        let mut tails = self.sinks.chunks_exact(SINK_NUMBERS).map(|sink| sink[END_NUMBERS]);
+        self.run == Job::USUAL_RUN.into() && tails.all(|tail| tail == Sink::USUAL_TAIL.into())
     }
 }
 
@@ -44,25 +64,27 @@ impl Job {
         Parts {
             sides: [room.wide, room.high, room.deep].map(usize::from),
             config: self.config,
+            run: self.run.into(),
             blocks: self.blocks.iter().flat_map(block).collect(),
             conductors: positions(&self.conductors),
             clearances: positions(&self.clearances),
             terminals: positions(&self.terminals),
             reserved: positions(&self.reserved),
             source: end(&self.source).to_vec(),
-            sinks: self.sinks.iter().flat_map(end).collect(),
+            sinks: self.sinks.iter().flat_map(sink).collect(),
         }
     }
 
-    /// The job as a sheet, by the proved writer: what was written is read as this job. A job that the router would refuse with a number
-    /// from 1 to 5 isn't written, and the refusal is that number's; 1 is for over sixteen sinks or over 60,000 bytes.
+    /// The job as a sheet, by the proved writer: what was written is read as this job. It is of the lowest version that holds the job: 1
+    /// where all limits are the usual ones, else 2, and 3 for a hall. A job that the router would refuse with a number from 1 to 5 isn't
+    /// written, and the refusal is that number's; 1 is for over sixteen sinks or over 60,000 bytes.
     pub fn sheet(&self) -> Result<Sheet, Refusal> {
         crate::write_sheet(&self.parts())
     }
 }
 
 fn position(at: Position) -> [u16; POSITION_NUMBERS] {
-    [at.x, at.y, at.z].map(u16::from)
+    [at.x, at.y, at.z]
 }
 
 fn block(block: &Block) -> [u16; BLOCK_NUMBERS] {
@@ -70,9 +92,14 @@ fn block(block: &Block) -> [u16; BLOCK_NUMBERS] {
     [block.node, x, y, z, block.kind as u16, block.facing as u16]
 }
 
-fn end(end: &Endpoint) -> [u16; END_NUMBERS] {
+pub(crate) fn end(end: &Endpoint) -> [u16; END_NUMBERS] {
     let [x, y, z] = position(end.at);
     [x, y, z, end.port as u16, end.facing as u16]
+}
+
+pub(crate) fn sink(sink: &Sink) -> [u16; SINK_NUMBERS] {
+    let [x, y, z, port, facing] = end(&sink.end);
+    [x, y, z, port, facing, sink.tail.into()]
 }
 
 /// What the writer is lent: both are its output.
@@ -119,6 +146,7 @@ impl SheetMemory {
                 config.horizontal,
                 config.stair,
                 config.support,
+                parts.run,
                 parts.blocks.as_ptr(),
                 parts.blocks.len(),
                 parts.conductors.as_ptr(),

@@ -162,11 +162,11 @@ impl Room {
     pub fn neighbour(self, cell: usize, step: usize) -> Option<usize> {
         let Position { x, y, z } = self.position(cell)?;
         let [dx, dy, dz] = MOVES[step];
-        let along = |at: u8, by: i8, side: u8| at.checked_add_signed(by).filter(|at| *at < side);
+        let along = |at: u16, by: i16, side: u16| at.checked_add_signed(by).filter(|at| *at < side);
         Some(self.cell(Position {
-            x: along(x, dx, self.wide)?,
-            y: along(y, dy, self.high)?,
-            z: along(z, dz, self.deep)?,
+            x: along(x, dx.into(), self.wide)?,
+            y: along(y, dy.into(), self.high)?,
+            z: along(z, dz.into(), self.deep)?,
         }))
     }
 }

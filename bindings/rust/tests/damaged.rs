@@ -5,7 +5,7 @@ use checks::{dirty_search, dirty_tree, tree_due};
 use dustroute::lent::{SearchMemory, TreeMemory};
 use dustroute::{Block, Config, Endpoint, Facing, Job, Kind, Port, Position, Refusal, Room, Sheet, route_tree, search};
 
-fn at(x: u8, y: u8, z: u8) -> Position {
+fn at(x: u16, y: u16, z: u16) -> Position {
     Position { x, y, z }
 }
 
@@ -164,7 +164,7 @@ fn a_search_over_bad_input() {
     let usual = Config::default();
     let refused = |room, config, kinds: &[u8], start, goal| search(room, config, kinds, start, goal).unwrap_err().number();
     assert_eq!(refused(Room { wide: 0, ..room }, usual, &[], 0, 0), 2);
-    assert_eq!(refused(Room { wide: 65, ..room }, usual, &[0; 65], 0, 0), 2);
+    assert_eq!(refused(Room { wide: 301, ..room }, usual, &[0; 301], 0, 0), 2);
     assert_eq!(
         refused(
             Room {
@@ -179,8 +179,8 @@ fn a_search_over_bad_input() {
         ),
         2
     );
-    assert_eq!(refused(room, Config { limit: 200_001, ..usual }, &[0; 3], 0, 2), 3);
-    assert_eq!(refused(room, Config { support: 100_001, ..usual }, &[0; 3], 0, 2), 3);
+    assert_eq!(refused(room, Config { limit: 800_001, ..usual }, &[0; 3], 0, 2), 3);
+    assert_eq!(refused(room, Config { support: 1_000_001, ..usual }, &[0; 3], 0, 2), 3);
     assert_eq!(refused(room, usual, &[0; 2], 0, 2), 6);
     assert_eq!(refused(room, usual, &[0; 4], 0, 2), 6);
     assert_eq!(refused(room, usual, &[0, 13, 0], 0, 2), 5);

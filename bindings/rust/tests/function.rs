@@ -35,7 +35,7 @@ fn a_repeater_faces_its_input() {
 
 #[test]
 fn refusals() {
-    let high = Room { high: 65, ..ROW };
+    let high = Room { high: 301, ..ROW };
     assert_eq!(write_function(high, &[0_u8; 3], &[0_u8; 3]), Err(Refusal::Sides));
     assert_eq!(read_function(high, WIRES), Err(Refusal::Sides));
     assert_eq!(write_function(ROW, &[0_u8; 2], &[0_u8; 3]), Err(Refusal::Buffer));

@@ -9,7 +9,7 @@ use checks::{dirty_tree, tree_due};
 use dustroute::lent::TreeMemory;
 use dustroute::{Config, Endpoint, Facing, Job, Mode, Port, Position, Refusal, Room, Sheet, Tree, route_tree, route_tree_in};
 
-fn at(x: u8, y: u8, z: u8) -> Position {
+fn at(x: u16, y: u16, z: u16) -> Position {
     Position { x, y, z }
 }
 

@@ -48,7 +48,7 @@ fn stored_searches_have_the_same_cost() {
     assert!(same >= 300 && no_route >= 100 && lower > 0, "{same} {no_route} {lower}");
 }
 
-fn row(wide: u8) -> Room {
+fn row(wide: u16) -> Room {
     Room { wide, high: 1, deep: 1 }
 }
 
@@ -95,7 +95,7 @@ fn refused_in_order() {
     let mut kinds = vec![0, 0, 13];
     let mut room = row(0);
     let mut costs = Costs {
-        horizontal: 100_001,
+        horizontal: 1_000_001,
         ..Costs::default()
     };
     let mut goal = 3;

@@ -7,7 +7,7 @@ use dustroute::{
     Block, Config, Cost, End, Endpoint, Facing, Job, Kind, Nodes, Port, Position, Refusal, Room, Route, Sheet, route_tree, search,
 };
 
-fn room(wide: u8, high: u8, deep: u8) -> Room {
+fn room(wide: u16, high: u16, deep: u16) -> Room {
     Room { wide, high, deep }
 }
 
@@ -42,7 +42,7 @@ fn cells_are_numbered_by_x_then_y_then_z() {
     assert!((0..24).map(|cell| room.position(cell)).eq(positions.map(Some)));
     assert_eq!(room.position(24), None);
     let refused = Room {
-        wide: 65,
+        wide: 301,
         high: 1,
         deep: 1,
     };
@@ -161,7 +161,7 @@ fn totals_find_room() {
     assert_eq!(memory.search(upright, Config::default(), &[0; 4], 1, 3), Err(Refusal::Buffer));
 }
 
-fn wire(x: u8) -> Endpoint {
+fn wire(x: u16) -> Endpoint {
     Endpoint {
         at: Position { x, y: 0, z: 0 },
         port: Port::Wire,
@@ -212,7 +212,7 @@ fn hex_sheet_prints_as_program_route() {
 
 #[test]
 fn a_net_without_sinks_is_its_source() {
-    let job = Job::new(room(2, 1, 1), Config::default(), wire(1), vec![]);
+    let job = Job::new(room(2, 1, 1), Config::default(), wire(1), Vec::<Endpoint>::new());
     assert_eq!(route_tree(&job.sheet().unwrap()).unwrap().to_string(), "net 0 1\nrepeaters\n");
 }
 

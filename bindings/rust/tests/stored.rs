@@ -1,7 +1,7 @@
 //! The stored searches and sheets, whose answers the published Rust gave: each is asked over memory with rubbish in it, of the lengths that
 //! the case names and longer.
 
-use cases::answers::{SEARCHES, SHEETS};
+use cases::answers::{LIMIT_SHEETS, SEARCHES, SHEETS};
 use cases::search::{Search, SearchAnswer};
 use cases::sheet::TreeAnswer;
 use cases::{files, sheet};
@@ -87,9 +87,15 @@ fn ask_tree(case: &sheet::Sheet, due: &TreeAnswer, name: &str) {
     assert!(after == tree_due(&before, case, due), "{name}: memory");
 }
 
+/// Those of version 1 alone, and those at any limits: a file of sheets that carry limits and of those that carry none.
 #[test]
 fn stored_sheets() {
-    let cases = files::read::<sheet::Sheet>(&SHEETS.bytes()).unwrap();
+    for file in [&SHEETS, &LIMIT_SHEETS] {
+        ask_trees(files::read(&file.bytes()).unwrap());
+    }
+}
+
+fn ask_trees(cases: files::Cases<sheet::Sheet>) {
     for (index, (case, stored)) in cases.into_iter().enumerate() {
         let stored = stored.unwrap();
         for longer in LONGER {

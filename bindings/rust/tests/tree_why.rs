@@ -10,7 +10,7 @@ use dustroute::{
     Unreached, Verdict, route_tree_in, why_tree,
 };
 
-fn at(x: u8, y: u8, z: u8) -> Position {
+fn at(x: u16, y: u16, z: u16) -> Position {
     Position { x, y, z }
 }
 
@@ -23,7 +23,7 @@ fn wire(at: Position) -> Endpoint {
 }
 
 /// A row along z, from its first cell to its last.
-fn row(deep: u8) -> Job {
+fn row(deep: u16) -> Job {
     let room = Room { wide: 1, high: 1, deep };
     Job::new(room, Config::default(), wire(at(0, 0, 0)), vec![wire(at(0, 0, deep - 1))])
 }

@@ -11,7 +11,7 @@ use checks::{config_of, dirty_why, room_of, why_due};
 use dustroute::lent::WhyMemory;
 use dustroute::{Config, Cost, Kind, MOVES, Nodes, Reason, Refusal, Room, Route, WalledIn, Why, why};
 
-fn room(wide: u8, high: u8, deep: u8) -> Room {
+fn room(wide: u16, high: u16, deep: u16) -> Room {
     Room { wide, high, deep }
 }
 
@@ -98,7 +98,7 @@ fn a_route_and_refusals_are_those_of_the_search() {
         Why::Refused(Refusal::NotRouteable { cell: 2 })
     );
     assert_eq!(asked(row, &[], 0, 3), Why::Refused(Refusal::Position));
-    assert_eq!(why(room(65, 1, 1), Config::default(), &[0; 65], 0, 1), Why::Refused(Refusal::Sides));
+    assert_eq!(why(room(301, 1, 1), Config::default(), &[0; 301], 0, 1), Why::Refused(Refusal::Sides));
     assert_eq!(why(row, Config::default(), &[0; 2], 0, 2), Why::Refused(Refusal::Buffer));
 }
 
@@ -110,9 +110,9 @@ fn moves_lead_where_they_say() {
         assert_eq!(room.cell(at), cell);
         for (step, [dx, dy, dz]) in MOVES.into_iter().enumerate() {
             let next = room.neighbour(cell, step).and_then(|next| room.position(next));
-            let sums = [(at.x, dx, 3), (at.y, dy, 4), (at.z, dz, 5)].map(|(at, by, side)| (i16::from(at) + i16::from(by), side));
+            let sums = [(at.x, dx, 3), (at.y, dy, 4), (at.z, dz, 5)].map(|(at, by, side)| (i32::from(at) + i32::from(by), side));
             let inside = sums.iter().all(|(sum, side)| (0..*side).contains(sum));
-            let found = next.map(|next| [next.x, next.y, next.z].map(i16::from));
+            let found = next.map(|next| [next.x, next.y, next.z].map(i32::from));
             assert_eq!(found, inside.then_some(sums.map(|(sum, _)| sum)));
         }
     }

@@ -1,19 +1,21 @@
 //! Sheets written: jobs out and back, each reason of a refusal, every stored sheet taken apart and written again, and the stored parts,
 //! of which each byte counts.
 
-use cases::answers::{SHEETS, STRICT_SHEETS, TREE_WHYS, WRITES};
+use cases::answers::{LIMIT_SHEETS, SHEETS, STRICT_SHEETS, TREE_WHYS, WRITES};
 use cases::examples;
 use cases::files;
+use cases::limits::LimitSheet;
 use cases::parts::PartsAnswer;
 use cases::room::MOST_CELLS;
 use cases::sheet;
 use cases::strict::StrictSheet;
 use cases::tree_why::TreeWhy;
+use cases::version::Version;
 use checks::{parts_of, sheet_due, sheet_memory};
 use dustroute::lent::{SheetMemory, WRITE_VALUES};
-use dustroute::{Block, Config, Endpoint, Facing, Job, Kind, Parts, Port, Position, Refusal, Room, Sheet, write_sheet};
+use dustroute::{Block, Config, Endpoint, Facing, Job, Kind, Parts, Port, Position, Refusal, Room, Sheet, Sink, write_sheet};
 
-fn at(x: u8, y: u8, z: u8) -> Position {
+fn at(x: u16, y: u16, z: u16) -> Position {
     Position { x, y, z }
 }
 
@@ -27,6 +29,7 @@ fn full_job() -> Job {
     Job {
         room: Room { wide: 5, high: 2, deep: 3 },
         config: Config::default(),
+        run: Job::USUAL_RUN,
         blocks: vec![
             block(0x0102, at(3, 0, 0), Kind::Solid, Facing::None),
             block(0xFFFF, at(1, 1, 1), Kind::Repeater, Facing::East),
@@ -37,8 +40,8 @@ fn full_job() -> Job {
         reserved: vec![at(2, 1, 0), at(2, 1, 0)],
         source: end(at(0, 0, 1), Port::Wire, Facing::None),
         sinks: vec![
-            end(at(4, 0, 1), Port::Wire, Facing::None),
-            end(at(2, 0, 2), Port::BlockPower, Facing::West),
+            end(at(4, 0, 1), Port::Wire, Facing::None).into(),
+            end(at(2, 0, 2), Port::BlockPower, Facing::West).into(),
         ],
     }
 }
@@ -65,7 +68,7 @@ fn examples_of_parts() {
 #[test]
 fn jobs_that_are_not_written() {
     type Spoil = fn(&mut Job);
-    let cases: [(Refusal, Spoil); 11] = [
+    let cases: [(Refusal, Spoil); 16] = [
         (Refusal::Sheet, |job| job.sinks = vec![job.sinks[0]; 17]),
         (Refusal::Sheet, |job| job.reserved = vec![at(0, 0, 0); 20_000]),
         (Refusal::Sheet, |job| job.reserved = vec![at(0, 0, 0); 65_536]),
@@ -73,14 +76,23 @@ fn jobs_that_are_not_written() {
         (Refusal::Sides, |job| {
             job.room = Room {
                 wide: 64,
-                high: 5,
+                high: 17,
                 deep: 64,
             }
         }),
-        (Refusal::Config, |job| job.config.limit = 200_001),
+        (Refusal::Config, |job| job.config.limit = 800_001),
         (Refusal::Config, |job| job.config.support = u32::MAX),
+        (Refusal::Config, |job| job.run = 0),
+        (Refusal::Config, |job| job.run = 16),
+        (Refusal::Config, |job| job.sinks[0].tail = 0),
+        (Refusal::Config, |job| job.sinks[1].tail = 255),
+        // a sink's 3 before a later one's 4
+        (Refusal::Config, |job| {
+            job.sinks[0].tail = 16;
+            job.sinks[1].end.at.z = 3;
+        }),
         (Refusal::Position, |job| job.blocks[1].at.x = 5),
-        (Refusal::Position, |job| job.sinks[1].at.z = 255),
+        (Refusal::Position, |job| job.sinks[1].end.at.z = 255),
         (Refusal::Code, |job| job.blocks[0].kind = Kind::Air),
         // a block's 5 before a later record's 4
         (Refusal::Code, |job| {
@@ -100,7 +112,7 @@ fn jobs_that_are_not_written() {
 fn the_longest_sheet() {
     let mut job = full_job();
     job.sinks = vec![job.sinks[0]; 16];
-    // 144 bytes without reserved cells and its second block
+    // 136 bytes without reserved cells and its second block
     job.blocks.truncate(1);
     job.reserved = vec![at(4, 1, 2); (Sheet::MAX_BYTES - 136) / 3];
     let sheet = job.sheet().unwrap();
@@ -111,11 +123,48 @@ fn the_longest_sheet() {
     assert_eq!(job.sheet(), Err(Refusal::Sheet));
 }
 
+/// Version 3 for a larger room, a dearer cost or a higher node limit; else version 1 just where the run limit is 12 and every tail limit 8, else
+/// version 2. What is read of it is what went in.
+#[test]
+fn the_lowest_version_that_holds_the_job() {
+    type Change = fn(&mut Job);
+    let cases: [(u8, Change); 13] = [
+        (1, |job| job.room.wide = 64),
+        (3, |job| job.room.wide = 65),
+        (3, |job| (job.room.deep, job.run) = (300, 11)),
+        (1, |job| job.config.limit = 200_000),
+        (3, |job| job.config.limit = 200_001),
+        (1, |job| job.config.stair = 100_000),
+        (3, |job| job.config.support = 100_001),
+        (1, |_| ()),
+        (1, |job| job.sinks.clear()),
+        (2, |job| job.run = 11),
+        (2, |job| (job.run, job.sinks) = (15, Vec::new())),
+        (2, |job| job.sinks[1].tail = 1),
+        (2, |job| {
+            job.sinks[0] = Sink {
+                tail: 15,
+                ..job.sinks[0]
+            }
+        }),
+    ];
+    for (version, change) in cases {
+        let mut job = full_job();
+        change(&mut job);
+        let sheet = job.sheet().unwrap();
+        assert_eq!((sheet.bytes()[0], sheet.bytes().len()), (version, job.parts().sheet_bytes()));
+        let read = sheet::Job::read(sheet.bytes()).unwrap();
+        assert_eq!(parts_of(&cases::parts::Parts::of(&read)), job.parts());
+    }
+}
+
 /// Parts may say what no job can: sides past 32 bits, numbers past a byte, a list cut short.
 #[test]
 fn parts_that_no_job_has() {
     type Spoil = fn(&mut Parts);
-    let cases: [(Refusal, Spoil); 6] = [
+    let cases: [(Refusal, Spoil); 8] = [
+        (Refusal::Config, |parts| parts.run = 256 + 12),
+        (Refusal::Config, |parts| parts.sinks[5] = 256 + 8),
         (Refusal::Sides, |parts| parts.sides[0] = usize::MAX),
         (Refusal::Sides, |parts| parts.sides = [1 << 32; 3]),
         (Refusal::Sides, |parts| parts.sides[1] = (1 << 32) + 2),
@@ -148,6 +197,26 @@ fn memory_that_is_lent() {
     };
     assert_eq!(kept.write(&short.parts()), short.sheet());
     assert!(kept.sheet[length - 14..].iter().all(|byte| *byte == 0));
+}
+
+/// A stored sheet of its job's version gives its own bytes back, any other that is accepted the same job.
+#[test]
+fn stored_sheets_at_any_limits_are_given_back() {
+    let stored = files::read::<LimitSheet>(&LIMIT_SHEETS.bytes()).unwrap();
+    let (mut own, mut other) = (0, 0);
+    for (LimitSheet(case), _) in stored {
+        let Ok((job, _)) = case.judge(MOST_CELLS) else {
+            continue;
+        };
+        let written = write_sheet(&parts_of(&cases::parts::Parts::of(&job))).unwrap();
+        let version = job.lowest(Version::KNOWN);
+        assert_eq!(written.bytes() == case.bytes, version == job.version);
+        own += usize::from(version == job.version);
+        other += usize::from(version != job.version);
+        let job = sheet::Job { version, ..job };
+        assert_eq!(sheet::Job::read(written.bytes()), Ok(job));
+    }
+    assert!(own > 250 && other > 20, "{own} {other}");
 }
 
 /// Every sheet of the stored files that is accepted, taken apart by the plain reader and written, is the same bytes.

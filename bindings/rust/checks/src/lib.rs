@@ -8,6 +8,7 @@ use cases::cheapest::Cheapest;
 use cases::drawing::{Drawing, DrawingAnswer};
 use cases::function::{Function, FunctionAnswer};
 use cases::parts::PartsAnswer;
+use cases::plan::{Plan, PlanAnswer};
 use cases::room::MOST_CELLS;
 use cases::search::{Search, SearchAnswer};
 use cases::sheet::{Sheet, TreeAnswer};
@@ -15,10 +16,14 @@ use cases::tree::realize;
 use cases::tree_why::{TreeWhy, TreeWhyAnswer};
 use cases::why::WhyAnswer;
 use dustroute::draw::{self, LIST_VALUES, ROUTE_VALUES};
-use dustroute::lent::{PlainMemory, ReadMemory, SearchMemory, SheetMemory, TREE_VALUES, TreeMemory, TreeWhyMemory, WhyMemory, WriteMemory};
-use dustroute::{Config, Parts, Room};
+use dustroute::lent::{
+    PLAN_VALUES, PlainMemory, PlanMemory, ReadMemory, SearchMemory, SheetMemory, TREE_VALUES, TreeMemory, TreeWhyMemory, WhyMemory,
+    WriteMemory,
+};
+use dustroute::{Config, Net, Parts, Room};
 
-pub fn room_of([wide, high, deep]: [u8; 3]) -> Room {
+pub fn room_of(sides: [u16; 3]) -> Room {
+    let [wide, high, deep] = sides;
     Room { wide, high, deep }
 }
 
@@ -364,6 +369,7 @@ pub fn parts_of(case: &cases::parts::Parts) -> Parts {
     Parts {
         sides: case.sides.map(|side| side as usize),
         config: config_of(&case.config),
+        run: case.run,
         blocks: case.blocks.clone(),
         conductors,
         clearances,
@@ -391,4 +397,80 @@ pub fn sheet_due(before: &SheetMemory, answer: &PartsAnswer) -> SheetMemory {
         due.values[1] = bytes.len() as u64;
     }
     due
+}
+
+/// The net of a case as the wrapper takes it.
+fn net_of(case: &Plan) -> Net {
+    Net {
+        sides: case.sides.map(usize::from),
+        run: case.run,
+        source: case.source.clone(),
+        sinks: case.sinks.clone(),
+        branches: case.branches.clone(),
+        lengths: case.lengths.clone(),
+    }
+}
+
+/// Memory of the lengths of a case, with so many values and this in every byte. What is long enough is longer by so much.
+fn plan_memory(case: &Plan, longer: usize, values: usize, byte: u8) -> PlanMemory {
+    let (word, long) = words_of(byte);
+    let cells: usize = case.sides.iter().map(|side| usize::from(*side)).product();
+    let more = |length: u32| match length as usize {
+        length if length < cells => length,
+        length => length + longer,
+    };
+    let [classes, known, previous, path] = case.work.map(more);
+    PlanMemory {
+        repeaters: vec![byte; more(case.marks)],
+        classes: vec![byte; classes],
+        known: vec![word; known],
+        previous: vec![word; previous],
+        path: vec![word; path],
+        values: vec![long; values],
+    }
+}
+
+/// What an answer leaves in memory.
+fn plan_due(before: &PlanMemory, answer: &PlanAnswer) -> PlanMemory {
+    let mut due = before.clone();
+    if (1..=6).contains(&answer.number()) {
+        return due;
+    }
+    for buffer in [&mut due.repeaters, &mut due.classes] {
+        buffer.fill(0);
+    }
+    for buffer in [&mut due.known, &mut due.previous, &mut due.path] {
+        buffer.fill(0);
+    }
+    due.values.fill(0);
+    match answer {
+        PlanAnswer::Refused(refusal) => due.values[0] = refusal.detail.into(),
+        PlanAnswer::Repeaters(cells) => {
+            mark(&mut due.repeaters, cells);
+            due.values[1] = cells.len() as u64;
+        }
+    }
+    due
+}
+
+/// What is not as due of one call for repeaters, if anything is not: over lent memory with this in every byte, so much longer than need be; then with
+/// too few values, which is 6 where that is due, and touches nothing.
+pub fn plan_fault(case: &Plan, due: &PlanAnswer, byte: u8, longer: usize) -> Option<&'static str> {
+    let net = net_of(case);
+    let few = match due {
+        PlanAnswer::Refused(refusal) if refusal.number < 6 => due.clone(),
+        _ => PlanAnswer::Refused(Refusal::bare(6)),
+    };
+    let calls = [(PLAN_VALUES + longer, due), (usize::from(byte) % PLAN_VALUES, &few)];
+    for (values, due) in calls {
+        let before = plan_memory(case, longer, values, byte);
+        let mut after = before.clone();
+        if after.call(&net) != u32::from(due.number()) {
+            return Some("number");
+        }
+        if after != plan_due(&before, due) {
+            return Some("memory");
+        }
+    }
+    None
 }
