@@ -10,7 +10,7 @@ from pathlib import Path
 from unittest import mock
 
 import dustroute
-from common import EXAMPLES, content, examples, stored
+from common import EXAMPLES, content, small_examples, stored
 from dustsheet import crosscheck, text as texts
 from dustsheet.commands import route as routes
 from dustsheet.job import from_bytes
@@ -34,7 +34,7 @@ def differences(job, branches, strict=False):
 
 class Passes(unittest.TestCase):
     def test_every_example_by_the_command(self):
-        for name in examples():
+        for name in small_examples():
             status, printed, said = run("route", "--check", os.path.join(EXAMPLES, name + ".txt"))
             self.assertEqual(printed, content(name + ".out").decode())
             is_tree = printed.startswith("net")
@@ -102,7 +102,7 @@ class WrongAnswers(unittest.TestCase):
         self.assertRegex(found[0], r"^sink 1: its branch is another way than the search's, which goes by \(\d, 0, \d\), cell \d+ and not by ")
 
     def test_each_branch_of_the_examples_cut_short(self):
-        for name in examples():
+        for name in small_examples():
             with contextlib.suppress(dustroute.Refusal):
                 job = from_bytes(content(name + ".sheet"))
                 branches = dustroute.route(job).branches

@@ -7,7 +7,7 @@ import dustroute
 from common import random_job
 from dustsheet import answer as answers
 from dustsheet.check import remarks
-from dustsheet.job import Block, End, Job
+from dustsheet.job import Block, End, Job, Sink
 from dustsheet.page import page
 from dustsheet.words import of_job
 
@@ -22,7 +22,8 @@ def routable_job(rng):
     def end():
         return End(cell(), 0, rng.choice([0, 0, 0, 1, 2, 3, 4]))
 
-    job = Job(sides, rng.choice([30_000, 30_000, 40]), (10, 25, 15), End(cell(), 0, 0), [end() for _ in range(rng.randrange(1, 5))])
+    job = Job(sides, rng.choice([30_000, 30_000, 40]), (10, 25, 15), End(cell(), 0, 0),
+              [Sink(*end(), rng.choice([8, 8, 3, 12])) for _ in range(rng.randrange(1, 5))], run=rng.choice([12, 12, 12, 5]))
     taken = {job.source.at, *(sink.at for sink in job.sinks)}
     for at in {cell() for _ in range(rng.randrange(1, 60))} - taken:
         job.blocks.append(Block(0, at, rng.choice([1, 1, 1, 2, 5, 7, 10, 11]), rng.randrange(7)))

@@ -54,13 +54,13 @@ class Printed(unittest.TestCase):
                 self.assertEqual(status, 3 if printed.startswith("refused") else 0, said)
 
     def test_every_room_that_the_library_takes(self):
-        for room, sink in (("25 25 25", "24 1 24"), ("64 4 64", "63 1 63"), ("16 64 16", "15 1 15")):
+        for room, sink in (("25 25 25", "24 1 24"), ("64 4 64", "63 1 63"), ("16 64 16", "15 1 15"), ("300 8 27", "20 1 20")):
             status, printed, said = routed("room %s\nsource 0 1 0\nsink %s\n" % (room, sink))
             self.assertEqual(status, 0, said)
             self.assertTrue(printed.startswith("net 1 "))
-        status, printed, said = routed("room 25 26 26\nsource 0 1 0\nsink 1 1 1\n")
+        status, printed, said = routed("room 41 40 40\nsource 0 1 0\nsink 1 1 1\n")
         self.assertEqual((status, printed), (3, "refused 2 0\n"))
-        self.assertIn("a room of 16900 cells; at most 16384 are allowed", said)
+        self.assertIn("a room of 65600 cells; at most 65536 are allowed", said)
 
     def test_it_runs_from_anywhere_and_through_a_link(self):
         with tempfile.TemporaryDirectory() as folder:
@@ -85,7 +85,7 @@ class Refused(unittest.TestCase):
         self.told("room 5 2 5\nsource 0 0 0\nblock solid 1 1 1\nblock solid 1 1 1\n", (7, 16), "standard input:4: a second block in cell (1, 1, 1)")
         self.told("room 5 2 5\nsource 0 0 0\nsink block-power 1 1 1\n", (8, 1), "standard input:3: sink 1: block-power needs a facing")
         self.told("room 5 2 5\nsource 0 0 0\nsink 9 1 1\n", (4, 0), "position (9, 1, 1) is outside the room")
-        self.told("limit 200001\n" + SMALL, (3, 0), "a node limit of 200001; at most 200000 is allowed")
+        self.told("limit 800001\n" + SMALL, (3, 0), "a node limit of 800001; at most 800000 is allowed")
 
     def test_no_way(self):
         said = self.told("room 11 2 5\nblock solid 9 0 0 to 9 1 4\nsource 0 1 4\nsink 10 1 4\n", (14, 109), "no way was found to sink 1 at (10, 1, 4)\n")
@@ -109,10 +109,10 @@ class Refused(unittest.TestCase):
         self.told(two, (14, 5), "the node limit 3 was passed; a limit of 41 suffices for it, and then no way was found to sink 2 at (8, 0, 0)")
 
     def test_low_costs(self):
-        self.told("costs 0 0 0\nlimit 2\nroom 9 1 1\nsource 0 0 0\nsink 8 0 0\n", (14, 8), "the node limit 2 was passed; a limit of 200000 suffices")
+        self.told("costs 0 0 0\nlimit 2\nroom 9 1 1\nsource 0 0 0\nsink 8 0 0\n", (14, 8), "the node limit 2 was passed; a limit of 800000 suffices")
         shelf = "costs 0 0 0\nlimit %d\nroom 2 2 2\nblock solid 0 1 0\nsource 0 0 0\nsink 0 1 1\n"
-        self.told(shelf % 200_000, (14, 3), "the node limit 200000 is the highest there is")
-        self.told(shelf % 100, (14, 3), "a node limit of 200000 doesn't help")
+        self.told(shelf % 800_000, (14, 3), "the node limit 800000 is the highest there is")
+        self.told(shelf % 100, (14, 3), "a node limit of 800000 doesn't help")
 
 
 class Json(unittest.TestCase):
@@ -126,6 +126,12 @@ class Json(unittest.TestCase):
         self.assertEqual((len(branch["cells"]), branch["cells"][-1], branch["repeaters"]), (13, [12, 1, 2], [[6, 3, 2]]))
         self.assertEqual(branch["new_supports"], [[4, 1, 2], [5, 2, 2], [6, 2, 2], [7, 2, 2], [8, 1, 2]])
         self.assertEqual(branch["signals"], [15, 14, 13, 12, 11, 10, 15, 15, 14, 13, 12, 11, 10])
+
+    def test_limits(self):
+        status, printed, _ = run("route", "--json", os.path.join(EXAMPLES, "dust-inside.txt"))
+        said = json.loads(printed)
+        self.assertEqual((status, said["run"], said["repeaters"]), (0, 12, [[6, 1, 5]]))
+        self.assertEqual([(branch["tail"], branch["signal"]) for branch in said["branches"]], [(11, 4), (4, 12)])
 
     def test_a_refusal(self):
         status, printed, said = routed("room 2 3 2\nsource 0 0 0\nsink 0 2 0\n", "--json")

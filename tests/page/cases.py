@@ -1,6 +1,8 @@
 """cases.py OUT.json: what Python's modules say of texts and sheets, for the page's scripts to say the same. Texts are the examples, whole and
 with random slips; sheets are the oracle's, with their answers and the nets laid, whole and damaged; reasons are those of its searches without
-a route and of its trees that stopped at a sink, the latter in their file's order."""
+a route and of its trees that stopped at a sink, the latter in their file's order, with what to try: by an answer that both make up, and, where
+the folder of DUSTROUTE_ARCHIVE has the library as well, by the router's own, with the net so far."""
+import dataclasses
 import json
 import os
 import random
@@ -12,8 +14,8 @@ HERE = os.path.dirname(os.path.abspath(__file__))
 sys.path[:0] = [os.path.join(HERE, *path) for path in (("..", "..", "tools"), ("..", "tools"), ("..", "..", "bindings", "python"))]
 from common import content, examples, stored  # noqa: E402
 import test_sinks  # noqa: E402
-from dustsheet import answer as answers, check, job as jobs, laying, net, reason as reasons, rules, sinks, text as texts, words  # noqa: E402
-from dustsheet.commands import build  # noqa: E402
+from dustsheet import answer as answers, check, job as jobs, laying, net, reason as reasons, rules, sinks, text as texts, tries, words  # noqa: E402
+from dustsheet.commands import build, unreached  # noqa: E402
 
 ROOT = os.path.join(HERE, "..", "..")
 MOVES = [(x, up, z) for x, z in ((1, 0), (-1, 0), (0, 1), (0, -1)) for up in (-1, 0, 1)]
@@ -24,7 +26,8 @@ CAN_FACE = {jobs.REPEATER: range(1, 5), jobs.COMPARATOR: range(1, 5), jobs.PISTO
             jobs.TORCH: range(5), jobs.LEVER: range(5), jobs.BUTTON: range(5)}
 build.facings_of = lambda kind: list(CAN_FACE.get(kind, [0]))
 STRANGE = ["soild", "lamb", "blok", "sinks", "north", "up", "code-13", "node", "to", "at", "facing", "99", "300", "-1", "1.5", "(3,", "ä", "\u00b2",
-           "x" * 60, "#", "Redstone_Wire", "CLEAR", "limit", "costs", "4294967296", "1234567890123", "block-power", "wire", "\u2028", "torches"]
+           "x" * 60, "#", "Redstone_Wire", "CLEAR", "limit", "costs", "4294967296", "1234567890123", "block-power", "wire", "\u2028", "torches",
+           "run", "tail", "tail 3", "16", "0"]
 
 
 def slipped(text, chance):
@@ -77,8 +80,12 @@ def told_of_sheet(sheet, number, detail, printed):
         return told
     fault = jobs.first_fault(job)
     told["fault"] = None if fault is None else [fault.number, fault.part, fault.index, fault.words]
-    if fault is not None:
-        told["unwritten"] = words.of_job(fault.number, 0, job)
+    unread = dataclasses.replace(job, read_as=None)  # it is written in the lowest version that holds it
+    unwritten = jobs.first_fault(unread)
+    if unwritten is None:
+        told["made"], told["limits"] = jobs.to_bytes(job).hex(), words.of_limits(job)
+    else:
+        told["unwritten"] = "%s (number %d)" % (words.of_job(unwritten.number, 0, unread), unwritten.number)
     if number:
         told["words"] = words.of_sheet(number, detail, sheet)
     elif number == 0:
@@ -125,6 +132,41 @@ def told_of_reasons():
             yield {"text": texts.write(job), "start": asked.start, "goal": asked.goal, "words": said}
 
 
+def told_of_unreached(one, chance):
+    """The words, and what to try over a net that is drawn at random, where a router is thought of that reaches a sink now and then."""
+    branches = [[chance.randrange(one.job.cells()) for _ in range(chance.randrange(4))] for _ in one.job.sinks]
+    one = one._replace(net=[[one.job.place(cell) for cell in branch] for branch in branches])
+    told = {"words": sinks.words(one), "branches": branches}
+    for one_in in (2, 7, 10 ** 9):
+        told["tries%d" % one_in] = tried(one, tries.tries(one, lambda job, strict, _, one_in=one_in: thought_reached(job, strict, one_in)))
+    return told
+
+
+def thought_reached(job, strict, one_in):
+    number = 0
+    for byte in jobs.to_bytes(job) + bytes([strict]):
+        number = (31 * number + byte) % 1000003
+    return number % one_in == 0
+
+
+def tried(one, found):
+    return {"words": tries.helpful(one, found), "tried": found.tried, "isAll": found.is_all,
+            "found": [[change.sort, change.words, change.at, jobs.to_bytes(change.job).hex(), change.strict] for change in found.found]}
+
+
+def explained(one):
+    """The same by the library: the net so far, and what really helps. None of a short queue's, which the library's own is not."""
+    if one.number != 14:
+        return None
+    told = unreached.explain(one.job, one.strict)
+    branches = [[one.job.number(at) for at in branch] for branch in told.unreached.net]
+    return {"soFar": {"branches": branches, "isExact": told.unreached.is_exact}, **tried(told.unreached, told.tried)}
+
+
+def has_library():
+    return os.path.exists(os.path.join(os.environ.get("DUSTROUTE_ARCHIVE", ""), "libdustroute.so"))
+
+
 def damaged(sheet, chance):
     bytes_ = bytearray(sheet)
     if chance.randrange(2):
@@ -137,12 +179,13 @@ def main():
     chance = random.Random(SEED)
     whole = [content(name + ".txt").decode() for name in examples()]
     listed = whole + [slipped(chance.choice(whole), chance) for _ in range(SLIPS)]
-    sheets = list(stored())
+    sheets = [*stored(), *stored("tests/bindings/limits.bin")]
     told = [told_of_sheet(one.sheet, one.number, one.detail, one.printed()) for one in sheets if one.number != 6]
     told += [told_of_sheet(damaged(chance.choice(sheets).sheet, chance), None, 0, "") for _ in range(DAMAGED)]
     with open(sys.argv[1], "w", encoding="utf-8") as out:
         json.dump({"texts": [told_of_text(text) for text in listed], "sheets": told, "reasons": list(told_of_reasons()),
-                   "unreached": [sinks.words(one) for one in test_sinks.STORED]}, out)
+                   "unreached": [told_of_unreached(one, chance) for one in test_sinks.STORED],
+                   "explained": [explained(one) for one in test_sinks.STORED] if has_library() else None}, out)
 
 
 main()

@@ -39,7 +39,7 @@ expect("no reason of a net", reasonsOf(router, ROW), []);
 const [cut, limit] = reasonsOf(router, ROW + "limit 3\n");
 expect("the words of a search cut short", cut.words, ["Sink 1 at (4, 0, 0) was not reached: its search was cut short.",
     "The node limit is 3; a limit of 21 always suffices in this room. There may be a way."]);
-expect("nothing is drawn of it", Object.keys(cut), ["words"]);
+expect("nothing is drawn of it but the net so far", [Object.keys(cut), cut.soFar], [["words", "soFar"], { branches: [[]], isExact: true }]);
 expect("the limit's words", limit.words, ["The node limit 3 was passed; a limit of 21 suffices."]);
 
 // a module without it: the limit, and the search past the blocks
@@ -47,6 +47,88 @@ const WALLED = ROW + "block solid 1 0 0\n";
 expect("the limit's words alone", reasonsOf(without, ROW + "limit 3\n")[0].words, limit.words);
 expect("the search's reason", reasonsOf(without, WALLED)[0].words[0], "No wire can get from (4, 0, 0) to (0, 0, 0), at any costs.");
 expect("the search's reason gives way", reasonsOf(router, WALLED).length, 1);
+
+// the net so far: sink 2 is nearer, and has its branch. Its wire is kept free without it, beside the lever: so the net may have lain otherwise
+const FORK = "room 7 2 3\nsource 0 0 0\nsink 6 0 2\nsink 2 0 0\nblock solid 5 0 0 to 5 1 2\n";
+const [walled] = reasonsOf(router, FORK);
+expect("the branch of the sink before", walled.soFar, { branches: [[], [0, 6, 12]], isExact: true });
+expect("who was before", walled.words[2], "Sink 2 was reached before it.");
+const [near] = reasonsOf(router, "room 7 2 3\nsource 0 0 0\nsink 2 0 0\nsink 6 0 2\nblock lever 6 0 1\nblock solid 5 0 0 to 5 1 2\n");
+expect("a net that may have lain otherwise", [near.soFar.isExact, near.soFar.branches[1]], [false, []]);
+
+// what to try, a few at a time, until it is done; another id begins anew
+function triesOf(id, text, strict = false) {
+    for (;;) {
+        const { tries } = page.QUESTIONS.tries(router, { id, sheet: sheetOfText(text), strict });
+        if (tries.isDone) return tries;
+    }
+}
+const tried = triesOf(1, FORK);
+expect("what helps", tried.words, ["Take away the Solid at (5, 0, 0); then sink 1 is reached."]);
+expect("what is done then", page.treeOf(router, page.sheetOf(tried.found[0].job), false).number, 0);
+expect("the same once more", page.QUESTIONS.tries(router, { id: 1, sheet: sheetOfText(FORK), strict: false }).tries.isDone, true);
+expect("where no single change helps", triesOf(2, ROW + "block solid 1 0 0\nblock solid 2 0 0\n").words,
+    ["Taking away one block round it, or freeing one cell, doesn't help: more than one is in the way."]);
+expect("a limit that is raised", triesOf(3, ROW + "limit 3\n").words, ["Raise the node limit from 3 to 21; then sink 1 is reached."]);
+
+// ---- what stands behind the page: a worker and a clock of the test's own
+
+function behind() {
+    const sent = [];
+    const told = [];
+    const timers = new Map();
+    let clock = 0;
+    Object.assign(globalThis, {
+        Worker: class {
+            postMessage(question) {
+                sent.push(question.module ? "load" : question.asks ?? `route ${question.id}`);
+            }
+            terminate() {
+                sent.push("ended");
+            }
+        },
+        setTimeout: (does, wait) => timers.set(timers.size, { does, at: clock + wait }).size - 1,
+        clearTimeout: (timer) => timers.delete(timer),
+    });
+    performance.now = () => clock;
+    URL.createObjectURL = () => "";
+    URL.revokeObjectURL = () => {};
+    const asked = new page.Background("", { module: true }, (data) => told.push(data));
+    const passes = (time) => {
+        clock += time;
+        for (const [timer, { does, at }] of [...timers]) if (at <= clock && timers.delete(timer)) does();
+    };
+    return { asked, sent, told, passes, hears: (data) => asked.heard(data) };
+}
+
+{
+    const real = { Worker: globalThis.Worker, setTimeout, clearTimeout };
+    const { asked, sent, told, passes, hears } = behind();
+    asked.ask({ id: 1 });
+    hears({ names: [] });
+    asked.askIdly({ id: 1, asks: "tries" });
+    asked.askAlso({ id: 1, asks: "sheetFile", saveAs: "a" });
+    expect("nothing beside a route", sent, ["load", "route 1"]);
+    hears({ id: 1, answer: {} });
+    hears({ id: 1, told: { file: "a" } });
+    expect("a file before what may wait", sent.slice(2), ["sheetFile", "tries"]);
+    asked.ask({ id: 2 });
+    passes(399);
+    expect("what may wait has a little time", sent.slice(4), []);
+    passes(1);
+    hears({ names: [] });
+    expect("and gives way then", sent.slice(4), ["ended", "load", "route 2"]);
+    asked.askIdly({ id: 2, asks: "tries" });
+    asked.ask({ id: 3 });
+    hears({ id: 2, answer: {} });
+    hears({ id: 3, answer: {} });
+    expect("what was to be tried of a room that changed is not asked", sent.slice(7), ["route 3"]);
+    asked.askIdly({ id: 3, asks: "tries" });
+    passes(4000);
+    expect("what takes too long is told of", told.at(-1), { id: 3, asks: "tries", late: 4 });
+    expect("and is ended", sent.slice(8), ["tries", "ended", "load"]);
+    Object.assign(globalThis, real);
+}
 
 // ---- dustroute_write_function, of the smallest example: nine wires and a repeater that points east
 

@@ -97,7 +97,8 @@ function treed(name, one, strict, outputs = {}) {
     return call.troubles;
 }
 
-// The writer of the sheets that read: their own bytes come back, and of those with a fault its number.
+// The writer of the sheets that read, in the lowest version that holds the job: where that is the sheet's own, its bytes come back. Of a job
+// that no version holds, the fault's number.
 function* jobs(cases) {
     for (const { sheet } of cases) {
         let job;
@@ -106,14 +107,15 @@ function* jobs(cases) {
         } catch {
             continue;
         }
-        yield { sheet, job, number: page.firstFault(job)?.number ?? 0 };
+        const isOwn = page.versionOf(job) === job.readAs;
+        yield { sheet: isOwn ? sheet : page.sheetOf(job), job, number: page.firstFault({ ...job, readAs: undefined })?.number ?? 0 };
     }
 }
 
 function written({ sheet, job, number }) {
-    const { wide, high, deep, limit, horizontal, stair, support, ...lists } = page.writerParts(job);
+    const { wide, high, deep, limit, horizontal, stair, support, run, ...lists } = page.writerParts(job);
     const lent = { sheet: sheet.length + GAP, values: 3 };
-    const call = called("dustroute_write_sheet", { wide, high, deep, limit, horizontal, stair, support }, lists, lent);
+    const call = called("dustroute_write_sheet", { wide, high, deep, limit, horizontal, stair, support, run }, lists, lent);
     if (call.number !== number) return [`number ${call.number}, not ${number}`];
     if (number) Object.keys(lent).forEach(call.untouched);
     else {
@@ -179,6 +181,7 @@ replay("searches", searches(`${root}/crates/replay/data/searches.bin`), (one) =>
 replay("searches with their reason", whys(`${root}/tests/bindings/whys.bin`), (one) =>
     searched("dustroute_why", one, { reached: one.reachedLength, walls: one.wallsLength }));
 replay("sheets", sheets(stored, "DRT1"), (one) => treed("dustroute_tree", one, null));
+replay("sheets of both versions", sheets(`${root}/tests/bindings/limits.bin`, "DRT1"), (one) => treed("dustroute_tree", one, null));
 replay("sheets, the mode named", sheets(stored, "DRT1"), (one) => treed("dustroute_tree_mode", one, 0));
 replay("sheets in strict mode", sheets(`${root}/tests/bindings/strict.bin`, "DRM1"), (one) => treed("dustroute_tree_mode", one, 1));
 replay("sheets with their reason", treeWhys(`${root}/tests/bindings/treewhys.bin`), (one) =>

@@ -1,5 +1,5 @@
 // node same.mjs SCRIPTS.mjs MODULE.wasm CASES.json ROOT: the page's scripts say of texts, sheets, searches and sinks that weren't reached what
-// Python's modules say (cases.py), word for word, and lay nets as they do.
+// Python's modules say (cases.py), word for word, offer the same to try, and lay nets as they do.
 import { readFileSync } from "node:fs";
 import { pathToFileURL } from "node:url";
 import { treeWhys } from "./stored.mjs";
@@ -7,7 +7,7 @@ import { treeWhys } from "./stored.mjs";
 const [, , scripts, moduleFile, cases, root] = process.argv;
 const page = await import(pathToFileURL(scripts).href);
 const router = await page.Router.load(readFileSync(moduleFile), page.TABLES.FUNCTIONS);
-const { texts, sheets, reasons, unreached } = JSON.parse(readFileSync(cases, "utf8"));
+const { texts, sheets, reasons, unreached, explained } = JSON.parse(readFileSync(cases, "utf8"));
 let failures = 0;
 
 function expect(what, found, due) {
@@ -55,8 +55,11 @@ function checkSheet(told) {
     const fault = page.firstFault(job);
     expect("the first fault", fault && [fault.number, fault.part, fault.index, fault.words], told.fault);
     const file = page.sheetFile(router, { job, saveAs: "a.sheet" });
-    if (fault) expect("why no sheet is written", file, { words: [`a.sheet: ${told.unwritten} (number ${fault.number})`] });
-    else expect("the sheet by the proved writer", hex(file.file), told.sheet);
+    if (told.unwritten) expect("why no sheet is written", file, { words: [`a.sheet: ${told.unwritten}`] });
+    else {
+        expect("the sheet by the proved writer", hex(file.file), told.made);
+        expect("the limits in words", page.stepLimitWords(job), told.limits);
+    }
     if (told.words) expect("the words of a refusal", page.refusalWords(told.number, told.detail, job), told.words);
     if (!told.printed) return undefined;
     const answer = answerOf(told);
@@ -82,19 +85,43 @@ function checkReason({ text, start, goal, words }) {
 }
 
 // By the stored reason and, where it isn't a short queue's, by the module's own.
-function checkUnreached(one, words) {
+function checkUnreached(one, saidOf, reallyTold) {
     const job = page.jobOfSheet(one.sheet);
     const strict = one.strict === 1;
     const walls = one.told.flatMap(({ cell, reasons: why }) => why.flatMap((reason, move) => (reason ? [[cell, move, reason]] : [])));
     const causes = new Uint8Array(page.cellCount(job));
     for (const { cell, bits } of one.causes) causes[cell] = bits;
-    const stored = { ...one, job, strict, reached: one.told.map(({ cell }) => cell), walls, causes: [...causes] };
-    const due = page.treeReason(stored);
-    expect("why a sink wasn't reached", due.words, words);
+    const soFar = { branches: saidOf.branches, isExact: true };
+    const stored = { ...one, job, strict, reached: one.told.map(({ cell }) => cell), walls, causes: [...causes], soFar };
+    expect("why a sink wasn't reached", page.treeReason(stored).words, saidOf.words);
+    for (const oneIn of [2, 7, 10 ** 9]) {
+        const isThought = (changed, mode) => blend([...page.sheetOf(changed), mode ? 1 : 0]) % oneIn === 0;
+        expect("what is offered to try", triesTold(stored, isThought), saidOf[`tries${oneIn}`]);
+    }
     if (one.number !== page.NO_WAY) return;
+    const told = page.unreachedTold(router, one.sheet, strict);
+    const due = page.treeReason({ ...stored, soFar: told.soFar });
     const [found, limit] = page.treeReasons(router, { sheet: one.sheet, strict }, page.treeOf(router, one.sheet, strict));
     expect("why a sink wasn't reached, by the module", found, due);
     expect("whether the limit is to blame is told", limit !== undefined, one.verdict === page.CUT_SHORT);
+    if (!reallyTold) return;
+    const really = { soFar: told.soFar, ...triesTold(told, (...change) => page.reaches(router, ...change)) };
+    expect("the net so far, and what to try", really, reallyTold);
+}
+
+// A number of bytes, as cases.py has it.
+function blend(bytes) {
+    return bytes.reduce((sum, byte) => (31 * sum + byte) % 1000003, 0);
+}
+
+function triesTold(told, asks) {
+    const steps = page.trying(told, asks);
+    let step;
+    do step = steps.next();
+    while (!step.done);
+    const { found, tried, isAll } = step.value;
+    const changes = found.map(({ sort, words, at, job, strict }) => [sort, words, at, hex(page.sheetOf(job)), strict]);
+    return { words: page.helpful(told, step.value), tried, isAll, found: changes };
 }
 
 texts.forEach(checkText);
@@ -102,7 +129,8 @@ sheets.forEach(checkSheet);
 reasons.forEach(checkReason);
 const stopped = [...treeWhys(`${root}/tests/bindings/treewhys.bin`)].filter(({ verdict }) => verdict);
 expect("how many sinks weren't reached", stopped.length, unreached.length);
-stopped.forEach((one, index) => checkUnreached(one, unreached[index]));
+stopped.forEach((one, index) => checkUnreached(one, unreached[index], explained?.[index]));
+if (!explained) console.log("page: no library beside the module: the net so far and what really helps were not compared with Python's");
 const looked = `${texts.length} texts, ${sheets.length} sheets, ${reasons.length} searches and ${stopped.length} sinks that weren't reached`;
 console.log(`page: ${looked}: ${failures} things said otherwise than Python says them`);
 process.exit(failures ? 1 : 0);

@@ -5,12 +5,13 @@ import subprocess
 import sys
 
 from dustsheet import text as texts
-from dustsheet.job import Block, End, Job, to_bytes
+from dustsheet.job import MAX_LIMIT, Block, End, Job, Sink, to_bytes
 
 ROOT = os.path.join(os.path.dirname(os.path.abspath(__file__)), "..", "..")
 TOOLS = os.path.join(ROOT, "tools")
 EXAMPLES = os.path.join(ROOT, "examples")
 HEX_SHEET = ("01 00000028 0A0101 00007530 0000000A 00000019 0000000F 0000 0000 0000 0000 0000 0000000000 01 0900000000\n")
+TAIL_SHEET = ("02 0000002A 0A0101 00007530 0000000A 00000019 0000000F 0C 0000 0000 0000 0000 0000 0000000000 01 0900000000 03\n")
 HEX_ANSWER = "net 1 10\nbranch 0 1 2 3 4 5 6 7 8 9\nrepeaters 1\n"
 
 
@@ -22,6 +23,11 @@ def run(tool, *words, given=b""):
 
 def examples():
     return sorted(name[:-4] for name in os.listdir(EXAMPLES) if name.endswith(".txt"))
+
+
+def small_examples():
+    """All but the hall, which is too large for program `route`, and in which other routers search for minutes."""
+    return [name for name in examples() if name != "hall"]
 
 
 def content(name):
@@ -100,8 +106,11 @@ def random_job(rng: random.Random) -> Job:
     def end():
         return End(cell(), rng.randrange(2), rng.randrange(7))
 
+    def limit(usual):
+        return rng.randint(1, MAX_LIMIT) if rng.random() < 0.3 else usual
+
     job = Job(sides, rng.randrange(200_001), tuple(rng.choice([0, 10, 100_000]) for _ in range(3)), end(),
-              [end() for _ in range(rng.randrange(17))])
+              [Sink(*end(), limit(8)) for _ in range(rng.randrange(17))], run=limit(12))
     for _ in range(rng.randrange(8)):
         node, kind, facing = rng.choice([0, 0, 1, 65_535]), rng.randrange(1, 13), rng.choice([0, 0, 2, 6])
         job.blocks += [Block(node, at, kind, facing) for at in row()]
@@ -122,7 +131,8 @@ def wild_job(rng: random.Random) -> Job:
     def end():
         return End(cell(), byte(), byte())
 
-    job = Job(cell(), rng.randrange(2 ** 32), tuple(rng.randrange(2 ** 32) for _ in range(3)), end(), [end() for _ in range(rng.randrange(40))])
+    job = Job(cell(), rng.randrange(2 ** 32), tuple(rng.randrange(2 ** 32) for _ in range(3)), end(),
+              [Sink(*end(), rng.choice([8, byte()])) for _ in range(rng.randrange(40))], run=rng.choice([12, byte()]))
     job.blocks = [Block(rng.randrange(65_536), cell(), byte(), byte()) for _ in range(rng.randrange(9))]
     for name in ("conductors", "clearances", "terminals", "reserved"):
         setattr(job, name, [cell() for _ in range(rng.randrange(5))])

@@ -1,14 +1,17 @@
 """The examples are what their texts make, and their answers are drawn."""
+import json
 import os
 import re
 import subprocess
 import unittest
 import xml.etree.ElementTree as ElementTree
 
-from common import EXAMPLES, HEX_ANSWER, HEX_SHEET, ROOT, TOOLS, content, examples, remade
+from common import EXAMPLES, HEX_ANSWER, HEX_SHEET, ROOT, TOOLS, content, examples, remade, small_examples
 from dustsheet import answer as answers, text as texts
 from dustsheet.job import from_bytes, to_bytes
+from dustsheet.net import branches
 from dustsheet.page import page
+from dustsheet.report import of_net
 from test_view import branches_of
 
 ORACLE = os.path.join(ROOT, "oracle", "target", "release", "oracle")
@@ -17,6 +20,12 @@ ORACLE = os.path.join(ROOT, "oracle", "target", "release", "oracle")
 class Examples(unittest.TestCase):
     def test_there_are_some(self):
         self.assertGreaterEqual(len(examples()), 6)
+
+    def test_every_example_has_its_answer(self):
+        for file in os.listdir(EXAMPLES):
+            if file.endswith(".txt"):
+                made = "./dustroute route examples/%s > examples/%s" % (file, file.replace(".txt", ".out"))
+                self.assertTrue(os.path.exists(os.path.join(EXAMPLES, file.replace(".txt", ".out"))), made)
 
     def test_sheets_are_made_from_their_texts(self):
         for name in examples():
@@ -44,9 +53,33 @@ class Examples(unittest.TestCase):
         with self.assertRaisesRegex(answers.BadAnswer, r"no answer of strict mode: the wire at \(4, 2, 0\) rests on the cell \(4, 1, 0\)"):
             answers.read(content("gap.out").decode(), job, strict=True)
 
+    def test_the_example_of_a_hall(self):
+        """A sheet of version 3; its page is cropped and its long floors drawn in pieces."""
+        job = from_bytes(content("hall.sheet"))
+        self.assertEqual((job.sides, job.cells(), job.version().number, len(job.sinks)), ((300, 8, 27), 64_800, 3, 16))
+        self.assertFalse([block for block in job.blocks if block.at[1] == 0 and block.kind == 1 and block.at[0] not in (75, 150, 225)])
+        tree = ElementTree.fromstring(page("hall", job, answers.read(content("hall.out").decode(), job)))
+        captions = ["".join(caption.itertext()) for caption in tree.iter("{http://www.w3.org/1999/xhtml}figcaption")]
+        self.assertIn("Floor y = 0 (bottom): x = 0 to 71, z = 0 to 26", captions)
+        self.assertFalse([caption for caption in captions if "y = 7" in caption])
+
+    def test_the_example_of_limits(self):
+        """Each lamp's signal comes through its machine, just so; at the limits of version 1 the second lamp's would not."""
+        job = from_bytes(content("dust-inside.sheet"))
+        answer = answers.read(content("dust-inside.out").decode(), job)
+        for branch, dust in zip(branches(answer, job), (3, 10)):
+            self.assertEqual(branch.sink.tail, 14 - dust)
+            self.assertGreater(branch.signal - dust, 0)
+        drawn = "".join(ElementTree.fromstring(page("dust-inside", job, answer)).itertext())
+        self.assertIn("A repeater is due after 12 steps; behind the last one at most 11 steps to sink 1, 4 steps to sink 2.", drawn)
+        told = json.loads(of_net(job, answer, [], False))
+        self.assertEqual((told["run"], [branch["tail"] for branch in told["branches"]]), (12, [11, 4]))
+        lane = from_bytes(content("lane.sheet"))
+        self.assertNotIn("due after", page("lane", lane, answers.read(content("lane.out").decode(), lane)))
+
     @unittest.skipUnless(os.path.exists(ORACLE), "the oracle is not built")
     def test_answers_are_the_oracles(self):
-        for name in examples():
+        for name in small_examples():
             done = subprocess.run([ORACLE, "sheet", os.path.join(EXAMPLES, name + ".sheet")], stdout=subprocess.PIPE, check=True)
             self.assertEqual(done.stdout, content(name + ".out"), name)
 

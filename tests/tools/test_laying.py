@@ -6,14 +6,14 @@ import zipfile
 
 from common import content, examples, stored
 from dustsheet import answer as answers, datapack
-from dustsheet.job import AIR, BLOCK_POWER, LEVER, REPEATER, SOLID, TRANSPARENT, WIRE, Block, End, Job, from_bytes
+from dustsheet.job import AIR, BLOCK_POWER, LEVER, REPEATER, SOLID, TRANSPARENT, WIRE, Block, End, Job, Sink, from_bytes
 from dustsheet.laying import lay, opposite, structural
 from dustsheet.rules import step, terminal
 from dustsheet.supports import kinds_of
 
 
 def job(sides, source, sinks, blocks=(), costs=(10, 25, 15)):
-    return Job(sides, 30_000, costs, source, list(sinks), list(blocks))
+    return Job(sides, 30_000, costs, source, [Sink(*sink) for sink in sinks], list(blocks))
 
 
 def wire(x, y, z, facing=0):

@@ -130,7 +130,7 @@ class Projector(unittest.TestCase):
             self.assertEqual(main.get("id"), "projector")
             slides = [part for part in main if "slide" in part.get("class", "")]
             self.assertLessEqual({figure for figure in main.iter(HTML + "figure")}, set(slides))
-            self.assertTrue(all(svg.get("class") == "large" for part in slides if part.tag == HTML + "figure" for svg in part.iter(SVG + "svg")))
+            self.assertTrue(all("large" in svg.get("class").split() for part in slides if part.tag == HTML + "figure" for svg in part.iter(SVG + "svg")))
             self.assertIn("main:target > .slide { display: block; box-sizing: border-box; min-height: 100vh;", content)
 
     def test_it_prints_on_a4(self):

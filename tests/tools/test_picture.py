@@ -18,12 +18,13 @@ def drawn(name):
 
 
 class Pictures(unittest.TestCase):
-    def test_the_picture_of_the_documents(self):
-        with open(os.path.join(ROOT, "docs", "lane.svg"), "rb") as file:
-            kept = file.read()
-        status, made, said = run("picture", os.path.join(EXAMPLES, "lane.sheet"), os.path.join(EXAMPLES, "lane.out"))
-        self.assertEqual((status, said), (0, ""))
-        self.assertEqual(made, kept)
+    def test_the_pictures_of_the_documents(self):
+        for name in ("lane", "dust-inside"):
+            with open(os.path.join(ROOT, "docs", name + ".svg"), "rb") as file:
+                kept = file.read()
+            status, made, said = run("picture", os.path.join(EXAMPLES, name + ".sheet"), os.path.join(EXAMPLES, name + ".out"))
+            self.assertEqual((status, said), (0, ""))
+            self.assertEqual(made, kept)
 
     def test_examples_show_their_ends_and_steps(self):
         for name in examples():

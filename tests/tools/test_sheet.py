@@ -8,7 +8,7 @@ import tempfile
 import time
 import unittest
 
-from common import HEX_SHEET, TOOLS, random_job, remade, run, stored, wild_job
+from common import HEX_SHEET, TAIL_SHEET, TOOLS, random_job, remade, run, stored, wild_job
 from dustsheet import text as texts
 from dustsheet.job import Refused, first_fault, from_bytes, size, to_bytes
 
@@ -32,6 +32,20 @@ class StoredSheets(unittest.TestCase):
                 self.assertEqual(remade(from_bytes(case.sheet)), case.sheet, "stored sheet %d" % place)
             seen.add(due)
         self.assertEqual(seen, {0, 1, 2, 3, 4, 5})
+
+    def test_sheets_of_both_versions(self):
+        """One of its job's version is made again, byte for byte; any other gives the same job."""
+        given = {1: 0, 2: 0, "the same job": 0}
+        for place, case in enumerate(stored("tests/bindings/limits.bin")):
+            due = case.number if case.number <= 5 else 0
+            self.assertEqual(verdict(case.sheet), due, "stored sheet %d" % place)
+            if not due:
+                job = from_bytes(case.sheet)
+                own = case.sheet[0] == job.version().number
+                self.assertEqual(remade(job) == case.sheet, own, "stored sheet %d" % place)
+                self.assertEqual(from_bytes(remade(job)), job, "stored sheet %d" % place)
+                given[case.sheet[0] if own else "the same job"] += 1
+        self.assertTrue(min(given.values()) > 20, given)
 
 
 class RoundTrips(unittest.TestCase):
@@ -83,6 +97,23 @@ class Grammar(unittest.TestCase):
     def test_defaults(self):
         self.same("room 2 2 2\nsource 0 0 0", "room 2 2 2\ncosts 10 25 15\nlimit 30000\nsource wire 0 0 0")
 
+    def test_limits(self):
+        self.same("room 9 2 9\nsource 0 0 0\nsink 1 1 1\nrun 12", "room 9 2 9\nsource 0 0 0\nsink 1 1 1 tail 8")
+        self.same("room 9 2 9\nsource 0 0 0\nrun 4\nsink 1 1 1 north tail 3", "run 4\nroom 9 2 9\nsource 0 0 0\nsink wire at (1, 1, 1) facing north Tail 3")
+        shown = texts.write(texts.job_of(texts.read("room 9 2 9\nsource 0 0 0\nrun 4\nsink 1 1 1\nsink 2 1 1 west tail 15", "text")))
+        self.assertIn("\nrun 4  # so many steps need no repeater\n", shown)
+        self.assertTrue(shown.endswith("sink wire 1 1 1\nsink wire 2 1 1 west tail 15\n"), shown)
+
+    def test_the_row_of_the_rules(self):
+        row = "room 10 1 1\nsource 0 0 0\nsink 9 0 0 tail 3\n"
+        self.assertEqual(run("sheet", "make", "--hex", "-", given=row.encode())[1].decode(), TAIL_SHEET)
+        status, shown, _ = run("sheet", "show", "--hex", "-", given=TAIL_SHEET.encode())
+        self.assertEqual(status, 0)
+        self.assertIn(b"sink wire 9 0 0 tail 3\n", shown)
+        usual = TAIL_SHEET.replace("03\n", "08\n").encode()
+        shown = run("sheet", "show", "--hex", "-", given=usual)[1]
+        self.assertEqual(run("sheet", "make", "--hex", "-", given=shown)[1].decode(), HEX_SHEET)
+
     def test_boxes_go_in_number_order_from_any_corner(self):
         self.same("room 9 9 9\nsource 0 0 0\nconductor 2 1 4 to 1 1 3",
                   "room 9 9 9\nsource 0 0 0\nconductor 1 1 3\nconductor 1 1 4\nconductor 2 1 3\nconductor 2 1 4")
@@ -116,16 +147,29 @@ BAD_TEXTS = [
     (GOOD + "sink block-powr 1 1 1\n", 3, "unknown port 'block-powr'; did you mean 'block-power'?"),
     (GOOD + "costs 10 25\n", 3, "the new support is missing"),
     (GOOD + "limit 4294967296\n", 3, "a sheet has room for 0 to 4294967295 there"),
-    (GOOD + "block solid 300 1 1\n", 3, "x is 300; a sheet has room for 0 to 255 there"),
+    (GOOD + "block solid 300 1 1\n", 3, "position (300, 1, 1) is outside the room; the last cell is (8, 1, 8) (the router refuses this with number 4)"),
+    (GOOD + "block solid 65536 1 1\n", 3, "x is 65536; a sheet has room for 0 to 65535 there"),
+    ("room 13 127 1\ncosts 1000000 0 1000000\nsource 0 0 0\n", 2, "1651 cells times 2000000, the dearer step and a new support, are 3302000000; at most "
+     "3300000000 are allowed (the router refuses this with number 3)"),
+    ("room 301 1 1\nsource 0 0 0\n", 1, "a room of 301x1x1; each side is 1 to 300 (the router refuses this with number 2)"),
     (GOOD + "sink 1 1 1\n" * 256, 258, "more than 255 sinks"),
+    (GOOD + "run\n", 3, "the run limit is missing; expected: run STEPS"),
+    (GOOD + "run 256\n", 3, "the run limit is 256; a sheet has room for 0 to 255 there"),
+    (GOOD + "run 4\nrun 4\n", 4, "a second 'run' line; the first is line 3"),
+    (GOOD + "sink 1 1 1 tail\n", 3, "the tail limit is missing; expected: sink [PORT] X Y Z [FACING] [tail STEPS]"),
+    (GOOD + "sink 1 1 1 tail 3 north\n", 3, "'north' is too much; expected: sink [PORT] X Y Z [FACING] [tail STEPS]"),
+    ("room 9 2 9\nsource 0 0 0 tail 3\n", 2, "'tail 3' is too much; expected: source [PORT] X Y Z [FACING]"),
     # what the router would refuse
+    (GOOD + "run 0\n", 3, "a run limit of 0; it is 1 to 15 (the router refuses this with number 3)"),
+    (GOOD + "sink 1 1 1\nsink block-power 1 1 1 tail 16\n", 4, "a tail limit of 16; it is 1 to 15 (the router refuses this with number 3)"),
+    (GOOD + "sink 1 2 1 tail 0\n", 3, "position (1, 2, 1) is outside the room"),
     (GOOD + "sink 1 1 1\n" * 17, 19, "17 sinks; a net has at most 16 (the router refuses this with number 1)"),
     ("room 64 4 64\nsource 0 0 0\nblock solid 0 0 0 to 63 3 33\nblock solid 0 0 0\n", 4,
      "at most 60000 are allowed (the router refuses this with number 1)"),
-    ("room 9 0 9\nsource 0 0 0\n", 1, "a room of 9x0x9; each side is 1 to 64 (the router refuses this with number 2)"),
-    ("room 64 64 64\nsource 0 0 0\n", 1, "a room of 262144 cells; at most 16384 are allowed (the router refuses this with number 2)"),
-    (GOOD + "limit 200001\n", 3, "a node limit of 200001; at most 200000 is allowed (the router refuses this with number 3)"),
-    (GOOD + "costs 10 100001 15\n", 3, "a cost of 100001; at most 100000 is allowed (the router refuses this with number 3)"),
+    ("room 9 0 9\nsource 0 0 0\n", 1, "a room of 9x0x9; each side is 1 to 300 (the router refuses this with number 2)"),
+    ("room 64 64 64\nsource 0 0 0\n", 1, "a room of 262144 cells; at most 65536 are allowed (the router refuses this with number 2)"),
+    (GOOD + "limit 800001\n", 3, "a node limit of 800001; at most 800000 is allowed (the router refuses this with number 3)"),
+    (GOOD + "costs 10 1000001 15\n", 3, "a cost of 1000001; at most 1000000 is allowed (the router refuses this with number 3)"),
     (GOOD + "sink 1 2 1\n", 3, "position (1, 2, 1) is outside the room; the last cell is (8, 1, 8) (the router refuses this with number 4)"),
     (GOOD + "conductor 1 1 1 to 1 1 9\n", 3, "position (1, 1, 9) is outside the room"),
     (GOOD + "block air 1 1 1\n", 3, "a block of air; leave the cell out, it is air then (the router refuses this with number 5)"),
@@ -176,7 +220,8 @@ class Messages(unittest.TestCase):
 
     def test_show_tells_what_is_damaged(self):
         sheet = bytes.fromhex(HEX_SHEET)
-        for damaged, words in ((b"", "ends at byte 0"), (b"\2" + sheet[1:], "version byte is 2"),
+        for damaged, words in ((b"", "ends at byte 0"), (b"\4" + sheet[1:], "version byte is 4; a sheet begins with 1, 2 or 3"),
+                               (b"\2" + sheet[1:], "in the middle of the sinks"),
                                (sheet + b"\0", "says that 40 bytes follow, but 41"),
                                (sheet[:4] + b"\x29" + sheet[5:] + b"\0", "left over behind the last sink: 1"),
                                (sheet[:4] + b"\x27" + sheet[5:-1], "in the middle of the sinks")):

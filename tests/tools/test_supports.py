@@ -4,13 +4,13 @@ import unittest
 
 from common import content, examples
 from dustsheet import answer as answers
-from dustsheet.job import AIR, LEVER, SOLID, Block, End, Job, from_bytes, place_of
+from dustsheet.job import AIR, LEVER, SOLID, Block, End, Job, Sink, from_bytes, place_of
 from dustsheet.page import fetch_words
 from dustsheet.supports import Supports, beneath, count, kinds_of, of_answer, of_route, of_tree
 
 
 def job(sides, source, sinks, blocks=()):
-    return Job(sides, 30_000, (10, 25, 15), source, list(sinks), list(blocks))
+    return Job(sides, 30_000, (10, 25, 15), source, [Sink(*sink) for sink in sinks], list(blocks))
 
 
 def wire(x, y, z, facing=0):

@@ -6,8 +6,8 @@ from collections import deque
 from dataclasses import dataclass, field
 from typing import Dict, List, Optional, Set, Tuple
 
-from .job import AHEAD, ROUTE_CELLS, End, Job, Pos, first_fault, spell
-from .rules import approach, blocked, late_faults, step, terminal
+from .job import AHEAD, ROUTE_CELLS, Job, Pos, Sink, first_fault, spell
+from .rules import approach, blocked, is_step, late_faults, step, terminal
 from .text import quoted
 from .words import of_job, sentence
 
@@ -83,7 +83,7 @@ def _check_late(number: int, detail: int, job: Job) -> None:
         raise BadAnswer("number %d has detail %d; for this sheet it would be %d" % (number, detail, due))
 
 
-def _sound_sinks(job: Job) -> List[End]:
+def _sound_sinks(job: Job) -> List[Sink]:
     if next(late_faults(job), None) is not None:
         raise BadAnswer("this sheet is refused with number 7, 8 or 9 before any search")
     return job.sinks
@@ -136,7 +136,7 @@ def _check_branch(place: int, branch: List[Pos], job: Job) -> None:
     if not branch or branch[-1] != end:
         raise BadAnswer("branch %d doesn't end at its sink's terminal %s, cell %d" % (place, spell(end), job.number(end)))
     for one, other in zip(branch, branch[1:]):
-        if abs(one[0] - other[0]) + abs(one[2] - other[2]) != 1 or abs(one[1] - other[1]) > 1:
+        if not is_step(one, other):
             raise BadAnswer("branch %d jumps from cell %d to cell %d" % (place, job.number(one), job.number(other)))
 
 

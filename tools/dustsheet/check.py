@@ -5,7 +5,7 @@ from typing import Dict, Iterator, List, NamedTuple, Optional, Tuple
 
 from .answer import Answer, occupied, parents
 from .job import (AHEAD, AIR, BLOCK_POWER, BUTTON, COMPARATOR, KINDS, LAMP, LEVER, PISTON, PLATE, REDSTONE_BLOCK, REPEATER, SOLID,
-                  TORCH, TRANSPARENT, WIRE, End, Job, Pos, spell)
+                  TORCH, TRANSPARENT, WIRE, Job, Pos, Sink, spell)
 from .net import FULL, signals, supports
 from .rules import end_name, keepout, late_faults, step, terminal
 
@@ -130,7 +130,7 @@ class _Room:
                 yield Remark(sink.at, "%s at %s has nothing to drive: no lamp, piston, torch, repeater, comparator or wire is beside it"
                              % (end_name(place), spell(sink.at)))
 
-    def drives(self, sink: End) -> bool:
+    def drives(self, sink: Sink) -> bool:
         if sink.port == BLOCK_POWER:
             return self.kind(sink.at) in (LAMP, PISTON, WIRE, REPEATER, COMPARATOR) or self.is_driving_solid(sink.at)
         if self.holds(sink.at, [*SIDES, BELOW], (LAMP, PISTON)) or self.holds(sink.at, [*SIDES, *SLOPES], (WIRE,)):

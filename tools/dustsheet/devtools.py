@@ -120,10 +120,11 @@ class Tab:
         self.value("0")
         return next((json.dumps(event["params"])[:2000] for event in self.events if event.get("method") == "Runtime.exceptionThrown"), None)
 
-    def press(self, key: str, code: int = 0, shift: bool = False) -> None:
-        text = {"text": key} if len(key) == 1 else {}
+    def press(self, key: str, code: int = 0, shift: bool = False, ctrl: bool = False) -> None:
+        typed = "\r" if key == "Enter" else key
+        text = {"text": typed} if len(typed) == 1 and not ctrl else {}
         for kind in ("keyDown", "keyUp"):
-            self.send("Input.dispatchKeyEvent", type=kind, key=key, windowsVirtualKeyCode=code, modifiers=8 if shift else 0,
+            self.send("Input.dispatchKeyEvent", type=kind, key=key, windowsVirtualKeyCode=code, modifiers=8 * shift + 2 * ctrl,
                       **(text if kind == "keyDown" else {}))
 
     def mouse(self, kind: str, x: float, y: float, shift: bool = False) -> None:

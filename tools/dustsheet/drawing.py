@@ -14,6 +14,7 @@ from .window import Window, window
 
 HALF = CELL // 2
 LEFT, TOP, EDGE = 44, 32, 6  # room for the numbers at the sides of a grid
+PIECE = 75  # a floor that goes on for longer is drawn in pieces
 HOVER_CELLS = 2_000  # in rooms up to here each empty cell tells its number too
 TURNS = {1: 270, 2: 0, 3: 90, 4: 180}
 
@@ -35,8 +36,9 @@ class Drawing:
         self.answer = answer or Answer()
         self.remarks, self.window = self._survey(answer)
         (x0, _, z0), (x1, _, z1) = self.window
-        self.wide, self.deep = range(x0, x1 + 1), range(z0, z1 + 1)
-        self.scale = min(0.8, max(0.4, 26 / max(len(self.wide), len(self.deep))))  # large rooms are drawn smaller
+        self.wide, self.deep = range(x0, x1 + 1), range(z0, z1 + 1)  # the piece of each floor that is drawn
+        longest = max(len(span) for side in (self.wide, self.deep) for span in cut(side))
+        self.scale = min(0.8, max(0.4, 26 / longest))  # large rooms are drawn smaller
         self.sound = next(late_faults(job), None) is None  # else an end may have no terminal in the room
         self.signs: Dict[Pos, List[str]] = {}
         self.notes: Dict[Pos, List[str]] = {}
@@ -125,12 +127,32 @@ class Drawing:
         kind = self.kinds.get((0, level, 0), AIR)
         return KIND_NAMES[KINDS[kind]] + " in every cell" if alike and kind != AIR and wide * deep > 1 else None
 
-    def floor(self, level: int) -> str:
+    def pieces(self, level: int) -> List[Tuple[str, str]]:
+        """The floor in pieces, with the words that say which each is: one without words unless it is long. Of a long one the pieces in
+        which nothing is to be seen are left out."""
+        wide, deep = self.wide, self.deep
+        spans = [(across, along) for across in cut(wide) for along in cut(deep)]
+        here = {(at[0], at[2]) for at in self.notes if at[1] == level}
+        found = []
+        for self.wide, self.deep in spans:
+            if len(spans) == 1:
+                found.append(("", self.floor(level)))
+            elif any(x in self.wide and z in self.deep for x, z in here):
+                words = ": x = %d to %d, z = %d to %d" % (self.wide[0], self.wide[-1], self.deep[0], self.deep[-1])
+                found.append((words, self.floor(level, "large piece")))
+        self.wide, self.deep = wide, deep
+        return found
+
+    def _is_shown(self, at: Pos) -> bool:
+        """Whether a cell, or one beside it, is in the piece being drawn."""
+        return self.wide[0] - 1 <= at[0] <= self.wide[-1] + 1 and self.deep[0] - 1 <= at[2] <= self.deep[-1] + 1
+
+    def floor(self, level: int, style: str = "large") -> str:
         width, height = LEFT + CELL * len(self.wide) + EDGE, TOP + CELL * len(self.deep) + EDGE
         # --zoom is less on paper than on a screen
-        parts = ['<svg xmlns="http://www.w3.org/2000/svg" class="large" viewBox="%d %d %d %d" width="%d" '
+        parts = ['<svg xmlns="http://www.w3.org/2000/svg" class="%s" viewBox="%d %d %d %d" width="%d" '
                  'style="width:calc(var(--zoom)*%dpx)" role="img" aria-label="floor %d">'
-                 % (CELL * self.wide[0], CELL * self.deep[0], width, height, width * self.scale, width * self.scale, level)]
+                 % (style, CELL * self.wide[0], CELL * self.deep[0], width, height, width * self.scale, width * self.scale, level)]
         parts += [self._grid(), *self._cells(level), '<g class="over">']
         parts += self._branches(level) + self._powers(level) + self._repeaters(level) + self._stairs(level) + self._ends(level)
         parts += self._signals(level)
@@ -175,7 +197,8 @@ class Drawing:
                 parts.append('<path class="halo" d="%s"/><path class="branch" data-sink="%d" d="%s" %s/>'
                              % (path, place + 1, path, line_style(place)))
             colour = COLOURS[place % len(COLOURS)]
-            parts += ['<circle cx="%d" cy="%d" r="5" fill="%s"/>' % (*centre(at), colour) for at in dict.fromkeys(branch) if at[1] == level]
+            parts += ['<circle cx="%d" cy="%d" r="5" fill="%s"/>' % (*centre(at), colour) for at in dict.fromkeys(branch)
+                      if at[1] == level and self._is_shown(at)]
         source = terminal(self.job.source) if self.sound else None
         starts = {branch[0] for branch in self.answer.branches if branch} - {source}
         joints = sorted(at for at in starts if at[1] == level)
@@ -200,7 +223,7 @@ class Drawing:
         """The signal at each wire, in the corner of its cell; where it is dark the number is framed."""
         parts = []
         for at, strength in sorted(self.signal.items()):
-            if at[1] == level:
+            if at[1] == level and self._is_shown(at):
                 x, y = corner(at)
                 frame = "" if strength else '<rect class="dark" x="%d" y="%d" width="12" height="13"/>' % (x + 27, y + 26)
                 parts.append(frame + '<text class="signal" x="%d" y="%d">%d</text>' % (x + 38, y + 37, strength))
@@ -230,6 +253,13 @@ class Drawing:
 
     def _ends(self, level: int) -> List[str]:
         return [end_sign(at, places) for at, places in sorted(self.ends.items()) if at[1] == level]
+
+
+def cut(side: range) -> List[range]:
+    """A side in as few pieces as may be, of about one length."""
+    count = -(-len(side) // PIECE)
+    ends = [side[0] + len(side) * place // count for place in range(count + 1)]
+    return [range(first, end) for first, end in zip(ends, ends[1:])]
 
 
 def end_sign(at: Pos, places: List[int]) -> str:

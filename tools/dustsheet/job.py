@@ -4,19 +4,18 @@ from __future__ import annotations
 import itertools
 import re
 from dataclasses import dataclass, field
-from typing import Dict, Iterator, List, NamedTuple, Optional, Tuple
+from typing import Dict, Iterator, List, NamedTuple, Optional, Tuple, Union
 
 Pos = Tuple[int, int, int]
 Head = Tuple[Pos, int, Tuple[int, int, int]]  # the sides, the node limit and the costs
 
-VERSION = 1
 MAX_BYTES = 60_000
 MAX_SINKS = 16
-MAX_SIDE = 64
-MAX_CELLS = 16_384
 ROUTE_CELLS = 4_096  # program `route` takes rooms up to here; the library up to MAX_CELLS
-MAX_COST = 100_000
-MAX_NODES = 200_000
+MAX_LIMIT = 15  # of a run and of a tail; the least is 1
+# what a sheet means that carries no limits
+USUAL_RUN = 12
+USUAL_TAIL = 8
 
 # in the order of BlockKind: the place in the list is the code
 KINDS = ["air", "solid", "transparent", "redstone-wire", "redstone-torch", "repeater", "comparator", "lever", "button",
@@ -39,10 +38,51 @@ class Block(NamedTuple):
 
 
 class End(NamedTuple):
-    """A source or a sink."""
+    """A source, or where a sink is."""
     at: Pos
     port: int
     facing: int
+
+
+class Sink(NamedTuple):
+    """A sink: an end, and how many steps after the last repeater it bears."""
+    at: Pos
+    port: int
+    facing: int
+    tail: int = USUAL_TAIL
+
+
+AnyEnd = Union[End, Sink]
+
+
+class Ranges(NamedTuple):
+    """How large a room, its costs and its node limit may be."""
+    side: int
+    cells: int
+    cost: int
+    nodes: int
+    product: int  # the cells times the sum of the support cost and the dearer step
+
+
+SMALL = Ranges(64, 16_384, 100_000, 200_000, 3_300_000_000)  # the product follows from the others
+WIDE = Ranges(300, 65_536, 1_000_000, 800_000, 3_300_000_000)  # of larger halls, and of every search
+MAX_SIDE, MAX_CELLS, MAX_COST, MAX_NODES, MAX_PRODUCT = WIDE
+
+
+class Version(NamedTuple):
+    """What the versions of a sheet differ in."""
+    number: int  # its first byte
+    limits: bool  # whether it carries the run limit and the sinks' tail limits
+    coordinate: int  # how many bytes a side and a coordinate have
+    ranges: Ranges
+
+    def size(self, blocks: int, places: int, sinks: int) -> int:
+        """The length of a sheet with so many records."""
+        place, limit = 3 * self.coordinate, int(self.limits)
+        return 5 + place + 16 + limit + 10 + (4 + place) * blocks + place * places + place + 2 + 1 + (place + 2 + limit) * sinks
+
+
+VERSIONS = (Version(1, False, 1, SMALL), Version(2, True, 1, SMALL), Version(3, True, 2, WIDE))
 
 
 @dataclass
@@ -51,16 +91,33 @@ class Job:
     limit: int
     costs: Tuple[int, int, int]  # flat step, stair, new support; in tenths
     source: End
-    sinks: List[End] = field(default_factory=list)
+    sinks: List[Sink] = field(default_factory=list)
     blocks: List[Block] = field(default_factory=list)
     conductors: List[Pos] = field(default_factory=list)
     clearances: List[Pos] = field(default_factory=list)
     terminals: List[Pos] = field(default_factory=list)
     reserved: List[Pos] = field(default_factory=list)
+    run: int = USUAL_RUN  # so many steps past the last reset need no repeater
+    read_as: Optional[Version] = field(default=None, compare=False)  # the version of the sheet it was read from, in whose ranges it is judged
+
+    def version(self) -> Version:
+        """The lowest version that holds the job: limits other than 12 and 8 take version 2; a larger room, dearer costs or a higher node
+        limit than a sheet of version 2 may have take version 3."""
+        if not (_sides_in(self, SMALL) and self.limit <= SMALL.nodes and max(self.costs) <= SMALL.cost):
+            return VERSIONS[2]
+        return VERSIONS[0 if self.has_usual_limits() else 1]
+
+    def has_usual_limits(self) -> bool:
+        return self.run == USUAL_RUN and all(sink.tail == USUAL_TAIL for sink in self.sinks)
 
     def cells(self) -> int:
         x, y, z = self.sides
         return x * y * z
+
+    def dearest(self) -> int:
+        """What a single step costs at most: the dearer step, onto a new support."""
+        flat, stair, support = self.costs
+        return max(flat, stair) + support
 
     def holds(self, at: Pos) -> bool:
         return all(0 <= place < side for place, side in zip(at, self.sides))
@@ -70,6 +127,10 @@ class Job:
 
     def place(self, number: int) -> Pos:
         return place_of(number, self.sides)
+
+
+def _sides_in(job: Job, ranges: Ranges) -> bool:
+    return all(1 <= side <= ranges.side for side in job.sides) and job.cells() <= ranges.cells
 
 
 def place_of(number: int, sides: Pos) -> Pos:
@@ -92,18 +153,21 @@ class Refused(Exception):
 
 def groups(job: Job) -> List[bytes]:
     """The bytes in the groups of the hex sheet of tools/TEXT.md: a record each, the lists' counts by themselves."""
-    rest = [bytes(job.sides)]
+    version = _spelling(job)
+    rest = [_place_bytes(version, job.sides)]
     rest += [value.to_bytes(4, "big") for value in (job.limit, *job.costs)]
+    rest += _limit_bytes(version, job.run)
     rest.append(len(job.blocks).to_bytes(2, "big"))
-    rest += [block.node.to_bytes(2, "big") + bytes((*block.at, block.kind, block.facing)) for block in job.blocks]
+    rest += [block.node.to_bytes(2, "big") + _place_bytes(version, block.at) + bytes((block.kind, block.facing)) for block in job.blocks]
     for name in PLACE_LISTS:
         places = getattr(job, name)
         rest.append(len(places).to_bytes(2, "big"))
-        rest += [bytes(at) for at in places]
-    rest.append(_end_bytes(job.source))
+        rest += [_place_bytes(version, at) for at in places]
+    rest.append(_end_bytes(version, job.source))
     rest.append(bytes([len(job.sinks)]))
-    rest += [_end_bytes(sink) for sink in job.sinks]
-    return [bytes([VERSION]), sum(map(len, rest)).to_bytes(4, "big"), *rest]
+    for sink in job.sinks:
+        rest += [_end_bytes(version, sink), *_limit_bytes(version, sink.tail)]
+    return [bytes([version.number]), sum(map(len, rest)).to_bytes(4, "big"), *rest]
 
 
 def to_bytes(job: Job) -> bytes:
@@ -117,24 +181,41 @@ def to_hex(job: Job, sheet: bytes) -> str:
     return " ".join(sheet[first:end].hex().upper() for first, end in zip(ends, ends[1:])) + "\n"
 
 
-def size(job: Job) -> int:
-    """The length of the job's sheet."""
+def size(job: Job, version: Optional[Version] = None) -> int:
+    """The length of the job's sheet, in its own version or in this one."""
     places = sum(len(getattr(job, name)) for name in PLACE_LISTS)
-    return 24 + 2 + 7 * len(job.blocks) + 4 * 2 + 3 * places + 5 + 1 + 5 * len(job.sinks)
+    return (version or job.version()).size(len(job.blocks), places, len(job.sinks))
 
 
-def _end_bytes(end: End) -> bytes:
-    return bytes((*end.at, end.port, end.facing))
+def _spelling(job: Job) -> Version:
+    """The job's version; the last one where a position, good or not, takes more than a byte."""
+    places = [job.source.at, *(one.at for one in (*job.blocks, *job.sinks)), *(at for name in PLACE_LISTS for at in getattr(job, name))]
+    return VERSIONS[-1] if any(max(at) > 255 for at in places) else job.version()
+
+
+def _place_bytes(version: Version, at: Pos) -> bytes:
+    return b"".join(place.to_bytes(version.coordinate, "big") for place in at)
+
+
+def _end_bytes(version: Version, end: AnyEnd) -> bytes:
+    return _place_bytes(version, end.at) + bytes((end.port, end.facing))
+
+
+def _limit_bytes(version: Version, limit: int) -> List[bytes]:
+    """A limit, where the version carries it."""
+    return [bytes([limit])] if version.limits else []
 
 
 # ---- bytes to a job
 
 class _Bytes:
-    """The sheet's bytes and the place of the next one."""
+    """The sheet's bytes and the place of the next one. They are read as the version of the first byte has them; of one that isn't known, as
+    version 1 has them."""
 
     def __init__(self, sheet: bytes) -> None:
         self.sheet = sheet
         self.at = 0
+        self.version = next((version for version in VERSIONS if sheet[:1] == bytes([version.number])), VERSIONS[0])
 
     def take(self, count: int, what: str) -> bytes:
         if self.at + count > len(self.sheet):
@@ -146,16 +227,27 @@ class _Bytes:
         return int.from_bytes(self.take(count, what), "big")
 
     def pos(self, what: str) -> Pos:
-        x, y, z = self.take(3, what)
+        wide = self.version.coordinate
+        taken = self.take(3 * wide, what)
+        x, y, z = (int.from_bytes(taken[axis * wide:(axis + 1) * wide], "big") for axis in range(3))
         return (x, y, z)
 
     def end(self, what: str) -> End:
-        x, y, z, port, facing = self.take(5, what)
-        return End((x, y, z), port, facing)
+        at = self.pos(what)
+        port, facing = self.take(2, what)
+        return End(at, port, facing)
+
+    def limit(self, usual: int, what: str) -> int:
+        """The limit that stands here; the usual one where the version carries none."""
+        return self.value(1, what) if self.version.limits else usual
+
+    def sink(self, what: str) -> Sink:
+        return Sink(*self.end(what), self.limit(USUAL_TAIL, what))
 
     def block(self, what: str) -> Block:
-        high, low, x, y, z, kind, facing = self.take(7, what)
-        return Block(256 * high + low, (x, y, z), kind, facing)
+        node, at = self.value(2, what), self.pos(what)
+        kind, facing = self.take(2, what)
+        return Block(node, at, kind, facing)
 
     def head(self) -> Head:
         sides = self.pos("the sides")
@@ -180,18 +272,19 @@ def from_bytes(sheet: bytes) -> Job:
     """The job that the bytes spell, good or not; Refused where they spell none. Sheets that are too long or have too many
     sinks still spell one: `faults` tells."""
     read = _Bytes(sheet)
-    version = read.value(1, "the version")
-    if version != VERSION:
-        raise Refused("the version byte is %d; a sheet begins with %d" % (version, VERSION))
+    number = read.value(1, "the version")
+    if number != read.version.number:
+        known = [str(version.number) for version in VERSIONS]
+        raise Refused("the version byte is %d; a sheet begins with %s or %s" % (number, ", ".join(known[:-1]), known[-1]))
     length = read.value(4, "the length")
     if length != len(sheet) - read.at:
         raise Refused("the length says that %d bytes follow, but %d do" % (length, len(sheet) - read.at))
-    job = Job(*read.head(), End((0, 0, 0), 0, 0))
+    job = Job(*read.head(), End((0, 0, 0), 0, 0), run=read.limit(USUAL_RUN, "the run limit"), read_as=read.version)
     job.blocks = [read.block("the blocks") for _ in range(read.value(2, "the count of blocks"))]
     for name in PLACE_LISTS:
         setattr(job, name, [read.pos("the " + name) for _ in range(read.value(2, "the count of " + name))])
     job.source = read.end("the source")
-    job.sinks = [read.end("the sinks") for _ in range(read.value(1, "the count of sinks"))]
+    job.sinks = [read.sink("the sinks") for _ in range(read.value(1, "the count of sinks"))]
     if read.at < len(sheet):
         raise Refused("bytes are left over behind the last sink: %d" % (len(sheet) - read.at))
     return job
@@ -207,7 +300,7 @@ def bytes_of_hex(text: str) -> bytes:
 @dataclass(frozen=True)
 class Fault:
     number: int
-    part: str  # the list it stands in, or "room", "limit", "costs", "source", "sheet"
+    part: str  # the list it stands in, or "room", "limit", "costs", "run", "source", "sheet"
     index: int  # its place in that list
     words: str
 
@@ -223,6 +316,7 @@ def faults(job: Job) -> Iterator[Fault]:
     yield from _record_faults(job, "source", 0, job.source.at, _end_code(job.source))
     for index, sink in enumerate(job.sinks):
         yield from _record_faults(job, "sinks", index, sink.at, _end_code(sink))
+        yield from _limit_faults("sinks", index, "tail", sink.tail)
 
 
 def first_fault(job: Job) -> Optional[Fault]:
@@ -232,20 +326,33 @@ def first_fault(job: Job) -> Optional[Fault]:
 def _sheet_faults(job: Job) -> Iterator[Fault]:
     if len(job.sinks) > MAX_SINKS:
         yield Fault(1, "sinks", MAX_SINKS, "%d sinks; a net has at most %d" % (len(job.sinks), MAX_SINKS))
-    if size(job) > MAX_BYTES:
-        yield Fault(1, "sheet", 0, "the sheet would have %d bytes; at most %d are allowed" % (size(job), MAX_BYTES))
+    length = size(job, job.read_as)
+    if length > MAX_BYTES:
+        yield Fault(1, "sheet", 0, "the sheet would have %d bytes; at most %d are allowed" % (length, MAX_BYTES))
 
 
 def _head_faults(job: Job) -> Iterator[Fault]:
-    if not all(1 <= side <= MAX_SIDE for side in job.sides):
-        yield Fault(2, "room", 0, "a room of %dx%dx%d; each side is 1 to %d" % (*job.sides, MAX_SIDE))
-    elif job.cells() > MAX_CELLS:
-        yield Fault(2, "room", 0, "a room of %d cells; at most %d are allowed" % (job.cells(), MAX_CELLS))
-    if job.limit > MAX_NODES:
-        yield Fault(3, "limit", 0, "a node limit of %d; at most %d is allowed" % (job.limit, MAX_NODES))
+    version = job.read_as or job.version()
+    ranges = version.ranges
+    where = "" if ranges == WIDE else " in a sheet of version %d" % version.number
+    if not all(1 <= side <= ranges.side for side in job.sides):
+        yield Fault(2, "room", 0, "a room of %dx%dx%d; each side is 1 to %d%s" % (*job.sides, ranges.side, where))
+    elif job.cells() > ranges.cells:
+        yield Fault(2, "room", 0, "a room of %d cells; at most %d are allowed%s" % (job.cells(), ranges.cells, where))
+    if job.limit > ranges.nodes:
+        yield Fault(3, "limit", 0, "a node limit of %d; at most %d is allowed%s" % (job.limit, ranges.nodes, where))
     for cost in job.costs:
-        if cost > MAX_COST:
-            yield Fault(3, "costs", 0, "a cost of %d; at most %d is allowed" % (cost, MAX_COST))
+        if cost > ranges.cost:
+            yield Fault(3, "costs", 0, "a cost of %d; at most %d is allowed%s" % (cost, ranges.cost, where))
+    if job.cells() * job.dearest() > ranges.product:
+        yield Fault(3, "costs", 0, "%d cells times %d, the dearer step and a new support, are %d; at most %d are allowed"
+                    % (job.cells(), job.dearest(), job.cells() * job.dearest(), ranges.product))
+    yield from _limit_faults("run", 0, "run", job.run)
+
+
+def _limit_faults(part: str, index: int, word: str, limit: int) -> Iterator[Fault]:
+    if not 1 <= limit <= MAX_LIMIT:
+        yield Fault(3, part, index, "a %s limit of %d; it is 1 to %d" % (word, limit, MAX_LIMIT))
 
 
 def _record_faults(job: Job, part: str, index: int, at: Pos, code: Optional[str]) -> Iterator[Fault]:
@@ -264,7 +371,7 @@ def _block_code(block: Block) -> Optional[str]:
     return _facing_code(block.facing)
 
 
-def _end_code(end: End) -> Optional[str]:
+def _end_code(end: AnyEnd) -> Optional[str]:
     if end.port >= len(PORTS):
         return "unknown port kind, code %d; it is 0 (wire) or 1 (block-power)" % end.port
     return _facing_code(end.facing)

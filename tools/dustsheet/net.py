@@ -5,7 +5,7 @@ from collections import deque
 from typing import Dict, List, NamedTuple, Set
 
 from .answer import Answer, directions, neighbours, parents
-from .job import AHEAD, AIR, End, Job, Pos
+from .job import AHEAD, AIR, Job, Pos, Sink
 from .rules import step, terminal
 
 FULL = 15  # the signal at the source and behind each repeater; it falls by one a step
@@ -48,7 +48,7 @@ def supports(answer: Answer, job: Job) -> List[Set[Pos]]:
 
 class Branch(NamedTuple):
     """A branch in numbers. Its repeaters are those on its own cells; the signal is that at the sink's wire."""
-    sink: End
+    sink: Sink
     cells: List[Pos]
     steps: int
     stairs: int

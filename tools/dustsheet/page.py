@@ -14,7 +14,7 @@ from .net import branches
 from .solid import Picture
 from .supports import Supports, of_answer
 from .symbols import CELL, COLOURS, KIND_NAMES, STYLE, definitions, line_style, use
-from .words import sentence
+from .words import of_limits, sentence
 
 COLUMNS = ["Sink", "Line", "Port", "Branch from", "Steps", "Stairs", "Supports to fetch", "Repeaters", "Signal"]
 ISO_SCALE = 1.4  # how large the whole room is drawn where the page is wide enough
@@ -52,8 +52,13 @@ MODES = ('<p class="modes screen"><a href="#projector">For the projector: one fl
 
 
 def heading(name: str, job: Job) -> str:
-    return ('<h1>%s</h1><p>Room of %d x %d x %d cells. Costs in tenths: flat step %d, stair %d, new support %d. Node limit %d.</p>'
-            % (escape(name), *job.sides, *job.costs, job.limit))
+    return ('<h1>%s</h1><p>Room of %d x %d x %d cells. Costs in tenths: flat step %d, stair %d, new support %d. Node limit %d.%s</p>'
+            % (escape(name), *job.sides, *job.costs, job.limit, limits(job)))
+
+
+def limits(job: Job) -> str:
+    words = of_limits(job)
+    return '<br/><span class="limits">%s</span>' % escape(sentence(words)) if words else ""
 
 
 def mode_words(strict: bool) -> str:
@@ -143,8 +148,11 @@ def floor_figures(drawing: Drawing) -> List[str]:
     parts: List[str] = []
     for says, levels in groupby(range(high), drawing.plain_floor):
         if says is None:
-            parts += ['<figure class="floor slide" id="floor-%d"><figcaption>%s</figcaption>%s</figure>'
-                      % (level, floor_name(level, high), drawing.floor(level)) for level in levels]
+            for level in levels:
+                for place, (words, drawn) in enumerate(drawing.pieces(level)):
+                    name = "floor-%d-%d" % (level, place) if place else "floor-%d" % level
+                    parts.append('<figure class="floor slide" id="%s"><figcaption>%s%s</figcaption>%s</figure>'
+                                 % (name, floor_name(level, high), words, drawn))
         else:
             run = list(levels)
             parts.append('<p class="note plain">%s</p>' % plain_words(run[0], run[-1], says))

@@ -17,8 +17,8 @@ from .tries import Tried
 def of_net(job: Job, answer: Answer, found: List[Remark], strict: bool) -> str:
     signal = signals(answer, job)
     listed = [_branch(place, branch, signal) for place, branch in enumerate(branches(answer, job), 1)]
-    return _text({"room": job.sides, "mode": _mode(strict), "occupied": len(occupied(answer, job)), "branches": listed, "repeaters": answer.repeaters,
-                  "supports": of_answer(job, answer)._asdict(), **_warnings(found)})
+    return _text({"room": job.sides, "mode": _mode(strict), "run": job.run, "occupied": len(occupied(answer, job)), "branches": listed,
+                  "repeaters": answer.repeaters, "supports": of_answer(job, answer)._asdict(), **_warnings(found)})
 
 
 def of_refusal(job: Optional[Job], number: int, detail: int, reason: List[str], found: List[Remark], strict: bool,
@@ -71,8 +71,8 @@ def _mode(strict: bool) -> str:
 
 
 def _branch(place: int, branch: Branch, signal: dict) -> dict:
-    return {"sink": place, "at": branch.sink.at, "port": PORTS[branch.sink.port], "cells": branch.cells, "steps": branch.steps,
-            "stairs": branch.stairs, "new_supports": branch.supports, "repeaters": branch.repeaters, "signal": branch.signal,
+    return {"sink": place, "at": branch.sink.at, "port": PORTS[branch.sink.port], "tail": branch.sink.tail, "cells": branch.cells,
+            "steps": branch.steps, "stairs": branch.stairs, "new_supports": branch.supports, "repeaters": branch.repeaters, "signal": branch.signal,
             "signals": [signal[at] for at in branch.cells]}
 
 

@@ -12,7 +12,8 @@ from .bundle import SCRIPTS, bundle, names, parts
 from .check import NOT_KNOWN
 from .files import Stop
 
-EXAMPLES = ["lane", "three-lamps", "lamp", "power-block", "gap", "lever-door", "walled-in", "closet", "hemmed-in", "shelf", "smallest"]  # the first is shown at first
+EXAMPLES = ["lane", "three-lamps", "lamp", "power-block", "gap", "lever-door", "walled-in", "closet", "hemmed-in", "shelf", "dust-inside",
+            "smallest", "hall"]  # the first is shown at first
 FUNCTION = 0  # the kind of a module's export
 
 
@@ -55,8 +56,10 @@ def listed(examples: Path) -> List[Dict[str, str]]:
 
 def tables_of(header: object, given: Tuple[str, ...]) -> Dict[str, object]:
     constants = header.constants  # type: ignore[attr-defined]
-    limits = {"version": jobs.VERSION, "bytes": jobs.MAX_BYTES, "sinks": jobs.MAX_SINKS, "side": jobs.MAX_SIDE, "cells": jobs.MAX_CELLS,
-              "routeCells": jobs.ROUTE_CELLS, "cost": jobs.MAX_COST, "nodes": jobs.MAX_NODES, "quoted": texts.MOST_QUOTED,
+    versions = [{**version._asdict(), "ranges": version.ranges._asdict()} for version in jobs.VERSIONS]
+    limits = {"versions": versions, "mostSteps": jobs.MAX_LIMIT, "usualRun": jobs.USUAL_RUN,
+              "usualTail": jobs.USUAL_TAIL, "bytes": jobs.MAX_BYTES, "sinks": jobs.MAX_SINKS, "side": jobs.MAX_SIDE, "cells": jobs.MAX_CELLS,
+              "routeCells": jobs.ROUTE_CELLS, "cost": jobs.MAX_COST, "nodes": jobs.MAX_NODES, "place": texts.MOST_PLACE, "quoted": texts.MOST_QUOTED,
               "records": texts.MOST_RECORDS, "defaultCosts": texts.DEFAULT_COSTS, "defaultLimit": texts.DEFAULT_LIMIT,
               "treeValues": constants["DUSTROUTE_TREE_VALUES"], "treeWhyValues": constants["DUSTROUTE_TREE_WHY_VALUES"],
               "searchTotals": constants["DUSTROUTE_SEARCH_TOTALS"], "writeValues": constants["DUSTROUTE_WRITE_VALUES"],

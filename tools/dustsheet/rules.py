@@ -4,19 +4,19 @@ from __future__ import annotations
 
 from typing import Iterator, List, Optional, Set, Tuple
 
-from .job import (AHEAD, BLOCK_POWER, LEVER, REDSTONE_BLOCK, REPEATER, SOLID, TORCH, Block, End, Fault, Job, Pos, spell)
+from .job import (AHEAD, BLOCK_POWER, LEVER, REDSTONE_BLOCK, REPEATER, SOLID, TORCH, AnyEnd, Block, Fault, Job, Pos, spell)
 
 
 def step(at: Pos, by: Pos) -> Pos:
     return (at[0] + by[0], at[1] + by[1], at[2] + by[2])
 
 
-def terminal(end: End) -> Pos:
+def terminal(end: AnyEnd) -> Pos:
     """Where the wire of this end lies. Of a block-power end that faces up, down or nowhere there is none: number 8 comes first."""
     return step(end.at, AHEAD[end.facing]) if end.port == BLOCK_POWER else end.at
 
 
-def approach(sink: End) -> Pos:
+def approach(sink: AnyEnd) -> Pos:
     """The cell from which a sink's terminal is reached."""
     return step(terminal(sink), AHEAD[sink.facing]) if sink.facing in AHEAD else terminal(sink)
 
@@ -34,6 +34,11 @@ def end_name(place: int) -> str:
 
 
 # ---- numbers 7, 8 and 9
+
+def is_step(one: Pos, other: Pos) -> bool:
+    """Whether one of the twelve moves leads from a cell to another."""
+    return abs(one[0] - other[0]) + abs(one[2] - other[2]) == 1 and abs(one[1] - other[1]) <= 1
+
 
 def late_faults(job: Job) -> Iterator[Fault]:
     """Of a job without a fault 1 to 5: each repeated block, and each end that numbers 8 and 9 refuse, in the router's order."""
@@ -60,7 +65,7 @@ def _repeats(job: Job) -> Iterator[Fault]:
         yield Fault(7, "blocks", index, words)
 
 
-def _outside(job: Job, place: int, end: End) -> Iterator[Fault]:
+def _outside(job: Job, place: int, end: AnyEnd) -> Iterator[Fault]:
     if not job.holds(terminal(end)):
         yield _end_fault(9, place, "its terminal %s, the cell it faces, is outside the room" % spell(terminal(end)))
     elif place and not job.holds(approach(end)):  # a source has no approach

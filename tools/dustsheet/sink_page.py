@@ -15,6 +15,9 @@ from .rules import step
 from .sinks import CAUSES, Cause, Unreached, details, first_cause, headline
 from .solid import Picture
 
+SO_FAR = "the net so far"
+NOT_EXACT = "The net so far is drawn as it is without the other sinks; it may have lain otherwise."
+TO_TRY = "What to try"
 KEPT = ('<g transform="translate(%d %d)"><path class="kept" d="M0 0L40 40M20 0L40 20M0 20L20 40"/><rect class="kept-box" x="9" y="8" width="22" '
         'height="24" rx="3"/><text class="kept-letter" x="20" y="27">%s</text></g>')
 
@@ -31,8 +34,9 @@ def page(name: str, unreached: Unreached, tried: List[str]) -> str:
 
 def verdict_box(unreached: Unreached, tried: List[str]) -> str:
     known = "".join("<p>%s</p>" % escape(words) for words in details(unreached))
-    helps = '<div class="tries"><h2>What to try</h2><ul>%s</ul></div>' % "".join("<li>%s</li>" % escape(words) for words in tried) if tried else ""
-    like = "" if unreached.is_exact else '<p class="note">The net so far is drawn as it is without the other sinks; it may have lain otherwise.</p>'
+    listed = "".join("<li>%s</li>" % escape(words) for words in tried)
+    helps = '<div class="tries"><h2>%s</h2><ul>%s</ul></div>' % (TO_TRY, listed) if tried else ""
+    like = "" if unreached.is_exact else '<p class="note">%s</p>' % NOT_EXACT
     return '<section class="slide"><div class="refused"><p><b>%s</b></p>%s</div>%s%s</section>' % (escape(headline(unreached)), known, helps, like)
 
 
@@ -51,9 +55,9 @@ def _spans(items: List[Tuple[str, str]]) -> str:
 
 def room_picture(drawing: "SinkDrawing") -> str:
     picture = Picture(drawing.job, drawing.answer, (), drawing.told.reached)
-    return ('<figure class="iso slide" id="room"><figcaption>The room, seen from the south-east: the net so far%s</figcaption>'
+    return ('<figure class="iso slide" id="room"><figcaption>The room, seen from the south-east: %s%s</figcaption>'
             '<svg xmlns="http://www.w3.org/2000/svg" class="large" viewBox="0 0 %g %g" width="%g" role="img" aria-label="the room">%s</svg></figure>'
-            % (", and where wire gets to from sink %d" % drawing.unreached.place if drawing.told.reached else "", picture.width, picture.height,
+            % (SO_FAR, ", and where wire gets to from sink %d" % drawing.unreached.place if drawing.told.reached else "", picture.width, picture.height,
                ISO_SCALE * picture.width, picture.body()))
 
 

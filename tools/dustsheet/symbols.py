@@ -76,6 +76,7 @@ p { margin: .3em 0; }
 figure { display: inline-block; vertical-align: top; margin: .6em 1.4em .8em 0; break-inside: avoid; page-break-inside: avoid; max-width: 100%; }
 figcaption { font-weight: bold; margin-bottom: .2em; }
 svg { display: block; max-width: 100%; height: auto; overflow: visible; }
+svg.piece { overflow: hidden; } /* the net goes on in the next piece */
 table { border-collapse: collapse; margin: .4em 0; }
 th, td { text-align: left; padding: .15em .8em .15em 0; border-bottom: 1px solid #bbb; }
 .legend { display: flex; flex-wrap: wrap; gap: .35em 1.6em; }

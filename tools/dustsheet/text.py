@@ -6,23 +6,26 @@ import re
 from dataclasses import dataclass, field
 from typing import Dict, Iterator, List, Set, Tuple
 
-from .job import (FACINGS, KINDS, PLACE_LISTS, PORTS, Block, End, Fault, Job, Pos, faults, record_name, spell)
+from .job import (FACINGS, KINDS, PLACE_LISTS, PORTS, USUAL_RUN, USUAL_TAIL, AnyEnd, Block, End, Fault, Job, Pos, Sink, faults, record_name,
+                  spell)
 from .rules import late_faults
 
 DEFAULT_COSTS = (10, 25, 15)
 DEFAULT_LIMIT = 30_000
 MOST_QUOTED = 40  # characters of a word that a message quotes
 MOST_RECORDS = 65_535  # what a list's two-byte count can say
+MOST_PLACE = 65_535  # what two bytes of a side or a coordinate can say
 PLACE_WORDS = {"conductor": "conductors", "clearance": "clearances", "terminal": "terminals", "reserved": "reserved"}
 FORMS = {
     "room": "room X Y Z",
     "costs": "costs FLAT STAIR SUPPORT",
     "limit": "limit NODES",
+    "run": "run STEPS",
     "block": "block KIND X Y Z [to X Y Z] [FACING] [node N]",
     "clear": "clear X Y Z [to X Y Z]",
     **{word: word + " X Y Z [to X Y Z]" for word in PLACE_WORDS},
     "source": "source [PORT] X Y Z [FACING]",
-    "sink": "sink [PORT] X Y Z [FACING]",
+    "sink": "sink [PORT] X Y Z [FACING] [tail STEPS]",
 }
 
 
@@ -69,7 +72,7 @@ class Words:
         return found
 
     def pos(self) -> Pos:
-        return (self.number("x", 255), self.number("y", 255), self.number("z", 255))
+        return (self.number("x", MOST_PLACE), self.number("y", MOST_PLACE), self.number("z", MOST_PLACE))
 
     def box(self) -> Tuple[Pos, Pos]:
         """One cell, or all from a corner to the opposite one."""
@@ -82,7 +85,7 @@ class Words:
     def facing(self) -> int:
         """The facing that may stand here; none if it doesn't."""
         said = self.skip("facing")
-        if not self.left and not said or self.left and plain(self.left[0]) == "node":
+        if not self.left and not said or self.left and plain(self.left[0]) in ("node", "tail"):
             return 0
         return code(self.next("the facing"), "facing")
 
@@ -235,9 +238,11 @@ def _hint(word: str) -> str:
 def _read_head(draft: Draft, line: int, word: str, words: Words) -> None:
     most = 2 ** 32 - 1
     if word == "room":
-        value: object = (words.number("side X", 255), words.number("side Y", 255), words.number("side Z", 255))
+        value: object = (words.number("side X", MOST_PLACE), words.number("side Y", MOST_PLACE), words.number("side Z", MOST_PLACE))
     elif word == "costs":
         value = (words.number("the flat step", most), words.number("the stair", most), words.number("the new support", most))
+    elif word == "run":
+        value = words.number("the run limit", 255)
     else:
         value = words.number("the node limit", most)
     words.end()
@@ -268,17 +273,19 @@ def _read_end(draft: Draft, line: int, word: str, words: Words) -> None:
     port = code(words.next("the port"), "port") if named else 0
     words.skip("at")
     end = End(words.pos(), port, words.facing())
-    words.end()
     if word == "source":
+        words.end()
         draft.put_once(word, line, end)
-    else:
-        draft.put("sinks", line, [end])
+        return
+    tail = words.number("the tail limit", 255) if words.skip("tail") else USUAL_TAIL
+    words.end()
+    draft.put("sinks", line, [Sink(*end, tail)])
 
 
 def job_of(draft: Draft) -> Job:
     """The job of a draft without problems."""
     job = Job(draft.value("room", None), draft.value("limit", DEFAULT_LIMIT), draft.value("costs", DEFAULT_COSTS),
-              draft.value("source", None), draft.listed("sinks"), draft.listed("blocks"))
+              draft.value("source", None), draft.listed("sinks"), draft.listed("blocks"), run=draft.value("run", USUAL_RUN))
     for name in PLACE_LISTS:
         setattr(job, name, draft.listed(name))
     return job
@@ -312,12 +319,14 @@ def write(job: Job) -> str:
     lines = ["room %d %d %d  # sides: x to the east, y up, z to the south" % job.sides,
              "costs %d %d %d  # flat step, stair, new support; in tenths" % job.costs,
              "limit %d  # node limit" % job.limit]
+    if job.run != USUAL_RUN:
+        lines.append("run %d  # so many steps need no repeater" % job.run)
     lines += _section("blocks", [_block_line(*box) for box in boxes([(b.at, (b.kind, b.facing, b.node)) for b in job.blocks])])
     for word, part in PLACE_WORDS.items():
         found = boxes([(at, ()) for at in getattr(job, part)])
         title = "cells that are reserved" if part == "reserved" else part + " of other nets"
         lines += _section(title, ["%s %s" % (word, _box_text(low, high)) for low, high, _ in found])
-    lines += _section("the net", [_end_line("source", job.source)] + [_end_line("sink", sink) for sink in job.sinks])
+    lines += _section("the net", [_end_line("source", job.source)] + [_sink_line(sink) for sink in job.sinks])
     return "\n".join(lines) + "\n"
 
 
@@ -335,9 +344,14 @@ def _block_line(low: Pos, high: Pos, same: tuple) -> str:
     return " ".join(words)
 
 
-def _end_line(word: str, end: End) -> str:
+def _end_line(word: str, end: AnyEnd) -> str:
     line = "%s %s %d %d %d" % (word, name(end.port, PORTS), *end.at)
     return line + " " + name(end.facing, FACINGS) if end.facing else line
+
+
+def _sink_line(sink: Sink) -> str:
+    line = _end_line("sink", sink)
+    return line if sink.tail == USUAL_TAIL else "%s tail %d" % (line, sink.tail)
 
 
 def _box_text(low: Pos, high: Pos) -> str:

@@ -6,8 +6,8 @@ from __future__ import annotations
 import dataclasses
 from typing import Callable, Dict, Iterator, List, NamedTuple, Optional, Set, Tuple
 
-from .job import (AHEAD, AIR, FACINGS, KINDS, LEVER, MAX_CELLS, MAX_NODES, MAX_SIDE, REDSTONE_BLOCK, SOLID, TORCH, TRANSPARENT, Block, End, Job,
-                  Pos, spell)
+from .job import (AHEAD, AIR, FACINGS, KINDS, LEVER, MAX_CELLS, MAX_NODES, MAX_SIDE, REDSTONE_BLOCK, SOLID, TORCH, TRANSPARENT, Block, Job, Pos,
+                  Sink, spell)
 from .reason import BAD_SUPPORT, KEPT_FREE, TAKEN, listed
 from .rules import ample_limit, keepout, late_faults, live_cells, step, terminal
 from .sinks import APPROACH_TAKEN, CLEARANCE, CONFLICTS, OWN, RESERVED, SHUT_IN, TERMINAL, Unreached, turns_of
@@ -78,7 +78,7 @@ def changes(unreached: Unreached) -> Iterator[Change]:
 
 def _change(unreached: Unreached, sort: str, words: str, at: Optional[Pos], **parts: object) -> Iterator[Change]:
     """A change of the job's parts, unless the job is refused by it."""
-    job = dataclasses.replace(unreached.job, **parts)  # type: ignore[arg-type]
+    job = dataclasses.replace(unreached.job, read_as=None, **parts)  # type: ignore[arg-type]
     if next(late_faults(job), None) is None:
         yield Change(sort, words, at, job, unreached.strict)
 
@@ -186,7 +186,7 @@ def _turned(unreached: Unreached) -> Iterator[Change]:
             yield from _sink(unreached, "facing", "let sink %d face %s" % (unreached.place, FACINGS[facing]), sink._replace(facing=facing))
 
 
-def _sink(unreached: Unreached, sort: str, words: str, sink: End) -> Iterator[Change]:
+def _sink(unreached: Unreached, sort: str, words: str, sink: Sink) -> Iterator[Change]:
     """Another sink in its place."""
     sinks = list(unreached.job.sinks)
     sinks[unreached.place - 1] = sink

@@ -1,17 +1,18 @@
 """Refusals in plain words, without a capital and a full stop: docs/RULES.md, Numbers that come back."""
 from __future__ import annotations
 
-from typing import Optional, Tuple
+from typing import Iterator, Optional, Sequence, Tuple
 
-from .job import (KINDS, MAX_CELLS, MAX_COST, MAX_NODES, MAX_SIDE, ROUTE_CELLS, Fault, Job, Pos, Refused, first_fault, from_bytes,
-                  place_of, record_name, spell)
-from .rules import approach, end_name, late_faults
+from .job import (BLOCK_POWER, KINDS, MAX_CELLS, MAX_COST, MAX_LIMIT, MAX_NODES, MAX_PRODUCT, MAX_SIDE, MAX_SINKS, ROUTE_CELLS, Fault, Job, Pos, Refused,
+                  first_fault, from_bytes, place_of, record_name, spell)
+from .rules import approach, end_name, is_step, late_faults
 
 # for a number whose cause can't be named more closely
 GENERAL = {
     1: "the bytes are no job sheet",
     2: "a side is not 1 to %d, or the room has over %d cells" % (MAX_SIDE, MAX_CELLS),
-    3: "a cost is over %d or the node limit over %d" % (MAX_COST, MAX_NODES),
+    3: "a cost is over %d, the node limit over %d, or a run or tail limit isn't 1 to %d; or the cells times the sum of the support cost and the "
+       "dearer step are over %d" % (MAX_COST, MAX_NODES, MAX_LIMIT, MAX_PRODUCT),
     4: "something stands outside the room",
     5: "an unknown kind, facing or port",
     6: "a lent buffer is too short",
@@ -74,6 +75,21 @@ def sink_of(cell: int, job: Job) -> Tuple[int, Pos]:
     raise ValueError("no sink is approached from cell %d" % cell)
 
 
+# ---- limits
+
+def of_limits(job: Job) -> str:
+    """How many steps the net may have without a repeater; nothing where it is as in every sheet of version 1."""
+    if job.has_usual_limits():
+        return ""
+    tails = ["%s to %s" % (steps_of(sink.tail), end_name(place)) for place, sink in enumerate(job.sinks, 1) if sink.port != BLOCK_POWER]
+    words = "a repeater is due after %s" % steps_of(job.run)
+    return words + "; behind the last one at most " + ", ".join(tails) if tails else words
+
+
+def steps_of(limit: int) -> str:
+    return "%d step%s" % (limit, "" if limit == 1 else "s")
+
+
 # ---- a search
 
 def of_search(number: int, detail: int, sides: Pos, limit: int) -> str:
@@ -100,6 +116,29 @@ def of_function(number: int, detail: int) -> str:
         18: "the text of the room is longer than the buffer",
         19: "line %d is none that a function file of this room has there" % detail,
     }.get(number) or GENERAL.get(number, "refused with number %d" % number)
+
+
+# ---- the repeaters of a net
+
+def of_plan(number: int, detail: int, job: Job, branches: Sequence[Sequence[int]]) -> str:
+    """Why the library refuses to plan the repeaters of a job's ends along branches."""
+    if number == 6:
+        return "over %d branches or sinks, or a lent buffer is too short" % MAX_SINKS
+    fault = first_fault(job)
+    if number == 4 and (fault is None or fault.number != 4):
+        return next(_branch_faults(job, branches), GENERAL[4])
+    return of_job(number, detail, job)
+
+
+def _branch_faults(job: Job, branches: Sequence[Sequence[int]]) -> Iterator[str]:
+    for place, branch in enumerate(branches, 1):
+        for cell in branch:
+            if cell >= job.cells():
+                yield "branch %d has cell %d; the room's last cell is %d" % (place, cell, job.cells() - 1)
+        for one, other in zip(branch, branch[1:]):
+            if not is_step(job.place(one), job.place(other)):
+                yield "branch %d jumps from cell %d to cell %d" % (place, one, other)
+
 
 # ---- one route drawn
 

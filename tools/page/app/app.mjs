@@ -1,5 +1,5 @@
 // The room that is drawn and its answer: what changes it, and what is told of each change. The page's parts hang on here.
-import { KINDS, firstFault, holds, numberOf, step } from "../job/job.mjs";
+import { KINDS, LIMITS, firstFault, holds, numberOf, step } from "../job/job.mjs";
 import { jobOf, problemsOf, readText } from "../job/text.mjs";
 import { writeText } from "../job/write.mjs";
 import { netOf } from "../job/net.mjs";
@@ -9,8 +9,8 @@ import { TABLES } from "../job/tables.mjs";
 import { cellWords, drawn, resized } from "../room/edit.mjs";
 import { History } from "../room/history.mjs";
 import { TOOLS } from "../room/tools.mjs";
-import { sceneOf } from "../view/scene.mjs";
-import { causeWords, netWords } from "../view/told.mjs";
+import { sceneOf, triesByCell } from "../view/scene.mjs";
+import { causeWords, netWords, soFarWords } from "../view/told.mjs";
 
 const TYPING = 1500; // milliseconds within which typed letters are one step back
 const KIND_NAMES = KINDS.map((name) => TABLES.KIND_NAMES[name]);
@@ -18,8 +18,8 @@ const KIND_NAMES = KINDS.map((name) => TABLES.KIND_NAMES[name]);
 export class App {
     // `shows` has what is called when something is to be shown or asked (main.mjs).
     constructor(text, shows) {
-        Object.assign(this, { shows, tool: TOOLS[0], how: { facing: 0, node: 0, port: 0, high: 1 }, isStrict: false });
-        Object.assign(this, { asked: 0, answer: null, net: null, reasons: [], remarks: [], box: [], strokeText: null, typedAt: 0 });
+        Object.assign(this, { shows, tool: TOOLS[0], how: { facing: 0, node: 0, port: 0, high: 1, tail: LIMITS.usualTail }, isStrict: false });
+        Object.assign(this, { asked: 0, answer: null, net: null, soFar: null, reasons: [], remarks: [], box: [], strokeText: null, typedAt: 0 });
         this.history = new History(text);
         this.read(text);
         this.cursor = [...this.job.source.at];
@@ -155,8 +155,9 @@ export class App {
 
     tell(at) {
         const cell = numberOf(this.job, at);
-        const words = [...cellWords(this.job, at, KIND_NAMES), ...netWords(this.answer, this.net, cell), ...causeWords(this.scene?.causes, cell)];
-        if (this.scene?.net?.supports.has(cell)) words.push("a support is laid here");
+        const words = [...cellWords(this.job, at, KIND_NAMES), ...netWords(this.answer, this.net, cell), ...soFarWords(this.soFar, cell),
+            ...causeWords(this.scene?.causes, cell)];
+        if (this.scene?.supports.has(cell)) words.push("a support is laid here");
         if (this.scene?.blocked.has(cell)) words.push("kept free at the outset");
         this.shows.status(words.join(" · "));
     }
@@ -171,11 +172,41 @@ export class App {
 
     answered({ id, answer, reasons, took }) {
         if (id !== this.asked) return;
-        Object.assign(this, { answer, reasons, took });
+        Object.assign(this, { answer, reasons, took, tries: null });
         this.net = answer.number ? null : netOf(answer, this.job);
+        this.soFar = reasons.find((reason) => reason.soFar)?.soFar ?? null;
         this.remarks = remarks(this.job, answer, this.net);
-        this.scene = sceneOf(this.job, answer, this.net, this.remarks, reasons.find((reason) => reason.reached));
+        this.scene = sceneOf(this, reasons.find((reason) => reason.reached));
         this.shows.answer();
+        if (this.soFar) this.askTries();
+    }
+
+    // What to try: the worker tries a few changes each time it is asked.
+    askTries() {
+        this.shows.askIdly({ id: this.asked, sheet: sheetOf(this.job), strict: this.isStrict, asks: "tries" });
+    }
+
+    triedOf({ id, tries }) {
+        if (id !== this.asked) return;
+        this.tries = tries;
+        this.scene.tries = triesByCell(this.job, tries.found);
+        this.shows.tries(tries);
+        if (!tries.isDone) this.askTries();
+    }
+
+    // One of them took too long: then what is known by now is all.
+    triesEnded(id) {
+        if (id === this.asked && this.tries) this.triedOf({ id, tries: { ...this.tries, words: this.tries.ended, isDone: true } });
+    }
+
+    // Does what was offered to be tried. The room can be taken back as any step.
+    take({ job, strict, at }) {
+        if (strict !== this.isStrict) {
+            this.isStrict = strict;
+            this.shows.mode();
+            this.ask();
+        } else this.change(job);
+        if (at) this.moveCursor(at);
     }
 
     // A tool that asks, drawn from a cell to another.
@@ -188,13 +219,13 @@ export class App {
     }
 
     toldOf(reason) {
-        this.scene = sceneOf(this.job, this.answer, this.net, this.remarks, reason);
+        this.scene = sceneOf(this, reason);
         this.shows.reason(reason);
     }
 
     // No answer came: the room is shown as it was drawn.
     unanswered() {
-        Object.assign(this, { answer: null, net: null, reasons: [], remarks: [] });
-        this.scene = sceneOf(this.job, null, null, [], null);
+        Object.assign(this, { answer: null, net: null, soFar: null, tries: null, reasons: [], remarks: [] });
+        this.scene = sceneOf(this, null);
     }
 }

@@ -10,6 +10,7 @@ import { buildPalette } from "./palette.mjs";
 import { listenToKeys, listenToPageKeys, listenToTurnKeys } from "./keyboard.mjs";
 import { listenToPointer, listenToTurning } from "./pointer.mjs";
 import { save, textOfFile } from "./files.mjs";
+import { Offered } from "./offered.mjs";
 import { Screen } from "./screen.mjs";
 import { Signal } from "./signal.mjs";
 
@@ -22,11 +23,14 @@ const shows = {
     room: showCursor,
     answer: showAnswer,
     reason: showReason,
+    tries: (tries) => offered.show(document.getElementById("tries"), tries),
+    mode: () => (at("strict").checked = app.isStrict),
     problems: showProblems,
     history: showHistory,
     switched: switchLever,
     ask,
     askAlso: (question) => background.askAlso(question),
+    askIdly: (question) => background.askIdly(question),
     text: (text) => (at("text").value = text),
     status: (words) => (at("status").textContent = words),
     tool: () => showTool(app.tool),
@@ -36,6 +40,7 @@ const app = new App(EXAMPLES[0].text, shows);
 app.unanswered();
 const signal = new Signal(() => screen.paint());
 const screen = new Screen(app, signal, { floors: at("floors"), space: at("floors-space"), whole: at("whole") });
+const offered = new Offered(app, screen, at("floors"));
 const bytes = Uint8Array.from(atob(at("module").textContent.trim()), (letter) => letter.charCodeAt(0));
 const background = new Background(at("worker").textContent, { module: bytes, functions: TABLES.FUNCTIONS }, heard);
 const showTool = buildPalette(at("tools"), (tool) => app.choose(tool));
@@ -56,6 +61,7 @@ function showRoom() {
     app.job.sides.forEach((side, axis) => (at(`side-${axis}`).value = side));
     app.job.costs.forEach((cost, index) => (at(`cost-${index}`).value = cost));
     at("limit").value = app.job.limit;
+    at("run").value = app.job.run;
     if (!app.cursor.every((place, axis) => place < app.job.sides[axis])) app.cursor = [...app.job.source.at];
     showLevel();
 }
@@ -86,6 +92,8 @@ function heard(data) {
         return undefined;
     }
     if (data.told?.file) return save(data.told.saveAs, data.told.file);
+    if (data.told?.tries) return app.triedOf({ id: data.id, tries: data.told.tries });
+    if (data.late && data.asks === "tries") return app.triesEnded(data.id);
     clearTimeout(slow);
     if (data.told) return app.toldOf(data.told);
     if (data.answer) return app.answered(data);
@@ -98,7 +106,7 @@ function heard(data) {
 function showAnswer() {
     signal.reset(app.scene);
     showRoom();
-    at("answer").replaceChildren(...answerParts(app.job, app.answer, app.net, app.reasons, app.remarks));
+    at("answer").replaceChildren(...answerParts(app));
     at("lever").setAttribute("aria-pressed", "false");
     at("lever").disabled = !app.net?.branches.length;
     screen.paintNow();
@@ -186,11 +194,12 @@ function listenToFields() {
     const number = (id, most) => Math.min(Math.max(Math.floor(Number(at(id).value)) || 0, 0), most);
     for (const axis of [0, 1, 2]) changes(`side-${axis}`, () => resize([0, 1, 2].map((one) => Math.max(1, number(`side-${one}`, LIMITS.side)))));
     const costs = () => app.change({ ...app.job, costs: [0, 1, 2].map((one) => number(`cost-${one}`, LIMITS.cost)),
-        limit: number("limit", LIMITS.nodes) });
-    for (const id of ["cost-0", "cost-1", "cost-2", "limit"]) changes(id, costs);
+        limit: number("limit", LIMITS.nodes), run: Math.max(1, number("run", LIMITS.mostSteps)) });
+    for (const id of ["cost-0", "cost-1", "cost-2", "limit", "run"]) changes(id, costs);
     for (const [id, name] of [["facing", "facing"], ["port", "port"], ["node", "node"], ["high", "high"]]) {
         changes(id, ({ target }) => (app.how[name] = Number(target.value)));
     }
+    changes("tail", ({ target }) => (target.value = app.how.tail = Math.max(1, number("tail", LIMITS.mostSteps))));
 }
 
 function resize(sides) {

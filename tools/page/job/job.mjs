@@ -12,9 +12,29 @@ export const AHEAD = { 1: [0, 0, -1], 2: [1, 0, 0], 3: [0, 0, 1], 4: [-1, 0, 0] 
 export const FLAT_STEPS = Object.values(AHEAD);
 
 export function emptyJob(sides) {
-    const job = { sides, limit: LIMITS.defaultLimit, costs: [...LIMITS.defaultCosts], source: null, sinks: [], blocks: [] };
+    const { defaultLimit: limit, defaultCosts, usualRun: run } = LIMITS;
+    const job = { sides, limit, costs: [...defaultCosts], run, source: null, sinks: [], blocks: [] };
     for (const name of PLACE_LISTS) job[name] = [];
     return job;
+}
+
+// The lowest version of a sheet that holds the job: limits other than 12 and 8 take version 2; a larger room, dearer costs or a higher node
+// limit than a sheet of version 2 may have take version 3.
+export function versionOf(job) {
+    const [first, second, last] = LIMITS.versions;
+    const { side, cells, cost, nodes } = first.ranges;
+    const isSmall = job.sides.every((length) => length >= 1 && length <= side) && cellCount(job) <= cells;
+    if (!isSmall || job.limit > nodes || Math.max(...job.costs) > cost) return last;
+    return hasUsualLimits(job) ? first : second;
+}
+
+export function hasUsualLimits(job) {
+    return job.run === LIMITS.usualRun && job.sinks.every(({ tail }) => tail === LIMITS.usualTail);
+}
+
+// What a single step costs at most: the dearer step, onto a new support.
+function dearest({ costs: [flat, stair, support] }) {
+    return Math.max(flat, stair) + support;
 }
 
 export function cellCount(job) {
@@ -65,7 +85,10 @@ export function* faults(job) {
         for (const [index, at] of job[name].entries()) yield* recordFaults(job, name, index, at, null);
     }
     yield* recordFaults(job, "source", 0, job.source.at, endCode(job.source));
-    for (const [index, sink] of job.sinks.entries()) yield* recordFaults(job, "sinks", index, sink.at, endCode(sink));
+    for (const [index, sink] of job.sinks.entries()) {
+        yield* recordFaults(job, "sinks", index, sink.at, endCode(sink));
+        yield* limitFaults("sinks", index, "tail", sink.tail);
+    }
 }
 
 export function firstFault(job) {
@@ -76,29 +99,45 @@ export function fault(number, part, index, words) {
     return { number, part, index, words };
 }
 
-// The length of the job's sheet.
-export function sheetSize(job) {
+// The length of the job's sheet, in its own version or in this one.
+export function sheetSize(job, version = versionOf(job)) {
     const places = PLACE_LISTS.reduce((sum, name) => sum + job[name].length, 0);
-    return 24 + 2 + 7 * job.blocks.length + 4 * 2 + 3 * places + 5 + 1 + 5 * job.sinks.length;
+    const [place, limit] = [3 * version.coordinate, version.limits ? 1 : 0];
+    const head = 5 + place + 16 + limit + 10;
+    return head + (4 + place) * job.blocks.length + place * places + place + 2 + 1 + (place + 2 + limit) * job.sinks.length;
 }
 
 function* sheetFaults(job) {
     if (job.sinks.length > LIMITS.sinks)
         yield fault(1, "sinks", LIMITS.sinks, said("%d sinks; a net has at most %d", job.sinks.length, LIMITS.sinks));
-    if (sheetSize(job) > LIMITS.bytes)
-        yield fault(1, "sheet", 0, said("the sheet would have %d bytes; at most %d are allowed", sheetSize(job), LIMITS.bytes));
+    const length = sheetSize(job, job.readAs ?? versionOf(job));
+    if (length > LIMITS.bytes) yield fault(1, "sheet", 0, said("the sheet would have %d bytes; at most %d are allowed", length, LIMITS.bytes));
 }
 
+// `readAs` is the version of the sheet that a job was read from, in whose ranges it is judged.
 function* headFaults(job) {
-    if (!job.sides.every((side) => side >= 1 && side <= LIMITS.side))
-        yield fault(2, "room", 0, said("a room of %dx%dx%d; each side is 1 to %d", ...job.sides, LIMITS.side));
-    else if (cellCount(job) > LIMITS.cells)
-        yield fault(2, "room", 0, said("a room of %d cells; at most %d are allowed", cellCount(job), LIMITS.cells));
-    if (job.limit > LIMITS.nodes)
-        yield fault(3, "limit", 0, said("a node limit of %d; at most %d is allowed", job.limit, LIMITS.nodes));
+    const version = job.readAs ?? versionOf(job);
+    const ranges = version.ranges;
+    const where = ranges.side === LIMITS.side ? "" : said(" in a sheet of version %d", version.number);
+    if (!job.sides.every((side) => side >= 1 && side <= ranges.side))
+        yield fault(2, "room", 0, said("a room of %dx%dx%d; each side is 1 to %d%s", ...job.sides, ranges.side, where));
+    else if (cellCount(job) > ranges.cells)
+        yield fault(2, "room", 0, said("a room of %d cells; at most %d are allowed%s", cellCount(job), ranges.cells, where));
+    if (job.limit > ranges.nodes)
+        yield fault(3, "limit", 0, said("a node limit of %d; at most %d is allowed%s", job.limit, ranges.nodes, where));
     for (const cost of job.costs) {
-        if (cost > LIMITS.cost) yield fault(3, "costs", 0, said("a cost of %d; at most %d is allowed", cost, LIMITS.cost));
+        if (cost > ranges.cost) yield fault(3, "costs", 0, said("a cost of %d; at most %d is allowed%s", cost, ranges.cost, where));
     }
+    const product = cellCount(job) * dearest(job);
+    if (product > ranges.product)
+        yield fault(3, "costs", 0, said("%d cells times %d, the dearer step and a new support, are %d; at most %d are allowed",
+            cellCount(job), dearest(job), product, ranges.product));
+    yield* limitFaults("run", 0, "run", job.run);
+}
+
+function* limitFaults(part, index, word, limit) {
+    if (limit < 1 || limit > LIMITS.mostSteps)
+        yield fault(3, part, index, said("a %s limit of %d; it is 1 to %d", word, limit, LIMITS.mostSteps));
 }
 
 function* recordFaults(job, part, index, at, code) {

@@ -73,7 +73,7 @@ function stepsFromSource(before) {
 }
 
 // For each branch the air under its wires where a support is to be laid, less what an earlier branch has: in all, what is to be fetched.
-function supports(answer, job) {
+export function supports(answer, job) {
     const kinds = kindsOf(job);
     const held = new Set(answer.branches.flat());
     return answer.branches.map((branch) => {

@@ -87,15 +87,17 @@ export function blocked(job) {
     const mark = (at) => holds(job, at) && cells.add(numberOf(job, at));
     for (const name of ["conductors", "clearances", "terminals", "reserved"]) job[name].forEach(mark);
     for (const at of job.conductors) keepout(at).forEach(mark);
-    for (const block of job.blocks) {
-        const live = liveCell(block, job);
-        if (live !== null) keepout(live).forEach(mark);
-    }
+    for (const [, live] of liveCells(job)) keepout(live).forEach(mark);
     for (const at of ownCells(job)) {
         cells.delete(numberOf(job, at));
         if (at[1] > 0) cells.delete(numberOf(job, step(at, BELOW)));
     }
     return cells;
+}
+
+// Each block that makes a cell live, round which no wire may lie, with that cell.
+export function liveCells(job) {
+    return job.blocks.map((block) => [block, liveCell(block, job)]).filter(([, cell]) => cell !== null);
 }
 
 // The cell that this block makes live, round which no wire may lie: its own, or the Solid of its node that a Repeater feeds.

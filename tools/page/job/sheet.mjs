@@ -1,5 +1,5 @@
-// The bytes of a job sheet, version 1, written and read: docs/RULES.md, The job sheet. In step with tools/dustsheet/job.py.
-import { PLACE_LISTS, emptyJob, LIMITS, sheetSize } from "./job.mjs";
+// The bytes of a job sheet, written and read: docs/RULES.md, The job sheet. In step with tools/dustsheet/job.py.
+import { PLACE_LISTS, emptyJob, LIMITS, sheetSize, versionOf } from "./job.mjs";
 import { said } from "./said.mjs";
 
 // Bytes that mean no job: number 1, with what is wrong in words.
@@ -12,8 +12,15 @@ export class Refused extends Error {
 
 // ---- a job's bytes
 
+// The job's version; the last one where a position, good or not, takes more than a byte.
+function spelling(job) {
+    const places = [job.source, ...job.blocks, ...job.sinks].map(({ at }) => at).concat(...PLACE_LISTS.map((name) => job[name]));
+    return places.some((at) => Math.max(...at) > 255) ? LIMITS.versions.at(-1) : versionOf(job);
+}
+
 export function sheetOf(job) {
-    const sheet = new Uint8Array(sheetSize(job));
+    const version = spelling(job);
+    const sheet = new Uint8Array(sheetSize(job, version));
     const view = new DataView(sheet.buffer);
     let at = 0;
     const bytes = (...values) => {
@@ -24,33 +31,47 @@ export function sheetOf(job) {
         else view.setUint32(at, number);
         at += size;
     };
-    const end = ({ at: place, port, facing }) => bytes(...place, port, facing);
-    bytes(LIMITS.version);
+    const place = (places) => {
+        for (const one of places) version.coordinate === 1 ? bytes(one) : value(2, one);
+    };
+    const end = ({ at: where, port, facing }) => {
+        place(where);
+        bytes(port, facing);
+    };
+    const limit = (steps) => version.limits && bytes(steps);
+    bytes(version.number);
     value(4, sheet.length - 5);
-    bytes(...job.sides);
+    place(job.sides);
     for (const number of [job.limit, ...job.costs]) value(4, number);
+    limit(job.run);
     value(2, job.blocks.length);
     for (const block of job.blocks) {
         value(2, block.node);
-        bytes(...block.at, block.kind, block.facing);
+        place(block.at);
+        bytes(block.kind, block.facing);
     }
     for (const name of PLACE_LISTS) {
         value(2, job[name].length);
-        for (const place of job[name]) bytes(...place);
+        for (const one of job[name]) place(one);
     }
     end(job.source);
     bytes(job.sinks.length);
-    job.sinks.forEach(end);
+    for (const sink of job.sinks) {
+        end(sink);
+        limit(sink.tail);
+    }
     return sheet;
 }
 
 // ---- bytes to a job
 
-// The sheet's bytes and the place of the next one.
+// The sheet's bytes and the place of the next one. They are read as the version of the first byte has them; of one that isn't known, as
+// version 1 has them.
 class Reader {
     constructor(sheet) {
         this.sheet = sheet;
         this.at = 0;
+        this.version = LIMITS.versions.find((known) => known.number === sheet[0]) ?? LIMITS.versions[0];
     }
 
     take(count, what) {
@@ -65,17 +86,30 @@ class Reader {
     }
 
     place(what) {
-        return [...this.take(3, what)];
+        const size = this.version.coordinate;
+        const taken = this.take(3 * size, what);
+        return [0, 1, 2].map((axis) => taken.subarray(axis * size, (axis + 1) * size).reduce((sum, byte) => sum * 256 + byte, 0));
     }
 
     end(what) {
-        const [x, y, z, port, facing] = this.take(5, what);
-        return { at: [x, y, z], port, facing };
+        const at = this.place(what);
+        const [port, facing] = this.take(2, what);
+        return { at, port, facing };
+    }
+
+    // The limit that stands here; the usual one where the version carries none.
+    limit(usual, what) {
+        return this.version.limits ? this.value(1, what) : usual;
+    }
+
+    sink(what) {
+        return { ...this.end(what), tail: this.limit(LIMITS.usualTail, what) };
     }
 
     block(what) {
-        const [high, low, x, y, z, kind, facing] = this.take(7, what);
-        return { node: 256 * high + low, at: [x, y, z], kind, facing };
+        const [node, at] = [this.value(2, what), this.place(what)];
+        const [kind, facing] = this.take(2, what);
+        return { node, at, kind, facing };
     }
 
     head() {
@@ -105,16 +139,20 @@ export function isSheet(content) {
 // The job that the bytes spell, good or not; Refused where they spell none.
 export function jobOfSheet(sheet) {
     const read = new Reader(sheet);
-    const version = read.value(1, "the version");
-    if (version !== LIMITS.version) throw new Refused(said("the version byte is %d; a sheet begins with %d", version, LIMITS.version));
+    const number = read.value(1, "the version");
+    if (number !== read.version.number) {
+        const known = LIMITS.versions.map((one) => one.number);
+        throw new Refused(said("the version byte is %d; a sheet begins with %s or %s", number, known.slice(0, -1).join(", "), known.at(-1)));
+    }
     const length = read.value(4, "the length");
     if (length !== sheet.length - read.at)
         throw new Refused(said("the length says that %d bytes follow, but %d do", length, sheet.length - read.at));
-    const job = read.head();
+    const job = Object.assign(read.head(), { readAs: read.version });
+    job.run = read.limit(LIMITS.usualRun, "the run limit");
     job.blocks = times(read.value(2, "the count of blocks"), () => read.block("the blocks"));
     for (const name of PLACE_LISTS) job[name] = times(read.value(2, "the count of " + name), () => read.place("the " + name));
     job.source = read.end("the source");
-    job.sinks = times(read.value(1, "the count of sinks"), () => read.end("the sinks"));
+    job.sinks = times(read.value(1, "the count of sinks"), () => read.sink("the sinks"));
     if (read.at < sheet.length) throw new Refused(said("bytes are left over behind the last sink: %d", sheet.length - read.at));
     return job;
 }

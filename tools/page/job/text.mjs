@@ -96,8 +96,9 @@ function hint(word) {
 function readHead(draft, line, word, words) {
     const most = 2 ** 32 - 1;
     let value;
-    if (word === "room") value = ["side X", "side Y", "side Z"].map((what) => words.number(what, 255));
+    if (word === "room") value = ["side X", "side Y", "side Z"].map((what) => words.number(what, LIMITS.place));
     else if (word === "costs") value = ["the flat step", "the stair", "the new support"].map((what) => words.number(what, most));
+    else if (word === "run") value = words.number("the run limit", 255);
     else value = words.number("the node limit", most);
     words.end();
     draft.putOnce(word, line, value);
@@ -127,9 +128,10 @@ function readEnd(draft, line, word, words) {
     const port = isNamed ? codeOf(words.next("the port"), "port") : 0;
     words.skip("at");
     const end = { at: words.place(), port, facing: words.facing() };
+    const tail = word === "sink" && words.skip("tail") ? words.number("the tail limit", 255) : LIMITS.usualTail;
     words.end();
     if (word === "source") draft.putOnce(word, line, end);
-    else draft.put("sinks", line, [end]);
+    else draft.put("sinks", line, [{ ...end, tail }]);
 }
 
 // The job of a draft without problems.
@@ -137,6 +139,7 @@ export function jobOf(draft) {
     const job = emptyJob(draft.value("room"));
     job.limit = draft.value("limit", job.limit);
     job.costs = draft.value("costs", job.costs);
+    job.run = draft.value("run", job.run);
     job.source = draft.value("source");
     for (const part of Object.keys(draft.records)) job[part] = draft.records[part].map(({ value }) => value);
     return job;

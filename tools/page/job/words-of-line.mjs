@@ -64,7 +64,7 @@ export class Words {
     }
 
     place() {
-        return [this.number("x", 255), this.number("y", 255), this.number("z", 255)];
+        return ["x", "y", "z"].map((axis) => this.number(axis, LIMITS.place));
     }
 
     // One cell, or all from a corner to the opposite one.
@@ -78,7 +78,7 @@ export class Words {
     // The facing that may stand here; none if it doesn't.
     facing() {
         const named = this.skip("facing");
-        if ((!this.left.length && !named) || (this.left.length && plain(this.left[0]) === "node")) return 0;
+        if ((!this.left.length && !named) || (this.left.length && ["node", "tail"].includes(plain(this.left[0])))) return 0;
         return codeOf(this.next("the facing"), "facing");
     }
 

@@ -1,5 +1,5 @@
 // Refusals in plain words, without a capital and a full stop: docs/RULES.md, Numbers that come back. In step with tools/dustsheet/words.py.
-import { KINDS, LIMITS, cellCount, firstFault, numberOf, placeOf, recordName, spell } from "./job.mjs";
+import { BLOCK_POWER, KINDS, LIMITS, cellCount, firstFault, hasUsualLimits, numberOf, placeOf, recordName, spell } from "./job.mjs";
 import { approach, endName, lateFaults } from "./rules.mjs";
 import { TABLES } from "./tables.mjs";
 import { said } from "./said.mjs";
@@ -37,6 +37,18 @@ function noWay(cell, job) {
 export function sinkOf(cell, job) {
     const index = job.sinks.findIndex((sink) => numberOf(job, approach(sink)) === cell);
     return { place: index + 1, sink: job.sinks[index] };
+}
+
+// How many steps the net may have without a repeater; nothing where it is as in every sheet of version 1.
+export function stepLimitWords(job) {
+    if (hasUsualLimits(job)) return "";
+    const tails = job.sinks.flatMap((sink, index) => (sink.port === BLOCK_POWER ? [] : [said("%s to %s", stepsOf(sink.tail), endName(index + 1))]));
+    const words = said("a repeater is due after %s", stepsOf(job.run));
+    return tails.length ? words + said("; behind the last one at most ") + tails.join(", ") : words;
+}
+
+function stepsOf(limit) {
+    return said("%d step%s", limit, limit === 1 ? "" : "s");
 }
 
 // Why the library refuses a search in a room of these sides.

@@ -1,5 +1,5 @@
 // A job as its canonical text: the parts in sheet order, boxes as long as they go. In step with tools/dustsheet/text.py.
-import { FACINGS, KINDS, PORTS, same } from "./job.mjs";
+import { FACINGS, KINDS, LIMITS, PORTS, same } from "./job.mjs";
 import { TABLES } from "./tables.mjs";
 import { said } from "./said.mjs";
 import { cellsOf } from "./text.mjs";
@@ -10,6 +10,7 @@ export function writeText(job) {
         said("costs %d %d %d  # flat step, stair, new support; in tenths", ...job.costs),
         said("limit %d  # node limit", job.limit),
     ];
+    if (job.run !== LIMITS.usualRun) lines.push(said("run %d  # so many steps need no repeater", job.run));
     const blocks = boxes(job.blocks.map((block) => ({ at: block.at, like: `${block.kind} ${block.facing} ${block.node}` })));
     lines.push(...section("blocks", blocks.map(blockLine)));
     for (const [word, part] of Object.entries(TABLES.PLACE_WORDS)) {
@@ -17,7 +18,7 @@ export function writeText(job) {
         const found = boxes(job[part].map((at) => ({ at, like: "" })));
         lines.push(...section(title, found.map(({ low, high }) => said("%s %s", word, boxText(low, high)))));
     }
-    lines.push(...section("the net", [endLine("source", job.source), ...job.sinks.map((sink) => endLine("sink", sink))]));
+    lines.push(...section("the net", [endLine("source", job.source), ...job.sinks.map(sinkLine)]));
     return lines.join("\n") + "\n";
 }
 
@@ -36,6 +37,11 @@ function blockLine({ low, high, like }) {
 function endLine(word, end) {
     const line = said("%s %s %d %d %d", word, name(end.port, PORTS), ...end.at);
     return end.facing ? line + " " + name(end.facing, FACINGS) : line;
+}
+
+function sinkLine(sink) {
+    const line = endLine("sink", sink);
+    return sink.tail === LIMITS.usualTail ? line : said("%s tail %d", line, sink.tail);
 }
 
 function boxText(low, high) {

@@ -9,7 +9,8 @@ QUESTIONS.sheetFile = sheetFile;
 
 function sheetFile(router, { job, saveAs }) {
     const { number, sheet } = sheetWritten(router, job);
-    if (number) return { words: [said("%s: %s (number %d)", saveAs, refusalWords(number, 0, job), number)] };
+    const unread = { ...job, readAs: null }; // the writer has no sheet, in whose version it would be judged
+    if (number) return { words: [said("%s: %s (number %d)", saveAs, refusalWords(number, 0, unread), number)] };
     return { words: [], file: sheet };
 }
 
@@ -25,10 +26,10 @@ export function writerParts(job) {
     const [horizontal, stair, support] = job.costs;
     const end = ({ at, port, facing }) => [...at, port, facing];
     return {
-        wide, high, deep, limit: job.limit, horizontal, stair, support,
+        wide, high, deep, limit: job.limit, horizontal, stair, support, run: job.run,
         blocks: Uint16Array.from(job.blocks.flatMap(({ node, at, kind, facing }) => [node, ...at, kind, facing])),
         ...Object.fromEntries(PLACE_LISTS.map((name) => [name, Uint16Array.from(job[name].flat())])),
         source: Uint16Array.from(end(job.source)),
-        sinks: Uint16Array.from(job.sinks.flatMap(end)),
+        sinks: Uint16Array.from(job.sinks.flatMap((sink) => [...end(sink), sink.tail])),
     };
 }

@@ -31,7 +31,7 @@ function withBlocks(job, cells, block) {
 }
 
 function withSink(job, at, how) {
-    const sink = { at, port: how.port, facing: how.facing };
+    const sink = { at, port: how.port, facing: how.facing, tail: how.tail ?? LIMITS.usualTail };
     const place = job.sinks.findIndex((other) => same(other.at, at));
     if (place >= 0) return { ...job, sinks: job.sinks.map((other, index) => (index === place ? sink : other)) };
     return job.sinks.length < LIMITS.sinks ? { ...job, sinks: [...job.sinks, sink] } : job;
@@ -84,6 +84,10 @@ export function cellWords(job, at, kindNames) {
         reserved: "reserved" };
     for (const name of PLACE_LISTS) if (job[name].some((place) => same(place, at))) words.push(names[name]);
     if (same(job.source.at, at)) words.push("the source");
-    job.sinks.forEach((sink, index) => same(sink.at, at) && words.push(`sink ${index + 1}`));
+    job.sinks.forEach((sink, index) => same(sink.at, at) && words.push(`sink ${index + 1}${tailWords(sink)}`));
     return words;
+}
+
+function tailWords({ tail }) {
+    return tail === LIMITS.usualTail ? "" : `, at most ${tail} steps behind its last repeater`;
 }

@@ -1,6 +1,6 @@
 // Why a net was refused, as far as the worker can find out. Each part of parts/ that the module's functions allow adds its reasons; here is
-// the one that needs the tree alone. A reason is {words, reached, walls, causes, kept}: sentences, and what is drawn beside them, if
-// anything is.
+// the one that needs the tree alone. A reason is {words, soFar, reached, walls, causes, kept}: sentences, and what is drawn beside them, if
+// anything is. Of one that has the net so far the page asks then what to try (`tries` of QUESTIONS), whenever nothing else is asked.
 import { LIMITS } from "../job/job.mjs";
 import { ampleLimit } from "../job/rules.mjs";
 import { refusalWords } from "../job/words.mjs";

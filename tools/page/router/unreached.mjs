@@ -8,15 +8,13 @@ import { cellsRound, listed, roundOf, roundWords } from "./round.mjs";
 
 export const [APPROACH_TAKEN, SHUT_IN, CONFLICTS, CUT_SHORT] = [1, 2, 3, 4]; // what may be said of the sink
 export const QUEUE_FULL = 13;
-const [KEPT_FREE, SUPPORT_KEPT_FREE] = [4, 5]; // what may stand against a move, besides what stands against one of a search
+export const [KEPT_FREE, SUPPORT_KEPT_FREE] = [4, 5]; // what may stand against a move, besides what stands against one of a search
 
 // All that is known, a sentence or two each.
 export function unreachedWords(told) {
-    const turns = turnsOf(told.job);
-    const turn = turns.indexOf(told.place);
-    const before = ascending(turns.slice(0, turn));
+    const before = turnsBefore(told.job, told.place);
     const words = { [APPROACH_TAKEN]: takenWords, [SHUT_IN]: shutInWords, [CONFLICTS]: conflictWords, [CUT_SHORT]: cutShortWords };
-    return [headline(told, before), words[told.verdict](told), ...turnWords(before, ascending(turns.slice(turn + 1)))];
+    return [headline(told, before), words[told.verdict](told), ...turnWords(before, turnsBehind(told.job, told.place))];
 }
 
 // The cells that are kept free and so in the way, each with its first cause: wire would lie in them, or rest on them.
@@ -37,14 +35,21 @@ function firstCause(bits) {
 }
 
 // The places of the sinks in the order of their turns: by the distance from the source's wire to the approach, ties in sheet order.
-function turnsOf(job) {
+export function turnsOf(job) {
     const source = terminal(job.source);
     const far = (place) => approach(job.sinks[place - 1]).reduce((sum, at, axis) => sum + Math.abs(at - source[axis]), 0);
     return job.sinks.map((_, index) => index + 1).sort((one, other) => far(one) - far(other));
 }
 
-function ascending(places) {
-    return [...places].sort((one, other) => one - other);
+// The places of the sinks whose turn comes before that of this one, and behind it, ascending.
+export function turnsBefore(job, place) {
+    const turns = turnsOf(job);
+    return turns.slice(0, turns.indexOf(place)).sort((one, other) => one - other);
+}
+
+function turnsBehind(job, place) {
+    const turns = turnsOf(job);
+    return turns.slice(turns.indexOf(place) + 1).sort((one, other) => one - other);
 }
 
 function headline({ job, place, verdict }, before) {

@@ -28,6 +28,7 @@ export function paintFloor(pen, scene, level, lit) {
     paintEnds(pen, scene, level);
     paintWalls(pen, scene, level);
     paintFlags(pen, scene, level);
+    paintTries(pen, scene, level);
     pen.strokeStyle = "#333";
     pen.lineWidth = 2;
     pen.strokeRect(0, 0, wide * CELL, deep * CELL);
@@ -64,7 +65,7 @@ function paintCell(pen, scene, cell, lit) {
         else paintSign(pen, KINDS[kind]);
         paintFacing(pen, scene.facings.get(cell));
     } else if (scene.blocked.has(cell) && !scene.conductors.has(cell)) paintSign(pen, "blocked");
-    if (scene.net?.supports.has(cell)) paintSign(pen, "support");
+    if (scene.supports.has(cell)) paintSign(pen, "support");
     if (scene.clearances.has(cell)) paintSign(pen, "clearance");
     if (scene.terminals.has(cell)) paintSign(pen, "terminal");
     if (scene.reserved.has(cell)) paintSign(pen, "reserved");
@@ -171,6 +172,22 @@ function paintWalls(pen, scene, level) {
         const [colour, dashes] = WALL_LINES[why];
         line(pen, beside[0] !== to[0] ? [[x, y], [x, y + CELL]] : [[x, y], [x + CELL, y]], colour, isThick ? 6 : 3, dashes);
     }
+}
+
+// A tag with its number in the list on each cell that a change to try is about.
+function paintTries(pen, scene, level) {
+    for (const [cell, numbers] of scene.tries) {
+        const at = placeOf(scene.job.sides, cell);
+        if (at[1] === level) paintTag(pen, at[0] * CELL + 1, at[2] * CELL + 41, numbers);
+    }
+}
+
+// Its lower left corner is at this place.
+export function paintTag(pen, x, y, numbers) {
+    const words = `?${numbers.join(" ")}`;
+    const width = 7 + 7 * words.length;
+    shape(pen, [[x, y - 14], [x + width, y - 14], [x + width, y], [x, y]], INK, "#fff", 1.5);
+    letters(pen, words, x + width / 2, y - 6.5, 12, "#fff");
 }
 
 // A flag with its number on each cell that is warned of, a frame on each that a refusal speaks of.

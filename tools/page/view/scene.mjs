@@ -1,19 +1,23 @@
 // All that is drawn, sorted by cells once for each change: both views look things up here.
 import { AHEAD, AIR, KIND, FLAT_STEPS, BLOCK_POWER, holds, kindsOf, numberOf, placeOf, step } from "../job/job.mjs";
+import { supports } from "../job/net.mjs";
 import { BELOW, approach, blocked, isSound, terminal } from "../job/rules.mjs";
 import { MOVES } from "../router/reasons.mjs";
 
-export function sceneOf(job, answer, net, remarks, reason) {
+// Of a room and its answer, a net or the net so far, with what a reason has to draw.
+export function sceneOf({ job, answer, net, soFar, remarks, tries }, reason) {
     const cells = (places) => new Set(places.map((at) => numberOf(job, at)));
     const isSoundJob = isSound(job);
     const kinds = kindsOf(job);
+    const branches = net ? answer.branches : soFar?.branches ?? [];
     const scene = {
         job, net, isSound: isSoundJob,
         kinds,
         facings: new Map(job.blocks.map((block) => [numberOf(job, block.at), block.facing])),
         conductors: cells(job.conductors), clearances: cells(job.clearances), terminals: cells(job.terminals), reserved: cells(job.reserved),
         blocked: isSoundJob ? blocked(job) : new Set(),
-        branches: net ? answer.branches.map((branch) => branch.map((cell) => placeOf(job.sides, cell))) : [],
+        branches: branches.map((branch) => branch.map((cell) => placeOf(job.sides, cell))),
+        supports: net?.supports ?? new Set(supports({ branches }, job).flat()),
         repeaters: net ? answer.repeaters : [],
         warned: new Map(),
         refused: new Set(refusedCells(job, answer)),
@@ -23,6 +27,7 @@ export function sceneOf(job, answer, net, remarks, reason) {
         causes: reason?.causes?.map((bits, cell) => (kinds[cell] === AIR ? bits : 0)) ?? null,
         kept: new Map(reason?.kept ?? []),
         way: (reason?.way ?? []).map((cell) => placeOf(job.sides, cell)), // that was asked for
+        tries: triesByCell(job, tries?.found ?? []),
         ends: endsOf(job),
         lamps: net ? lampsOf(job) : [],
     };
@@ -31,6 +36,15 @@ export function sceneOf(job, answer, net, remarks, reason) {
         scene.warned.set(cell, [...(scene.warned.get(cell) ?? []), index + 1]);
     });
     return scene;
+}
+
+// The places in their list of the changes to try that are about a cell, from 1.
+export function triesByCell(job, found) {
+    const cells = new Map();
+    found.forEach(({ at }, index) => {
+        if (at) cells.set(numberOf(job, at), [...(cells.get(numberOf(job, at)) ?? []), index + 1]);
+    });
+    return cells;
 }
 
 function endsOf(job) {

@@ -2,7 +2,7 @@
 import { spell } from "../job/job.mjs";
 import { counted, said, sentence } from "../job/said.mjs";
 import { TABLES } from "../job/tables.mjs";
-import { refusalWords } from "../job/words.mjs";
+import { stepLimitWords, refusalWords } from "../job/words.mjs";
 import { printed } from "../router/answers.mjs";
 import { branchColour, branchDashes } from "./signs.mjs";
 import { WALL_LINES } from "./floor.mjs";
@@ -28,8 +28,8 @@ function sample(colour, dashes, width = 5) {
     return made;
 }
 
-export function answerParts(job, answer, net, reasons, remarks) {
-    const parts = answer.number ? refusalParts(job, answer, reasons) : netParts(job, answer, net);
+export function answerParts({ job, answer, net, soFar, reasons, remarks }) {
+    const parts = answer.number ? refusalParts(job, answer, reasons, soFar) : netParts(job, answer, net);
     if (remarks.length) {
         const listed = remarks.map(({ words }) => element("li", sentence(words)));
         const inside = [element("h3", "To look at before building"), element("ol", listed)];
@@ -55,13 +55,40 @@ function netParts(job, answer, net) {
     const fetch = `To fetch: ${answer.occupied - answer.repeaters.length} dust, ${counted(answer.repeaters.length, "repeater")}, ` +
         `${counted(net.supports.size, "support")}.`;
     const head = net.branches.length ? "A way to every sink" : "No sink yet: put one down";
-    return [element("h2", head, { class: "good" }), ...(rows.length ? [table, element("p", fetch)] : [])];
+    const limits = stepLimitWords(job) ? [element("p", sentence(stepLimitWords(job)), { id: "limits" })] : [];
+    return [element("h2", head, { class: "good" }), ...(rows.length ? [table, element("p", fetch)] : []), ...limits];
 }
 
-function refusalParts(job, answer, reasons) {
+function refusalParts(job, answer, reasons, soFar) {
     const words = sentence(refusalWords(answer.number, answer.detail, job));
     const parts = [element("h2", `Refused, number ${answer.number}`, { class: "bad" }), element("p", words, { id: "refusal", class: "refused" })];
-    return [...parts, ...reasons.flatMap(reasonParts)];
+    const toTry = soFar ? [element("section", "", { id: "tries" })] : []; // filled in when it is known
+    return [...parts, ...toTry, ...reasons.flatMap(reasonParts), ...(soFar ? soFarParts(soFar) : [])];
+}
+
+// The branches of the net so far, as they are drawn.
+function soFarParts({ branches, isExact }) {
+    const drawn = branches.flatMap((branch, index) => {
+        const words = [sample(branchColour(index), branchDashes(index)), " " + said("branch to sink %d", index + 1)];
+        return branch.length ? [element("li", words)] : [];
+    });
+    const list = drawn.length ? [element("ul", drawn, { class: "legend", id: "so-far", "aria-label": said("the net so far") })] : [];
+    const otherwise = said("The net so far is drawn as it is without the other sinks; it may have lain otherwise.");
+    return [...list, ...(isExact ? [] : [element("p", otherwise, { class: "note" })])];
+}
+
+// What to try: each that helps can be done by a press. `looksAt` hears of its cell when it is pointed at or comes by the keys.
+export function triesParts({ found, words, isDone }, takes, looksAt) {
+    const items = words.map((line, index) => {
+        const change = found[index];
+        if (!change) return element("li", line, { class: "plain" });
+        const button = element("button", line, { type: "button", class: "try", title: "do it; Undo takes a change of the room back" });
+        button.addEventListener("click", () => takes(change));
+        for (const name of change.at ? ["focus", "pointerenter"] : []) button.addEventListener(name, () => looksAt(change.at));
+        return element("li", [element("span", `?${index + 1}`, { class: "tag", "aria-hidden": "true" }), button]);
+    });
+    const looking = isDone ? [] : [element("p", "Looking for what helps ..", { class: "looking" })];
+    return items.length || looking.length ? [element("h2", said("What to try")), element("ul", items), ...looking] : [];
 }
 
 export function reasonParts(reason) {
@@ -82,6 +109,11 @@ function wallLegend(reason) {
 export function causeWords(causes, cell) {
     const found = TABLES.CAUSES.filter(({ bit }) => causes?.[cell] & bit).map(({ words }) => words);
     return found.length ? [said("kept free: ") + found.join(", ")] : [];
+}
+
+// The same of the net so far, which has no signals yet.
+export function soFarWords(soFar, cell) {
+    return (soFar?.branches ?? []).flatMap((branch, index) => (branch.includes(cell) ? [said("branch to sink %d", index + 1)] : []));
 }
 
 // What a wire's cell tells when it is pointed at.

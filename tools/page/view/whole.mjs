@@ -2,7 +2,7 @@
 import { AHEAD, AIR, KIND, KINDS, SOLID, holds, numberOf, placeOf, step } from "../job/job.mjs";
 import { TABLES } from "../job/tables.mjs";
 import { Eye } from "./turn.mjs";
-import { litPart } from "./floor.mjs";
+import { litPart, paintTag } from "./floor.mjs";
 import { INK, branchColour, branchDashes, circle, letters, line, shape } from "./signs.mjs";
 
 // a box's share of its cell: from the sides, and its height
@@ -96,7 +96,7 @@ function paintBlock(view, at, cell) {
         if (isLit) circle(pen, x, y, eye.unit * 0.36, null, INK, 2);
         letters(pen, word, x, y, Math.max(8, eye.unit * 0.34));
     }
-    if (scene.net?.supports.has(cell)) small(view, at, 0, 1, "#fbf6dc", "#9b8a3a", 0.6);
+    if (scene.supports.has(cell)) small(view, at, 0, 1, "#fbf6dc", "#9b8a3a", 0.6);
     if (scene.conductors.has(cell)) small(view, at, 0.22, 0.08, "#8a6238", "#2b1a0a", 1);
     if (scene.reserved.has(cell)) small(view, at, 0.1, 0.05, "#dddddd", "#444", 0.8);
     if (scene.reached.has(cell)) small(view, at, 0.12, 0.04, "#8fc4e8", "#1b4965", 0.85);
@@ -162,4 +162,9 @@ function paintFlagged({ pen, eye, scene }) {
     };
     for (const [cell, numbers] of scene.warned) flag(cell, numbers.join(" "));
     for (const cell of scene.refused) flag(cell, "!");
+    for (const [cell, numbers] of scene.tries) {
+        const at = placeOf(scene.job.sides, cell);
+        const [x, y] = eye.on([at[0] + 0.5, at[1] + 0.6, at[2] + 0.5]);
+        paintTag(pen, x - 12, y + 8, numbers);
+    }
 }
