@@ -1,0 +1,2 @@
+pub mod PackedQueue
+pub mod PlaceLaws
