@@ -59,6 +59,7 @@ module _ (R : Room) (C : RouterConfig) (classes : List ℕ) (goal from : Spot) (
     from-placed = A .from-placed;
     cost-most = A .cost-most;
     serial-most = omega (arith, A .serial-most, I .tried .readied .1);
+    key-in-one = λ e. A .key-in-one (sym (I .tried .readied .2) ∙ e);
     ready = I .tried .readied .0;
   }
 

@@ -7,6 +7,8 @@ pub mod TriedMoves
 pub mod OfferLaws
 pub mod TryLaws
 pub mod AlongLaws
+pub mod IdleMoves
+pub mod IdleLaws
 pub mod Takings
 pub mod TakingLaws
 pub mod TakeAllLaws

@@ -10,11 +10,10 @@ use lib.ListN.{length, getD, set}
 use Rattle.best_first.specs.Search.{cheaper, push}
 use Rattle.best_first.specs.Equations.{is-cheaper, no-cheaper}
 use Rattle.best_first.specs.Loops.{trying-skip, trying-push, trying-full}
-use Rattle.queue.specs.Queue.{EntryPushed}
 use Rattle.room_search.specs.declared.Line.{Line}
 use Rattle.room_search.specs.declared.MovesTried.the-variants.{On, Full}
-use Rattle.room_search.specs.Held.{packed, held}
-use Rattle.room_search.specs.HeldLaws.{pushed-entries, length-entries}
+use Rattle.room_search.specs.Held.{Joined, held}
+use Rattle.room_search.specs.HeldLaws.{length-entries}
 use Rattle.room_search.specs.Routing.{placesIn}
 use Rattle.room_search.specs.TriedMoves.{placesOf, HeapReady, Offered}
 
@@ -23,7 +22,7 @@ module _ (u v c estimate : ℕ) (known previous queue : List ℕ) (line : Line) 
   pub offer-kept : getD known v 0 ≢ 0 → getD known v 0 ≤ c + 1 → Offered u v c estimate known previous queue line (On line) known previous queue
   unfolding held
   offer-kept h k = record {
-    readied = (R, omega arith);
+    readied = (R, omega arith, refl);
     goes = λ A m ms e f g q p T. trying-skip (A .sound) T (rw (f, g) (no-cheaper c (getD known v 0) (omega arith) (omega arith)));
   }
 
@@ -36,21 +35,21 @@ module _ (u v c estimate : ℕ) (known previous queue : List ℕ) (line : Line) 
     unfolding held
     offered-full h = record {
       readied = tt;
-      goes = λ A m ms e f g q p T. trying-full (A .sound) T (rw (f, g) is-lower) (omega (arith, p, length-entries queue (line .waiting)));
+      goes = λ A m ms e f g q p T. trying-full (A .sound) T (rw (f, g) is-lower) (omega (arith, p, length-entries (line .width) queue (line .waiting)));
     }
 
     -- the push
-    pub offer-pushed : (queue′ : List ℕ) → line .waiting < placesOf queue → line .serial + 1 < 2 ^ 32 → v < 2 ^ 64 → length queue′ ≡ length queue
-        → EntryPushed queue (line .waiting) (packed (c + estimate) (line .serial + 1) v) queue′
-        → Offered u v c estimate known previous queue line (On (record { waiting = line .waiting + 1; serial = line .serial + 1 })) (set known v (c + 1)) (set previous v (u + 1)) queue′
+    pub offer-pushed : (queue′ : List ℕ) → line .waiting < placesOf queue → length queue′ ≡ length queue
+        → Joined (line .width) queue (line .waiting) (c + estimate) (line .serial + 1) v queue′
+        → Offered u v c estimate known previous queue line (On (record { waiting = line .waiting + 1; serial = line .serial + 1; width = line .width })) (set known v (c + 1)) (set previous v (u + 1)) queue′
     unfolding held push
-    offer-pushed queue′ r s w l P = record {
-      readied = (record { heap = rw (add-one (line .waiting)) (P .order); fits = omega (arith, ap placesIn l) }, omega arith);
+    offer-pushed queue′ r l P = record {
+      readied = (record { heap = rw (add-one (line .waiting)) (P .order); fits = omega (arith, ap placesIn l) }, omega arith, refl);
       goes = λ A m ms e f g q p T.
-          trying-push (A .sound) T (rw (f, g) is-lower) (omega (arith, p, length-entries queue (line .waiting))) _ (record {
+          trying-push (A .sound) T (rw (f, g) is-lower) (omega (arith, p, length-entries (line .width) queue (line .waiting))) _ (record {
             known = rw (f, g, add-one);
             previous = rw (f, e, add-one);
-            waiting = rw (f, g, q, add-one, ← add-one (line .serial)) (pushed-entries queue (line .waiting) (c + estimate) (line .serial + 1) v queue′ s w P);
+            waiting = rw (f, g, q, add-one, ← add-one (line .serial)) (P .same);
             serial = sym (add-one (line .serial));
             expanded = refl;
           });

@@ -1,7 +1,8 @@
 -- The takings one after another: the invariant of the search's loop, its beginning and its ends.
 use mathlib.Core.Path.{_≡_, refl, sym, ap, _∙_}
 use mathlib.Core.List.{List, [], _∷_}
-use Prim.Native.Nat.{ℕ, _+_, _-_, _*_, _≤_, _<_, _^_}
+use Prim.Native.Nat.{ℕ, suc, _+_, _-_, _*_, _≤_, _<_, _^_}
+use native.Mathlib.Nat.{suc-mul}
 use native.Mathlib.Omega.{arith}
 use lib.ListN.{length, getD, set, replicate}
 use Rattle.basics.specs.Zeros.{cleared-to}
@@ -14,17 +15,15 @@ use Rattle.best_first.specs.Search.{Graph, no-route, firstState, bestFirst, Ans
 use Rattle.best_first.specs.Entries.{Same}
 use Rattle.best_first.specs.Statements.{Bounded}
 use Rattle.best_first.specs.Loops.{Going, going-first, going-alike, going-bounded, going-none}
-use Rattle.queue.specs.Queue.{asOne, EntryPushed}
-use Rattle.queue.specs.BagLaws.{bag-zero}
 use Rattle.room_search.specs.declared.Line.{Line}
 use Rattle.room_search.specs.declared.Spot.{Spot}
 use Rattle.room_search.specs.declared.Outcome.{Outcome}
 use Rattle.room_search.specs.declared.AfterTaking.the-variants.{GoesOn, Ended}
 use Rattle.room_search.specs.Routing.{placesIn, estimateOf, graphOf}
-use Rattle.room_search.specs.Held.{entriesIn, held}
-use Rattle.room_search.specs.HeldLaws.{pushed-entries}
+use Rattle.room_search.specs.Held.{entriesIn, Joined, held}
+use Rattle.room_search.specs.HeldLaws.{entries-none}
 use Rattle.room_search.specs.GraphLaws.{sound}
-use Rattle.room_search.specs.TriedMoves.{maxKnown, placesOf, HeapReady, Placed}
+use Rattle.room_search.specs.TriedMoves.{maxKnown, placesOf, HeapReady, WidthFits, Placed}
 use Rattle.room_search.specs.Takings.{graphIn, Takeable, OutcomeTold, TakingCame, Fresh, Searchable, Showable}
 use Rattle.room_search.specs.declared.Outcome.the-variants.{Arrived, NoRoute, LimitPassed, QueueFull}
 use Rattle.room.specs.declared.Pos.{Pos}
@@ -47,6 +46,12 @@ arena F = record {
   goal-placed = F .goal-placed;
 }
 
+-- a step more than V - 1 is V steps
+one-more-step : (n d : ℕ) → 0 < n → (n - 1) * d + d ≡ n * d
+one-more-step n d h =
+    let e : suc (n - 1) ≡ n = omega arith in
+    sym (suc-mul (n - 1) d) ∙ ap (λ (k : ℕ). k * d) e
+
 -- the search from its first state comes to the same as from here; of the queue as it was at first only the length counts
 pub record Running (R : Room) (C : RouterConfig) (classes queue₀ : List ℕ) (start : ℕ) (goal : Spot) (known previous queue : List ℕ) (line : Line)
     (expanded : ℕ) : Type 0 where
@@ -54,14 +59,15 @@ pub record Running (R : Room) (C : RouterConfig) (classes queue₀ : List ℕ) (
       (held known previous queue line expanded)
   pub ready : HeapReady queue line
   pub kept : length queue ≡ length queue₀
+  pub width-fits : WidthFits R C (line .width)
 
 -- the start is known at cost 0 and waits
 pub running-first : {R : Room} {C : RouterConfig} {classes known previous queue₀ : List ℕ} {start goal : Spot} → Fresh R C classes known previous queue₀ start goal
-    → (queue : List ℕ) (rank : ℕ) → length queue ≡ length queue₀ → rank ≡ estimateOf (distanceAt (start .at) (goal .at)) * 2 ^ 32
-    → EntryPushed queue₀ 0 (asOne rank (start .cell)) queue
-    → Running R C classes queue (start .cell) goal (set known (start .cell) 1) previous queue (record { waiting = 1; serial = 0 }) 0
-unfolding graphOf firstState held distance entriesIn
-running-first {R} {C} {classes} {known} {previous} {queue₀} {start} {goal} F queue rank same e P = record {
+    → (queue : List ℕ) (width key : ℕ) → length queue ≡ length queue₀ → key ≡ estimateOf (distanceAt (start .at) (goal .at)) → WidthFits R C width
+    → Joined width queue₀ 0 key 0 (start .cell) queue
+    → Running R C classes queue (start .cell) goal (set known (start .cell) 1) previous queue (record { waiting = 1; serial = 0; width = width }) 0
+unfolding graphOf firstState held distance
+running-first {R} {C} {classes} {known} {previous} {queue₀} {start} {goal} F queue width key same e W P = record {
   going = going-alike (going-first (graphIn R C classes (start .cell) (goal .cell) queue) (C .limit .0) some) (record {
     known = ap (λ (l : List ℕ). set l (start .cell) 1) (sym (F .known-zero));
     previous = sym (F .previous-zero);
@@ -71,16 +77,14 @@ running-first {R} {C} {classes} {known} {previous} {queue₀} {start} {goal} F q
   });
   ready = record { heap = P .order; fits = some };
   kept = refl;
+  width-fits = W;
 }
   where
     some : 1 ≤ placesOf queue
     some = omega (arith, F .places-some, ap placesIn same)
 
-    first : Same (record { key = estimateOf (distanceAt (start .at) (goal .at)); serial = 0; cell = start .cell } ∷ []) (entriesIn queue 1)
-    first =
-        let k : rank ≡ estimateOf (distanceAt (start .at) (goal .at)) * 2 ^ 32 + 0 = omega arith in
-        rw bag-zero at (pushed-entries queue₀ 0 (estimateOf (distanceAt (start .at) (goal .at))) 0 (start .cell) queue (omega arith)
-        (omega (arith, F .start-placed .inside, F .good .few)) (rw k at P))
+    first : Same (record { key = estimateOf (distanceAt (start .at) (goal .at)); serial = 0; cell = start .cell } ∷ []) (entriesIn width queue 1)
+    first = rw (entries-none width queue₀, e) at (P .same)
 
 module _ {R : Room} {C : RouterConfig} {classes queue₀ : List ℕ} {start : ℕ} {goal : Spot} (A : Arena R C classes start goal)
     {known previous queue : List ℕ} {line : Line} {expanded : ℕ} (I : Running R C classes queue₀ start goal known previous queue line expanded) where
@@ -100,7 +104,7 @@ module _ {R : Room} {C : RouterConfig} {classes queue₀ : List ℕ} {start : �
   -- the next entry can be taken
   pub running-takeable : 0 < line .waiting → Takeable R C classes known previous queue line goal
   unfolding held graphOf
-  running-takeable some = record {
+  running-takeable some = let d = one-more-step (volume R) (dearest C) (omega (arith, A .start-in)) in record {
     good = A .good;
     config-good = A .config-good;
     classes-long = A .classes-long;
@@ -112,6 +116,7 @@ module _ {R : Room} {C : RouterConfig} {classes queue₀ : List ℕ} {start : �
     cells = λ e i. (bounds .cell-in e i, bounds .cell-known e i);
     costs = λ v. omega (arith, bounds .cost v, known-most);
     serial-most = omega (arith, bounds .serial, running-within, A .config-good .ranges .limit-most);
+    keys-in-one = λ e v. omega (arith, bounds .cost v, I .width-fits .keys e, d);
   }
 
   module _ {known′ previous′ queue′ : List ℕ} where
@@ -119,7 +124,7 @@ module _ {R : Room} {C : RouterConfig} {classes queue₀ : List ℕ} {start : �
         → Running R C classes queue₀ start goal known′ previous′ queue′ next (expanded + 1)
     running-on same T =
         let W = T .goes start (bestFirst G (C .limit .0)) (A .start-in) (rw (I .kept) (I .going)) in
-        record { going = rw (I .kept) at (W .0); ready = W .1; kept = same ∙ I .kept }
+        record { going = rw (I .kept) at (W .0); ready = W .1; kept = same ∙ I .kept; width-fits = rw (W .2) (I .width-fits) }
 
     pub running-ended : {o : Outcome} → TakingCame R C classes known previous queue line expanded goal (Ended o) known′ previous′ queue′
         → OutcomeTold G (bestFirst G (C .limit .0)) known′ previous′ o
@@ -127,8 +132,8 @@ module _ {R : Room} {C : RouterConfig} {classes queue₀ : List ℕ} {start : �
 
   -- nothing waits any more
   pub running-none : line .waiting ≡ 0 → bestFirst G (C .limit .0) ≡ no-route expanded
-  unfolding held entriesIn
-  running-none e = going-none (I .going) (rw (e, bag-zero))
+  unfolding held
+  running-none e = going-none (I .going) (rw e (entries-none (line .width) queue))
 
 -- ---- cleared memory
 

@@ -6,7 +6,7 @@ use lib.ListN.{length, getD, replicate}
 use Rattle.room.specs.declared.Room.{Room}
 use Rattle.room.specs.declared.RouterConfig.{RouterConfig}
 use Rattle.room.specs.Room.{Good, volume, posOf}
-use Rattle.room.specs.Units.{GoodConfig}
+use Rattle.room.specs.Units.{dearest, GoodConfig}
 use Rattle.basics.specs.Lists.{In}
 use Rattle.trace.specs.Traces.{PreviousInside}
 use Rattle.best_first.specs.Search.{Graph, Answer, Entry, trace, route, no-route, limit-passed, queue-full, bestFirst}
@@ -35,9 +35,10 @@ pub record Takeable (R : Room) (C : RouterConfig) (classes known previous queue 
   pub goal-placed : Placed R goal
   pub some : 0 < line .waiting
   pub ready : HeapReady queue line
-  pub cells : (e : Entry) → In e (entriesIn queue (line .waiting)) → (e .cell < volume R) × (0 < getD known (e .cell) 0)
+  pub cells : (e : Entry) → In e (entriesIn (line .width) queue (line .waiting)) → (e .cell < volume R) × (0 < getD known (e .cell) 0)
   pub costs : (v : ℕ) → getD known v 0 ≤ maxKnown + 1
-  pub serial-most : line .serial + 12 < 2 ^ 32
+  pub serial-most : line .serial + 12 < 2 ^ 24
+  pub keys-in-one : line .width ≡ 1 → (v : ℕ) → getD known v 0 + dearest C + 10000 ≤ 2 ^ 24 + 1
 
 -- the goal is taken: the path by predecessors, and the goal's known cost
 pub record Arrival (G : Graph) (answer : Answer) (known previous : List ℕ) (expanded : ℕ) : Type 0 where
@@ -53,17 +54,17 @@ OutcomeTold G answer known previous (LimitPassed x) = answer ≡ limit-passed (x
 OutcomeTold G answer known previous (QueueFull x) = answer ≡ queue-full (x .0)
 
 -- what a taking has come to
-abbrev pub Went : Graph → ℕ → Answer → ℕ → List ℕ → List ℕ → List ℕ → AfterTaking → Type 0
-Went G limit answer expanded known previous queue (GoesOn next) =
-    Going G limit answer (held known previous queue next (expanded + 1)) × HeapReady queue next
-Went G limit answer expanded known previous queue (Ended o) = OutcomeTold G answer known previous o
+abbrev pub Went : Graph → ℕ → Answer → ℕ → ℕ → List ℕ → List ℕ → List ℕ → AfterTaking → Type 0
+Went G limit answer expanded width known previous queue (GoesOn next) =
+    Going G limit answer (held known previous queue next (expanded + 1)) × HeapReady queue next × (next .width ≡ width)
+Went G limit answer expanded width known previous queue (Ended o) = OutcomeTold G answer known previous o
 
 -- one taking, for every search that has come this far: it goes on to the same answer, or that answer is told
 pub record TakingCame (R : Room) (C : RouterConfig) (classes known previous queue : List ℕ) (line : Line) (expanded : ℕ) (goal : Spot) (r : AfterTaking)
     (known′ previous′ queue′ : List ℕ) : Type 0 where
   pub goes : (start : ℕ) (answer : Answer) → start < volume R
       → Going (graphIn R C classes start (goal .cell) queue) (C .limit .0) answer (held known previous queue line expanded)
-      → Went (graphIn R C classes start (goal .cell) queue) (C .limit .0) answer expanded known′ previous′ queue′ r
+      → Went (graphIn R C classes start (goal .cell) queue) (C .limit .0) answer expanded (line .width) known′ previous′ queue′ r
 
 -- what a whole search asks of its parameters: nothing is known yet
 pub record Fresh (R : Room) (C : RouterConfig) (classes known previous queue : List ℕ) (start goal : Spot) : Type 0 where

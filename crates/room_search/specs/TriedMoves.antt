@@ -2,24 +2,23 @@
 -- moves goes on from the slices as they were to the slices as they are.
 use mathlib.Core.Path.{_≡_}
 use mathlib.Core.List.{List, [], _∷_, _++_}
-use Prim.Native.Nat.{ℕ, _+_, _^_, _≤_, _<_}
+use Prim.Native.Nat.{ℕ, _+_, _*_, _^_, _≤_, _<_}
 use lib.ListN.{length, getD}
 use Rattle.room.specs.declared.Room.{Room}
 use Rattle.room.specs.declared.Move.{Move}
 use Rattle.room.specs.declared.RouterConfig.{RouterConfig}
 use Rattle.room.specs.Room.{Good, by, volume, posOf}
-use Rattle.room.specs.Units.{maxProduct, GoodConfig}
+use Rattle.room.specs.Units.{maxProduct, dearest, GoodConfig}
 use Rattle.best_first.specs.Search
 use Rattle.best_first.specs.Search.{Graph, Pushed, full}
 use Rattle.best_first.specs.Ways.{Sound}
 use Rattle.best_first.specs.Loops.{Trying}
-use Rattle.queue.specs.Queue.{Heap, entry}
 use Rattle.room_search.specs.declared.Line.{Line}
 use Rattle.room_search.specs.declared.Spot.{Spot}
 use Rattle.room_search.specs.declared.MovesTried.{MovesTried}
 use Rattle.room_search.specs.declared.MovesTried.the-variants.{On, Full}
 use Rattle.room_search.specs.Routing.{placesIn, movesBy, graphOf}
-use Rattle.room_search.specs.Held.{held}
+use Rattle.room_search.specs.Held.{HeapIn, held}
 
 -- the places of a queue
 abbrev pub placesOf : List ℕ → ℕ
@@ -31,7 +30,7 @@ maxKnown = maxProduct
 
 -- the queue's first places are a heap
 pub record HeapReady (queue : List ℕ) (line : Line) : Type 0 where
-  pub heap : Heap (entry queue) (line .waiting)
+  pub heap : HeapIn (line .width) queue (line .waiting)
   pub fits : line .waiting ≤ placesOf queue
 
 -- a search that is trying the moves of a cell: what all of them come to, and how many cells it has expanded
@@ -55,14 +54,18 @@ abbrev pub AfterMoves : Expansion → List Search.Move → List ℕ → List ℕ
 AfterMoves A rest known previous queue (On line) = Stage A rest known previous queue line
 AfterMoves A rest known previous queue Full = A .outcome ≡ full
 
--- the queue is ready for the next move, unless it was found full
-abbrev pub Readied : List ℕ → ℕ → MovesTried → Type 0
-Readied queue most (On line) = HeapReady queue line × (line .serial ≤ most)
-Readied queue most Full = Unit {0}
+-- one number holds an entry only where the keys of every search fit
+pub record WidthFits (R : Room) (C : RouterConfig) (width : ℕ) : Type 0 where
+  pub keys : width ≡ 1 → volume R * dearest C + 10000 ≤ 2 ^ 24
+
+-- the queue is ready for the next move, its entries held as before, unless it was found full
+abbrev pub Readied : List ℕ → ℕ → ℕ → MovesTried → Type 0
+Readied queue width most (On line) = HeapReady queue line × (line .serial ≤ most) × (line .width ≡ width)
+Readied queue width most Full = Unit {0}
 
 -- one move, to cell v at cost c
 pub record Offered (u v c estimate : ℕ) (known previous queue : List ℕ) (line : Line) (r : MovesTried) (known′ previous′ queue′ : List ℕ) : Type 0 where
-  pub readied : Readied queue′ (line .serial + 1) r
+  pub readied : Readied queue′ (line .width) (line .serial + 1) r
   pub goes : (A : Expansion) (m : Search.Move) (ms : List Search.Move) → A .cell ≡ u → m .to ≡ v → A .cost + m .cost ≡ c → A .graph .estimate v ≡ estimate
       → A .graph .places ≡ placesOf queue → Stage A (m ∷ ms) known previous queue line → AfterMoves A ms known′ previous′ queue′ r
 
@@ -93,7 +96,7 @@ pub record Fitting (S : Setting) (A : Expansion) : Type 0 where
 
 -- the moves `tried` of that cell
 pub record MovesCame (S : Setting) (tried : List Move) (known previous queue : List ℕ) (line : Line) (r : MovesTried) (known′ previous′ queue′ : List ℕ) : Type 0 where
-  pub readied : Readied queue′ (line .serial + length tried) r
+  pub readied : Readied queue′ (line .width) (line .serial + length tried) r
   pub goes : (A : Expansion) → Fitting S A → (ms : List Move) → Stage A (dueOf S (tried ++ ms)) known previous queue line
       → AfterMoves A (dueOf S ms) known′ previous′ queue′ r
 
@@ -129,5 +132,6 @@ pub record Able (tries : ℕ) (R : Room) (C : RouterConfig) (classes : List ℕ)
   pub goal-placed : Placed R goal
   pub from-placed : Placed R from
   pub cost-most : cost ≤ maxKnown
-  pub serial-most : line .serial + tries < 2 ^ 32
+  pub serial-most : line .serial + tries < 2 ^ 24
+  pub key-in-one : line .width ≡ 1 → cost + dearest C + 10000 ≤ 2 ^ 24
   pub ready : HeapReady queue line

@@ -121,11 +121,11 @@ module _ (R : Room) (C : RouterConfig) (classes : List ℕ) (goal : Spot) (from 
   S = setting R C classes goal queue from cost
 
   pub tried-out : neighbour R (from .cell) m ≡ Outside → MovesCame S (m ∷ []) known previous queue line (On line) known previous queue
-  tried-out e = record { readied = (ready, omega arith); goes = λ A F ms T. rw (moves-out R C (λ v. getD classes v 0) (from .cell) m ms e) at T }
+  tried-out e = record { readied = (ready, omega arith, refl); goes = λ A F ms T. rw (moves-out R C (λ v. getD classes v 0) (from .cell) m ms e) at T }
 
   pub tried-shut : (v : ℕ) → neighbour R (from .cell) m ≡ Inside v → getD classes v 0 ≡ 0
       → MovesCame S (m ∷ []) known previous queue line (On line) known previous queue
-  tried-shut v e z = record { readied = (ready, omega arith); goes = λ A F ms T. rw (moves-shut R C (λ v. getD classes v 0) (from .cell) m ms v e z) at T }
+  tried-shut v e z = record { readied = (ready, omega arith, refl); goes = λ A F ms T. rw (moves-shut R C (λ v. getD classes v 0) (from .cell) m ms v e z) at T }
 
   pub tried-offered : (v : ℕ) (p : Pos) → neighbour R (from .cell) m ≡ Inside v → getD classes v 0 ≢ 0 → Placed R goal → p ≡ posOf R v
       → (r : MovesTried) (known′ previous′ queue′ : List ℕ)
@@ -144,20 +144,20 @@ module _ (R : Room) (C : RouterConfig) (classes : List ℕ) (goal : Spot) (from 
 
 -- ---- several moves
 
-readied-more : (queue : List ℕ) (a b : ℕ) (r : MovesTried) → a ≤ b → Readied queue a r → Readied queue b r
-readied-more queue a b (On l) h d = (d .0, omega (arith, d .1))
-readied-more queue a b Full h d = tt
+readied-more : (queue : List ℕ) {v w : ℕ} (a b : ℕ) (r : MovesTried) → v ≡ w → a ≤ b → Readied queue v a r → Readied queue w b r
+readied-more queue a b (On l) e h d = (d .0, omega (arith, d .1), d .2 ∙ e)
+readied-more queue a b Full e h d = tt
 
 module _ {S : Setting} {known previous queue : List ℕ} {line : Line} where
   pub tried-none : HeapReady queue line → MovesCame S [] known previous queue line (On line) known previous queue
-  tried-none ready = record { readied = (ready, omega arith); goes = λ A F ms T. T }
+  tried-none ready = record { readied = (ready, omega arith, refl); goes = λ A F ms T. T }
 
   module _ {a : List Move} {known′ previous′ queue′ : List ℕ} (b : List Move) where
     -- all went on, and then some more were tried
     pub tried-then : {l : Line} → MovesCame S a known previous queue line (On l) known′ previous′ queue′ → {r : MovesTried} {known″ previous″ queue″ : List ℕ}
         → MovesCame S b known′ previous′ queue′ l r known″ previous″ queue″ → MovesCame S (a ++ b) known previous queue line r known″ previous″ queue″
     tried-then {l} T {r} U = record {
-      readied = readied-more _ _ _ r (omega (arith, T .readied .1, length-append a b)) (U .readied);
+      readied = readied-more _ _ _ r (T .readied .2) (omega (arith, T .readied .1, length-append a b)) (U .readied);
       goes = λ A F ms D. U .goes A F ms (T .goes A F (b ++ ms) (rw (append-assoc a b ms) at D));
     }
 

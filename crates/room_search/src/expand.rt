@@ -11,15 +11,15 @@ use crate::Line;
 use crate::MovesTried;
 use crate::Price;
 use crate::Spot;
+use crate::idle::next_busy;
+use crate::idle::side_move;
+use crate::waiting::join;
 use room::Cost;
 use room::Move;
 use room::Pos;
 use room::Room;
 use room::RouterConfig;
 use room::as_long;
-
-// A rank is its key times this, plus its serial, which fits 32 bits.
-pub const KEY_UNIT: u64 = 4294967296;
 
 // Ten times the distance of two positions, of which each part is below the longest side.
 pub fn estimate(p: Pos, q: Pos) -> u64
@@ -43,7 +43,8 @@ fn offer(
     goal: Pos,
 ) -> MovesTried
     requires { ⌜ (cell < length (now known)) × (length (now previous) ≡ length (now known)) × (length (now known) ≤ maxVolume) ⌝ }
-    requires { ⌜ (from < maxVolume) × (cost .0 ≤ maxKnown + 2 * maxCost) × (line .serial + 1 < 2 ^ 32) ⌝ }
+    requires { ⌜ (from < maxVolume) × (cost .0 ≤ maxKnown + 2 * maxCost) × (line .serial + 1 < 2 ^ 24) ⌝ }
+    requires { ⌜ (line .width ≡ 1 → cost .0 + 10000 ≤ 2 ^ 24) ⌝ }
     requires { ⌜ HeapReady (now queue) line ⌝ }
     requires { ⌜ SmallPos at ⌝ }
     requires { ⌜ SmallPos goal ⌝ }
@@ -63,10 +64,11 @@ fn offer(
     let key = as_long(cost.0) + estimate(at, goal);
     known[cell] = cost.0 + 1;
     previous[cell] = (from + 1) as u32;
-    queue::push(queue, waiting, key * KEY_UNIT + serial, cell as u64);
+    join(queue, line.width, waiting, key, serial, cell as u64);
     MovesTried::On(Line {
         waiting: waiting + 1,
         serial: serial,
+        width: line.width,
     })
 }
 
@@ -82,7 +84,7 @@ fn step_cost(config: RouterConfig, m: Move) -> Cost
 }
 
 // What entering a cell of that class costs: the step, and a new support where there is none.
-fn price(config: RouterConfig, m: Move, class: u8) -> Price
+pub fn price(config: RouterConfig, m: Move, class: u8) -> Price
     ensures { λ r. ⌜ r ≡ priceOf config m class ⌝ }
 {
     let step = step_cost(config, m);
@@ -256,7 +258,7 @@ fn try_column(
     )
 }
 
-// Tries the twelve moves of a cell in their order, a column at a time.
+// Tries the twelve moves of a cell in their order, a column at a time; those of which nothing comes are passed over.
 pub fn expand(
     room: Room,
     config: RouterConfig,
@@ -275,7 +277,11 @@ pub fn expand(
     let mut now_at = line;
     let mut side: usize = 0;
     while side < 4 {
-        let m = Room::move_at(side * 3);
+        side = next_busy(room, config, classes, known, from, cost, side);
+        if 4 <= side {
+            break;
+        }
+        let m = side_move(side);
         let MovesTried::On(next) = try_column(
             room,
             config,

@@ -6,9 +6,11 @@ use crate::Line;
 use crate::MovesTried;
 use crate::Outcome;
 use crate::Spot;
-use crate::expand::KEY_UNIT;
 use crate::expand::estimate;
 use crate::expand::expand;
+use crate::waiting::join;
+use crate::waiting::leave;
+use crate::waiting::width_for;
 use room::Cost;
 use room::Nodes;
 use room::Room;
@@ -31,7 +33,7 @@ fn take_one(
     ensures { λ r. ⌜ TakingCame room config (now (classes .entry)) (now (known .entry)) (now (previous .entry)) (now (queue .entry)) line (expanded .0) goal r (now (known .exit)) (now (previous .exit)) (now (queue .exit)) ⌝ }
 {
     let waiting = line.waiting;
-    let cell = queue::take(queue, waiting) as usize;
+    let cell = leave(queue, line.width, waiting) as usize;
     if cell == goal.cell {
         return AfterTaking::Ended(Outcome::Arrived(expanded));
     }
@@ -41,6 +43,7 @@ fn take_one(
     let rest = Line {
         waiting: waiting - 1,
         serial: line.serial,
+        width: line.width,
     };
     let from = Spot {
         cell: cell,
@@ -80,15 +83,19 @@ fn take_all(
 {
     let first = start.cell;
     known[first] = 1;
-    queue::push(
+    let width = width_for(room, config);
+    join(
         queue,
+        width,
         0,
-        estimate(start.at, goal.at) * KEY_UNIT,
+        estimate(start.at, goal.at),
+        0,
         first as u64,
     );
     let mut line = Line {
         waiting: 1,
         serial: 0,
+        width: width,
     };
     let mut expanded = Nodes(0);
     while 0 < line.waiting {

@@ -16,10 +16,10 @@ add-if2 : tie.Need-add-if2
 add-if2 c = search needs
 
 returns : tie.Need-returns
-returns c = let s = c .before .before .before .before .before .before .before in let a = s .args in offer-kept (a .from) (a .cell) (a .cost .0) _ (a .known .now) (a .previous .now) (a .queue .now) (a .line) (s .pre .1 .1 .0) (c .before .before .if1 .taken) (c .if2 .taken)
+returns c = let s = c .before .before .before .before .before .before .before in let a = s .args in offer-kept (a .from) (a .cell) (a .cost .0) _ (a .known .now) (a .previous .now) (a .queue .now) (a .line) (s .pre .1 .1 .1 .0) (c .before .before .if1 .taken) (c .if2 .taken)
 
 returns-2 : tie.Need-returns-2
-returns-2 c = let s = c .before .before .before .before .before .before in let a = s .args in offered-full (a .from) (a .cell) (a .cost .0) _ (a .known .now) (a .previous .now) (a .queue .now) (a .line) (s .pre .1 .1 .0) (⊎-elim (λ w. inr (w .2 .left)) (λ w. inl (w .left)) (c .before .if1 .came)) (c .if3 .taken)
+returns-2 c = let s = c .before .before .before .before .before .before in let a = s .args in offered-full (a .from) (a .cell) (a .cost .0) _ (a .known .now) (a .previous .now) (a .queue .now) (a .line) (s .pre .1 .1 .1 .0) (⊎-elim (λ w. inr (w .2 .left)) (λ w. inl (w .left)) (c .before .if1 .came)) (c .if3 .taken)
 
 add-serial : tie.Need-add-serial
 add-serial c = search needs
@@ -54,14 +54,21 @@ mul-previous c = search needs
 slice-write-previous : tie.Need-slice-write-previous
 slice-write-previous c = search needs
 
-mul-push : tie.Need-mul-push
-mul-push c = search needs
-
-add-push : tie.Need-add-push
-add-push c = search needs
-
-push-requires : tie.Need-push-requires
-push-requires c κs = search needs
+join-requires : tie.Need-join-requires
+join-requires c κs =
+    let s = c .before .before .before .before .before .before .before .before .before .before .before in
+    let p = s .pre in (
+      omega (arith, c .before .before .before .before .before .if3 .left, p .1 .1 .1 .0 .fits),
+      (
+        p .1 .1 .1 .0 .heap,
+        record {
+          key-most = omega (arith, c .before .before .estimate .ensures, c .before .before .before .as-long .ensures);
+          key-in-one = λ w. omega (arith, p .1 .1 .0 w, c .before .before .estimate .ensures, c .before .before .before .as-long .ensures);
+          serial-most = omega arith;
+          cell-most = omega arith;
+        },
+      ),
+    )
 
 add-t14 : tie.Need-add-t14
 add-t14 c = search needs
@@ -76,7 +83,7 @@ same-length-3 : tie.Need-same-length-3
 same-length-3 c = search needs
 
 returns-3 : tie.Need-returns-3
-returns-3 c = let s = c .before .before .before .before .before .before .before .before .before .before .before .before .before .before in let a = s .args in offer-pushed (a .from) (a .cell) (a .cost .0) _ (a .known .now) (a .previous .now) (a .queue .now) (a .line) (s .pre .1 .1 .0) (⊎-elim (λ w. inr (w .2 .left)) (λ w. inl (w .left)) (c .before .before .before .before .before .before .before .before .before .if1 .came)) _ (c .before .before .before .before .before .before .before .before .if3 .left) (s .pre .1 .0 .2) (omega arith) (c .before .before .push .kept .0) (rw (c .before .before .before .before .before .before .as-long .ensures, c .before .before .before .before .before .estimate .ensures) at (c .before .before .push .ensures))
+returns-3 c = let s = c .before .before .before .before .before .before .before .before .before .before .before .before .before .before in let a = s .args in offer-pushed (a .from) (a .cell) (a .cost .0) _ (a .known .now) (a .previous .now) (a .queue .now) (a .line) (s .pre .1 .1 .1 .0) (⊎-elim (λ w. inr (w .2 .left)) (λ w. inl (w .left)) (c .before .before .before .before .before .before .before .before .before .if1 .came)) _ (c .before .before .before .before .before .before .before .before .if3 .left) (c .before .before .join .kept .0) (rw (c .before .before .before .before .before .before .as-long .ensures, c .before .before .before .before .before .estimate .ensures) at (c .before .before .join .ensures))
 
 pub offer-spec : {M : Type 1} → statement M
 offer-spec =
@@ -98,9 +105,7 @@ offer-spec =
     cast-previous
     mul-previous
     slice-write-previous
-    mul-push
-    add-push
-    push-requires
+    join-requires
     add-t14
     same-length
     same-length-2

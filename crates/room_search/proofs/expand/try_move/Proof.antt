@@ -46,7 +46,7 @@ add-t30 : tie.Need-add-t30
 add-t30 c = let s = c .before .before .before .before .before .before .before .before .before .before .before .before .before .before .before .before .before .before .before .before .before in let a = s .args in let p = s .pre .0 in record { fits = omega (arith, ap total (c .before .before .before .before .before .price .ensures), price-low (a .config) (a .m) (getD (a .classes .now) (a .beside .cell + a .m .y * a .room .deep - a .room .deep) 0), dearest-most (p .config-good .ranges), p .cost-most) }
 
 offer-requires : tie.Need-offer-requires
-offer-requires c κs = let s = c .before .before .before .before .before .before .before .before .before .before .before .before .before .before .before .before .before .before .before .before .before in let a = s .args in let p = s .pre .0 in let q = s .pre .1 .0 in let L = landed (a .room) (p .good) (a .from) (a .beside) (a .m) (p .from-placed) q (c .before .before .before .before .before .before .before .before .before .before .before .before .before .before .if1 .left) (c .before .before .before .before .before .before .before .before .before .before .before .before .if2 .left) in let low = price-low (a .config) (a .m) (getD (a .classes .now) (a .beside .cell + a .m .y * a .room .deep - a .room .deep) 0) in let most = dearest-most (p .config-good .ranges) in ((omega (arith, L .inside, p .known-long), p .previous-long ∙ sym (p .known-long), omega (arith, p .known-long, p .good .few)), ((omega (arith, p .from-placed .inside, p .good .few), omega (arith, ap total (c .before .before .before .before .before .price .ensures), p .cost-most), omega (arith, p .serial-most)), (p .ready, (L .small, placed-small (a .room) (p .good) (a .goal) (p .goal-placed)))))
+offer-requires c κs = let s = c .before .before .before .before .before .before .before .before .before .before .before .before .before .before .before .before .before .before .before .before .before in let a = s .args in let p = s .pre .0 in let q = s .pre .1 .0 in let L = landed (a .room) (p .good) (a .from) (a .beside) (a .m) (p .from-placed) q (c .before .before .before .before .before .before .before .before .before .before .before .before .before .before .if1 .left) (c .before .before .before .before .before .before .before .before .before .before .before .before .if2 .left) in let low = price-low (a .config) (a .m) (getD (a .classes .now) (a .beside .cell + a .m .y * a .room .deep - a .room .deep) 0) in let most = dearest-most (p .config-good .ranges) in ((omega (arith, L .inside, p .known-long), p .previous-long ∙ sym (p .known-long), omega (arith, p .known-long, p .good .few)), ((omega (arith, p .from-placed .inside, p .good .few), omega (arith, ap total (c .before .before .before .before .before .price .ensures), p .cost-most), omega (arith, p .serial-most)), ((λ w. omega (arith, ap total (c .before .before .before .before .before .price .ensures), p .key-in-one w, low)), (p .ready, (L .small, placed-small (a .room) (p .good) (a .goal) (p .goal-placed))))))
 
 same-length : tie.Need-same-length
 same-length c = c .before .before .before .before .before .before .offer .kept .0
