@@ -1,0 +1,4 @@
+pub mod Labels
+pub mod LabelLaws
+pub mod OpeningLaws
+pub mod CheckLaws
