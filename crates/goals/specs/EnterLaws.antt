@@ -120,7 +120,7 @@ sum-one-more (suc n) v f g h one =
     (λ d. omega (arith, sum-one-more n v f g h one, h n d))
 
 -- that cell, if there is one
-abbrev isAt : Neighbour → ℕ → Bool
+abbrev pub isAt : Neighbour → ℕ → Bool
 isAt (Inside u) v = eqb v u
 isAt Outside v = false
 
@@ -147,29 +147,35 @@ enters-few R n classes goal = omega (
   with-place n (above R goal) (λ v. canEnter (getD classes v 0)),
 )
 
+-- what can be entered in a search for that goal
+pub enters-for : (mode : Mode) (R : Room) → Good R → (C : RouterConfig) (kinds blocked blocked′ : List ℕ) (start goal places : ℕ) {classes : List ℕ}
+    → length kinds ≡ volume R → Says mode R kinds blocked start start classes → StillBlocked blocked blocked′
+    → (v : ℕ) → v < volume R → entering (seenTask mode R C kinds blocked′ start goal places) v ≢ 0 → entersFor R classes goal v ≡ true
+unfolding classSeen
+enters-for mode R G C kinds blocked blocked′ start goal places {classes} long says still v h e =
+    askSame v goal
+    (λ q. rw (eq-eqb v goal q))
+    (λ d. rw (ne-eqb v goal d) (ask (isAt (above R goal) v)
+    (λ t. rw t)
+    (λ f. rw (f, says .each v h) (can-enter _ (still-enterable mode R kinds blocked blocked′ start goal still long v h d
+    (λ b. never (cc (sym f ∙ over (beneath-above R G v goal h b)))) e)))))
+  where
+    -- right above the goal
+    over : above R goal ≡ Inside v → isAt (above R goal) v ≡ true
+    over q = rw (q, eq-eqb v v refl)
+
 pub enters-only : (mode : Mode) (R : Room) → Good R → (C : RouterConfig) (kinds blocked blocked′ : List ℕ) (start goal places : ℕ) {classes : List ℕ} → start < volume R → goal < volume R
     → length kinds ≡ volume R → Says mode R kinds blocked start start classes → StillBlocked blocked blocked′
     → OnlyInto (graph (seenTask mode R C kinds blocked′ start goal places)) (entersFor R classes goal)
-unfolding graphOf classSeen
+unfolding graphOf
 enters-only mode R G C kinds blocked blocked′ start goal places {classes} start-in goal-in long says still =
     let class = entering (seenTask mode R C kinds blocked′ start goal places) in
     record {
       passes = λ u m i n.
-          at (m .to) (sound R C class start goal places start-in goal-in .inside u m i) (into-enterable R C class start goal places .passes u m i n);
+          enters-for mode R G C kinds blocked blocked′ start goal places long says still (m .to)
+          (sound R C class start goal places start-in goal-in .inside u m i)
+          (eqb-false _ 0 (not-true _ (into-enterable R C class start goal places .passes u m i n)));
     }
-  where
-    -- right above the goal
-    over : (v : ℕ) → above R goal ≡ Inside v → isAt (above R goal) v ≡ true
-    over v e = rw (e, eq-eqb v v refl)
-
-    at : (v : ℕ) → v < volume R → canEnter (entering (seenTask mode R C kinds blocked′ start goal places) v) ≡ true → entersFor R classes goal v ≡ true
-    at v h e =
-        askSame v goal
-        (λ q. rw (eq-eqb v goal q))
-        (λ d. rw (ne-eqb v goal d) (ask (isAt (above R goal) v)
-        (λ t. rw t)
-        (λ f. rw (f, says .each v h) (can-enter _ (still-enterable mode R kinds blocked blocked′ start goal still long v h d
-        (λ b. never (cc (sym f ∙ over v (beneath-above R G v goal h b)))) (eqb-false _ 0 (not-true _ e)))))))
 
 -- ---- the loop that counts
 

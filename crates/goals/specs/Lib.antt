@@ -3,6 +3,7 @@ pub mod Trials
 pub mod Routes
 pub mod NeverFull
 pub mod Passing
+pub mod Labelled
 pub mod SearchForLaws
 pub mod PathLaws
 pub mod AttemptLaws
@@ -12,3 +13,4 @@ pub mod LeastLaws
 pub mod EnterLaws
 pub mod FullLaws
 pub mod PassingLaws
+pub mod LabelledLaws

@@ -36,7 +36,7 @@ use Rattle.goals.specs.Passing.{leastAt, leastCost, precedes, bidOf, noB
 -- ---- the order
 
 -- what does not precede comes at the same place or later
-not-before : (t : Tried) (kept cost goal : ℕ) → GoesOn t → precedes cost goal t kept ≡ false → NotBefore t kept cost goal
+pub not-before : (t : Tried) (kept cost goal : ℕ) → GoesOn t → precedes cost goal t kept ≡ false → NotBefore t kept cost goal
 not-before (Found n c) kept cost goal H e =
     ask (eqb cost (c .0))
     (λ t. let f = ltb-false goal kept (rw t at e) in let s = eqb-true cost (c .0) t in (omega arith, λ h. omega arith))
@@ -63,7 +63,7 @@ after-first (Full x) kept cost goal cost′ other e N = absurd N
 -- ---- a goal passed
 
 module _ (S : Site) (start : ℕ) (blocked : List ℕ) where
-  holds-on : (t : Tried) (goal : ℕ) (best : List ℕ) → HoldsRoute S start blocked best t goal → GoesOn t
+  pub holds-on : (t : Tried) (goal : ℕ) (best : List ℕ) → HoldsRoute S start blocked best t goal → GoesOn t
   holds-on (Found n cost) goal best H = tt
   holds-on Failed goal best H = tt
   holds-on (Full x) goal best H = H
@@ -358,14 +358,14 @@ module _ (ground : Ground) (kinds : List ℕ) (start : ℕ) (R-good : Good (grou
     others = λ other i m d l. L .others other i m (omega (arith, l, L .its-bid h .2)) d;
   }
 
-  pub passed-first : {kept : ℕ} {t : Bid} (joinable blocked classes known previous path best queue : List ℕ) {from : Pos} → from ≡ posOf R start → NextBid C R joinable from 0 noBid t
-      → GoalsPassed (siteOf ground kinds joinable queue) start t (record { tried = Failed; goal = kept }) joinable joinable blocked blocked classes classes known known previous previous path path best best queue queue
-  passed-first {kept} {t} joinable blocked classes known previous path best queue f N₀ = go (rw f at N₀)
+  pub passed-first : {K : Kept} {t : Bid} (joinable blocked classes known previous path best queue : List ℕ) → K .tried ≡ Failed → {from : Pos} → from ≡ posOf R start → NextBid C R joinable from 0 noBid t
+      → GoalsPassed (siteOf ground kinds joinable queue) start t K joinable joinable blocked blocked classes classes known known previous previous path path best best queue queue
+  passed-first {K} {t} joinable blocked classes known previous path best queue e f N₀ = go (rw f at N₀)
     where
       go : NextBid C R joinable (posOf R start) 0 noBid t
-          → GoalsPassed (siteOf ground kinds joinable queue) start t (record { tried = Failed; goal = kept }) joinable joinable blocked blocked classes classes known known previous previous path path best best queue queue
+          → GoalsPassed (siteOf ground kinds joinable queue) start t K joinable joinable blocked blocked classes classes known known previous previous path path best best queue queue
       go N = record {
-        held = record { holds = tt };
+        held = record { holds = rw e tt };
         lower = λ other h m l. askLess (t .goal) (volume R)
             (λ i. absurd (omega (arith, l, N .lowest i .least other h m (omega arith))))
             (λ o. absurd (omega (arith, few other h, N .ended o other h m (omega arith))));

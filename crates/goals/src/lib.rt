@@ -4,6 +4,8 @@ mod attempts; // attempts.rt: the attempts for one goal
 mod cheapest; // cheapest.rt: the first strictly cheapest route is kept
 mod one_search; // one_search.rt: the search for one goal
 mod goal_by_goal; // goal_by_goal.rt: one goal after another
+mod left; // left.rt: which goals are left, by their labels
+mod labelled; // labelled.rt: goals tried by their labels
 mod passing; // passing.rt: goals that can't win are not searched
 mod to_tree; // to_tree.rt: the cheapest of all goals
 

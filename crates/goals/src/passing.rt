@@ -2,6 +2,7 @@
 // comes first by cost and goal number, in whatever order the goals are tried. A goal's bid is the least that its route can
 // cost, with its number; goals are tried from the lowest bid on, until none is left that may come before what is kept.
 ghost use mathlib.Core.Path.{_≡_};
+ghost use mathlib.Core.Bool.{true};
 ghost use Prim.Native.Nat.{_+_, _-_, _≤_, _<_, min};
 ghost use lib.ListN.{length};
 ghost use Rattle.room.specs.Room.{Good, SmallPos, volume};
@@ -9,12 +10,14 @@ ghost use Rattle.room.specs.Units.{maxCost, GoodRanges};
 ghost use Rattle.goals.specs.Goals.{routeToTree};
 ghost use Rattle.goals.specs.Trials.{Tells, lengthOf, siteOf, Attemptable};
 ghost use Rattle.goals.specs.NeverFull.{NeverFull};
+ghost use Rattle.goals.specs.Labelled.{KeptInside};
 ghost use Rattle.goals.specs.Passing.{leastAt, precedes, bidOf, noBid, bidToBeat, SmallKept, Passes, KeepsFirst, Passable, NextMarked, LowerBid, NextBid};
 use crate::Bid;
 use crate::Kept;
 use crate::Tried;
 use crate::cheapest::copy_cells;
 use crate::goal_by_goal::try_goal;
+use crate::labelled::by_labels;
 use ground::Ground;
 use room::Pos;
 use room::Room;
@@ -25,6 +28,9 @@ const PER_COST: u64 = room::MAX_VOLUME as u64;
 
 // Above every bid: no cost of 32 bits comes to so much.
 const NO_BID: u64 = 4294967296 * PER_COST;
+
+// A route that is longer than twice the straight one by this many cells makes a detour.
+const DETOUR: usize = 5;
 
 // The cheaper of a flat step and a stair.
 fn cheaper_step(config: RouterConfig) -> u32
@@ -47,7 +53,7 @@ fn beyond(a: usize, b: usize) -> usize
 
 // What any route between two positions costs at least: a stair for each cell up or down, and the cheaper step for each cell
 // aside that is then left.
-fn least_at(config: RouterConfig, p: Pos, q: Pos) -> u32
+pub fn least_at(config: RouterConfig, p: Pos, q: Pos) -> u32
     requires { ⌜ GoodRanges config ⌝ }
     requires { ⌜ SmallPos p ⌝ }
     requires { ⌜ SmallPos q ⌝ }
@@ -62,7 +68,7 @@ fn least_at(config: RouterConfig, p: Pos, q: Pos) -> u32
 
 // Whether a route of this cost to this goal comes before what is kept: it is cheaper, or as cheap and its goal has the
 // lower number.
-fn precedes(kept: Kept, cost: u32, goal: usize) -> bool
+pub fn precedes(kept: Kept, cost: u32, goal: usize) -> bool
     ensures { λ r. ⌜ r ≡ precedes cost goal (kept .tried) (kept .goal) ⌝ }
 {
     let tried = kept.tried;
@@ -104,7 +110,7 @@ fn keep_first(kept: Kept, goal: usize, tried: Tried, path: &[u32], best: &mut [u
 }
 
 // A goal's bid.
-fn bid_of(room: Room, config: RouterConfig, from: Pos, goal: usize) -> u64
+pub fn bid_of(room: Room, config: RouterConfig, from: Pos, goal: usize) -> u64
     requires { ⌜ Good room ⌝ }
     requires { ⌜ GoodRanges config ⌝ }
     requires { ⌜ goal < volume room ⌝ }
@@ -213,6 +219,30 @@ fn next_bid(room: Room, config: RouterConfig, joinable: &[u8], from: Pos, low: u
     none_bids(cells)
 }
 
+// The joinable cell of the lowest bid from `low` on that may come before what is kept.
+fn bid_to_try(ground: Ground, joinable: &[u8], from: Pos, low: u64, kept: Kept) -> Bid
+    requires { ⌜ Good (ground .room) ⌝ }
+    requires { ⌜ GoodRanges (ground .config) ⌝ }
+    requires { ⌜ length (now joinable) ≡ volume (ground .room) ⌝ }
+    requires { ⌜ SmallPos from ⌝ }
+    requires { ⌜ SmallKept (kept .tried) (kept .goal) ⌝ }
+    ensures { λ r. ⌜ NextBid (ground .config) (ground .room) (now (joinable .entry)) from low (bidToBeat (kept .tried) (kept .goal)) r ⌝ }
+{
+    let room = ground.room;
+    let config = ground.config;
+    next_bid(room, config, joinable, from, low, bid_to_beat(kept))
+}
+
+// No route is kept.
+fn none_kept() -> Kept
+    ensures { λ r. ⌜ (r .tried ≡ Tried.Failed) × (r .goal ≡ 0) ⌝ }
+{
+    Kept {
+        tried: Tried::Failed,
+        goal: 0,
+    }
+}
+
 // One goal is tried, and the route that comes first is kept.
 fn pass_goal(
     ground: Ground,
@@ -250,7 +280,38 @@ fn pass_goal(
     keep_first(kept, goal, tried, path, best)
 }
 
-// Goals are tried from the lowest bid on, until none is left whose route may come before what is kept.
+// Whether a route of so many cells between two positions makes a detour: it has more than twice as many steps as the
+// shortest one could have. Labels know of walls and not of supports, so it is steps that are compared, and not costs.
+fn makes_detour(p: Pos, q: Pos, length: usize) -> bool
+    requires { ⌜ SmallPos p ⌝ }
+    requires { ⌜ SmallPos q ⌝ }
+{
+    let up = room::apart(p.y, q.y);
+    let aside = room::apart(p.x, q.x) + room::apart(p.z, q.z);
+    let straight = up + beyond(aside, up);
+    2 * straight + DETOUR < length
+}
+
+// Whether a goal is left, and the kept route, if there is one, makes no detour.
+fn goes_on(room: Room, from: Pos, kept: Kept, goal: usize, cells: usize) -> bool
+    requires { ⌜ Good room ⌝ }
+    requires { ⌜ SmallPos from ⌝ }
+    requires { ⌜ KeptInside room (kept .tried) (kept .goal) ⌝ }
+    ensures { λ r. ⌜ (r ≡ true → goal < cells) ⌝ }
+{
+    if cells <= goal {
+        return false;
+    }
+    let tried = kept.tried;
+    match tried {
+        Tried::Found { length, cost: _ } => !makes_detour(from, room.pos(kept.goal), length),
+        Tried::Failed => true,
+        Tried::Full(_) => true,
+    }
+}
+
+// Goals are tried from the lowest bid on, until none is left whose route may come before what is kept. Where the kept route
+// makes a detour, labels tell more than distances, and the goals that are left are tried by these.
 pub fn by_bids(
     ground: Ground,
     kinds: &[u8],
@@ -270,14 +331,10 @@ pub fn by_bids(
     ensures { λ r. ⌜ Tells (routeToTree (siteOf ground (now (kinds .entry)) (now (joinable .entry)) (now (queue .entry))) start (now (blocked .entry))) r (now (best .exit)) ⌝ }
     ensures { λ _. ⌜ (now (joinable .exit) ≡ now (joinable .entry)) × (now (blocked .exit) ≡ now (blocked .entry)) × (now (classes .exit) ≡ now (classes .entry)) ⌝ }
 {
-    let cells = kinds.len();
     let from = ground.room.pos(start);
-    let mut kept = Kept {
-        tried: Tried::Failed,
-        goal: 0,
-    };
+    let mut kept = none_kept();
     let mut next = next_bid(ground.room, ground.config, joinable, from, 0, NO_BID);
-    while next.goal < cells {
+    while goes_on(ground.room, from, kept, next.goal, kinds.len()) {
         kept = pass_goal(
             ground,
             kinds,
@@ -293,14 +350,24 @@ pub fn by_bids(
             next.goal,
             kept,
         );
-        next = next_bid(
-            ground.room,
-            ground.config,
-            joinable,
-            from,
-            next.second,
-            bid_to_beat(kept),
-        );
+        next = bid_to_try(ground, joinable, from, next.second, kept);
     }
-    kept.tried
+    if kinds.len() <= next.goal {
+        return kept.tried;
+    }
+    by_labels(
+        ground,
+        kinds,
+        joinable,
+        blocked,
+        classes,
+        known,
+        previous,
+        path,
+        best,
+        queue,
+        start,
+        kept,
+        next.bid,
+    )
 }

@@ -1,9 +1,9 @@
 -- Laws of the check: move after move, cell after cell.
-use mathlib.Core.Path.{_≡_, refl, sym, _∙_}
+use mathlib.Core.Path.{_≡_, sym}
 use mathlib.Core.Logic.{_≢_, inl, inr}
 use mathlib.Core.Bool.{Bool, true, false}
 use mathlib.Core.List.{List, [], _∷_}
-use Prim.Native.Nat.{ℕ, zero, suc, _+_, _*_, _≤_, _<_, max}
+use Prim.Native.Nat.{ℕ, suc, _+_, _≤_, _<_}
 use native.Mathlib.Omega.{arith}
 use native.Mathlib.Nat.{mul-le-mul-left}
 use lib.Dec.{leb}
@@ -20,9 +20,9 @@ use Rattle.room.specs.declared.Neighbour.the-variants.{Inside, Outside}
 use Rattle.room.specs.RoomLaws.{pos-cell}
 use Rattle.room.specs.MoveLaws.{leads}
 use Rattle.room.specs.Room.{Within, volume, by, cellOf, posOf, moves, moveAt, neighbour, neighbourAt}
-use Rattle.room.specs.Units.{maxNodes, maxProduct, dearest, GoodRanges, GoodConfig}
+use Rattle.room.specs.Units.{maxNodes, dearest, GoodConfig}
 use Rattle.room_search.specs.Routing.{priceOf}
-use Rattle.relaxed.specs.Labels.{MoveAgrees, Labels, MoveTold, MovesAgree, CellTold, CellsAgree, LabelsTold}
+use Rattle.relaxed.specs.Labels.{MoveTold, MovesAgree, CellTold, CellsAgree, LabelsTold}
 
 -- ---- what a step costs
 

@@ -1,6 +1,6 @@
 -- NO WAY IS CHEAPER THAN A LABEL. By induction along the way: each step leads to an open cell, whose label is known and no higher than by this step. It
 -- holds at any support cost, since supports only make a step dearer, and in every graph that enters open cells alone.
-use mathlib.Core.Path.{_≡_, sym, ap, _∙_}
+use mathlib.Core.Path.{_≡_, sym}
 use mathlib.Core.Logic.{_≢_}
 use mathlib.Core.List.{List, [], _∷_}
 use Prim.Native.Nat.{ℕ, _+_, _≤_, _<_}

@@ -1,7 +1,6 @@
 // Whether no step undercuts a label: then no way is cheaper than the labels say.
 ghost use mathlib.Core.Path.{_≡_};
 ghost use Prim.Native.Nat.{_≤_, _<_, _^_};
-ghost use lib.ListN.{length};
 ghost use Rattle.room.specs.Room.{Within, volume};
 ghost use Rattle.room_search.specs.Routing.{priceOf};
 ghost use Rattle.relaxed.specs.Labels.{Fits, MoveTold, CellTold, LabelsTold};

@@ -1,6 +1,5 @@
 -- `bare_step` meets its contract: a flat step, or a stair.
 use Rattle.relaxed.specs.CheckLaws.{step-flat, step-stair}
-use borrow.Author.Needs.{needs}
 use Rattle.relaxed.proofs.check.bare_step.Statement.{statement}
 use Rattle.relaxed.proofs.check.bare_step.Tie as tie
 

@@ -1,6 +1,6 @@
 -- `cell_agrees` meets its contract. The loop's invariant: the moves below k agree.
 use borrow.Author.Needs.{needs}
-use mathlib.Core.Path.{refl, sym, _∙_}
+use mathlib.Core.Path.{refl}
 use Prim.Native.Nat.{_-_}
 use native.Mathlib.Omega.{arith}
 use Rattle.basics.specs.Tests.{test-passes}

@@ -1,6 +1,4 @@
 -- `label_cells` meets its contract: the labels are those of the open cells, and the class bytes are filled in anew.
-use mathlib.Core.Path.{_∙_}
-use native.Mathlib.Omega.{arith}
 use Rattle.blocked_world.specs.SeenLaws.{says-one}
 use borrow.Author.Needs.{needs}
 use Rattle.relaxed.proofs.labelling.label_cells.Statement.{statement}

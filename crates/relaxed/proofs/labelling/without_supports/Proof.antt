@@ -2,7 +2,6 @@
 use mathlib.Core.Path.{refl}
 use native.Mathlib.Omega.{arith}
 use Rattle.relaxed.specs.CheckLaws.{relaxed-good}
-use borrow.Author.Needs.{needs}
 use Rattle.relaxed.proofs.labelling.without_supports.Statement.{statement}
 use Rattle.relaxed.proofs.labelling.without_supports.Tie as tie
 

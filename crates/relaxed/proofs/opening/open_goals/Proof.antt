@@ -1,6 +1,6 @@
 -- `open_goals` meets its contract. The loop's invariant: the joinable cells below are opened.
 use native.Mathlib.Omega.{arith}
-use mathlib.Core.Path.{sym, _∙_}
+use mathlib.Core.Path.{_∙_}
 use mathlib.Core.Logic.{⊎-elim}
 use Prim.Native.Nat.{_-_}
 use Rattle.relaxed.specs.Labels.{OpenedBelow}
