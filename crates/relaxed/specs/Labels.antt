@@ -18,28 +18,41 @@ use Rattle.room_search.specs.Routing.{priceOf}
 use Rattle.room_search.specs.TriedMoves.{placesOf}
 use Rattle.routing_resources.specs.Marks.{isMarked}
 use Rattle.ground.specs.declared.Ground.{Ground}
-use Rattle.blocked_world.specs.BlockedWorld.{Says}
+use Rattle.ground.specs.declared.Mode.{Mode}
+use Rattle.blocked_world.specs.BlockedWorld.{classSeen, Says}
 
 -- ---- the cells that are open
 
+-- cell v is neither g nor right above it
+abbrev pub Apart : Room → ℕ → ℕ → Type 0
+Apart R g v = (v ≢ g) × (above R g ≢ Inside v)
+
 -- by these bytes a cell is open that can be entered by the turn's class bytes, that is joinable, or that stands right above a joinable cell of number
--- below n
+-- below n; every other cell has its class byte
 pub record OpenedBelow (R : Room) (joinable classes bytes : List ℕ) (n : ℕ) : Type 0 where
   pub long : length bytes ≡ length classes
   pub as-before : (v : ℕ) → getD classes v 0 ≢ 0 → getD bytes v 0 ≢ 0
   pub goals : (g : ℕ) → g < n → isMarked joinable g ≡ true → getD bytes g 0 ≢ 0
   pub over-goals : (g v : ℕ) → g < n → isMarked joinable g ≡ true → above R g ≡ Inside v → getD bytes v 0 ≢ 0
+  pub others : (v : ℕ) → ((g : ℕ) → g < n → isMarked joinable g ≡ true → Apart R g v) → getD bytes v 0 ≡ getD classes v 0
 
 -- of all joinable cells
 abbrev pub Opened : Room → List ℕ → List ℕ → List ℕ → Type 0
 Opened R joinable classes bytes = OpenedBelow R joinable classes bytes (volume R)
 
--- one cell and the one above it are opened, and no cell is shut
+-- one cell and the one above it are opened, and no other is changed
 pub record OpensBoth (R : Room) (cell : ℕ) (classes bytes : List ℕ) : Type 0 where
   pub long : length bytes ≡ length classes
   pub as-before : (v : ℕ) → getD classes v 0 ≢ 0 → getD bytes v 0 ≢ 0
   pub here : getD bytes cell 0 ≢ 0
   pub over : (v : ℕ) → above R cell ≡ Inside v → getD bytes v 0 ≢ 0
+  pub others : (v : ℕ) → Apart R cell v → getD bytes v 0 ≡ getD classes v 0
+
+-- the bytes say again what is seen, but for joinable cells of number n or higher and the cells right above them
+pub record ShutBelow (mode : Mode) (R : Room) (kinds joinable blocked : List ℕ) (start n : ℕ) (bytes : List ℕ) : Type 0 where
+  pub long : length bytes ≡ volume R
+  pub each : (v : ℕ) → v < volume R → ((g : ℕ) → n ≤ g → g < volume R → isMarked joinable g ≡ true → Apart R g v)
+      → getD bytes v 0 ≡ classSeen mode R kinds blocked start start v
 
 -- ---- labels that no step undercuts
 

@@ -9,6 +9,7 @@ ghost use Rattle.relaxed.specs.Labels.{Fits, LabelsTold, Labelable, Turn
 use crate::check::labels_agree;
 use crate::opening::first_shut;
 use crate::opening::open_goals;
+use crate::opening::shut_goals;
 use ground::Ground;
 use room::Cost;
 use room::Nodes;
@@ -96,6 +97,6 @@ pub fn label_cells(
         queue,
         start,
     );
-    blocked_world::fill(ground, kinds, blocked, start, start, classes);
+    shut_goals(ground, kinds, joinable, blocked, classes, start);
     labelled
 }

@@ -3,7 +3,9 @@ ghost use mathlib.Core.Path.{_≡_};
 ghost use Prim.Native.Nat.{_≤_, _<_};
 ghost use lib.ListN.{length};
 ghost use Rattle.room.specs.Room.{Good, volume};
-ghost use Rattle.relaxed.specs.Labels.{Opened, OpensBoth};
+ghost use Rattle.blocked_world.specs.BlockedWorld.{WorldFits, Says};
+ghost use Rattle.relaxed.specs.Labels.{Opened, OpensBoth, ShutBelow};
+use ground::Ground;
 use room::Neighbour;
 use room::Room;
 
@@ -36,6 +38,30 @@ pub fn open_goals(room: Room, joinable: &[u8], classes: &mut [u8])
     while cell < cells {
         if joinable[cell] == routing_resources::MARKED {
             open_both(room, classes, cell);
+        }
+        cell += 1;
+    }
+}
+
+// The bytes say again what is seen at the turn: those of each joinable cell and of the one right above it are written anew.
+pub fn shut_goals(
+    ground: Ground,
+    kinds: &[u8],
+    joinable: &[u8],
+    blocked: &[u8],
+    classes: &mut [u8],
+    start: usize,
+)
+    requires { ⌜ WorldFits (ground .room) (now kinds) (now blocked) ⌝ }
+    requires { ⌜ length (now joinable) ≡ volume (ground .room) ⌝ }
+    requires { ⌜ ShutBelow (ground .mode) (ground .room) (now kinds) (now joinable) (now blocked) start 0 (now classes) ⌝ }
+    ensures { λ _. ⌜ Says (ground .mode) (ground .room) (now (kinds .entry)) (now (blocked .entry)) start start (now (classes .exit)) ⌝ }
+{
+    let cells = joinable.len();
+    let mut cell: usize = 0;
+    while cell < cells {
+        if joinable[cell] == routing_resources::MARKED {
+            blocked_world::refresh(ground, kinds, blocked, start, start, classes, cell);
         }
         cell += 1;
     }
