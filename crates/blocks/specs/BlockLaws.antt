@@ -31,7 +31,7 @@ unfolding tabulated
 tabulated-long zero f = refl
 tabulated-long (suc n) f = ap suc (tabulated-long n (λ v. f (suc v)))
 
-tabulated-at : (n : ℕ) (f : ℕ → ℕ) (v : ℕ) → v < n → getD (tabulated n f) v 0 ≡ f v
+pub tabulated-at : (n : ℕ) (f : ℕ → ℕ) (v : ℕ) → v < n → getD (tabulated n f) v 0 ≡ f v
 unfolding tabulated
 tabulated-at zero f v h = absurd (not-suc-le-zero h)
 tabulated-at (suc n) f zero h = refl

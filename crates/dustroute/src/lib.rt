@@ -2,6 +2,7 @@
 // the search; the others are in the files beside.
 mod drawing_export; // drawing_export.rt: one route drawn
 mod function_export; // function_export.rt: a function file
+mod nets_export; // nets_export.rt: several nets, one after another
 mod plain_export; // plain_export.rt: the plain engine
 mod repeaters_export; // repeaters_export.rt: one call for repeaters
 mod sheet_export; // sheet_export.rt: a sheet written
@@ -13,6 +14,7 @@ pub use drawing_export::dustroute_insert_repeaters;
 pub use drawing_export::dustroute_materialize_route;
 pub use function_export::dustroute_read_function;
 pub use function_export::dustroute_write_function;
+pub use nets_export::dustroute_nets;
 pub use plain_export::dustroute_plain;
 pub use repeaters_export::dustroute_place_repeaters;
 pub use sheet_export::dustroute_write_sheet;

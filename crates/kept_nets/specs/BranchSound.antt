@@ -1,17 +1,21 @@
--- Each branch of a grown tree is made of steps of the room, and has at most one cell more than the room.
+-- Each branch of a grown tree is made of steps of the room, and has at most one cell more than the room; its source's terminal is occupied.
 use mathlib.Core.Path.{_≡_, refl, sym, ap, _∙_}
-use mathlib.Core.Bool.{true}
+use mathlib.Core.Bool.{Bool, true, false, _||_}
 use mathlib.Core.List.{List, [], _∷_, _++_, reverse}
 use Prim.Native.Nat.{ℕ, zero, suc, _+_, _≤_, _<_}
 use native.Mathlib.Omega.{arith}
 use lib.Dec.{eqb}
 use lib.ListN.{length, getD, set, replicate, length-replicate, getD-replicate, length-append, length-reverse, length-set, List·getD-eq-default}
 use lib.Seq.{getD-set-same, getD-set-other}
+use borrow.Author.Tests.{eq-eqb}
 use Rattle.basics.specs.Tests.{ask, askSame, askLess, never}
 use Rattle.room.specs.declared.Room.{Room}
 use Rattle.room.specs.Room.{volume}
 use Rattle.room_search.specs.Routing.{graphOf}
-use Rattle.routing_resources.specs.Marks.{AllCells}
+use Rattle.routing_resources.specs.Marks.{AllCells, isMarked, noMarks}
+use Rattle.routing_resources.specs.MarkLaws.{with-length, marked-after}
+use Rattle.geometry.specs.Geometry.{standsIn}
+use Rattle.job_sheet.specs.Sheet.{maxSinks}
 use Rattle.ends.specs.declared.Tap.{Tap}
 use Rattle.goals.specs.Goals.{Trial, found, failed, full, routeToTree}
 use Rattle.goals.specs.RouteLaws.{tree-joins, joins-lawful, joins-cells, joins-short, joins-steps}
@@ -28,6 +32,11 @@ pub record GoodBranch (R : Room) (branch : List ℕ) : Type 0 where
   pub cells : AllCells R branch
   pub steps : Steps R branch
   pub short : length branch ≤ volume R + 1
+
+-- the branches of one net
+pub record GoodNetBranches (R : Room) (bs : List (List ℕ)) : Type 0 where
+  pub few : length bs ≤ maxSinks
+  pub each-good : (k : ℕ) → GoodBranch R (getD bs k [])
 
 none-good : (R : Room) → GoodBranch R []
 none-good R = record { cells = record { below = λ i h. absurd (omega arith) }; steps = tt {0}; short = omega arith }
@@ -97,3 +106,52 @@ module _ {P : Plot} (S : SoundPlot P) where
   pub branches-good : (blocked : List ℕ) (T : Tree) → growthOf P blocked ≡ grown T → AllGood P T
   unfolding growthOf
   branches-good blocked T e = turns-good (P .taps .count) 0 (omega arith) (planted P blocked) T (outset-good blocked) e
+
+-- ---- the source's terminal
+
+-- it is marked, and there is a mark for each cell
+abbrev SourceHeld : Plot → Tree → Type 0
+SourceHeld P T = (length (T .occupied) ≡ volume (P .room)) × (isMarked (T .occupied) (P .source) ≡ true)
+
+module _ {P : Plot} (S : SoundPlot P) where
+  held-more : (k : ℕ) (branch : List ℕ) (T : Tree) → SourceHeld P T → SourceHeld P (withBranch (P .room) k branch T)
+  unfolding withBranch
+  held-more k branch T H =
+      let inside : P .source < length (T .occupied) = omega (arith, H .0, S .net .source-in) in
+      (with-length 1 (standsIn branch) (T .occupied) ∙ H .0, marked-after (standsIn branch) (T .occupied) (P .source) inside ∙ rw (H .1) (or-true (standsIn branch (P .source))))
+    where
+      or-true : (b : Bool) → b || true ≡ true
+      or-true true = refl
+      or-true false = refl
+
+  held-after : (k : ℕ) (T T′ : Tree) (trial : Trial) → SourceHeld P T → afterSink P k T trial ≡ grown T′ → SourceHeld P T′
+  unfolding afterSink
+  held-after k T T′ (found path cost) H q =
+      ask (fitsIn P T (branchOf (tapAt P k) path))
+      (λ t. rw (sym (same-tree (rw t at q))) (held-more k (branchOf (tapAt P k) path) T H))
+      (λ f. never (cc (rw f at q)))
+  held-after k T T′ failed H q = never (cc)
+  held-after k T T′ (full x) H q = never (cc)
+
+  held-turns : (n turn : ℕ) (T T′ : Tree) → SourceHeld P T → growFrom n P turn T ≡ grown T′ → SourceHeld P T′
+  unfolding growFrom growSink
+  held-turns zero turn T T′ H q = rw (← same-tree q) H
+  held-turns (suc n) turn T T′ H q = go (growSink P (sinkNow P turn) T) refl q (λ T₁. held-turns n (turn + 1) T₁ T′)
+    where
+      go : (g : Growth) → growSink P (sinkNow P turn) T ≡ g → growOn (growFrom n P (turn + 1)) g ≡ grown T′
+          → ((T₁ : Tree) → SourceHeld P T₁ → growFrom n P (turn + 1) T₁ ≡ grown T′ → SourceHeld P T′) → SourceHeld P T′
+      go (grown T₁) e z later = later T₁ (held-after (sinkNow P turn) T T₁ (routeToTree (siteAt P (T .joinable)) (tapAt P (sinkNow P turn) .approach) (T .blocked)) H e) z
+      go (stopped number detail) e z later = never (cc)
+
+  held-first : (blocked : List ℕ) → SourceHeld P (planted P blocked)
+  unfolding planted
+  held-first blocked =
+      let n = volume (P .room) in
+      let inside : P .source < length (noMarks n) = rw (length-replicate {A = ℕ} n 0) (S .net .source-in) in (
+        with-length 1 (eqb (P .source)) (noMarks n) ∙ length-replicate {A = ℕ} n 0,
+        marked-after (eqb (P .source)) (noMarks n) (P .source) inside ∙ rw (eq-eqb (P .source) (P .source) refl),
+      )
+
+  pub source-held : (blocked : List ℕ) (T : Tree) → growthOf P blocked ≡ grown T → SourceHeld P T
+  unfolding growthOf
+  source-held blocked T e = held-turns (P .taps .count) 0 (planted P blocked) T (held-first blocked) e

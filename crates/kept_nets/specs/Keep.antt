@@ -1,5 +1,6 @@
 -- What the contracts of routing and keeping one net cite. Definitions alone; their laws are in KeepLaws.
 use mathlib.Core.Path.{_≡_}
+use mathlib.Core.Bool.{true}
 use mathlib.Core.List.{List, _++_}
 use Prim.Native.Nat.{ℕ, _≤_, _<_}
 use lib.ListN.{length, drop, replicate}
@@ -23,6 +24,7 @@ use Rattle.other_nets.specs.Others.{netClear, endsAt}
 use Rattle.other_nets.specs.OtherLaws.{ListReady}
 use Rattle.other_nets.specs.Keeping.{Keepable, Kept}
 use Rattle.nets.specs.Nets.{netOutcome}
+use Rattle.kept_nets.specs.BranchSound.{GoodNetBranches}
 
 -- a routed net can be kept
 pub record AnswerKeepable (R : Room) (source : ℕ) (r : Answer) (cells planned before repeaters out : List ℕ) : Type 0 where
@@ -57,16 +59,26 @@ pub record NextAsked (list sheet planned before lengths : List ℕ) (B : Lent) :
   pub places-some : 0 < placesOf (B .queue)
   pub lengths-long : maxSinks ≤ length lengths
 
--- what is kept of what a net comes to
-abbrev pub NextKept : TreeOutcome → Room → ℕ → (branches lengths repeaters before branches′ lengths′ repeaters′ before′ : List ℕ) → Type 0
-NextKept (routed bs occupied planned) R source branches lengths repeaters before branches′ lengths′ repeaters′ before′ =
-    (branches′ ≡ filled (joined bs) branches)
-    × (lengths′ ≡ branchLengths bs .each ++ drop maxSinks lengths)
-    × (repeaters′ ≡ markedBy (isMarked planned) repeaters)
-    × (before′ ≡ markedBy (netClear R source bs) before)
-NextKept (no-tree number detail) R source branches lengths repeaters before branches′ lengths′ repeaters′ before′ = bufferNumber < number
+-- a routed net as it is kept, its marks as they stand for those that lay it, and what is known of it
+pub record NextHeld (bs : List (List ℕ)) (occupied planned : List ℕ) (R : Room) (source : ℕ)
+    (branches lengths repeaters before branches′ lengths′ repeaters′ before′ occupied′ planned′ : List ℕ) : Type 0 where
+  pub branches-are : branches′ ≡ filled (joined bs) branches
+  pub lengths-are : lengths′ ≡ branchLengths bs .each ++ drop maxSinks lengths
+  pub repeaters-are : repeaters′ ≡ markedBy (isMarked planned) repeaters
+  pub before-are : before′ ≡ markedBy (netClear R source bs) before
+  pub occupied-are : occupied′ ≡ occupied
+  pub planned-are : planned′ ≡ planned
+  pub good : GoodNetBranches R bs
+  pub source-marked : isMarked occupied source ≡ true
 
-pub record NextRouted (mode : Mode) (list sheet : List ℕ) (k : ℕ) (before lengths : List ℕ) (B : Lent) (r : Answer) (branches′ lengths′ repeaters′ before′ : List ℕ) : Type 0 where
+-- what is kept of what a net comes to
+abbrev pub NextKept : TreeOutcome → Room → ℕ → (branches lengths repeaters before branches′ lengths′ repeaters′ before′ occupied′ planned′ : List ℕ) → Type 0
+NextKept (routed bs occupied planned) R source branches lengths repeaters before branches′ lengths′ repeaters′ before′ occupied′ planned′ =
+    NextHeld bs occupied planned R source branches lengths repeaters before branches′ lengths′ repeaters′ before′ occupied′ planned′
+NextKept (no-tree number detail) R source branches lengths repeaters before branches′ lengths′ repeaters′ before′ occupied′ planned′ = bufferNumber < number
+
+pub record NextRouted (mode : Mode) (list sheet : List ℕ) (k : ℕ) (before lengths : List ℕ) (B : Lent) (r : Answer)
+    (branches′ lengths′ repeaters′ before′ occupied′ planned′ : List ℕ) : Type 0 where
   pub answer : r ≡ answerOf (netOutcome mode list (length (B .queue)) k (isMarked before) (length (B .branches)) sheet)
   pub kept : NextKept (netOutcome mode list (length (B .queue)) k (isMarked before) (length (B .branches)) sheet) (contentsAt sheet .room) (endsAt sheet .source)
-      (B .branches) lengths (B .repeaters) before branches′ lengths′ repeaters′ before′
+      (B .branches) lengths (B .repeaters) before branches′ lengths′ repeaters′ before′ occupied′ planned′

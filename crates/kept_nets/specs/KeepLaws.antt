@@ -1,5 +1,6 @@
 -- Laws of routing and keeping one net: what each function asks, and that together they make up what the definition has.
 use mathlib.Core.Path.{_≡_, refl, sym, ap, subst, _∙_}
+use mathlib.Core.Bool.{true}
 use mathlib.Core.List.{List, [], _∷_, _++_, map}
 use Prim.Native.Nat.{ℕ, zero, suc, _+_, _-_, _≤_, _<_}
 use native.Mathlib.Omega.{arith}
@@ -41,7 +42,7 @@ use Rattle.other_nets.specs.OtherLaws.{AllIn, NetReady, ListReady}
 use Rattle.other_nets.specs.Keeping.{Keepable, Kept}
 use Rattle.nets.specs.Nets.{netOutcome}
 use Rattle.nets.specs.Routes.{PrepareAsked, NetAsked, NetRouted}
-use Rattle.kept_nets.specs.BranchSound.{GoodBranch, branches-good}
+use Rattle.kept_nets.specs.BranchSound.{GoodBranch, GoodNetBranches, branches-good, source-held}
 use Rattle.kept_nets.specs.Keep.{AnswerKeepable, AnswerKept, kept-one, kept-none, NextAsked, NextKept, NextRouted}
 
 -- ---- the branches of a routed net in their buffer
@@ -54,11 +55,6 @@ behind-map : (bs : List (List ℕ)) (n i : ℕ) → length bs ≤ i → _≡_ {A
 behind-map [] n i h = zeros n i
 behind-map (b ∷ bs) n zero h = absurd (omega arith)
 behind-map (b ∷ bs) n (suc i) h = behind-map bs n i (omega arith)
-
--- what is known of a net's branches
-pub record GoodNetBranches (R : Room) (bs : List (List ℕ)) : Type 0 where
-  pub few : length bs ≤ maxSinks
-  pub each-good : (k : ℕ) → GoodBranch R (getD bs k [])
 
 module _ {R : Room} (G : Good R) {bs : List (List ℕ)} (N : GoodNetBranches R bs) (buffer : List ℕ) where
   abbrev L : BranchLengths
@@ -99,6 +95,17 @@ module _ {P : Plot} (S : SoundPlot P) (marks : List ℕ) {bs : List (List ℕ)} 
       }
 
       go : (g : Growth) → growthOf P marks ≡ g → outcomeOf P g ≡ routed bs occupied repeaters → GoodNetBranches (P .room) bs
+      go (grown T) w q = of-tree T w (cc)
+      go (stopped number detail) w q = never (cc)
+
+  -- and its source's terminal
+  pub tree-source : outcomeOf P (growthOf P marks) ≡ routed bs occupied repeaters → isMarked occupied (P .source) ≡ true
+  tree-source e = go (growthOf P marks) refl e
+    where
+      of-tree : (T : Tree) → growthOf P marks ≡ grown T → T .occupied ≡ occupied → isMarked occupied (P .source) ≡ true
+      of-tree T w q = rw (← q) (source-held S marks T w .1)
+
+      go : (g : Growth) → growthOf P marks ≡ g → outcomeOf P g ≡ routed bs occupied repeaters → isMarked occupied (P .source) ≡ true
       go (grown T) w q = of-tree T w (cc)
       go (stopped number detail) w q = never (cc)
 
@@ -182,23 +189,32 @@ module _ {list sheet planned before lengths : List ℕ} {B : Lent} (A : NextAske
       pub answer-keepable : AnswerKeepable (job .room) (e .source) r branches′ planned′ before (B .repeaters) lengths
       answer-keepable = record { keepable = keepable out refl (N .answer) (N .outputs) }
 
+    source-marked : {bs : List (List ℕ)} {occ rep : List ℕ} → out ≡ routed bs occ rep → isMarked occ (endsAt sheet .source) ≡ true
+    source-marked {occ = occ} q = ap (isMarked occ) (sym (N .source-is)) ∙ tree-source (N .sound) (N .marks) (sym (N .grows) ∙ q)
+
     module _ {before′ repeaters′ lengths′ : List ℕ} where
       kept-by : (o : TreeOutcome) → out ≡ o → r ≡ answerOf o → OutputsHold o (B .branches) branches′ occupied′ planned′
           → AnswerKept (job .room) (e .source) r branches′ planned′ before (B .repeaters) lengths before′ repeaters′ lengths′
-          → NextKept o (contentsAt sheet .room) (endsAt sheet .source) (B .branches) lengths (B .repeaters) before branches′ lengths′ repeaters′ before′
+          → NextKept o (contentsAt sheet .room) (endsAt sheet .source) (B .branches) lengths (B .repeaters) before branches′ lengths′ repeaters′ before′ occupied′ planned′
       kept-by (routed bs occ rep) w a H (kept-one x y q K) =
           let G = good-branches w in
           let l : r .lengths ≡ branchLengths bs = ap (λ z. z .lengths) a in
           let cut : branchesOf (r .lengths) branches′ ≡ bs = (λ i. branchesOf (l i) (H .0 i)) ∙ their-branches room-good G (B .branches) in
-          let s : e .source ≡ endsAt sheet .source = ap (λ z. z .source) (ends-are is) in (
-            H .0,
-            K .lengths-are ∙ (λ i. l i .each ++ drop (length (l i .each)) lengths) ∙ ap (λ n. branchLengths bs .each ++ drop n lengths) (each-long room-good G (B .branches)),
-            K .repeaters-are ∙ ap (λ m. markedBy (isMarked m) (B .repeaters)) (H .2),
-            K .before-are ∙ (λ i. markedBy (netClear (sym room-same i) (s i) (cut i)) before),
-          )
+          let s : e .source ≡ endsAt sheet .source = ap (λ z. z .source) (ends-are is) in
+          record {
+            branches-are = H .0;
+            lengths-are =
+                K .lengths-are ∙ (λ i. l i .each ++ drop (length (l i .each)) lengths) ∙ ap (λ n. branchLengths bs .each ++ drop n lengths) (each-long room-good G (B .branches));
+            repeaters-are = K .repeaters-are ∙ ap (λ m. markedBy (isMarked m) (B .repeaters)) (H .2);
+            before-are = K .before-are ∙ (λ i. markedBy (netClear (sym room-same i) (s i) (cut i)) before);
+            occupied-are = H .1;
+            planned-are = H .2;
+            good = subst (λ R. GoodNetBranches R bs) (sym room-same) G;
+            source-marked = source-marked w;
+          }
       kept-by (routed bs occ rep) w a H (kept-none n d q) = never (cc)
       kept-by (no-tree n d) w a H K = H
 
       pub next-routed : AnswerKept (job .room) (e .source) r branches′ planned′ before (B .repeaters) lengths before′ repeaters′ lengths′
-          → NextRouted mode list sheet k before lengths B r branches′ lengths′ repeaters′ before′
+          → NextRouted mode list sheet k before lengths B r branches′ lengths′ repeaters′ before′ occupied′ planned′
       next-routed K = record { answer = N .answer; kept = kept-by out refl (N .answer) (N .outputs) K }

@@ -47,7 +47,8 @@ fn clear_marks(occupied: &mut [u8], planned: &mut [u8])
     lent::clear_bytes(planned);
 }
 
-// The next net of a list: routed into what is left of the branch buffer, and kept.
+// The next net of a list: routed into what is left of the branch buffer, and kept. `occupied` and `planned` are left with
+// its own marks, for those that lay it.
 pub fn route_next(
     mode: Mode,
     list: &[u8],
@@ -70,7 +71,7 @@ pub fn route_next(
     queue: &mut [u64],
 ) -> Answer
     requires { ⌜ NextAsked (now list) (now sheet) (now planned) (now before) (now lengths) (lent (now branches) (now occupied) (now repeaters) (now kinds) (now blocked) (now classes) (now joinable) (now known) (now previous) (now path) (now best) (now queue)) ⌝ }
-    ensures { λ r. ⌜ NextRouted mode (now (list .entry)) (now (sheet .entry)) net (now (before .entry)) (now (lengths .entry)) (lent (now (branches .entry)) (now (occupied .entry)) (now (repeaters .entry)) (now (kinds .entry)) (now (blocked .entry)) (now (classes .entry)) (now (joinable .entry)) (now (known .entry)) (now (previous .entry)) (now (path .entry)) (now (best .entry)) (now (queue .entry))) r (now (branches .exit)) (now (lengths .exit)) (now (repeaters .exit)) (now (before .exit)) ⌝ }
+    ensures { λ r. ⌜ NextRouted mode (now (list .entry)) (now (sheet .entry)) net (now (before .entry)) (now (lengths .entry)) (lent (now (branches .entry)) (now (occupied .entry)) (now (repeaters .entry)) (now (kinds .entry)) (now (blocked .entry)) (now (classes .entry)) (now (joinable .entry)) (now (known .entry)) (now (previous .entry)) (now (path .entry)) (now (best .entry)) (now (queue .entry))) r (now (branches .exit)) (now (lengths .exit)) (now (repeaters .exit)) (now (before .exit)) (now (occupied .exit)) (now (planned .exit)) ⌝ }
 {
     let reading = sheet_reader::read_sheet(sheet);
     let job = reading.job;

@@ -22,7 +22,8 @@ use Rattle.net_tree.specs.Answers.{TreeOutcome, routed, no-tree, jobOutcome}
 use Rattle.job_list.specs.Split.{sheetsOf}
 use Rattle.job_list.specs.Judged.{contentsAt}
 use Rattle.other_nets.specs.Others.{netClear, endsAt, protectedFrom, blockedInList}
-use Rattle.nets.specs.Nets.{Net, takenBy, Routing, all-kept, refused-by, keepOn, routeFrom, netOutcome, blockedAt, lentFor, kindsAt, nodesAt, outsetAt}
+use Rattle.laying.specs.Laying.{Net}
+use Rattle.nets.specs.Nets.{netAt, takenBy, Routing, all-kept, refused-by, keepOn, routeFrom, netOutcome, blockedAt, lentFor, kindsAt, nodesAt, outsetAt}
 
 -- ---- the answer of the nets kept so far, one behind the other in list order
 
@@ -101,7 +102,7 @@ before-is R nets n e v h =
 pub step-routed : (mode : Mode) (list : List ℕ) (queue k : ℕ) (nets : List Net) (left : ℕ) (sheet : List ℕ) (sheets : List (List ℕ)) {bs : List (List ℕ)} {occupied repeaters : List ℕ}
     → netOutcome mode list queue k (takenBy (contentsAt sheet .room) nets) left sheet ≡ routed bs occupied repeaters
     → routeFrom mode list queue k nets left (sheet ∷ sheets)
-    ≡ routeFrom mode list queue (k + 1) (nets ++ (record { source = endsAt sheet .source; branches = bs; occupied = occupied; repeaters = repeaters } ∷ [])) (left - length (joined bs)) sheets
+    ≡ routeFrom mode list queue (k + 1) (nets ++ (netAt sheet bs occupied repeaters ∷ [])) (left - length (joined bs)) sheets
 unfolding routeFrom
 step-routed mode list queue k nets left sheet sheets e = rw e
 

@@ -11,7 +11,9 @@ use Rattle.ground.specs.declared.Mode.{Mode}
 use Rattle.job_sheet.specs.Sheet.{Contents}
 use Rattle.blocks.specs.declared.Placement.{Placement}
 use Rattle.blocks.specs.Blocks.{kindsOf, nodesOf}
+use Rattle.ends.specs.Ends.{tapsIn}
 use Rattle.outset.specs.declared.Outset.{Outset}
+use Rattle.laying.specs.Laying.{Net}
 use Rattle.net_tree.specs.declared.Lengths.{Lengths}
 use Rattle.net_tree.specs.Answers.{TreeOutcome, routed, no-tree, jobOutcome}
 use Rattle.job_list.specs.Split.{sheetsOf}
@@ -51,13 +53,6 @@ netOutcome mode list queue k taken left sheet =
 
 -- ---- all nets
 
--- what is kept of a routed net: its source's terminal, its branches, marks of what it occupies and of its repeaters
-pub record Net : Type 0 where
-  pub source : ℕ
-  pub branches : List (List ℕ)
-  pub occupied : List ℕ
-  pub repeaters : List ℕ
-
 -- the cells that the nets before keep others off
 unfoldable pub takenBy : Room → List Net → ℕ → Bool
 takenBy R nets v = any (λ N. netClear R (N .source) (N .branches) v) nets
@@ -67,16 +62,21 @@ pub data Routing : Type 0 where
   all-kept : List Net → Routing
   refused-by : (net number detail : ℕ) → Routing
 
+-- the net of a sheet, with these branches, marks of what it occupies and of its repeaters
+abbrev pub netAt : List ℕ → List (List ℕ) → List ℕ → List ℕ → Net
+netAt sheet branches occupied repeaters =
+    record { source = endsAt sheet .source; taps = tapsIn (endsAt sheet .taps); branches = branches; occupied = occupied; repeaters = repeaters }
+
 -- the nets behind are routed only if this one is
-abbrev pub keepOn : (Net → Routing) → ℕ → ℕ → TreeOutcome → Routing
-keepOn rest k source (routed branches occupied repeaters) = rest (record { source = source; branches = branches; occupied = occupied; repeaters = repeaters })
-keepOn rest k source (no-tree number detail) = refused-by k number detail
+abbrev pub keepOn : (Net → Routing) → ℕ → List ℕ → TreeOutcome → Routing
+keepOn rest k sheet (routed branches occupied repeaters) = rest (netAt sheet branches occupied repeaters)
+keepOn rest k sheet (no-tree number detail) = refused-by k number detail
 
 -- the nets from the k-th on, behind these nets, with so many cells of the branch buffer left: "each net has what is left, 15 with its index"
 unfoldable pub routeFrom : Mode → List ℕ → ℕ → ℕ → List Net → ℕ → List (List ℕ) → Routing
 routeFrom mode list queue k nets left [] = all-kept nets
 routeFrom mode list queue k nets left (sheet ∷ sheets) =
-    keepOn (λ N. routeFrom mode list queue (k + 1) (nets ++ (N ∷ [])) (left - length (joined (N .branches))) sheets) k (endsAt sheet .source)
+    keepOn (λ N. routeFrom mode list queue (k + 1) (nets ++ (N ∷ [])) (left - length (joined (N .branches))) sheets) k sheet
     (netOutcome mode list queue k (takenBy (contentsAt sheet .room) nets) left sheet)
 
 -- a list for which none of numbers 1 to 9 is due

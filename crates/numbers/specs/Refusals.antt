@@ -67,6 +67,10 @@ noGoalNumber = 14
 abbrev pub branchesFullNumber : ℕ
 branchesFullNumber = 15
 
+-- two nets of a list occupy one cell
+abbrev pub netsOverlapNumber : ℕ
+netsOverlapNumber = 16
+
 -- a function file's text output is too short
 abbrev pub textShortNumber : ℕ
 textShortNumber = 18
@@ -75,7 +79,7 @@ textShortNumber = 18
 abbrev pub badLineNumber : ℕ
 badLineNumber = 19
 
--- all of them, in their order; 16 and 17 are no number of anything
+-- all of them, in their order; 17, a repeater without direction, can't occur
 abbrev pub allNumbers : List ℕ
 allNumbers =
     doneNumber
@@ -94,6 +98,7 @@ allNumbers =
     ∷ queueFullNumber
     ∷ noGoalNumber
     ∷ branchesFullNumber
+    ∷ netsOverlapNumber
     ∷ textShortNumber
     ∷ badLineNumber
     ∷ []

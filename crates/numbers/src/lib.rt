@@ -51,14 +51,17 @@ pub const NO_GOAL_NUMBER: u32 = 14;
 // Branches, turn by turn, exceed their buffer.
 pub const BRANCHES_FULL_NUMBER: u32 = 15;
 
+// Two nets of a list occupy one cell.
+pub const NETS_OVERLAP_NUMBER: u32 = 16;
+
 // A function file's text output is too short.
 pub const TEXT_SHORT_NUMBER: u32 = 18;
 
 // A line of a function file that no export has there.
 pub const BAD_LINE_NUMBER: u32 = 19;
 
-// All of them, in their order, 16 and 17 being no number of anything: the code's numbers are the definitions'.
-pub fn all_numbers() -> [u32; 18]
+// All of them, in their order; 17, a repeater without direction, can't occur. The code's numbers are the definitions'.
+pub fn all_numbers() -> [u32; 19]
     ensures { λ r. ⌜ r ≡ allNumbers ⌝ }
 {
     [
@@ -78,6 +81,7 @@ pub fn all_numbers() -> [u32; 18]
         QUEUE_FULL_NUMBER,
         NO_GOAL_NUMBER,
         BRANCHES_FULL_NUMBER,
+        NETS_OVERLAP_NUMBER,
         TEXT_SHORT_NUMBER,
         BAD_LINE_NUMBER,
     ]

@@ -1,0 +1,5 @@
+pub mod LaidNets
+pub mod Layings
+pub mod FacingLaws
+pub mod CountLaws
+pub mod NetLaws

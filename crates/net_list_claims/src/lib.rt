@@ -1,0 +1,1 @@
+// What holds of several nets routed one after another and laid into one room: definitions and theorems alone, no code. See specs/.

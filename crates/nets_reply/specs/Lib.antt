@@ -1,0 +1,3 @@
+pub mod Reply
+pub mod ReplyLaws
+pub mod PromiseLaws

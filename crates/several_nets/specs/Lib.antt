@@ -1,0 +1,7 @@
+pub mod Answers
+pub mod Entry
+pub mod FirstLaws
+pub mod AnswerLaws
+pub mod LentLaws
+pub mod EntryLaws
+pub mod PromiseLaws
