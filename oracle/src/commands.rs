@@ -14,8 +14,8 @@ use cases::stats::Tally;
 use cases::text::{number, parse_hex, parse_search, search_answer_lines, tree_answer_lines};
 use cases::tree::ROUTE_LIMITS;
 use oracle::{
-    Drawing, LimitSheet, Plan, Profile, Rng, Search, Sheet, StrictSheet, TreeWhy, Why, check_route,
-    check_search, check_sheet,
+    Drawing, LimitSheet, List, Plan, Profile, Rng, Search, Sheet, StrictSheet, TreeWhy, Why,
+    check_route, check_search, check_sheet,
 };
 
 use crate::Trouble;
@@ -39,12 +39,12 @@ oracle compare KIND --seed N --count N [--profile P]
 oracle show KIND FILE [INDEX]               cases and answers for a reader
 oracle stats KIND FILE                      how many of which cases
 KIND is `searches`, `sheets`, `limit-sheets`, sheets of both versions, `strict-sheets`, sheets in strict mode, `whys`, searches with their reason, `tree-whys`, sheets with theirs,
-`functions`, function files written and read, `drawings`, routes drawn, `repeaters`, a net's in one call, or `writes`, parts of jobs written as sheets; P is tiny, small,
-middle, large or mixed (the default); `-` is standard input.
+`functions`, function files written and read, `drawings`, routes drawn, `repeaters`, a net's in one call, `writes`, parts of jobs written as sheets, or `nets`, lists of nets; P is tiny,
+small, middle, large or mixed (the default); `-` is standard input.
 Status 0: done; 1: answers differ; 2: bad input.
 ";
 
-const KINDS: &str = "`searches`, `sheets`, `limit-sheets`, `strict-sheets`, `whys`, `tree-whys`, `functions`, `drawings`, `repeaters`, `writes`";
+const KINDS: &str = "`searches`, `sheets`, `limit-sheets`, `strict-sheets`, `whys`, `tree-whys`, `functions`, `drawings`, `repeaters`, `writes`, `nets`";
 
 pub fn run(raw: impl Iterator<Item = OsString>) -> Result<(), Trouble> {
     let mut arguments = Arguments::sort(raw)?;
@@ -67,6 +67,7 @@ pub fn run(raw: impl Iterator<Item = OsString>) -> Result<(), Trouble> {
                 "drawings" => run_lists::<Drawing>(&command, arguments),
                 "repeaters" => run_lists::<Plan>(&command, arguments),
                 "writes" => run_lists::<Parts>(&command, arguments),
+                "nets" => run_lists::<List>(&command, arguments),
                 kind => Err(format!("none of {KINDS}: {kind}").into()),
             }
         }

@@ -1,101 +1,161 @@
 //! Several nets, one after another: the published `route_net_tree`, given what `MultiNetRouting::resources` collects of the nets before and the
-//! other jobs' protected cells, against the plain routing of a list.
+//! other jobs' protected cells, and `materialize_multinet` over its nets, against the plain routing and laying of a list; and `route_jobs_ripup`
+//! where it does the same.
 
 use std::collections::BTreeSet;
 
-use cases::lists::{Judged, List, NetRefusal, Routed};
+use cases::laying::{Overlap, lay_all};
+use cases::lists::{Judged, List, NetRefusal};
+use cases::nets::ListAnswer;
+use cases::room::Room;
 use cases::sheet::{Job, TreeAnswer};
-use cases::tree::{Limits, Mode};
-use published::multinet::{MultiNetError, MultiNetRouting, NetId, materialize_multinet};
+use cases::text::list_lines;
+use cases::tree::{Limits, Mode, Net};
+use published::multinet::{MultiNetError, MultiNetRouting, NetId, RoutedNet};
 use published::port_realization::{realize_sink_endpoint, terminal_for_endpoint};
 use published::routing_resources::electrical_keepout_for_wire;
 use published::world::Pos;
+use shapes::{lay_published, route_unripped};
 
-use crate::compare_tree::tree_of;
+use crate::compare_tree::at_limits;
 use crate::published_side::{PublishedJob, cell_at, endpoint, guarded};
 use crate::{Disagreement, Refusal};
 
-/// A list's nets or its refusal, or how the published Rust and the plain routing differ on it. In strict mode, which the Rust lacks, the plain
-/// routing answers, and the two agree in the published mode on the same list.
-pub fn check_list(case: &List) -> Result<Result<Routed, NetRefusal>, Disagreement> {
-    let answer = case.plain_nets();
+/// A list's nets, laid, or its refusal; or how the published Rust and the plain routing and laying differ on it. In strict mode, which the Rust
+/// lacks, the plain ones answer, and the two agree in the published mode on the same list.
+pub fn check_list(case: &List) -> Result<ListAnswer, Disagreement> {
     // 1 to 9 are judged before the Rust routes; its queue and branches have no end
     if let Ok(judged) = case.judge() {
-        let expected = plain_trees(&judged);
-        let found = published_trees(&judged);
+        let nets = judged.route(Limits::NONE, Mode::Published);
+        let expected = nets.and_then(|nets| shown(&judged, nets, lay_all));
+        let found = guarded(|| published_nets(&judged))
+            .and_then(|nets| nets)
+            .and_then(|nets| guarded(|| nets.and_then(|nets| shown(&judged, nets, lay_published))));
         if found.as_ref() != Ok(&expected) {
             return Err(Disagreement(format!(
-                "{case:?}\nplain routing: {expected:?}\npublished Rust: {found:?}\n"
+                "{}plain: {expected:?}\npublished Rust: {found:?}\n",
+                list_lines(case)
             )));
         }
     }
-    Ok(answer)
+    Ok(case.plain_answer())
 }
 
-/// The trees in list order, or the net that is refused.
-type Trees = Result<Vec<TreeAnswer>, NetRefusal>;
-
-fn plain_trees(judged: &Judged) -> Trees {
-    let nets = judged.route(Limits::NONE, Mode::Published)?;
-    judged.owners(&nets)?;
-    Ok(nets.iter().map(|net| net.answer()).collect())
-}
-
-fn published_trees(judged: &Judged) -> Result<Trees, String> {
-    let room = &judged.room;
-    let refused = |net, number, pos: Pos| {
-        let cell = cell_at(room, pos).ok_or(format!("{pos:?} is outside"))?;
-        let refusal = Refusal::new(number, cell as u32);
-        Ok(Err(NetRefusal { net, refusal }))
+/// Whether `route_jobs_ripup` takes a list's jobs in list order and rips nothing up; or how its nets differ from those of plain routing.
+pub fn check_unripped(case: &List) -> Result<bool, Disagreement> {
+    let Ok(judged) = case.judge() else {
+        return Ok(false);
     };
-    let jobs: Vec<_> = judged
-        .jobs
-        .iter()
-        .map(|job| PublishedJob::new(room, job))
-        .collect();
-    let mut routing = MultiNetRouting::default();
-    let mut trees = Vec::new();
-    for (net, job) in jobs.iter().enumerate() {
-        let protected = protected_by_others(&judged.jobs, net)?;
-        let held = routing.resources(None);
-        match guarded(|| job.route_beside(net as u32, &held, &protected))? {
-            Ok(routed) => {
-                trees.push(tree_of(room, &routed)?);
-                routing.nets.insert(NetId(net as u32), routed);
-            }
-            Err(MultiNetError::NoTreeConnection(pos)) => return refused(net, 14, pos),
-            Err(error) => return Err(format!("an error of another kind: {error:?}")),
-        }
+    let found = guarded(|| route_unripped(&judged.room, &judged.jobs)).map_err(Disagreement)?;
+    let Some(found) = found else {
+        return Ok(false);
+    };
+    let nets = judged.route(Limits::NONE, Mode::Published);
+    let expected: Result<Vec<_>, _> =
+        nets.map(|nets| nets.iter().map(|net| net.answer()).collect());
+    if expected.as_ref() != Ok(&found) {
+        return Err(Disagreement(format!(
+            "{}plain: {expected:?}\nroute_jobs_ripup: {found:?}\n",
+            list_lines(case)
+        )));
     }
-    match overlap(&jobs, &routing)? {
-        Some((net, pos)) => refused(net, 16, pos),
-        None => Ok(Ok(trees)),
+    Ok(true)
+}
+
+/// What both sides are compared by: the trees in list order, and each cell's kind and facing; or the net that is refused.
+type Shown = Result<(Vec<TreeAnswer>, Vec<u8>, Vec<u8>), NetRefusal>;
+
+type Laying = fn(&Room, &[(Job, Net)]) -> Result<cases::laying::LaidRoom, Overlap>;
+
+fn shown(judged: &Judged, nets: Vec<Net>, lay: Laying) -> Shown {
+    let trees = nets.iter().map(|net| net.answer()).collect();
+    let list: Vec<_> = judged.jobs.iter().cloned().zip(nets).collect();
+    let room = lay(&judged.room, &list).map_err(|Overlap { net, cell }| NetRefusal {
+        net,
+        refusal: Refusal::new(16, cell as u32),
+    })?;
+    Ok((trees, room.kinds, room.facings))
+}
+
+/// The nets of the published Rust in list order, or the one that it refuses.
+fn published_nets(judged: &Judged) -> Result<Result<Vec<Net>, NetRefusal>, String> {
+    let list = PublishedList::new(judged)?;
+    match list.route()? {
+        Ok(routed) => list.nets(routed).map(Ok),
+        Err(refused) => Ok(Err(refused)),
     }
 }
 
-/// The net and the cell of the overlap, as `materialize_multinet` has them. It is asked only where two nets share a cell: it tells that before it
-/// looks at the shapes of wires, for which a stand-in would be needed.
-fn overlap(
-    jobs: &[PublishedJob],
-    routing: &MultiNetRouting,
-) -> Result<Option<(usize, Pos)>, String> {
-    let cells = routing.nets.values().map(|net| net.occupied.len());
-    let all: BTreeSet<Pos> = routing
-        .nets
-        .values()
-        .flat_map(|net| &net.occupied)
-        .copied()
-        .collect();
-    if all.len() == cells.sum::<usize>() {
-        return Ok(None);
+/// A judged list as the published Rust takes it.
+pub struct PublishedList<'a> {
+    judged: &'a Judged,
+    jobs: Vec<PublishedJob>,
+    /// For each net what it keeps off of the other jobs.
+    protected: Vec<BTreeSet<Pos>>,
+}
+
+impl<'a> PublishedList<'a> {
+    pub fn new(judged: &'a Judged) -> Result<Self, String> {
+        let jobs = judged.jobs.iter();
+        let nets = 0..judged.jobs.len();
+        Ok(Self {
+            judged,
+            jobs: jobs
+                .map(|job| PublishedJob::new(&judged.room, job))
+                .collect(),
+            protected: nets
+                .map(|net| protected_by_others(&judged.jobs, net))
+                .collect::<Result<_, _>>()?,
+        })
     }
-    match guarded(|| materialize_multinet(jobs[0].circuit(), routing))? {
-        Err(MultiNetError::NetOverlap { pos, second, .. }) => Ok(Some((second.0 as usize, pos))),
-        other => Err(format!(
-            "nets share a cell, and it is laid: {:?}",
-            other.is_ok()
-        )),
+
+    /// Runs `route_net_tree` net by net, each with what `MultiNetRouting::resources` has of those before it. These nets have the repeaters of 12
+    /// and 8.
+    pub fn route(&self) -> Result<Result<Vec<RoutedNet>, NetRefusal>, String> {
+        let mut routing = MultiNetRouting::default();
+        for (net, job) in self.jobs.iter().enumerate() {
+            let held = routing.resources(None);
+            match job.route_beside(net as u32, &held, &self.protected[net]) {
+                Ok(routed) => {
+                    routing.nets.insert(NetId(net as u32), routed);
+                }
+                Err(MultiNetError::NoTreeConnection(pos)) => {
+                    let refusal = Refusal::new(14, cell(&self.judged.room, pos)? as u32);
+                    return Ok(Err(NetRefusal { net, refusal }));
+                }
+                Err(error) => return Err(format!("an error of another kind: {error:?}")),
+            }
+        }
+        Ok(Ok(routing.nets.into_values().collect()))
     }
+
+    /// Its nets by cell numbers, with the repeaters of their own limits.
+    pub fn nets(&self, routed: Vec<RoutedNet>) -> Result<Vec<Net>, String> {
+        let jobs = self.judged.jobs.iter();
+        jobs.zip(routed)
+            .map(|(job, routed)| net_of(&self.judged.room, &at_limits(job, routed)?))
+            .collect()
+    }
+}
+
+fn net_of(room: &Room, routed: &RoutedNet) -> Result<Net, String> {
+    let cells = |list: &mut dyn Iterator<Item = &Pos>| {
+        let cells: Result<Vec<usize>, String> = list.map(|pos| cell(room, *pos)).collect();
+        cells
+    };
+    let branches = routed.branches.iter();
+    Ok(Net {
+        branches: branches
+            .map(|branch| cells(&mut branch.iter()))
+            .collect::<Result<_, _>>()?,
+        occupied: cells(&mut routed.occupied.iter())?.into_iter().collect(),
+        repeaters: cells(&mut routed.repeaters.iter())?.into_iter().collect(),
+        most_waiting: 0,
+    })
+}
+
+fn cell(room: &Room, pos: Pos) -> Result<usize, String> {
+    cell_at(room, pos).ok_or(format!("{pos:?} is outside"))
 }
 
 /// As `route_jobs_ripup_with_fixed` collects them: of each other job the terminals, the sinks' approaches, and the keepouts of all these.

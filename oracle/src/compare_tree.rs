@@ -77,7 +77,7 @@ fn published_answer(job: &Job, room: &Room) -> Result<TreeAnswer, String> {
 }
 
 /// The net with the repeaters that the job's limits ask for: `route_net_tree` has 12 and 8 alone, and gives the same there.
-fn at_limits(job: &Job, net: RoutedNet) -> Result<RoutedNet, String> {
+pub(crate) fn at_limits(job: &Job, net: RoutedNet) -> Result<RoutedNet, String> {
     let planned = guarded(|| planned_repeaters(job, &net.branches))?;
     let repeaters = planned.map_err(|error| error.to_string())?;
     if job.has_usual_limits() && repeaters != net.repeaters {

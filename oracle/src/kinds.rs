@@ -1,29 +1,30 @@
-//! Searches, sheets in both modes and at any limits, both with their reasons, function files, drawings, plans of repeaters and parts of jobs under one roof,
-//! so that each command is written once.
+//! Searches, sheets in both modes and at any limits, both with their reasons, function files, drawings, plans of repeaters, parts of jobs and lists of
+//! nets under one roof, so that each command is written once.
 
 use cases::examples::{
-    drawing_cases, function_cases, limit_cases, parts_cases, plan_cases, search_cases, sheet_cases,
-    strict_cases, tree_why_cases, why_cases,
+    drawing_cases, function_cases, limit_cases, list_cases, parts_cases, plan_cases, search_cases,
+    sheet_cases, strict_cases, tree_why_cases, why_cases,
 };
 use cases::files::Case;
 use cases::function::{Function, FunctionAnswer};
 use cases::generate::{random_function, random_parts};
 use cases::parts::{Parts, PartsAnswer};
 use cases::stats::{
-    Tally, count_drawing, count_function, count_parts, count_plan, count_search, count_sheet,
-    count_strict, count_tree_why, count_why,
+    Tally, count_drawing, count_function, count_list, count_parts, count_plan, count_search,
+    count_sheet, count_strict, count_tree_why, count_why,
 };
 use cases::text::{
-    drawing_answer_lines, drawing_lines, function_answer_lines, function_lines, parts_answer_lines,
-    parts_lines, plan_answer_lines, plan_lines, search_answer_lines, search_lines, sheet_lines,
-    tree_answer_lines, tree_why_answer_lines, tree_why_lines, why_answer_lines, why_lines,
+    drawing_answer_lines, drawing_lines, function_answer_lines, function_lines, list_answer_lines,
+    list_lines, parts_answer_lines, parts_lines, plan_answer_lines, plan_lines,
+    search_answer_lines, search_lines, sheet_lines, tree_answer_lines, tree_why_answer_lines,
+    tree_why_lines, why_answer_lines, why_lines,
 };
 use oracle::{
-    Disagreement, Drawing, DrawingAnswer, LimitSheet, Plan, PlanAnswer, Profile, Rng, Search,
-    SearchAnswer, Sheet, StrictSheet, TreeAnswer, TreeWhy, TreeWhyAnswer, Why, WhyAnswer,
-    check_drawing, check_repeaters, check_search, check_sheet, check_strict, check_tree_why,
-    check_why, random_drawing, random_limit_sheet, random_plan, random_search, random_sheet,
-    random_strict, random_tree_why, random_why,
+    Disagreement, Drawing, DrawingAnswer, LimitSheet, List, ListAnswer, Plan, PlanAnswer, Profile,
+    Rng, Search, SearchAnswer, Sheet, StrictSheet, TreeAnswer, TreeWhy, TreeWhyAnswer, Why,
+    WhyAnswer, check_drawing, check_list, check_repeaters, check_search, check_sheet, check_strict,
+    check_tree_why, check_why, random_drawing, random_limit_sheet, random_list, random_plan,
+    random_search, random_sheet, random_strict, random_tree_why, random_why,
 };
 
 pub trait Asked: Case<Answer: Eq> {
@@ -295,5 +296,31 @@ impl Asked for Plan {
 
     fn answer_lines(answer: &PlanAnswer) -> String {
         plan_answer_lines(answer)
+    }
+}
+
+impl Asked for List {
+    fn random(rng: &mut Rng, profile: Profile) -> Self {
+        random_list(rng, profile)
+    }
+
+    fn examples() -> Vec<Self> {
+        list_cases()
+    }
+
+    fn check(&self) -> Result<ListAnswer, Disagreement> {
+        check_list(self)
+    }
+
+    fn count(&self, answer: &ListAnswer, tally: &mut Tally) {
+        count_list(tally, self, answer);
+    }
+
+    fn lines(&self) -> String {
+        list_lines(self)
+    }
+
+    fn answer_lines(answer: &ListAnswer) -> String {
+        list_answer_lines(answer)
     }
 }

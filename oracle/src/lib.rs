@@ -19,7 +19,8 @@ pub use cases::generate::{
     random_sheet, random_strict, random_tree_why, random_why,
 };
 pub use cases::limits::LimitSheet;
-pub use cases::lists::{List, NetRefusal, Routed};
+pub use cases::lists::{List, NetRefusal};
+pub use cases::nets::{LaidNets, ListAnswer};
 pub use cases::plan::{Plan, PlanAnswer};
 pub use cases::rng::Rng;
 pub use cases::search::{Search, SearchAnswer};
@@ -29,7 +30,7 @@ pub use cases::tree_why::{TreeWhy, TreeWhyAnswer};
 pub use cases::why::{Why, WhyAnswer};
 
 pub use compare_drawing::check_drawing;
-pub use compare_list::check_list;
+pub use compare_list::{PublishedList, check_list, check_unripped};
 pub use compare_plan::{check_plan, check_repeaters};
 pub use compare_search::check_search;
 pub use compare_tree::{check_route, check_sheet, check_strict, tree_of};
@@ -85,6 +86,11 @@ pub fn answer_strict(case: &StrictSheet) -> TreeAnswer {
 /// The answer to a drawing. Panics with the case if the published Rust and the plain drawing differ.
 pub fn answer_drawing(case: &Drawing) -> DrawingAnswer {
     check_drawing(case).unwrap_or_else(|difference| panic!("{difference}"))
+}
+
+/// The answer to a list of nets. Panics with the case if the published Rust and the plain routing or laying differ.
+pub fn answer_list(case: &List) -> ListAnswer {
+    check_list(case).unwrap_or_else(|difference| panic!("{difference}"))
 }
 
 /// The answer to a search with its reason. Panics with the case if the published Rust and the plain search or flood differ.

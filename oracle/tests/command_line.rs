@@ -97,16 +97,18 @@ fn smallest_inputs_are_shown() {
 #[test]
 fn lists_are_made_answered_shown_and_checked() {
     let folder = folder("lists");
-    for kind in [
-        "searches",
-        "sheets",
-        "limit-sheets",
-        "strict-sheets",
-        "whys",
-        "tree-whys",
-        "functions",
-        "drawings",
-        "writes",
+    for (kind, counted) in [
+        ("searches", "searches"),
+        ("sheets", "sheets"),
+        ("limit-sheets", "sheets"),
+        ("strict-sheets", "strict-sheets"),
+        ("whys", "whys"),
+        ("tree-whys", "tree-whys"),
+        ("functions", "functions"),
+        ("drawings", "drawings"),
+        ("repeaters", "plans"),
+        ("writes", "writes"),
+        ("nets", "lists"),
     ] {
         let bare = folder.join(kind).display().to_string();
         let answered = format!("{bare}.answered");
@@ -127,7 +129,7 @@ fn lists_are_made_answered_shown_and_checked() {
             30
         );
         let stats = printed(&["stats", kind, &answered], b"");
-        assert!(stats.contains(&format!("30  {kind}\n")), "{stats}");
+        assert!(stats.contains(&format!("30  {counted}\n")), "{stats}");
         let compared = printed(&[["compare", kind].as_slice(), &draw].concat(), b"");
         assert_eq!(compared, format!("30 cases agree\n{stats}"));
         // Nothing is overwritten unless that is asked for.
@@ -209,7 +211,7 @@ fn bad_input_gets_a_message() {
         (&["sheet", "--hex", "--hex", "-"], "--hex is given twice"),
         (
             &["answer", "rooms", "a", "b"],
-            "none of `searches`, `sheets`, `limit-sheets`, `strict-sheets`, `whys`, `tree-whys`, `functions`, `drawings`, `writes`: rooms",
+            "none of `searches`, `sheets`, `limit-sheets`, `strict-sheets`, `whys`, `tree-whys`, `functions`, `drawings`, `repeaters`, `writes`, `nets`: rooms",
         ),
         (&["answer", "searches", &noise], "OUT is missing"),
         (

@@ -8,8 +8,8 @@ use cases::text::{parse_hex, tree_answer_lines};
 use cases::tree::{Limits, route_net_tree};
 use cases::{answers, examples, generate};
 use oracle::{
-    Profile, Rng, answer_drawing, answer_search, answer_sheet, answer_strict, answer_tree_why,
-    answer_why, check_list, check_plan, check_route, check_search, random_list,
+    Profile, Rng, answer_drawing, answer_list, answer_search, answer_sheet, answer_strict,
+    answer_tree_why, answer_why, check_plan, check_route, check_search, check_unripped,
 };
 
 #[test]
@@ -41,13 +41,40 @@ fn the_smallest_inputs_have_one_answer() {
 }
 
 #[test]
-fn random_lists() {
-    for index in 0..400 {
-        let case = random_list(&mut Rng::for_case(31, index), Profile::Small);
-        if let Err(difference) = check_list(&case) {
-            panic!("{index}: {difference}");
-        }
+fn examples_of_lists() {
+    for (name, case, answer) in examples::lists() {
+        assert_eq!(answer_list(&case), answer, "{name}");
     }
+}
+
+/// Two nets one right above the other: the Rust that rips up accepts neither behind the other, for a support of one lies in a cell of the other.
+#[test]
+fn a_net_with_no_wire_is_not_accepted() {
+    for name in [
+        "a net laid with no wire",
+        "the other order: wire lies on wire",
+    ] {
+        let mut lists = examples::lists().into_iter();
+        let (_, case, _) = lists.find(|(told, _, _)| *told == name).unwrap();
+        assert!(!check_unripped(&case).unwrap(), "{name}");
+    }
+}
+
+/// Routed and laid; and where `route_jobs_ripup` takes the same order and rips up nothing, its nets too.
+#[test]
+fn random_lists_agree() {
+    for (profile, count) in [
+        (Profile::Tiny, 2_000),
+        (Profile::Small, 1_000),
+        (Profile::Large, 2),
+    ] {
+        answered(generate::lists(31, count, profile), answer_list);
+    }
+    let lists = generate::lists(32, 1_500, Profile::Small);
+    let unripped = lists
+        .iter()
+        .filter(|case| check_unripped(case).unwrap_or_else(|apart| panic!("{apart}")));
+    assert!(unripped.count() > 100);
 }
 
 #[test]
@@ -244,6 +271,12 @@ fn stored_whys_are_made_again() {
 fn stored_tree_whys_are_made_again() {
     let made = answered(answers::tree_whys(), answer_tree_why);
     assert!(write_answered(&made) == answers::TREE_WHYS.bytes());
+}
+
+#[test]
+fn stored_lists_are_made_again() {
+    let made = answered(answers::lists(), answer_list);
+    assert!(write_answered(&made) == answers::LISTS.bytes());
 }
 
 #[test]

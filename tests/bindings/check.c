@@ -814,6 +814,202 @@ static void check_tree_why(void) {
         }
 }
 
+/* ---- several nets */
+
+enum {
+    NETS_BRANCHES, NETS_LENGTHS, OWNERS, NETS_REPEATERS, LAID_KINDS, LAID_FACINGS, NETS_OCCUPIED, PLANNED_WORK, BEFORE_WORK, ROOM_WORK,
+    NETS_BLOCKED, NETS_CLASSES, NETS_JOINABLE, NETS_KNOWN, NETS_PREVIOUS, NETS_PATH, NETS_BEST, NETS_QUEUE, NETS_VALUES, NETS_BUFFERS
+};
+
+/* A number of lists alone, how many values one tells, and how many lengths a net has. */
+enum { NETS_OVERLAP = 16, NETS_TOLD = 3, NET_LENGTHS = 16 };
+
+struct nets {
+    struct buffer lent[NETS_BUFFERS];
+    uint32_t number;
+};
+
+static struct nets nets_of(uint32_t mode, const uint8_t *list, size_t list_length, const size_t n[NETS_BUFFERS]) {
+    static const size_t sizes[NETS_BUFFERS] = {4, 4, 4, 1, 1, 1, 1, 1, 1, 1, 1, 1, 1, 4, 4, 4, 4, 8, 8};
+    struct nets asked;
+    struct buffer copy = lend_copy(list, list_length);
+    for (int i = 0; i < NETS_BUFFERS; i++)
+        asked.lent[i] = lend(n[i], sizes[i]);
+    struct buffer *b = asked.lent;
+    asked.number = dustroute_nets(
+        mode, at(copy), list_length, at(b[NETS_BRANCHES]), n[NETS_BRANCHES], at(b[NETS_LENGTHS]), n[NETS_LENGTHS], at(b[OWNERS]), n[OWNERS],
+        at(b[NETS_REPEATERS]), n[NETS_REPEATERS], at(b[LAID_KINDS]), n[LAID_KINDS], at(b[LAID_FACINGS]), n[LAID_FACINGS],
+        at(b[NETS_OCCUPIED]), n[NETS_OCCUPIED], at(b[PLANNED_WORK]), n[PLANNED_WORK], at(b[BEFORE_WORK]), n[BEFORE_WORK],
+        at(b[ROOM_WORK]), n[ROOM_WORK], at(b[NETS_BLOCKED]), n[NETS_BLOCKED], at(b[NETS_CLASSES]), n[NETS_CLASSES],
+        at(b[NETS_JOINABLE]), n[NETS_JOINABLE], at(b[NETS_KNOWN]), n[NETS_KNOWN], at(b[NETS_PREVIOUS]), n[NETS_PREVIOUS],
+        at(b[NETS_PATH]), n[NETS_PATH], at(b[NETS_BEST]), n[NETS_BEST], at(b[NETS_QUEUE]), n[NETS_QUEUE],
+        at(b[NETS_VALUES]), n[NETS_VALUES]);
+    expect_kept(copy, list, b, NETS_BUFFERS);
+    return asked;
+}
+
+static void free_nets(struct nets asked) {
+    for (int i = 0; i < NETS_BUFFERS; i++)
+        give_back(asked.lent[i]);
+}
+
+/* Lengths for a room of so many cells and so many nets of one sink; all longer by `more`. */
+static void nets_lengths(size_t n[NETS_BUFFERS], size_t cells, size_t nets, size_t more) {
+    for (int i = 0; i < NETS_BUFFERS; i++)
+        n[i] = cells + more;
+    n[NETS_BRANCHES] = nets * (cells + 1) + more;
+    n[NETS_LENGTHS] = nets * NET_LENGTHS + more;
+    n[NETS_QUEUE] = DUSTROUTE_QUEUE_LENGTH(cells) + (more > 0);
+    n[NETS_VALUES] = NETS_TOLD + more;
+}
+
+/* The first three values, and zeros or rubbish behind them. */
+static void expect_told(struct nets asked, uint64_t detail, uint64_t net, uint64_t count, uint8_t behind) {
+    struct buffer values = asked.lent[NETS_VALUES];
+    const uint64_t *told = at(values);
+    EXPECT(told[0] == detail && told[1] == net && told[2] == count);
+    EXPECT(all(values.elements + 8 * NETS_TOLD, 8 * (values.length - NETS_TOLD), behind));
+}
+
+/* A number of a net: 1 to 6 leave all but the first three values as it was, others leave zeros. */
+static void expect_net_refused(
+    const uint8_t *list, size_t length, const size_t n[NETS_BUFFERS], uint32_t number, uint64_t detail, uint64_t net) {
+    struct nets asked = nets_of(DUSTROUTE_PUBLISHED, list, length, n);
+    EXPECT(asked.number == number);
+    expect_told(asked, detail, net, 0, number <= DUSTROUTE_BUFFER ? RUBBISH : 0);
+    for (int i = 0; i < NETS_VALUES; i++)
+        EXPECT(number <= DUSTROUTE_BUFFER ? untouched(asked.lent[i]) : cleared(asked.lent[i]));
+    free_nets(asked);
+}
+
+/* Nets of one branch each, which have these lengths and cells one behind another; and the room that they are laid into. */
+struct laid {
+    size_t nets, lengths[2], branches[5], cells;
+    uint32_t owners[6];
+    uint8_t kinds[6], facings[6];
+};
+
+static void expect_laid(const uint8_t *list, size_t length, size_t more, const struct laid *due) {
+    size_t n[NETS_BUFFERS], used = 0;
+    nets_lengths(n, due->cells, due->nets, more);
+    struct nets asked = nets_of(more ? DUSTROUTE_STRICT : DUSTROUTE_PUBLISHED, list, length, n);
+    const uint32_t *branches = at(asked.lent[NETS_BRANCHES]), *lengths = at(asked.lent[NETS_LENGTHS]), *owners = at(asked.lent[OWNERS]);
+    const uint8_t *kinds = at(asked.lent[LAID_KINDS]), *facings = at(asked.lent[LAID_FACINGS]);
+    EXPECT(asked.number == DUSTROUTE_DONE);
+    expect_told(asked, 0, 0, due->nets, 0);
+    for (size_t i = 0; i < n[NETS_LENGTHS]; i++)
+        EXPECT(lengths[i] == (i % NET_LENGTHS == 0 && i / NET_LENGTHS < due->nets ? due->lengths[i / NET_LENGTHS] : 0));
+    for (size_t i = 0; i < due->nets; i++)
+        used += due->lengths[i];
+    for (size_t i = 0; i < n[NETS_BRANCHES]; i++)
+        EXPECT(branches[i] == (i < used ? due->branches[i] : 0));
+    for (size_t i = 0; i < due->cells + more; i++) {
+        bool inside = i < due->cells;
+        EXPECT(owners[i] == (inside ? due->owners[i] : 0));
+        EXPECT(kinds[i] == (inside ? due->kinds[i] : 0) && facings[i] == (inside ? due->facings[i] : 0));
+    }
+    EXPECT(cleared(asked.lent[NETS_REPEATERS]));
+    for (int i = NETS_OCCUPIED; i < NETS_VALUES; i++)
+        EXPECT(cleared(asked.lent[i]));
+    free_nets(asked);
+}
+
+/* Writes the sheet of a net from one cell to another, where it may face; without a sink where `sinks` is 0. */
+static size_t net_sheet(uint8_t *out, const uint8_t sides[3], const uint8_t from[3], int sinks, const uint8_t to[3], uint8_t facing) {
+    memcpy(out, ROW, sizeof ROW);
+    memcpy(out + 5, sides, 3);
+    memcpy(out + 34, from, 3);
+    out[SINK_COUNT] = (uint8_t)sinks;
+    memcpy(out + SINK_COUNT + 1, to, 3);
+    out[SINK_FACING] = facing;
+    size_t length = sinks ? sizeof ROW : SINK_COUNT + 1;
+    out[REST_LENGTH] = (uint8_t)(length - 5);
+    return length;
+}
+
+/* Sample l of docs/RULES.md: a row of six with a Solid block at its end, which is powered from the west. */
+static const uint8_t SAMPLE_L[52] = {
+    1, 0, 0, 0, 47, 6, 1, 1, 0, 0, 0x75, 0x30, 0, 0, 0, 10, 0, 0, 0, 25, 0, 0, 0, 15,
+    0, 1, 0, 0, 5, 0, 0, 1, 0, 0, 0, 0, 0, 0, 0, 0, 0, 0, 0, 0, 0, 0, 1, 5, 0, 0, 1, 4};
+
+static const uint8_t SQUARE[3] = {2, 2, 1}, LOW_0[3] = {0, 0, 0}, LOW_1[3] = {1, 0, 0}, HIGH_0[3] = {0, 1, 0}, HIGH_1[3] = {1, 1, 0};
+
+static void check_laid(void) {
+    static const struct laid sample = {1, {5}, {0, 1, 2, 3, 4}, 6, {1, 1, 1, 1, 1, 0}, {3, 3, 3, 3, 5, 1}, {0, 0, 0, 0, 2, 0}};
+    static const struct laid upper = {2, {2, 2}, {1, 3, 0, 2}, 4, {2, 1, 2, 1}, {2, 3, 2, 3}, {0}};
+    static const struct laid lower = {2, {2, 2}, {0, 2, 1, 3}, 4, {1, 2, 1, 2}, {3, 3, 3, 3}, {0}};
+    uint8_t list[2 * sizeof ROW];
+    for (size_t more = 0; more < 24; more += 23) {
+        expect_laid(SAMPLE_L, sizeof SAMPLE_L, more, &sample);
+        /* the upper net's supports stand where the lower one's wire would lie */
+        size_t length = net_sheet(list, SQUARE, HIGH_0, 1, HIGH_1, 0);
+        expect_laid(list, length + net_sheet(list + length, SQUARE, LOW_0, 1, LOW_1, 0), more, &upper);
+        net_sheet(list, SQUARE, LOW_0, 1, LOW_1, 0);
+        expect_laid(list, length + net_sheet(list + length, SQUARE, HIGH_0, 1, HIGH_1, 0), more, &lower);
+    }
+}
+
+static void check_nets_refused(void) {
+    static const uint8_t one[3] = {1, 1, 1}, low[3] = {1, 2, 3}, at_1[3] = {0, 0, 1}, at_4[3] = {0, 1, 1};
+    uint8_t list[2 * sizeof ROW];
+    size_t n[NETS_BUFFERS];
+    nets_lengths(n, 6, 2, 3);
+    expect_net_refused(list, 0, n, DUSTROUTE_SHEET, 0, 0); /* no bytes */
+    size_t length = net_sheet(list, one, LOW_0, 0, LOW_0, 0);
+    expect_net_refused(list, length + net_sheet(list + length, one, LOW_0, 0, LOW_0, 0), n, NETS_OVERLAP, 0, 1);
+    length = net_sheet(list, low, LOW_0, 1, at_4, 3);
+    expect_net_refused(list, length + net_sheet(list + length, low, HIGH_0, 1, at_1, 0), n, NETS_OVERLAP, 1, 1);
+    length = net_sheet(list, SQUARE, LOW_0, 1, LOW_1, 0);
+    size_t both = length + net_sheet(list + length, SQUARE, HIGH_0, 1, HIGH_1, 2);
+    expect_net_refused(list, both, n, DUSTROUTE_END_OUTSIDE, 1, 1);
+    n[NETS_LENGTHS] = 2 * NET_LENGTHS - 1; /* before that net's 9 */
+    expect_net_refused(list, both, n, DUSTROUTE_BUFFER, 0, 1);
+    for (size_t cut = length + 1; cut < both; cut++)
+        expect_net_refused(list, cut, n, DUSTROUTE_SHEET, 0, 1);
+    nets_lengths(n, 4, 2, 0);
+    net_sheet(list + length, SQUARE, HIGH_0, 1, HIGH_1, 0);
+    n[NETS_BRANCHES] = 3;
+    expect_net_refused(list, both, n, DUSTROUTE_BRANCHES_FULL, 1, 1);
+    list[length + 5] = 3; /* other sides */
+    expect_net_refused(list, both, n, DUSTROUTE_SHEET, 0, 1);
+}
+
+/* Each buffer that is judged with net 0 one short, then of length 0. */
+static void check_short_nets(void) {
+    size_t n[NETS_BUFFERS];
+    for (int i = OWNERS; i < NETS_BUFFERS; i++)
+        for (int none = 0; none < 2; none++) {
+            nets_lengths(n, 6, 1, i % 2);
+            n[i] = none ? 0 : i == NETS_QUEUE ? 1 : i == NETS_VALUES ? NETS_TOLD - 1 : 5;
+            if (i < NETS_VALUES) {
+                expect_net_refused(SAMPLE_L, sizeof SAMPLE_L, n, DUSTROUTE_BUFFER, 0, 0);
+                expect_net_refused(SAMPLE_L, sizeof SAMPLE_L - 1, n, DUSTROUTE_SHEET, 0, 0);
+                continue;
+            }
+            struct nets asked = nets_of(DUSTROUTE_STRICT, SAMPLE_L, sizeof SAMPLE_L, n);
+            EXPECT(asked.number == DUSTROUTE_BUFFER);
+            for (int j = 0; j < NETS_BUFFERS; j++)
+                EXPECT(untouched(asked.lent[j]));
+            free_nets(asked);
+        }
+}
+
+/* Every byte of a list of two at many values: whatever comes, it stays within the buffers. */
+static void check_damaged_nets(void) {
+    uint8_t list[2 * sizeof ROW], damaged[2 * sizeof ROW];
+    size_t n[NETS_BUFFERS], length = net_sheet(list, SQUARE, LOW_0, 1, LOW_1, 0);
+    length += net_sheet(list + length, SQUARE, HIGH_0, 1, HIGH_1, 0);
+    nets_lengths(n, 4, 2, 0);
+    for (size_t place = 0; place < length; place++)
+        for (int byte = 0; byte < 256; byte += byte < 16 ? 1 : 15) {
+            memcpy(damaged, list, length);
+            damaged[place] = (uint8_t)byte;
+            struct nets asked = nets_of(DUSTROUTE_PUBLISHED, damaged, length, n);
+            EXPECT(asked.number <= NETS_OVERLAP);
+            free_nets(asked);
+        }
+}
+
 /* ---- a function file */
 
 static const char WIRES[] = "setblock ~ ~ ~ minecraft:redstone_wire replace\nsetblock ~2 ~ ~ minecraft:redstone_wire replace\n";
@@ -1052,12 +1248,16 @@ int main(void) {
         check_arena();
         check_modes();
         check_tree_why();
+        check_laid();
+        check_nets_refused();
+        check_short_nets();
         check_functions();
         check_write_sheet();
     }
     check_longest_sheet();
     check_damaged();
     check_damaged_in_arena();
+    check_damaged_nets();
     if (failures == 0)
         printf("check.c: all as promised\n");
     return failures != 0;

@@ -71,10 +71,11 @@ pub enum End {
     Sink(u32),
 }
 
-/// Why there is no route, no sheet, no tree, no text or no room.
+/// Why there is no route, no sheet, no tree, no nets, no text or no room.
 #[derive(Clone, Copy, Debug, Eq, PartialEq)]
 pub enum Refusal {
-    /// 1: the sheet's length, version or counts, bytes left over, over 16 sinks; a job that is too long for a sheet.
+    /// 1: the sheet's length, version or counts, bytes left over, over 16 sinks; a job that is too long for a sheet; of a list also other sides
+    /// or other blocks than its first sheet has.
     Sheet,
     /// 2: a side or the number of cells is out of range.
     Sides,
@@ -104,6 +105,8 @@ pub enum Refusal {
     NoGoal { approach: u32 },
     /// 15: the branches exceed the branch buffer.
     BranchesFull { sink: u32 },
+    /// 16: a net of a list lies in a cell that one before it occupies.
+    NetOverlap { cell: u32 },
     /// 18: a function file's text is longer than its buffer.
     TextShort,
     /// 19: no function file of the room has this line there; lines count from 1.
@@ -130,6 +133,7 @@ impl Refusal {
             13 => Self::QueueFull(Nodes(detail)),
             14 => Self::NoGoal { approach: detail },
             15 => Self::BranchesFull { sink: detail },
+            16 => Self::NetOverlap { cell: detail },
             18 => Self::TextShort,
             19 => Self::BadLine { line: detail },
             _ => unreachable!("the router has no number {number}"),
@@ -158,6 +162,7 @@ impl Refusal {
             Self::QueueFull(_) => 13,
             Self::NoGoal { .. } => 14,
             Self::BranchesFull { .. } => 15,
+            Self::NetOverlap { .. } => 16,
             Self::TextShort => 18,
             Self::BadLine { .. } => 19,
         }
@@ -168,7 +173,7 @@ impl Refusal {
             Self::Sheet | Self::Sides | Self::Config | Self::Position | Self::Code | Self::Buffer | Self::TextShort => 0,
             Self::PortFacing(end) | Self::EndOutside(end) => end.place(),
             Self::NoRoute(nodes) | Self::LimitPassed(nodes) | Self::QueueFull(nodes) => nodes.0,
-            Self::Overlap { cell } | Self::NotRouteable { cell } => cell,
+            Self::Overlap { cell } | Self::NotRouteable { cell } | Self::NetOverlap { cell } => cell,
             Self::NoGoal { approach } => approach,
             Self::BranchesFull { sink } => sink,
             Self::BadLine { line } => line,
@@ -268,6 +273,7 @@ impl fmt::Display for Refusal {
             Self::QueueFull(nodes) => write!(out, "the queue was full after {} cells", nodes.0),
             Self::NoGoal { approach } => write!(out, "no way was found to the sink that is approached from cell {approach}"),
             Self::BranchesFull { sink } => write!(out, "the branches up to sink {sink} have more cells than the branch buffer holds"),
+            Self::NetOverlap { cell } => write!(out, "another net of the list lies in cell {cell} already"),
             Self::TextShort => write!(out, "the text of the room is longer than the buffer"),
             Self::BadLine { line } => write!(out, "line {line} is none that a function file of this room has there"),
         }

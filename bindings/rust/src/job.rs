@@ -260,6 +260,27 @@ impl Sheet {
         Some(Room { wide, high, deep })
     }
 
+    /// How long a sheet says that it is, in bytes that begin with one and go that far.
+    pub(crate) fn said_length(bytes: &[u8]) -> Option<usize> {
+        let rest: [u8; 4] = *bytes.get(1..)?.first_chunk()?;
+        Some(Self::SIDES + u32::from_be_bytes(rest) as usize)
+    }
+
+    /// How many sinks the sheet names, if it is just as long as that asks for: another is refused.
+    pub(crate) fn sink_count(&self) -> Option<usize> {
+        let position = 3 * self.side_bytes();
+        let limit = usize::from(self.bytes.first()? != &1);
+        // behind the sides stand four numbers, and then the run limit
+        let mut at = Self::SIDES + position + 16 + limit;
+        for record in [position + 4, position, position, position, position] {
+            let count: [u8; 2] = *self.bytes.get(at..)?.first_chunk()?;
+            at += 2 + record * usize::from(u16::from_be_bytes(count));
+        }
+        let source = position + 2;
+        let sinks = usize::from(*self.bytes.get(at + source)?);
+        (self.bytes.len() == at + source + 1 + sinks * (source + limit)).then_some(sinks)
+    }
+
     fn side_bytes(&self) -> usize {
         if self.bytes.first() == Some(&Self::OF_HALLS) { 2 } else { 1 }
     }

@@ -1,5 +1,6 @@
 //! The memory that the router is lent. [`crate::search`], [`crate::why`], [`crate::plain`], [`crate::write_sheet`], [`crate::route_tree`],
-//! [`crate::place_repeaters`] and the functions over a function file make their own; here a caller keeps it from one call to the next, or lends another length. Any length and any content is lawful: what is too short is refused.
+//! [`crate::route_nets`], [`crate::place_repeaters`] and the functions over a function file make their own; here a caller keeps it from one call to the
+//! next, or lends another length. Any length and any content is lawful: what is too short is refused.
 
 use crate::answer::{Cost, Nodes, PlainRefusal, PlainRoute, Refusal, Route, Tree};
 use crate::ffi::{dustroute_plain, dustroute_search, dustroute_tree, dustroute_tree_mode, dustroute_tree_why, dustroute_why};
@@ -9,6 +10,7 @@ use crate::tree_why::{ShutIn, TreeWhy, Unreached, Verdict};
 use crate::why::{MOVES, Walled, WalledIn, Why};
 
 pub use crate::function::{FUNCTION_VALUES, LINE_BYTES, ReadMemory, WriteMemory};
+pub use crate::nets::{NET_LENGTHS, NETS_VALUES, NetsLengths, NetsMemory};
 pub use crate::plan::{PLAN_VALUES, PlanMemory};
 pub use crate::sheet::{SheetMemory, WRITE_VALUES};
 
@@ -20,7 +22,7 @@ pub const TREE_VALUES: usize = 20;
 pub const TREE_WHY_VALUES: usize = 22;
 
 /// A place of the queue takes two numbers.
-const NUMBERS_A_PLACE: usize = 2;
+pub(crate) const NUMBERS_A_PLACE: usize = 2;
 
 /// The highest node limit that isn't refused.
 const MAX_LIMIT: u32 = 800_000;

@@ -1,7 +1,8 @@
-//! DustRoute's router for one net, proved in Rattle, behind safe functions: [`search`] looks for one route in a room of kinds, [`why`]
+//! DustRoute's router, proved in Rattle, behind safe functions: [`search`] looks for one route in a room of kinds, [`why`]
 //! tells the reason as well where there is none, [`plain`] looks for a cheapest route by other means, to check against,
 //! [`write_sheet`], or [`Job::sheet`], writes a job sheet, [`route_tree`] makes the tree that a job sheet asks for, [`route_tree_in`] in strict mode as well, and [`why_tree`] tells why a sink
-//! wasn't reached. [`place_repeaters`] plans the repeaters of branches that are given.
+//! wasn't reached. [`route_nets`] routes several nets over one room, one after another, and lays them into it. [`place_repeaters`] plans the
+//! repeaters of branches that are given.
 //! [`materialize_route`] and [`insert_repeaters`] draw one route into a room of kinds. [`write_function`] writes a room
 //! as the text of commands that lays it in the game, and [`read_function`] reads one.
 //!
@@ -17,6 +18,7 @@ mod function;
 mod job;
 pub mod lent;
 mod mode;
+mod nets;
 mod plan;
 mod sheet;
 mod tree_why;
@@ -27,12 +29,16 @@ pub use draw::{Repeater, insert_repeaters, materialize_route};
 pub use function::LaidRoom;
 pub use job::{Block, Code, Config, Costs, Endpoint, Facing, Job, Kind, Port, Position, Room, Sheet, Sink};
 pub use mode::Mode;
+pub use nets::{NetRefusal, Nets};
 pub use plan::Net;
 pub use sheet::Parts;
 pub use tree_why::{Cause, ShutIn, TreeWhy, Unreached, Verdict};
 pub use why::{MOVES, Reason, Wall, WalledIn, Why};
 
-use lent::{LINE_BYTES, PlainMemory, PlanMemory, ReadMemory, SearchMemory, SheetMemory, TreeMemory, TreeWhyMemory, WhyMemory, WriteMemory};
+use lent::{
+    LINE_BYTES, NetsMemory, PlainMemory, PlanMemory, ReadMemory, SearchMemory, SheetMemory, TreeMemory, TreeWhyMemory, WhyMemory,
+    WriteMemory,
+};
 
 /// One search from cell `start` to cell `goal` in a room whose cells hold `kinds`, one for each cell in number order: a slice of
 /// [`Kind`] or of bytes.
@@ -70,6 +76,15 @@ pub fn route_tree_in(mode: Mode, sheet: &Sheet) -> Result<Tree, Refusal> {
 /// The same, and where a sink wasn't reached why: which one, and what may be said of it.
 pub fn why_tree(mode: Mode, sheet: &Sheet) -> TreeWhy {
     TreeWhyMemory::for_sheet(sheet).why_tree(mode, sheet)
+}
+
+/// Several nets over one room: a sheet each, all with the sides and the blocks of the first, in the same order. They are routed in this order, each
+/// clear of the nets before it and of the ends of all others; nothing is ripped up, so the first net that is refused ends the list. Then they are
+/// laid into the room: supports, wire and repeaters, net by net. A room can be laid in which a net has no wire: its cells may hold the supports of
+/// a net before it. Without a sheet the refusal is that of net 0, [`Refusal::Sheet`].
+pub fn route_nets(mode: Mode, sheets: &[Sheet]) -> Result<Nets, NetRefusal> {
+    let list: Vec<u8> = sheets.iter().flat_map(|sheet| sheet.bytes()).copied().collect();
+    NetsMemory::for_list(&list).route_nets(mode, &list)
 }
 
 /// Where the repeaters of a net stand, ascending: the runs of all sinks at the run limit, and only then the tails, each at its sink's limit.

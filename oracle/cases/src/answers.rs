@@ -4,12 +4,13 @@ use std::path::PathBuf;
 
 use crate::drawing::Drawing;
 use crate::examples::{
-    drawing_cases, function_cases, limit_cases, parts_cases, plan_cases, search_cases, sheet_cases,
-    strict_cases, tree_why_cases, why_cases,
+    drawing_cases, function_cases, limit_cases, list_cases, parts_cases, plan_cases, search_cases,
+    sheet_cases, strict_cases, tree_why_cases, why_cases,
 };
 use crate::function::Function;
 use crate::generate::{self, Profile};
 use crate::limits::LimitSheet;
+use crate::lists::List;
 use crate::parts::Parts;
 use crate::plan::Plan;
 use crate::search::Search;
@@ -19,7 +20,7 @@ use crate::tree_why::TreeWhy;
 use crate::why::Why;
 
 /// A file of the samples and examples, followed by random cases of the mixed profile, function files, drawings and parts of jobs of the
-/// tiny one, plans of repeaters of the small one. It lies in the repository beside the proved program, or the tests, that replay it.
+/// tiny one, plans of repeaters and lists of nets of the small one. It lies in the repository beside the proved program, or the tests, that replay it.
 pub struct Stored {
     pub file: &'static str,
     pub seed: u64,
@@ -78,6 +79,12 @@ pub const PLANS: Stored = Stored {
     file: "tests/bindings/repeaters.bin",
     seed: 1,
     count: 500,
+};
+
+pub const LISTS: Stored = Stored {
+    file: "tests/bindings/nets.bin",
+    seed: 5,
+    count: 200,
 };
 
 pub const WRITES: Stored = Stored {
@@ -147,6 +154,12 @@ pub fn drawings() -> Vec<Drawing> {
 pub fn plans() -> Vec<Plan> {
     let random = generate::plans(PLANS.seed, PLANS.count, Profile::Small);
     plan_cases().into_iter().chain(random).collect()
+}
+
+/// The cases of `nets.bin`, made anew.
+pub fn lists() -> Vec<List> {
+    let random = generate::lists(LISTS.seed, LISTS.count, Profile::Small);
+    list_cases().into_iter().chain(random).collect()
 }
 
 /// The cases of `writes.bin`, made anew.

@@ -1,13 +1,14 @@
 //! Small cases beside the samples, each for one rule: open points as docs/DECISIONS.md settles them, every refusal, and the
 //! order in which refusals are judged. Searches stand here, sheets in `trees`, those at any limits in `limits`, sheets for both modes in `modes`, the reasons of
 //! searches in `reasons`, those of sheets in `sinks`, function files in `functions`, routes drawn in `drawings`, parts of jobs in `parts`,
-//! repeaters in one call in `plans`.
+//! repeaters in one call in `plans`, lists of nets in `nets`.
 //! Whoever answers cases can run them.
 
 mod drawings;
 mod functions;
 mod limits;
 mod modes;
+mod nets;
 mod parts;
 mod plans;
 mod reasons;
@@ -18,6 +19,7 @@ pub use drawings::{drawing_cases, drawings};
 pub use functions::{function_cases, functions};
 pub use limits::{limit_cases, limits};
 pub use modes::{modes, strict_cases};
+pub use nets::{list_cases, lists};
 pub use parts::{parts, parts_cases};
 pub use plans::{plan_cases, plans};
 pub use reasons::{why_cases, whys};

@@ -1,12 +1,13 @@
-//! Files of cases, big-endian throughout. `DRS1`, `DRT1`, `DRM1`, `DRW1`, `DRY1`, `DRF1`, `DRD1`, `DRR1` and `DRP1` hold searches, sheets, sheets
-//! in strict mode, searches with their reason, sheets with theirs, function files, drawings, plans of repeaters and parts of jobs, each with its
-//! answer;
-//! with 0 in place of 1 the same records without answers.
+//! Files of cases, big-endian throughout. `DRS1`, `DRT1`, `DRM1`, `DRW1`, `DRY1`, `DRF1`, `DRD1`, `DRR1`, `DRP1` and `DRN1` hold searches, sheets,
+//! sheets in strict mode, searches with their reason, sheets with theirs, function files, drawings, plans of repeaters, parts of jobs and lists
+//! of nets, each with its answer; with 0 in place of 1 the same records without answers.
 
 use crate::Refusal;
 use crate::drawing::{Drawing, DrawingAnswer, Repeater};
 use crate::function::{Function, FunctionAnswer, Laid, Reading, Writing};
 use crate::limits::LimitSheet;
+use crate::lists::{List, NetRefusal};
+use crate::nets::{LaidNets, ListAnswer};
 use crate::parts::{Parts, PartsAnswer};
 use crate::plan::{Plan, PlanAnswer};
 use crate::room::Config;
@@ -154,6 +155,20 @@ impl<'a> Input<'a> {
     fn refusal(&mut self) -> Result<Refusal, String> {
         Ok(Refusal::new(self.byte()?, self.number()?))
     }
+
+    fn mode(&mut self) -> Result<Mode, String> {
+        match self.byte()? {
+            0 => Ok(Mode::Published),
+            1 => Ok(Mode::Strict),
+            other => Err(format!("no mode: {other}")),
+        }
+    }
+
+    /// A one-byte count and that many branches.
+    fn branches(&mut self) -> Result<Vec<Vec<u16>>, String> {
+        let count = self.byte()?;
+        (0..count).map(|_| self.cells()).collect()
+    }
 }
 
 fn put(out: &mut Vec<u8>, number: usize) {
@@ -194,6 +209,18 @@ fn put_told(out: &mut Vec<u8>, reached: &[Told]) {
         out.extend(told.cell.to_be_bytes());
         out.extend(told.moves);
     }
+}
+
+/// A one-byte count, and so many branches.
+fn put_branches(out: &mut Vec<u8>, branches: &[Vec<u16>]) {
+    out.push(branches.len() as u8);
+    for branch in branches {
+        put_cells(out, branch);
+    }
+}
+
+fn put_mode(out: &mut Vec<u8>, mode: Mode) {
+    out.push(u8::from(mode == Mode::Strict));
 }
 
 /// Number and detail: those of a refusal, or both 0.
@@ -308,10 +335,7 @@ impl Case for Sheet {
                 repeaters,
             } => {
                 put_refusal(out, NO_REFUSAL);
-                out.push(branches.len() as u8);
-                for branch in branches {
-                    put_cells(out, branch);
-                }
+                put_branches(out, branches);
                 put32(out, *occupied);
                 put_cells(out, repeaters);
             }
@@ -320,16 +344,11 @@ impl Case for Sheet {
 
     fn read_answer(input: &mut Input) -> Result<TreeAnswer, String> {
         match input.refusal()? {
-            NO_REFUSAL => {
-                let count = input.byte()?;
-                Ok(TreeAnswer::Tree {
-                    branches: (0..count)
-                        .map(|_| input.cells())
-                        .collect::<Result<_, _>>()?,
-                    occupied: input.number()?,
-                    repeaters: input.cells()?,
-                })
-            }
+            NO_REFUSAL => Ok(TreeAnswer::Tree {
+                branches: input.branches()?,
+                occupied: input.number()?,
+                repeaters: input.cells()?,
+            }),
             refusal @ (Refusal {
                 number: 1..=6,
                 detail: 0,
@@ -431,7 +450,7 @@ impl Case for TreeWhy {
     const ANSWERED: [u8; 4] = *b"DRY1";
 
     fn write(&self, out: &mut Vec<u8>) {
-        out.push(u8::from(self.mode == Mode::Strict));
+        put_mode(out, self.mode);
         self.sheet.write(out);
         put32(out, self.reached);
         put32(out, self.walls);
@@ -440,11 +459,7 @@ impl Case for TreeWhy {
 
     fn read(input: &mut Input) -> Result<Self, String> {
         Ok(Self {
-            mode: match input.byte()? {
-                0 => Mode::Published,
-                1 => Mode::Strict,
-                other => return Err(format!("no mode: {other}")),
-            },
+            mode: input.mode()?,
             sheet: Sheet::read(input)?,
             reached: input.number()?,
             walls: input.number()?,
@@ -754,6 +769,79 @@ impl Case for Plan {
             }
             | Refusal { number: 8 | 9, .. }) => Ok(PlanAnswer::Refused(refusal)),
             refusal => Err(format!("no answer of a plan: {refusal:?}")),
+        }
+    }
+}
+
+impl Case for List {
+    type Answer = ListAnswer;
+    const BARE: [u8; 4] = *b"DRN0";
+    const ANSWERED: [u8; 4] = *b"DRN1";
+
+    fn write(&self, out: &mut Vec<u8>) {
+        put_mode(out, self.mode);
+        for length in [self.queue, self.branch, self.lengths, self.lent] {
+            put32(out, length);
+        }
+        put_bytes(out, &self.bytes);
+    }
+
+    fn read(input: &mut Input) -> Result<Self, String> {
+        Ok(Self {
+            mode: input.mode()?,
+            queue: input.number()?,
+            branch: input.number()?,
+            lengths: input.number()?,
+            lent: input.number()?,
+            bytes: input.counted_bytes()?,
+        })
+    }
+
+    fn write_answer(answer: &ListAnswer, out: &mut Vec<u8>) {
+        match answer {
+            ListAnswer::Refused(refused) => {
+                put_refusal(out, refused.refusal);
+                put(out, refused.net);
+            }
+            ListAnswer::Nets(laid) => {
+                put_refusal(out, NO_REFUSAL);
+                put(out, laid.nets.len());
+                for branches in &laid.nets {
+                    put_branches(out, branches);
+                }
+                put_numbers(out, &laid.owners);
+                put_cells(out, &laid.repeaters);
+                put_bytes(out, &laid.kinds);
+                put_bytes(out, &laid.facings);
+            }
+        }
+    }
+
+    fn read_answer(input: &mut Input) -> Result<ListAnswer, String> {
+        let refusal = input.refusal()?;
+        let number = input.number()?;
+        match refusal {
+            NO_REFUSAL => Ok(ListAnswer::Nets(LaidNets {
+                nets: (0..number)
+                    .map(|_| input.branches())
+                    .collect::<Result<_, _>>()?,
+                owners: input.numbers()?,
+                repeaters: input.cells()?,
+                kinds: input.counted_bytes()?,
+                facings: input.counted_bytes()?,
+            })),
+            Refusal {
+                number: 1..=6,
+                detail: 0,
+            }
+            | Refusal {
+                number: 7..=9 | 13..=16,
+                ..
+            } => Ok(ListAnswer::Refused(NetRefusal {
+                net: number as usize,
+                refusal,
+            })),
+            _ => Err(format!("no answer of a list: {refusal:?}")),
         }
     }
 }

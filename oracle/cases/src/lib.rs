@@ -15,6 +15,7 @@ pub mod generate;
 pub mod laying;
 pub mod limits;
 pub mod lists;
+pub mod nets;
 pub mod parts;
 pub mod plan;
 pub mod reading;

@@ -6,6 +6,8 @@ use std::fmt::Display;
 use crate::conflict::stairs;
 use crate::drawing::{Drawing, DrawingAnswer};
 use crate::function::{Function, FunctionAnswer};
+use crate::lists::{List, sheets};
+use crate::nets::{LaidNets, ListAnswer};
 use crate::parts::{Parts, PartsAnswer, SINK};
 use crate::plan::{Plan, PlanAnswer};
 use crate::repeaters::from_source;
@@ -125,6 +127,53 @@ pub fn count_plan(tally: &mut Tally, case: &Plan, answer: &PlanAnswer) {
         .collect();
     let cells: BTreeSet<_> = steps.iter().flatten().collect();
     tally.add_if("rings", steps.len() >= cells.len() && !steps.is_empty());
+}
+
+/// Counts a list of nets.
+pub fn count_list(tally: &mut Tally, case: &List, answer: &ListAnswer) {
+    tally.add("lists");
+    let mode = match case.mode {
+        Mode::Published => "published",
+        Mode::Strict => "strict",
+    };
+    let laid = match answer {
+        ListAnswer::Refused(refused) => {
+            tally.add(format!("number {:>2}", refused.refusal.number));
+            tally.add_if("refused: not net 0", refused.net > 0);
+            return;
+        }
+        ListAnswer::Nets(laid) => laid,
+    };
+    tally.add("number  0: nets");
+    tally.add(format!("number  0: {mode}"));
+    tally.add(match laid.nets.len() {
+        count @ 1..=8 => format!("nets: {count}"),
+        _ => "nets: 9 and more".into(),
+    });
+    let versions: BTreeSet<u8> = sheets(&case.bytes).iter().map(|sheet| sheet[0]).collect();
+    tally.add_if("nets: sheets of several versions", versions.len() > 1);
+    let judged = case.judge().expect("it has nets");
+    tally.add(size(&judged.room));
+    count_laid(tally, &judged.room, laid);
+}
+
+/// Counts what a laid room of nets shows.
+fn count_laid(tally: &mut Tally, room: &Room, laid: &LaidNets) {
+    let branches: Vec<_> = laid.nets.concat();
+    tally.add_if("laid: stairs", any_stairs(room, &branches));
+    tally.add_if("laid: planned repeaters", !laid.repeaters.is_empty());
+    let repeaters = laid.kinds.iter().zip(&laid.owners);
+    let repeaters = repeaters.filter(|(held, owner)| **held == kind::REPEATER && **owner > 0);
+    tally.add_if(
+        "laid: a BlockPower sink's repeater",
+        repeaters.count() > laid.repeaters.len(),
+    );
+    let bare = |net: u32| {
+        let mut held = (0..room.cells()).filter(|cell| laid.owners[*cell] == net);
+        held.all(|cell| matches!(laid.kinds[cell], kind::SOLID | kind::TRANSPARENT))
+    };
+    let bare = (1..=laid.nets.len() as u32).any(bare);
+    tally.add_if("laid: a net whose cells hold supports alone", bare);
 }
 
 /// Counts a drawing.

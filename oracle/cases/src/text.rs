@@ -5,6 +5,8 @@ use std::fmt::Write;
 use crate::Refusal;
 use crate::drawing::{Drawing, DrawingAnswer};
 use crate::function::{Function, FunctionAnswer};
+use crate::lists::{List, sheets};
+use crate::nets::ListAnswer;
 use crate::parts::{Parts, PartsAnswer};
 use crate::plan::{Plan, PlanAnswer};
 use crate::room::{Config, kind};
@@ -112,6 +114,48 @@ pub fn function_answer_lines(answer: &FunctionAnswer) -> String {
             listed(&laid.facings)
         ),
     }
+}
+
+/// A list's mode, what is lent, and its sheets, each with the number of its net.
+pub fn list_lines(case: &List) -> String {
+    let strict = case.mode == Mode::Strict;
+    let mut text = format!(
+        "strict {strict}\nqueue {}\nbranch {}\nlengths {}\nlent {}\nbytes {}\n",
+        case.queue,
+        case.branch,
+        case.lengths,
+        case.lent,
+        case.bytes.len()
+    );
+    for (net, bytes) in sheets(&case.bytes).into_iter().enumerate() {
+        text += &format!("net {net} bytes {}\n{}", bytes.len(), bytes_lines(bytes));
+    }
+    text
+}
+
+/// `nets` with their count, of each net `net` with its number and a line for each branch; `owners`, `repeaters`, `kinds` and `facings`; or `refused`
+/// with number and detail, and the net.
+pub fn list_answer_lines(answer: &ListAnswer) -> String {
+    let laid = match answer {
+        ListAnswer::Refused(told) => {
+            return format!("net {}\n{}", told.net, refused(&told.refusal));
+        }
+        ListAnswer::Nets(laid) => laid,
+    };
+    let mut text = format!("nets {}\n", laid.nets.len());
+    for (net, branches) in laid.nets.iter().enumerate() {
+        text += &format!("net {net}\n");
+        for branch in branches {
+            text += &format!("branch{}\n", listed(branch));
+        }
+    }
+    text + &format!(
+        "owners{}\nrepeaters{}\nkinds{}\nfacings{}\n",
+        listed(&laid.owners),
+        listed(&laid.repeaters),
+        listed(&laid.kinds),
+        listed(&laid.facings)
+    )
 }
 
 /// A net of which repeaters are asked, for a reader.
@@ -391,15 +435,17 @@ pub fn sheet_lines(case: &Sheet) -> String {
         lent,
         bytes,
     } = case;
-    let mut text = format!(
-        "queue {queue}\nbranch {branch}\nlent {lent}\nbytes {}\n",
-        bytes.len()
-    );
+    let size = bytes.len();
+    let job = bytes_lines(bytes);
+    format!("queue {queue}\nbranch {branch}\nlent {lent}\nbytes {size}\n{job}")
+}
+
+/// The job of a sheet's bytes, or where it has number 1 the bytes.
+fn bytes_lines(bytes: &[u8]) -> String {
     match Job::read(bytes) {
-        Ok(job) => text += &job_lines(&job),
-        Err(_) => text += &format!("hex{}\n", listed(hex_words(bytes))),
+        Ok(job) => job_lines(&job),
+        Err(_) => format!("hex{}\n", listed(hex_words(bytes))),
     }
-    text
 }
 
 /// The first bytes, in hex.

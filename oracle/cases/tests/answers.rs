@@ -4,14 +4,16 @@ use std::collections::BTreeMap;
 use std::fmt::Debug;
 
 use cases::answers::{
-    DRAWINGS, FUNCTIONS, LIMIT_SHEETS, PLANS, SEARCHES, SHEETS, STRICT_SHEETS, Stored, TREE_WHYS,
-    WHYS, WRITES, drawings, functions, limit_sheets, plans, searches, sheets, strict_sheets,
-    tree_whys, whys, writes,
+    DRAWINGS, FUNCTIONS, LIMIT_SHEETS, LISTS, PLANS, SEARCHES, SHEETS, STRICT_SHEETS, Stored,
+    TREE_WHYS, WHYS, WRITES, drawings, functions, limit_sheets, lists, plans, searches, sheets,
+    strict_sheets, tree_whys, whys, writes,
 };
 use cases::drawing::{Drawing, DrawingAnswer};
 use cases::files::{Case, read};
 use cases::function::Function;
 use cases::limits::LimitSheet;
+use cases::lists::List;
+use cases::nets::ListAnswer;
 use cases::parts::Parts;
 use cases::plan::{Plan, PlanAnswer};
 use cases::room::MOST_CELLS;
@@ -168,6 +170,20 @@ fn stored_plans() {
         |answer: &PlanAnswer| matches!(answer, PlanAnswer::Repeaters(cells) if cells.len() >= 2);
     let several = stored.iter().filter(|(_, answer)| several(answer));
     assert!(several.count() >= 30);
+}
+
+#[test]
+fn stored_lists() {
+    let stored = agreed(&LISTS, lists(), List::plain_answer);
+    let numbers = || stored.iter().map(|(_, answer)| answer.number());
+    let due = [0, 1, 2, 3, 4, 5, 6, 7, 8, 9, 13, 14, 15, 16];
+    is_common(&due, 3, numbers());
+    is_common(&[0], 80, numbers());
+    let counts = stored.iter().filter_map(|(_, answer)| match answer {
+        ListAnswer::Nets(laid) => Some(laid.nets.len() as u8),
+        ListAnswer::Refused(_) => None,
+    });
+    is_common(&[1, 2, 3, 4, 5, 6, 7, 8], 3, counts);
 }
 
 #[test]

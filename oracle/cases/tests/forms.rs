@@ -4,10 +4,11 @@ use cases::drawing::Drawing;
 use cases::files::{Case, read, write_answered, write_bare};
 use cases::function::Function;
 use cases::generate::{
-    Profile, drawings, functions, limit_sheets, plans, searches, sheets, strict_sheets, tree_whys,
-    whys, writes,
+    Profile, drawings, functions, limit_sheets, lists, plans, searches, sheets, strict_sheets,
+    tree_whys, whys, writes,
 };
 use cases::limits::LimitSheet;
+use cases::lists::List;
 use cases::parts::Parts;
 use cases::plan::Plan;
 use cases::room::Config;
@@ -56,6 +57,10 @@ fn some_plans() -> Vec<Plan> {
     plans(7, 300, Profile::Tiny)
 }
 
+fn some_lists() -> Vec<List> {
+    lists(7, 200, Profile::Tiny)
+}
+
 fn some_writes() -> Vec<Parts> {
     writes(7, 300, Profile::Tiny)
 }
@@ -78,6 +83,7 @@ fn bare_files_are_read_back() {
     bare_round_trip(&some_functions());
     bare_round_trip(&some_drawings());
     bare_round_trip(&some_plans());
+    bare_round_trip(&some_lists());
     bare_round_trip(&some_writes());
 }
 
@@ -107,6 +113,7 @@ fn answered_files_are_read_back() {
     answered_round_trip(&some_functions(), Function::plain_answer);
     answered_round_trip(&some_drawings(), Drawing::plain_answer);
     answered_round_trip(&some_plans(), Plan::plain_answer);
+    answered_round_trip(&some_lists(), List::plain_answer);
     answered_round_trip(&some_writes(), Parts::plain_answer);
 }
 

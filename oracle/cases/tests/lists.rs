@@ -2,7 +2,6 @@
 
 use std::collections::BTreeMap;
 
-use cases::Refusal;
 use cases::generate::{Profile, random_list};
 use cases::lists::{LENGTHS, List, NetRefusal, sheets};
 use cases::rng::Rng;
@@ -10,6 +9,7 @@ use cases::room::{facing, kind};
 use cases::samples::{block, default_job, wire};
 use cases::sheet::{Job, Sheet, TreeAnswer};
 use cases::tree::Mode;
+use cases::{Refusal, examples};
 
 /// A net of an empty room, from a cell to another, which faces so.
 fn net(sides: [u16; 3], from: [u16; 3], to: [u16; 3], facing: u8) -> Job {
@@ -25,6 +25,13 @@ fn list(jobs: &[Job]) -> List {
 fn refused(net: usize, number: u8, detail: u32) -> Option<NetRefusal> {
     let refusal = Refusal::new(number, detail);
     Some(NetRefusal { net, refusal })
+}
+
+#[test]
+fn examples_of_lists() {
+    for (place, (name, case, answer)) in examples::lists().into_iter().enumerate() {
+        assert_eq!(case.plain_answer(), answer, "{place}: {name}");
+    }
 }
 
 #[test]
@@ -165,6 +172,7 @@ fn a_net_sees_those_before_it_and_the_ends_of_all() {
 #[test]
 fn random_lists_are_of_all_sorts() {
     let mut numbers: BTreeMap<u8, usize> = BTreeMap::new();
+    let mut nets: BTreeMap<usize, usize> = BTreeMap::new();
     let mut later = 0;
     let count = 3_000;
     for index in 0..count {
@@ -173,10 +181,14 @@ fn random_lists_are_of_all_sorts() {
         let number = answer
             .as_ref()
             .map_or_else(|refused| refused.refusal.number, |_| 0);
+        if let Ok(routed) = &answer {
+            *nets.entry(routed.list.len()).or_default() += 1;
+        }
         later += usize::from(answer.is_err_and(|refused| refused.net > 0));
         *numbers.entry(number).or_default() += 1;
     }
-    println!("{numbers:?}, {later} of them not of net 0");
+    println!("{numbers:?}, {later} of them not of net 0; nets: {nets:?}");
+    assert!((1..=8).all(|count| nets.contains_key(&count)), "{nets:?}");
     for number in [0, 1, 2, 3, 4, 5, 6, 7, 8, 9, 13, 14, 15, 16] {
         assert!(
             numbers.get(&number).is_some_and(|found| *found > 0),

@@ -1,9 +1,10 @@
-//! The proved search, its reason, the plain engine, the writer, the proved tree, its reason and function files, called through their
+//! The proved search, its reason, the plain engine, the writer, the proved tree, its reason, several nets and function files, called through their
 //! archive: compared with the oracle's answers on random cases, and timed.
 
 mod bench;
 mod bench_functions;
 mod bench_modes;
+mod bench_nets;
 mod bench_plain;
 mod bench_tree_whys;
 mod bench_trees;
@@ -14,6 +15,7 @@ mod compare;
 mod compare_drawings;
 mod compare_functions;
 mod compare_modes;
+mod compare_nets;
 mod compare_plain;
 mod compare_plans;
 mod compare_repeaters;
@@ -56,6 +58,9 @@ driver compare rounds --seed N --count N [--profile P]
                 sends random jobs round in three versions of the sheet: each is answered, taken apart and written again
 driver compare drawings --seed N --count N [--profile P] [--against oracle|plain]
                 compares routes drawn and their repeaters, a fifth of the inputs damaged
+driver compare nets --seed N --count N [--profile P] [--against oracle|plain]
+                compares lists of nets, a fifth of them damaged. plain: in both modes with plain routing and laying; oracle: in the published mode with
+                each net's route_net_tree and materialize_multinet too, and with route_jobs_ripup where it takes the same order and rips up nothing
 driver compare smallest compares the smallest inputs of docs/SMALLEST.md
 driver connected --seed N --count N [--profile P]
                 tests on so many trees of random sheets that the whole net hangs together
@@ -63,6 +68,7 @@ driver bench searches   times the proved search, the published Rust and plain Ru
 driver bench whys       times a search without a route, and the same with its reason
 driver bench tree-whys  times trees that stop at a sink, and the same with their reason
 driver bench modes      times the proved tree in both modes
+driver bench nets       times lists of nets, and the published Rust net by net with its laying
 driver bench functions  times function files of the largest room, written and read
 driver bench writes     times sheets of up to 60,000 bytes, written and read
 driver bench plain      times the plain engine beside the proved search, with the number of its sweeps
@@ -166,6 +172,10 @@ fn run(words: &[String]) -> Result<bool, String> {
             draw if draw.rich => Err("--only rich is for sheets".into()),
             draw => Ok(compare_drawings::compare(&draw)),
         },
+        ["compare", "nets"] => match draw(&words[2..])? {
+            draw if draw.rich => Err("--only rich is for sheets".into()),
+            draw => Ok(compare_nets::compare(&draw)),
+        },
         ["compare", "smallest"] => Ok(compare_smallest::compare()),
         ["connected", ..] => match draw(&words[1..])? {
             draw if draw.rich || !draw.published => Err("no --against, no --only".into()),
@@ -185,6 +195,10 @@ fn run(words: &[String]) -> Result<bool, String> {
         }
         ["bench", "modes"] => {
             bench_modes::bench();
+            Ok(true)
+        }
+        ["bench", "nets"] => {
+            bench_nets::bench();
             Ok(true)
         }
         ["bench", "functions"] => {

@@ -4,7 +4,7 @@ use std::collections::BTreeMap;
 
 use cases::laying::{LaidRoom, Overlap};
 use cases::room::{Place, Room, port};
-use cases::sheet::{Job, Port};
+use cases::sheet::{self, Job, Port};
 use cases::tree::Net;
 
 use crate::cells::{PhysicalCell, PlacedCell, PortKind, RotationY};
@@ -44,12 +44,7 @@ const FACINGS: [Option<Facing>; 7] = [
 
 /// What the published Rust makes of a list, in a room with its Solid shell; owners are no part of it.
 pub fn lay_published(room: &Room, list: &[(Job, Net)]) -> Result<LaidRoom, Overlap> {
-    let nets = list.iter().enumerate();
-    let nets = nets.map(|(number, (job, net))| routed(room, number, job, net));
-    let routing = MultiNetRouting {
-        nets: nets.map(|net| (net.id, net)).collect(),
-    };
-    match materialize_multinet(&circuit(room, list), &routing) {
+    match Laying::new(room, list).run() {
         Ok(world) => Ok(seen(room, &world)),
         Err(MultiNetError::NetOverlap { pos, second, .. }) => Err(Overlap {
             net: second.0 as usize,
@@ -58,6 +53,31 @@ pub fn lay_published(room: &Room, list: &[(Job, Net)]) -> Result<LaidRoom, Overl
                 .expect("nets are inside"),
         }),
         Err(error) => panic!("an error of another kind: {error:?}"),
+    }
+}
+
+/// A list's nets as `materialize_multinet` takes them.
+pub struct Laying {
+    circuit: PlacementCircuit,
+    routing: MultiNetRouting,
+}
+
+impl Laying {
+    pub fn new(room: &Room, list: &[(Job, Net)]) -> Self {
+        let blocks = list.first().map_or(&[][..], |(job, _)| &job.blocks);
+        let nets = list.iter().enumerate();
+        let nets = nets.map(|(number, (job, net))| routed(room, number, job, net));
+        Self {
+            circuit: circuit(room, blocks),
+            routing: MultiNetRouting {
+                nets: nets.map(|net| (net.id, net)).collect(),
+            },
+        }
+    }
+
+    /// Runs `materialize_multinet`.
+    pub fn run(&self) -> Result<World, MultiNetError> {
+        materialize_multinet(&self.circuit, &self.routing)
     }
 }
 
@@ -81,7 +101,7 @@ fn routed(room: &Room, number: usize, job: &Job, net: &Net) -> RoutedNet {
     }
 }
 
-fn endpoint(port: &Port) -> Endpoint {
+pub fn endpoint(port: &Port) -> Endpoint {
     let kind = match port.kind {
         port::WIRE => PortKind::Wire,
         _ => PortKind::BlockPower,
@@ -90,10 +110,10 @@ fn endpoint(port: &Port) -> Endpoint {
     PlacementCircuit::boundary("", pos(Place::from(port.at)), kind, facing)
 }
 
-/// The blocks of the list's first job, a node each, and the shell as a node of its own.
-fn circuit(room: &Room, list: &[(Job, Net)]) -> PlacementCircuit {
+/// Blocks by their nodes, and the shell as a node of its own.
+pub fn circuit(room: &Room, blocks: &[sheet::Block]) -> PlacementCircuit {
     let mut nodes: BTreeMap<u32, World> = BTreeMap::from([(SHELL_NODE, shell(room))]);
-    for record in list.iter().take(1).flat_map(|(job, _)| &job.blocks) {
+    for record in blocks {
         let mut block = Block::new(KINDS[usize::from(record.kind)]);
         block.facing = FACINGS[usize::from(record.facing)];
         let node = nodes.entry(record.node.into()).or_default();

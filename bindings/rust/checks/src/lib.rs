@@ -3,6 +3,10 @@
 //! On 11 the two outputs of `why` hold the reason, on 13 and 14 two values and three outputs that of a tree. The wrapper's tests and
 //! the oracle's driver share this.
 
+mod nets;
+
+pub use nets::{Short, nets_fault};
+
 use cases::Refusal;
 use cases::cheapest::Cheapest;
 use cases::drawing::{Drawing, DrawingAnswer};

@@ -3,18 +3,19 @@
 use super::damage::damage_sheet;
 use super::sheets::random_job;
 use super::site::{Site, is_large};
-use super::{Profile, around, random_config, random_room};
+use super::{Profile, around, is_hall, random_config, random_room, set_limits};
 use crate::lists::{LENGTHS, List, NetRefusal};
 use crate::rng::Rng;
 use crate::room::{Room, kind};
 use crate::sheet::{Job, Sheet};
 use crate::tree::Mode;
+use crate::version::Version;
 
 /// Of 200 rooms of the mixed profile: tiny, small, middle, large.
 const SHARES: [usize; 4] = [50, 125, 23, 2];
 
 /// A random list of nets, most of which are routed; about one in five is damaged: a net that numbers 1 to 9 refuse, other blocks or sides than the first,
-/// bytes cut off or left over, or too little lent.
+/// bytes cut off, left over or changed, or too little lent.
 pub fn random_list(rng: &mut Rng, profile: Profile) -> List {
     let room = random_room(rng, profile, SHARES);
     let mut jobs = random_jobs(rng, &room);
@@ -34,17 +35,28 @@ pub fn random_list(rng: &mut Rng, profile: Profile) -> List {
     list
 }
 
+/// What the jobs of a list have in common.
+#[derive(Clone, Copy)]
+struct Manner {
+    /// They have no lists of their own, and one config.
+    plain: bool,
+    /// The ends of each are close to each other.
+    near: bool,
+}
+
 /// Jobs over the blocks of one, often without lists of their own and at one config. Sometimes two of them share an end.
 fn random_jobs(rng: &mut Rng, room: &Room) -> Vec<Job> {
-    let count = if is_large(room) {
-        rng.between(1, 3)
-    } else {
-        rng.pick(&[1, 2, 3, 4, 5, 6, 8, 10])
+    let near = !is_large(room) && rng.percent(50);
+    let count = match (is_large(room), near) {
+        (true, _) => rng.between(1, 3),
+        (_, true) => rng.pick(&[4, 6, 8, 10, 12, 14, 16]),
+        _ => rng.pick(&[1, 2, 3, 4, 5, 6, 8, 10]),
     };
     let mut first = random_job(rng, room);
     let plain = rng.percent(60);
+    let manner = Manner { plain, near };
     let mut jobs: Vec<Job> = (0..count)
-        .map(|_| another_job(rng, room, &mut first, plain))
+        .map(|_| another_job(rng, room, &mut first, manner))
         .collect();
     for job in &mut jobs {
         job.blocks.clone_from(&first.blocks); // with those that later ends brought along
@@ -52,11 +64,27 @@ fn random_jobs(rng: &mut Rng, room: &Room) -> Vec<Job> {
     if count > 1 && rng.percent(8) {
         jobs[1].source = jobs[0].source;
     }
+    set_versions(rng, room, &mut jobs);
     jobs
 }
 
+/// The sheets of half the lists are of version 1; in others each has its own version, and where that carries limits they are any.
+fn set_versions(rng: &mut Rng, room: &Room, jobs: &mut [Job]) {
+    let versions = match (is_hall(room), rng.percent(50)) {
+        (true, _) => [Version::THREE; 4],
+        (false, true) => [Version::ONE; 4],
+        (false, false) => [Version::ONE, Version::TWO, Version::TWO, Version::THREE],
+    };
+    for job in jobs {
+        job.version = rng.pick(&versions);
+        if job.version.limits {
+            set_limits(rng, job);
+        }
+    }
+}
+
 /// A job with ends of its own. Blocks that they bring along are put into `first`.
-fn another_job(rng: &mut Rng, room: &Room, first: &mut Job, plain: bool) -> Job {
+fn another_job(rng: &mut Rng, room: &Room, first: &mut Job, manner: Manner) -> Job {
     let mut kinds = vec![kind::AIR; room.cells()];
     for block in &first.blocks {
         kinds[room.cell(block.at.into()).expect("a lawful job")] = block.kind;
@@ -70,9 +98,14 @@ fn another_job(rng: &mut Rng, room: &Room, first: &mut Job, plain: bool) -> Job 
         reserved: Vec::new(),
         ..first.clone()
     };
-    let sinks = rng.pick(&[0, 1, 1, 1, 2, 2, 3, 5]);
-    site.add_ports(rng, &mut job, sinks);
-    if !plain {
+    if manner.near {
+        let sinks = rng.pick(&[0, 1, 1, 1, 1, 2]);
+        site.add_near_ports(rng, &mut job, sinks);
+    } else {
+        let sinks = rng.pick(&[0, 1, 1, 1, 2, 2, 3, 5]);
+        site.add_ports(rng, &mut job, sinks);
+    }
+    if !manner.plain {
         if rng.percent(30) {
             site.add_other_nets(rng, &mut job);
         }
@@ -96,7 +129,7 @@ fn drop_refused(mode: Mode, jobs: &mut Vec<Job>) {
 fn damage_list(rng: &mut Rng, jobs: &mut [Job], list: &mut List) {
     let net = rng.below(jobs.len());
     let mut bytes: Vec<Vec<u8>> = jobs.iter().map(Job::bytes).collect();
-    match rng.below(20) {
+    match rng.below(23) {
         0..12 => {
             let mut sheet = Sheet::of_route(Vec::new());
             damage_sheet(rng, &mut jobs[net], &mut sheet);
@@ -116,9 +149,17 @@ fn damage_list(rng: &mut Rng, jobs: &mut [Job], list: &mut List) {
                 .collect(),
         ),
         17 => bytes.clear(),
+        18..20 => change_bytes(rng, &mut bytes[net]),
         _ => shorten(rng, list),
     }
     list.bytes = bytes.concat();
+}
+
+/// One to three bytes of a sheet become any others.
+fn change_bytes(rng: &mut Rng, sheet: &mut [u8]) {
+    for _ in 0..rng.between(1, 3) {
+        sheet[rng.below(sheet.len())] = rng.below(256) as u8;
+    }
 }
 
 /// Other sides, or blocks in another order, one more or one less, or one of another value.

@@ -34,6 +34,7 @@ use halls::{hall_config, hall_sides, is_hall};
 use crate::drawing::Drawing;
 use crate::function::Function;
 use crate::limits::LimitSheet;
+use crate::lists::List;
 use crate::parts::Parts;
 use crate::plan::Plan;
 use crate::rng::Rng;
@@ -90,6 +91,13 @@ pub fn drawings(seed: u64, count: u32, profile: Profile) -> Vec<Drawing> {
 pub fn plans(seed: u64, count: u32, profile: Profile) -> Vec<Plan> {
     (0..u64::from(count))
         .map(|index| random_plan(&mut Rng::for_case(seed, index), profile))
+        .collect()
+}
+
+/// So many random lists of nets.
+pub fn lists(seed: u64, count: u32, profile: Profile) -> Vec<List> {
+    (0..u64::from(count))
+        .map(|index| random_list(&mut Rng::for_case(seed, index), profile))
         .collect()
 }
 

@@ -66,6 +66,17 @@ impl Site<'_> {
         }
     }
 
+    /// The same within a few cells, so that many nets find their place in one room.
+    pub fn add_near_ports(&mut self, rng: &mut Rng, job: &mut Job, sinks: usize) {
+        let terminal = self.random_ground(rng, None);
+        job.source = self.random_port(rng, &mut job.blocks, terminal);
+        for _ in 0..sinks {
+            let near = self.near(rng, terminal, [3, 1, 3]);
+            let sink = self.random_port(rng, &mut job.blocks, near);
+            job.sinks.push(sink.into());
+        }
+    }
+
     fn random_sink(&mut self, rng: &mut Rng, job: &mut Job) -> Port {
         let last = job.sinks.last().map_or(&job.source, |sink| &sink.port).at;
         match rng.below(10) {
