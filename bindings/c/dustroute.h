@@ -1,7 +1,7 @@
-/* DustRoute's router for one net, proved: one search over a room of kinds, why such a search finds no route, a plain engine to
- * check a search against, the job sheet of a job's parts, the tree of one, in the published router's way or in strict mode, and why
- * a sink wasn't reached. One route drawn into a room of kinds. And a room as a function file: the text of `setblock` commands that
- * lays it in the game, written and read.
+/* DustRoute's router, proved: one search over a room of kinds, why such a search finds no route, a plain engine to check a search
+ * against, the job sheet of a job's parts, the tree of one, in the published router's way or in strict mode, and why a sink wasn't
+ * reached; several nets over one room, routed one after another and laid. One route drawn into a room of kinds. And a room as a
+ * function file: the text of `setblock` commands that lays it in the game, written and read.
  *
  * Link with libdustroute.a, which `tools/native-archive dustroute` makes; it needs memset and memcpy of the C library and
  * nothing else. The functions allocate nothing, keep nothing between calls and may be called from several threads at once,
@@ -14,14 +14,15 @@
  *   - the pointer is aligned as its type asks (2 bytes for uint16_t, 4 for uint32_t, 8 for uint64_t);
  *   - no two buffers of a call overlap.
  * What a buffer holds when the function is called is of no account, but for `kinds` of a search, of the plain engine or of a drawing,
- * `path` of a drawing, the lists of a sheet that is written, `sheet` of a tree, `kinds` and `facings` where a function file is
- * written, and its `text` where it is read.
+ * `path` of a drawing, the lists of a sheet that is written, `sheet` of a tree, `list` of several nets, `kinds` and `facings` where a
+ * function file is written, and its `text` where it is read.
  *
  * A room has sides of 1 to 300 and V = wide * high * deep cells, at most 65,536. The cell at (x, y, z) has the number
  * (x * high + y) * deep + z.
  *
  * WHAT COMES BACK: a number, 0 for a route, a sheet, a tree, a text or a room, else one of those below.
- *   Numbers 1 to 6 leave every buffer as it was, `values` included: read nothing from it. Their detail is 0.
+ *   Numbers 1 to 6 leave every buffer as it was, `values` included: read nothing from it. Their detail is 0. Of dustroute_nets alone
+ *   the first three values are written then, too.
  *   A number from 7 on has its detail in values[0] and leaves zeros in all else that can be written, to its very end; but 11 of
  *   dustroute_why has its reason in `reached` and `walls`, and 13 and 14 of dustroute_tree_why tell of a sink in the last two
  *   values, and where it is shut in, in `reached`, `walls` and `causes`.
@@ -54,6 +55,8 @@ enum dustroute_number {
     DUSTROUTE_QUEUE_FULL = 13,    /* a push was due and the queue was full; expanded */
     DUSTROUTE_NO_GOAL = 14,       /* no way was found from a sink to the tree; its approach cell */
     DUSTROUTE_BRANCHES_FULL = 15, /* the branches exceed the branch buffer; that sink's place in the sheet, from 1 */
+    DUSTROUTE_NETS_OVERLAP = 16,  /* two nets of a list occupy one cell; that cell */
+    DUSTROUTE_NO_DIRECTION = 17,  /* a laid repeater without a direction; never comes: it is proved that trees have none */
     DUSTROUTE_TEXT_SHORT = 18,    /* the text of a function file is longer than its buffer */
     DUSTROUTE_BAD_LINE = 19       /* a line that no function file of the room has there; its number, from 1 */
 };
@@ -71,6 +74,7 @@ enum {
     DUSTROUTE_PLAN_VALUES = 2,
     DUSTROUTE_TREE_VALUES = 20,
     DUSTROUTE_TREE_WHY_VALUES = 22,
+    DUSTROUTE_NETS_VALUES = 3,
     DUSTROUTE_FUNCTION_VALUES = 2,
     DUSTROUTE_WRITE_VALUES = 2,
     DUSTROUTE_BLOCK_NUMBERS = 6,
@@ -129,11 +133,13 @@ enum dustroute_cause {
  * full. At lower costs 11 places for each node of the limit and one more are: each cell that is expanded leaves its place
  * and enters at most twelve others. A shorter queue is no fault; what comes then may be 13.
  *
- * A branch has at most V + 1 cells, so this branch buffer never gives 15; so many for each sink of the sheet is enough too. */
+ * A branch has at most V + 1 cells, so this branch buffer never gives 15; so many for each sink of the sheet is enough too. Of several
+ * nets it is so many for each of them; and sixteen lengths. */
 #define DUSTROUTE_QUEUE_LENGTH(V) ((size_t)2 * 5 * (V))
 #define DUSTROUTE_QUEUE_LENGTH_AT_ANY_COST(limit) ((size_t)2 * (11 * (size_t)(limit) + 1))
 #define DUSTROUTE_WALLS_LENGTH(V) ((size_t)DUSTROUTE_MOVES * (V))
 #define DUSTROUTE_BRANCHES_LENGTH(V) ((size_t)DUSTROUTE_MAX_SINKS * ((V) + 1))
+#define DUSTROUTE_LENGTHS_LENGTH(nets) ((size_t)DUSTROUTE_MAX_SINKS * (nets))
 
 /* A line of a function file has at most 77 bytes: so many for each cell that isn't Air hold its text, and never give 18. */
 #define DUSTROUTE_TEXT_LENGTH(blocks) ((size_t)DUSTROUTE_LINE_BYTES * (blocks))
@@ -423,6 +429,56 @@ uint32_t dustroute_place_repeaters(
     uint32_t *known, size_t known_length,
     uint32_t *previous, size_t previous_length,
     uint32_t *path, size_t path_length,
+    uint64_t *values, size_t values_length);
+
+/* SEVERAL NETS OVER ONE ROOM, routed in the order of a list, and laid. A list is whole job sheets one behind the other, as
+ * `cat a.sheet b.sheet` makes it, each of any version; net k is the k-th, from 0. All have the first one's sides and the same blocks in
+ * the same order; costs, limits and the four lists are each net's own. A net sees the cells of those before it as another net's
+ * conductors, their stairs' headroom, and of every other net the ends with what is beside them; each is the tree that a single job with
+ * these in its lists would have. Nothing is ripped up: the first net that is refused ends the list.
+ *
+ * May return 0 to 9 and 13 to 16. 1 to 9 are judged net by net, all of net 0 first, before any is routed; other sides or blocks than net
+ * 0's are 1. Then 13, 14 and 15 of the net whose turn it is; then 16, whose net is the later of the two. 1 to 6 touch nothing but the
+ * first three values; from 7 on all else is zero, nets that were routed before included.
+ *
+ * strict         as of dustroute_tree_mode, for the whole list
+ * list           the sheets' bytes, any number of them; only read
+ * branches       any length; DUSTROUTE_BRANCHES_LENGTH for each net suffices. Output: the branches of all nets, one behind another, in
+ *                list order, of a net in sheet order
+ * lengths        DUSTROUTE_LENGTHS_LENGTH of the nets at least, else 6 for the first net that has none. Output: sixteen a net, those of
+ *                its branches and zeros behind them
+ * owners         V at least. Output: 0, or k + 1 where net k occupies the cell
+ * repeaters      V at least. Output: 1 where a planned repeater stands, else 0
+ * kinds, facings V at least each. Output: the room with all nets laid, a kind and a facing for each cell. Net by net each of its cells gets
+ *                a support where Air is beneath, Solid under a planned repeater, a BlockPower sink's terminal and both ends of a stair,
+ *                else Transparent; then wire where it is Air itself. Then planned repeaters come, whatever stands there, facing the way
+ *                the signal runs, and one at each BlockPower sink's terminal, facing its block
+ * occupied, planned_work, before_work, room_work, blocked, classes, joinable, known, previous, path, best
+ *                V at least each. Work memory
+ * queue          2 at least; see DUSTROUTE_QUEUE_LENGTH. Work memory
+ * values         DUSTROUTE_NETS_VALUES at least; fewer are 6 at its place of net 0, and untouched. Output, at every number: the detail; the
+ *                net that is refused, from 0, and 0 after a success; how many nets there are, 0 after a refusal */
+uint32_t dustroute_nets(
+    uint32_t strict,
+    const uint8_t *list, size_t list_length,
+    uint32_t *branches, size_t branches_length,
+    uint32_t *lengths, size_t lengths_length,
+    uint32_t *owners, size_t owners_length,
+    uint8_t *repeaters, size_t repeaters_length,
+    uint8_t *kinds, size_t kinds_length,
+    uint8_t *facings, size_t facings_length,
+    uint8_t *occupied, size_t occupied_length,
+    uint8_t *planned_work, size_t planned_work_length,
+    uint8_t *before_work, size_t before_work_length,
+    uint8_t *room_work, size_t room_work_length,
+    uint8_t *blocked, size_t blocked_length,
+    uint8_t *classes, size_t classes_length,
+    uint8_t *joinable, size_t joinable_length,
+    uint32_t *known, size_t known_length,
+    uint32_t *previous, size_t previous_length,
+    uint32_t *path, size_t path_length,
+    uint32_t *best, size_t best_length,
+    uint64_t *queue, size_t queue_length,
     uint64_t *values, size_t values_length);
 
 /* ONE LENT ARENA FOR A TREE, instead of thirteen buffers: ask dustroute_arena_size for the bytes that suffice, lend so many, and call

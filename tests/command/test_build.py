@@ -5,9 +5,9 @@ import unittest
 import zipfile
 
 from common import EXAMPLES, content, examples
-from dustroute import read_function
+from dustroute import nets, read_function
 from dustsheet import answer as answers
-from dustsheet.job import from_bytes
+from dustsheet.job import from_bytes, sheets_of
 from dustsheet.laying import lay
 from test_route import run
 
@@ -42,12 +42,23 @@ class Built(unittest.TestCase):
             laid = lay(job, answers.read(printed, job, False))
             found = read_function(job.sides, self.made("room.mcfunction"))
             self.assertEqual((found.kinds, found.facings), (bytes(laid.kinds), bytes(laid.facings)))
-            self.assertIn("blocks to fetch, %d in all:" % found.lines, said)
+            own = {(job.number(block.at), block.kind, block.facing) for block in job.blocks}
+            new = [cell for cell in range(job.cells()) if found.kinds[cell] and (cell, found.kinds[cell], found.facings[cell]) not in own]
+            self.assertIn("blocks to fetch, %d in all, beside the %d of the room itself:" % (len(new), found.lines - len(new)), said)
+
+    def test_stored_rooms(self):
+        """The stored function files are what their texts are built to."""
+        stored = sorted(name[:-11] for name in os.listdir(EXAMPLES) if name.endswith(".mcfunction"))
+        self.assertIn("controller", stored)
+        for name in stored:
+            status, _, warned = run("build", os.path.join(EXAMPLES, name + ".txt"), "-o", self.path("room.mcfunction"))
+            self.assertEqual(status, 0, warned)
+            self.assertEqual(self.made("room.mcfunction"), content(name + ".mcfunction"), name)
 
     def test_standard_output(self):
         status, printed, said = run("build", "-", given=SMALL)
         self.assertEqual((status, printed), (0, LINES))
-        for words in ("     2  redstone_wire\n", "     1  lever\n", "/function dustroute:room", "3 blocks to the east, 1 up and 1 to the south"):
+        for words in ("blocks to fetch, 2 in all, beside the 1 of the room itself:\n     2  redstone_wire\nto load", "/function dustroute:room", "3 blocks to the east, 1 up and 1 to the south"):
             self.assertIn(words, said)
         status, printed, said = run("build", "-q", "-", given=SMALL)
         self.assertEqual((status, printed), (0, LINES))
@@ -77,10 +88,32 @@ class Built(unittest.TestCase):
             self.assertIn(words, said)
             self.assertFalse(os.path.exists(self.path("none")))
 
-    def test_one_net(self):
-        status, printed, said = run("build", os.path.join(EXAMPLES, "lane.txt"), os.path.join(EXAMPLES, "gap.txt"))
-        self.assertEqual((status, printed), (2, ""))
-        self.assertIn("build takes one net, and 2 files are named", said)
+    def test_several_nets(self):
+        """From a text, from a list and from a file for each net the same room, laid as it is routed."""
+        sheets = sheets_of(content("controller.sheets"))
+        for place, sheet in enumerate(sheets):
+            with open(self.path("net-%d.sheet" % place), "wb") as file:
+                file.write(sheet)
+        due = nets(content("controller.sheets"))
+        each = [self.path("net-%d.sheet" % place) for place in range(len(sheets))]
+        for given in ([os.path.join(EXAMPLES, "controller.txt")], [os.path.join(EXAMPLES, "controller.sheets")], each):
+            status, said, warned = run("build", *given, "-o", self.path("room.mcfunction"), "--pack", self.path("room.zip"))
+            self.assertEqual((status, warned), (0, ""))
+            found = read_function(due.room, self.made("room.mcfunction"))
+            self.assertEqual((found.kinds, found.facings), (due.kinds, due.facings))
+            self.assertIn("blocks to fetch, 82 in all, beside the 275 of the room itself:\n     4  glass\n    65  redstone_wire\n     5  repeater\n"
+                          "     8  stone\n", said)
+            self.assertIn("/function dustroute:room", said)
+
+    def test_several_nets_refused(self):
+        status, printed, said = run("build", os.path.join(EXAMPLES, "lane.txt"), os.path.join(EXAMPLES, "gap.txt"), "-o", self.path("none"))
+        self.assertEqual((status, printed), (3, "refused 1 1 0\n"))
+        self.assertIn("net 1 (gap), %s: its room is 9x5x1, and that of net 0 is 13x5x5" % os.path.join(EXAMPLES, "gap.txt"), said)
+        self.assertFalse(os.path.exists(self.path("none")))
+        torch = b"room 3 1 3\nblock redstone-torch 1 0 1 up\nnet a\nsource 0 0 0\nnet b\nsource 0 0 2\n"
+        status, printed, said = run("build", "-", given=torch)
+        self.assertEqual((status, printed), (3, ""))
+        self.assertIn("the redstone-torch at (1, 0, 1) faces up, and the game has none that does", said)
 
     def test_strict(self):
         gap = os.path.join(EXAMPLES, "gap.txt")

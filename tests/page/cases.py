@@ -3,6 +3,7 @@ with random slips; sheets are the oracle's, with their answers and the nets laid
 a route and of its trees that stopped at a sink, the latter in their file's order, with what to try: by an answer that both make up, and, where
 the folder of DUSTROUTE_ARCHIVE has the library as well, by the router's own, with the net so far."""
 import dataclasses
+import itertools
 import json
 import os
 import random
@@ -12,22 +13,26 @@ import sys
 sys.dont_write_bytecode = True
 HERE = os.path.dirname(os.path.abspath(__file__))
 sys.path[:0] = [os.path.join(HERE, *path) for path in (("..", "..", "tools"), ("..", "tools"), ("..", "..", "bindings", "python"))]
-from common import content, examples, stored  # noqa: E402
+from common import content, examples, list_examples, random_nets, stored  # noqa: E402
 import test_sinks  # noqa: E402
-from dustsheet import answer as answers, check, job as jobs, laying, net, reason as reasons, rules, sinks, text as texts, tries, words  # noqa: E402
-from dustsheet.commands import build, unreached  # noqa: E402
+from dustroute import NetRefusal  # noqa: E402
+from dustroute.lists import printed  # noqa: E402
+from dustsheet import answer as answers, check, job as jobs, laying, net, reason as reasons, rules, several, sinks  # noqa: E402
+from dustsheet import text as texts, tries, words  # noqa: E402
+from dustsheet.commands import build, nets, unreached  # noqa: E402
+from dustsheet.commands.given import Given  # noqa: E402
 
 ROOT = os.path.join(HERE, "..", "..")
 MOVES = [(x, up, z) for x, z in ((1, 0), (-1, 0), (0, 1), (0, -1)) for up in (-1, 0, 1)]
 
-SEED, SLIPS, DAMAGED = 1, 1500, 400
+SEED, SLIPS, DAMAGED, LISTS = 1, 1500, 400, 150
 # the facings that kinds can have in the game, of all others 0 alone: docs/LAYING-RULES.md. The library may be missing here; the page asks its module
 CAN_FACE = {jobs.REPEATER: range(1, 5), jobs.COMPARATOR: range(1, 5), jobs.PISTON: range(1, 7),
             jobs.TORCH: range(5), jobs.LEVER: range(5), jobs.BUTTON: range(5)}
 build.facings_of = lambda kind: list(CAN_FACE.get(kind, [0]))
 STRANGE = ["soild", "lamb", "blok", "sinks", "north", "up", "code-13", "node", "to", "at", "facing", "99", "300", "-1", "1.5", "(3,", "ä", "\u00b2",
            "x" * 60, "#", "Redstone_Wire", "CLEAR", "limit", "costs", "4294967296", "1234567890123", "block-power", "wire", "\u2028", "torches",
-           "run", "tail", "tail 3", "16", "0"]
+           "run", "tail", "tail 3", "16", "0", "net", "net 1", "net light", "source"]
 
 
 def slipped(text, chance):
@@ -61,8 +66,12 @@ def told_of_text(text):
     told = {"text": text, "problems": [[problem.line, problem.words] for problem in draft.problems]}
     if draft.problems:
         return told
-    job = texts.job_of(draft)
-    told["late"] = [[problem.line, problem.words] for problem in texts.problems_of(draft, job)]
+    nets = texts.jobs_of(draft)
+    told["late"] = [[problem.line, problem.words] for problem in texts.problems_of_all(draft)]
+    names = [net.name for net in texts.drafts_of(draft)]
+    told["list"], told["names"] = b"".join(map(jobs.to_bytes, nets)).hex(), names
+    told["canonical_list"] = texts.write_all(nets, names)
+    job = nets[0]
     told["sheet"] = jobs.to_bytes(job).hex()
     told["canonical"] = texts.write(job)
     if jobs.first_fault(job) is None and next(rules.late_faults(job), None) is None:
@@ -163,6 +172,37 @@ def explained(one):
     return {"soFar": {"branches": branches, "isExact": told.unreached.is_exact}, **tried(told.unreached, told.tried)}
 
 
+def told_of_list(listed, names, strict):
+    """Of several nets, by the library: what is printed, and what is warned of; of a refusal its words, what is known, and what helps."""
+    given = [nets.GivenNet(place, name, "list", Given(jobs.to_bytes(job), None)) for place, (name, job) in enumerate(zip(names, listed))]
+    told = {"sheets": [net.given.sheet.hex() for net in given], "names": names, "strict": strict}
+    answered = nets.attempt(given, strict)
+    if isinstance(answered, NetRefusal):
+        known = nets.explained(given, answered, strict)
+        told["printed"], told["head"] = answered.line(), known.reason[0]
+        told["more"] = [line for line in known.reason[1:] if not line.startswith((several.TRY, "Putting it"))]
+        told["tries"] = known.tried() or [line for line in known.reason[1:] if line.startswith("Putting it")]
+        return told
+    found = nets.nets_of(given, answered)
+    laid = several.Laid(answered.kinds, answered.facings, answered.owners)
+    told["printed"] = printed(answered.nets, names)
+    told["remarks"] = [[list(remark.at), remark.words] for remark in several.all_remarks(found, laid)]
+    told["put"] = [[found[0].job.number(put.at), put.kind] for put in several.puts(found, laid)]
+    return told
+
+
+def told_of_lists(chance):
+    """The example's nets in every order, in both modes, and small ones by chance."""
+    draft = texts.read(content("controller.txt").decode(), "text")
+    four, names = texts.jobs_of(draft), [net.name for net in draft.nets]
+    for order in itertools.permutations(range(4)):
+        for strict in (False, True):
+            yield told_of_list([four[place] for place in order], [names[place] for place in order], strict)
+    for _ in range(LISTS):
+        listed = random_nets(chance)
+        yield told_of_list(listed, [chance.choice(["", "n%d" % place]) for place in range(len(listed))], chance.random() < 0.5)
+
+
 def has_library():
     return os.path.exists(os.path.join(os.environ.get("DUSTROUTE_ARCHIVE", ""), "libdustroute.so"))
 
@@ -177,7 +217,7 @@ def damaged(sheet, chance):
 
 def main():
     chance = random.Random(SEED)
-    whole = [content(name + ".txt").decode() for name in examples()]
+    whole = [content(name + ".txt").decode() for name in [*examples(), *list_examples() * 4]]  # a list has more to slip at
     listed = whole + [slipped(chance.choice(whole), chance) for _ in range(SLIPS)]
     sheets = [*stored(), *stored("tests/bindings/limits.bin")]
     told = [told_of_sheet(one.sheet, one.number, one.detail, one.printed()) for one in sheets if one.number != 6]
@@ -185,7 +225,8 @@ def main():
     with open(sys.argv[1], "w", encoding="utf-8") as out:
         json.dump({"texts": [told_of_text(text) for text in listed], "sheets": told, "reasons": list(told_of_reasons()),
                    "unreached": [told_of_unreached(one, chance) for one in test_sinks.STORED],
-                   "explained": [explained(one) for one in test_sinks.STORED] if has_library() else None}, out)
+                   "explained": [explained(one) for one in test_sinks.STORED] if has_library() else None,
+                   "lists": list(told_of_lists(chance)) if has_library() else []}, out)
 
 
 main()

@@ -148,5 +148,34 @@ expect("the file", page.functionFile(writer, { sheet: row, strict: false }).file
 const lines = page.functionFile(router, { sheet: row, strict: false }).file.trim().split("\n");
 expect("a command for each cell", lines.filter((line) => line.startsWith("setblock ~")).length, 10);
 
+// ---- dustroute_nets: two nets that cross, the room laid, which net is refused and why, and another order
+
+const sheetsOfText = (text) => page.jobsOf(page.readText(text)).map((job) => page.sheetOf(job));
+const CROSS = "room 5 4 5\nnet along\nsource 0 0 2\nsink 4 0 2\nnet across\nsource 2 0 0\nsink 2 0 4\n";
+const crossed = page.netsOf(router, sheetsOfText(CROSS), false);
+expect("two nets", [crossed.number, crossed.nets.length, crossed.nets[0].branches], [0, 2, [[2, 22, 42, 62, 82]]]);
+expect("whose cells they are", [crossed.owners[2], crossed.owners[40], crossed.owners[4]], [1, 2, 0]);
+expect("wire is laid", crossed.kinds[2], 3);
+expect("what is printed", page.printedNets(crossed, ["along", ""]).split("\n").slice(0, 2), ["nets 2", "net 0 1 5 along"]);
+const builtRoom = page.functionFile(router, { sheets: sheetsOfText(CROSS), strict: false }).file;
+expect("a command for each block that is laid", builtRoom.trim().split("\n").length, crossed.kinds.filter((kind) => kind).length);
+
+const OVER = "room 1 2 3\nnet a\nsource 0 0 0\nsink 0 1 1 south\nnet b\nsource 0 1 0\nsink 0 0 1\n";
+const over = page.netsOf(router, sheetsOfText(OVER), false);
+expect("an overlap", [over.number, over.net, over.detail], [16, 1, 1]);
+expect("its words", page.netRefusalWords(over, page.jobsOf(page.readText(OVER))[1]),
+    "its wire would lie in a cell that a net before it occupies: (0, 0, 1), number 1");
+const overTold = page.netReasons(router, { sheets: sheetsOfText(OVER), names: ["a", "b"], strict: false }, over);
+expect("who lies there", overTold.reasons[0].words, ["It is net 0 (a) that lies there. The router never moves a net that it has laid."]);
+expect("the nets before it", overTold.before.length, 1);
+
+// a wall with one gap: who comes first goes through it, and the other net's source stands behind it
+const GAP = "room 7 1 3\nblock solid 3 0 0\nblock solid 3 0 2\nnet far\nsource 0 0 1\nsink 6 0 1\nnet near\nsource 0 0 0\nsink 6 0 0\n";
+const gap = page.netsOf(router, sheetsOfText(GAP), false);
+const gapTold = page.netReasons(router, { sheets: sheetsOfText(GAP), names: ["far", "near"], strict: false }, gap);
+expect("no way for one of them", [gap.number, gapTold.before.length, gapTold.reasons.length > 0], [14, gap.net, true]);
+const order = page.QUESTIONS.order(router, { sheets: sheetsOfText(GAP), names: ["far", "near"], strict: false, net: gap.net }).tries;
+expect("what to try of an order is told at once", [order.isDone, Array.isArray(order.words)], [true, true]);
+
 console.log(`page: the parts' reasons and files: ${failures} wrong`);
 process.exit(failures ? 1 : 0);

@@ -7,7 +7,7 @@ import { treeWhys } from "./stored.mjs";
 const [, , scripts, moduleFile, cases, root] = process.argv;
 const page = await import(pathToFileURL(scripts).href);
 const router = await page.Router.load(readFileSync(moduleFile), page.TABLES.FUNCTIONS);
-const { texts, sheets, reasons, unreached, explained } = JSON.parse(readFileSync(cases, "utf8"));
+const { texts, sheets, reasons, unreached, explained, lists } = JSON.parse(readFileSync(cases, "utf8"));
 let failures = 0;
 
 function expect(what, found, due) {
@@ -25,8 +25,15 @@ function checkText(told) {
     const draft = page.readText(told.text);
     expect(`the problems of ${JSON.stringify(told.text)}`, lines(draft.problems), told.problems);
     if (told.problems.length || draft.problems.length) return;
-    const job = page.jobOf(draft);
-    expect("what the router refuses", lines(page.problemsOf(draft, job)), told.late);
+    const nets = page.jobsOf(draft);
+    const names = page.draftsOf(draft).map(({ name }) => name);
+    const list = page.joined(nets.map((net) => page.sheetOf(net)));
+    const [job] = nets;
+    expect("what the router refuses", lines(page.problemsOfAll(draft)), told.late);
+    expect("the names of the nets", names, told.names);
+    expect("the list", hex(list), told.list);
+    expect("the canonical text of all nets", page.writeAll(nets, names), told.canonical_list);
+    expect("the sheets of the list", page.sheetsOf(list).map(hex), nets.map((net) => hex(page.sheetOf(net))));
     expect("the sheet", hex(page.sheetOf(job)), told.sheet);
     if (!page.firstFault(job)) expect("the sheet by the proved writer", hex(page.sheetWritten(router, job).sheet), told.sheet);
     expect("the canonical text", page.writeText(job), told.canonical);
@@ -109,6 +116,24 @@ function checkUnreached(one, saidOf, reallyTold) {
     expect("the net so far, and what to try", really, reallyTold);
 }
 
+// Several nets: what is printed, laid and warned of; of a refusal which net it is, why, and what helps.
+function checkList({ sheets: given, names, strict, printed, head, more, tries, remarks, put }) {
+    const bytes = given.map((one) => Uint8Array.from(Buffer.from(one, "hex")));
+    const jobs = bytes.map((sheet) => page.jobOfSheet(sheet));
+    const answer = page.netsOf(router, bytes, strict);
+    expect("what is printed of several nets", page.printedNets(answer, names), printed);
+    if (answer.number) {
+        expect("which net is refused, and why", `${page.netName(answer.net, names[answer.net])}: ${page.netRefusalWords(answer, jobs[answer.net])}`, head);
+        const told = page.netReasons(router, { sheets: bytes, names, strict }, answer);
+        expect("what is known of it", told.reasons.flatMap(({ words }) => words), more);
+        expect("what helps", page.QUESTIONS.order(router, { sheets: bytes, names, strict, net: answer.net }).tries.words, tries);
+        return;
+    }
+    const nets = jobs.map((job, place) => ({ job, name: names[place], answer: answer.nets[place], net: page.netOf(answer.nets[place], job) }));
+    expect("what is warned of", remarked(page.remarksOfAll(nets, answer)), remarks);
+    expect("what is laid", page.putCells(jobs[0], answer).map((cell) => [cell, answer.kinds[cell]]), put);
+}
+
 // A number of bytes, as cases.py has it.
 function blend(bytes) {
     return bytes.reduce((sum, byte) => (31 * sum + byte) % 1000003, 0);
@@ -127,10 +152,11 @@ function triesTold(told, asks) {
 texts.forEach(checkText);
 sheets.forEach(checkSheet);
 reasons.forEach(checkReason);
+lists.forEach(checkList);
 const stopped = [...treeWhys(`${root}/tests/bindings/treewhys.bin`)].filter(({ verdict }) => verdict);
 expect("how many sinks weren't reached", stopped.length, unreached.length);
 stopped.forEach((one, index) => checkUnreached(one, unreached[index], explained?.[index]));
 if (!explained) console.log("page: no library beside the module: the net so far and what really helps were not compared with Python's");
-const looked = `${texts.length} texts, ${sheets.length} sheets, ${reasons.length} searches and ${stopped.length} sinks that weren't reached`;
+const looked = `${texts.length} texts, ${sheets.length} sheets, ${lists.length} lists, ${reasons.length} searches and ${stopped.length} sinks that weren't reached`;
 console.log(`page: ${looked}: ${failures} things said otherwise than Python says them`);
 process.exit(failures ? 1 : 0);

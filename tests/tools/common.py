@@ -5,6 +5,7 @@ import subprocess
 import sys
 
 from dustsheet import text as texts
+from dustsheet.answer import Answer
 from dustsheet.job import MAX_LIMIT, Block, End, Job, Sink, to_bytes
 
 ROOT = os.path.join(os.path.dirname(os.path.abspath(__file__)), "..", "..")
@@ -22,7 +23,13 @@ def run(tool, *words, given=b""):
 
 
 def examples():
-    return sorted(name[:-4] for name in os.listdir(EXAMPLES) if name.endswith(".txt"))
+    """Those of one net: each has a sheet."""
+    return sorted(name[:-6] for name in os.listdir(EXAMPLES) if name.endswith(".sheet"))
+
+
+def list_examples():
+    """Those of several nets: each has a list of sheets."""
+    return sorted(name[:-7] for name in os.listdir(EXAMPLES) if name.endswith(".sheets"))
 
 
 def small_examples():
@@ -33,6 +40,18 @@ def small_examples():
 def content(name):
     with open(os.path.join(EXAMPLES, name), "rb") as file:
         return file.read()
+
+
+def nets_printed(name, jobs):
+    """What `./dustroute nets` printed for an example: of each net its first line, and its answer, whose branches are places."""
+    parts = content(name + ".out").decode().split("\nnet ")
+    assert parts[0].split() == ["nets", str(len(jobs))]
+    found = []
+    for part, job in zip(parts[1:], jobs):
+        first, *rows = part.strip("\n").split("\n")
+        cells = [[job.place(int(word)) for word in row.split()[1:]] for row in rows]
+        found.append((first.split(), Answer(cells[:-1], cells[-1])))
+    return found
 
 
 def remade(job):
@@ -118,6 +137,22 @@ def random_job(rng: random.Random) -> Job:
         for _ in range(rng.randrange(4)):
             places += row()
     return job
+
+
+def random_nets(rng: random.Random) -> list:
+    """A few jobs over one small room, with few blocks: a list whose nets no number 1 to 9 refuses."""
+    sides = (rng.randrange(3, 9), rng.randrange(2, 5), rng.randrange(3, 9))
+
+    def cell():
+        return tuple(rng.randrange(side) for side in sides)
+
+    blocks = {at: Block(0, at, rng.choice([1, 2]), 0) for at in ((x, 0, z) for x, _, z in (cell() for _ in range(rng.randrange(5))))}
+    listed = []
+    for _ in range(rng.randrange(1, 4)):
+        sinks = [Sink(cell(), 0, 0, rng.choice([8, 8, 3])) for _ in range(rng.randrange(3))]
+        reserved = [cell() for _ in range(rng.randrange(2))]
+        listed.append(Job(sides, 30_000, (10, 25, 15), End(cell(), 0, 0), sinks, list(blocks.values()), reserved=reserved, run=rng.choice([12, 12, 4])))
+    return listed
 
 
 def wild_job(rng: random.Random) -> Job:

@@ -6,7 +6,7 @@ import subprocess
 import unittest
 import xml.etree.ElementTree as ElementTree
 
-from common import EXAMPLES, HEX_ANSWER, HEX_SHEET, ROOT, TOOLS, content, examples, remade, small_examples
+from common import EXAMPLES, HEX_ANSWER, HEX_SHEET, ROOT, TOOLS, content, examples, list_examples, remade, small_examples
 from dustsheet import answer as answers, text as texts
 from dustsheet.job import from_bytes, to_bytes
 from dustsheet.net import branches
@@ -22,6 +22,7 @@ class Examples(unittest.TestCase):
         self.assertGreaterEqual(len(examples()), 6)
 
     def test_every_example_has_its_answer(self):
+        self.assertEqual(sorted([*examples(), *list_examples()]), sorted(file[:-4] for file in os.listdir(EXAMPLES) if file.endswith(".txt")))
         for file in os.listdir(EXAMPLES):
             if file.endswith(".txt"):
                 made = "./dustroute route examples/%s > examples/%s" % (file, file.replace(".txt", ".out"))

@@ -195,8 +195,8 @@ class Drawing:
             if lines:
                 path = "".join("M" + "L".join("%g %g" % point for point in line) for line in lines)
                 parts.append('<path class="halo" d="%s"/><path class="branch" data-sink="%d" d="%s" %s/>'
-                             % (path, place + 1, path, line_style(place)))
-            colour = COLOURS[place % len(COLOURS)]
+                             % (path, place + 1, path, line_style(self._style(place))))
+            colour = COLOURS[self._style(place) % len(COLOURS)]
             parts += ['<circle cx="%d" cy="%d" r="5" fill="%s"/>' % (*centre(at), colour) for at in dict.fromkeys(branch)
                       if at[1] == level and self._is_shown(at)]
         source = terminal(self.job.source) if self.sound else None
@@ -252,7 +252,14 @@ class Drawing:
         return parts
 
     def _ends(self, level: int) -> List[str]:
-        return [end_sign(at, places) for at, places in sorted(self.ends.items()) if at[1] == level]
+        return [self._end_sign(at, places) for at, places in sorted(self.ends.items()) if at[1] == level]
+
+    def _end_sign(self, at: Pos, places: List[int]) -> str:
+        return end_sign(at, places)
+
+    def _style(self, branch: int) -> int:
+        """The number of a branch's colour and dashes."""
+        return branch
 
 
 def cut(side: range) -> List[range]:

@@ -290,6 +290,34 @@ def from_bytes(sheet: bytes) -> Job:
     return job
 
 
+# ---- a list: whole sheets one behind the other
+
+HEAD_BYTES = 5  # a sheet's version, and the length of all that follows
+
+
+def sheets_of(content: bytes) -> List[bytes]:
+    """The sheets of a list: each ends where its own length says, or where the list ends. Of no bytes there is one, which is empty."""
+    found, rest = [], content
+    while True:
+        length = HEAD_BYTES + int.from_bytes(rest[1:HEAD_BYTES], "big") if len(rest) >= HEAD_BYTES else len(rest)
+        found.append(rest[:length])
+        rest = rest[length:]
+        if not rest:
+            return found
+
+
+def is_list(content: bytes) -> bool:
+    """Whether these bytes are several whole sheets, and not one with something left over."""
+    sheets = sheets_of(content)
+    return len(sheets) > 1 and all(is_whole(sheet) for sheet in sheets)
+
+
+def is_whole(sheet: bytes) -> bool:
+    """Whether a sheet has a version that is known, and the length that it says."""
+    known = any(sheet[:1] == bytes([version.number]) for version in VERSIONS)
+    return known and len(sheet) >= HEAD_BYTES and len(sheet) == HEAD_BYTES + int.from_bytes(sheet[1:HEAD_BYTES], "big")
+
+
 def bytes_of_hex(text: str) -> bytes:
     """Hex digits with blanks wherever one likes; ValueError otherwise."""
     return bytes.fromhex("".join(text.split()))

@@ -1,4 +1,5 @@
-"""A routed net laid into its room: supports, wire and repeaters where they are to stand, as the published router lays one net.
+"""Routed nets laid into their room: supports, wire and repeaters where they are to stand, as the published router lays them. The proved library
+lays them for `build`; this says the same a second time, for tests, and one net where the library is missing.
 
 Each occupied cell in number order gets a support where Air is beneath, then wire where it is Air itself. A support is solid beneath a
 planned repeater, beneath the terminal of a block-power sink and beneath either end of a stair, else transparent. Then the planned
@@ -6,7 +7,7 @@ repeaters come, whatever stands there, each facing the way the signal runs from 
 becomes a repeater that faces the sink's block."""
 from __future__ import annotations
 
-from typing import NamedTuple, Set
+from typing import NamedTuple, Sequence, Set, Tuple
 
 from .answer import Answer, directions, occupied
 from .job import AHEAD, AIR, BLOCK_POWER, REPEATER, SOLID, TRANSPARENT, WIRE, Job, Pos
@@ -40,13 +41,24 @@ def structural(job: Job, answer: Answer) -> Set[Pos]:
 
 def lay(job: Job, answer: Answer) -> Laid:
     """The room with its net, of a job that was routed."""
-    laid = Laid(bytearray(job.cells()), bytearray(job.cells()))
+    return lay_all([(job, answer)])
 
+
+def lay_all(nets: Sequence[Tuple[Job, Answer]]) -> Laid:
+    """The room with several nets, one after another; its blocks are those of the first."""
+    first = nets[0][0]
+    laid = Laid(bytearray(first.cells()), bytearray(first.cells()))
+    for block in first.blocks:
+        laid.kinds[first.number(block.at)], laid.facings[first.number(block.at)] = block.kind, block.facing
+    for job, answer in nets:
+        _lay(laid, job, answer)
+    return laid
+
+
+def _lay(laid: Laid, job: Job, answer: Answer) -> None:
     def put(at: Pos, kind: int, facing: int = 0) -> None:
         laid.kinds[job.number(at)], laid.facings[job.number(at)] = kind, facing
 
-    for block in job.blocks:
-        put(block.at, block.kind, block.facing)
     solid = structural(job, answer)
     for at in sorted(occupied(answer, job), key=job.number):
         below = step(at, DOWN)
@@ -60,4 +72,3 @@ def lay(job: Job, answer: Answer) -> Laid:
     for sink in job.sinks:
         if sink.port == BLOCK_POWER:
             put(terminal(sink), REPEATER, opposite(sink.facing))
-    return laid

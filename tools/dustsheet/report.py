@@ -2,23 +2,42 @@
 from __future__ import annotations
 
 import json
-from typing import List, Optional
+from typing import List, Optional, Sequence
 
 from .answer import Answer, occupied
 from .check import NOT_KNOWN, Remark
-from .job import PORTS, Job, Pos
+from .job import FACINGS, KINDS, PORTS, Job, Pos
 from .net import Branch, branches, signals
 from .reason import Question, Surroundings
+from .several import Laid, Net, RefusedNet, puts
 from .sinks import APPROACH_TAKEN, CAUSES, SHUT_IN, VERDICTS, Unreached
 from .supports import of_answer
 from .tries import Tried
 
 
 def of_net(job: Job, answer: Answer, found: List[Remark], strict: bool) -> str:
+    return _text({"room": job.sides, "mode": _mode(strict), **_net(job, answer), "supports": of_answer(job, answer)._asdict(), **_warnings(found)})
+
+
+def _net(job: Job, answer: Answer) -> dict:
     signal = signals(answer, job)
     listed = [_branch(place, branch, signal) for place, branch in enumerate(branches(answer, job), 1)]
-    return _text({"room": job.sides, "mode": _mode(strict), "run": job.run, "occupied": len(occupied(answer, job)), "branches": listed,
-                  "repeaters": answer.repeaters, "supports": of_answer(job, answer)._asdict(), **_warnings(found)})
+    return {"run": job.run, "occupied": len(occupied(answer, job)), "branches": listed, "repeaters": answer.repeaters}
+
+
+# ---- several nets
+
+def of_nets(nets: Sequence[Net], laid: Laid, found: List[Remark], strict: bool) -> str:
+    """Each net as one alone is told, and every block that is laid, with its net's place."""
+    listed = [{"net": net.place, "name": net.name, **_net(net.job, net.answer)} for net in nets]
+    blocks = [{"at": put.at, "kind": KINDS[put.kind], "facing": FACINGS[put.facing], "net": put.net} for put in puts(nets, laid)]
+    return _text({"room": nets[0].job.sides, "mode": _mode(strict), "nets": listed, "laid": blocks, **_warnings(found)})
+
+
+def of_refused_net(refused: RefusedNet, strict: bool) -> str:
+    told = {"net": refused.place, "name": refused.name, "number": refused.number, "detail": refused.detail, "words": "\n".join(refused.reason),
+            **({"why": why_sink(refused.stopped)} if refused.stopped else {})}
+    return _text({"room": refused.seen.sides if refused.seen else None, "mode": _mode(strict), "refused": told})
 
 
 def of_refusal(job: Optional[Job], number: int, detail: int, reason: List[str], found: List[Remark], strict: bool,

@@ -13,7 +13,7 @@ from .check import NOT_KNOWN
 from .files import Stop
 
 EXAMPLES = ["lane", "three-lamps", "lamp", "power-block", "gap", "lever-door", "walled-in", "closet", "hemmed-in", "shelf", "dust-inside",
-            "smallest", "hall"]  # the first is shown at first
+            "smallest", "hall", "controller"]  # the first is shown at first
 FUNCTION = 0  # the kind of a module's export
 
 
@@ -63,9 +63,11 @@ def tables_of(header: object, given: Tuple[str, ...]) -> Dict[str, object]:
               "records": texts.MOST_RECORDS, "defaultCosts": texts.DEFAULT_COSTS, "defaultLimit": texts.DEFAULT_LIMIT,
               "treeValues": constants["DUSTROUTE_TREE_VALUES"], "treeWhyValues": constants["DUSTROUTE_TREE_WHY_VALUES"],
               "searchTotals": constants["DUSTROUTE_SEARCH_TOTALS"], "writeValues": constants["DUSTROUTE_WRITE_VALUES"],
-              "functionValues": constants["DUSTROUTE_FUNCTION_VALUES"], "lineBytes": constants["DUSTROUTE_LINE_BYTES"]}
+              "functionValues": constants["DUSTROUTE_FUNCTION_VALUES"], "lineBytes": constants["DUSTROUTE_LINE_BYTES"],
+              "netsValues": constants["DUSTROUTE_NETS_VALUES"], "netName": texts.MOST_NAME}
     return {"KINDS": jobs.KINDS, "FACINGS": jobs.FACINGS, "PORTS": jobs.PORTS, "PLACE_LISTS": jobs.PLACE_LISTS, "PART_NAMES": jobs.PART_NAMES,
-            "LIMITS": limits, "ALSO": texts.ALSO, "FORMS": texts.FORMS, "PLACE_WORDS": texts.PLACE_WORDS, "GENERAL": words.GENERAL,
+            "LIMITS": limits, "ALSO": texts.ALSO, "FORMS": texts.FORMS, "PLACE_WORDS": texts.PLACE_WORDS, "ROOM_WORDS": texts.ROOM_WORDS,
+            "GENERAL": words.GENERAL,
             "KIND_SIGNS": symbols.KIND_SIGNS, "KIND_NAMES": symbols.KIND_NAMES, "COLOURS": symbols.COLOURS, "DASHES": symbols.DASHES,
             "LINE_WORDS": reason.LINE_WORDS, "CAUSES": [{"bit": bit, **cause._asdict()} for bit, cause in sinks.CAUSES.items()],
             "NOT_KNOWN": NOT_KNOWN, "FUNCTIONS": functions_of(header, given)}

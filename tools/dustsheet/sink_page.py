@@ -3,7 +3,7 @@ wall by its reason, and the cells that are kept free by their cause. It can be r
 from __future__ import annotations
 
 from html import escape
-from typing import List, Set, Tuple
+from typing import Callable, List, Set, Tuple
 
 from .answer import Answer
 from .drawing import corner
@@ -24,10 +24,15 @@ KEPT = ('<g transform="translate(%d %d)"><path class="kept" d="M0 0L40 40M20 0L4
 
 def page(name: str, unreached: Unreached, tried: List[str]) -> str:
     """The page, with what helps in words."""
-    drawing = SinkDrawing(unreached)
+    return page_of(name, SinkDrawing(unreached), tried, room_picture, "")
+
+
+def page_of(name: str, drawing: SinkDrawing, tried: List[str], picture: Callable[[SinkDrawing], str], head: str) -> str:
+    """The page of a drawing, with a picture of the whole room, and before all else a head, if there is one."""
+    unreached = drawing.unreached
     floors = floor_figures(drawing)
     job = unreached.job
-    body = [MODES, heading(name, job), mode_words(unreached.strict), verdict_box(unreached, tried), in_the_way(drawing), room_picture(drawing),
+    body = [MODES, heading(name, job), mode_words(unreached.strict), head, verdict_box(unreached, tried), in_the_way(drawing), picture(drawing),
             "<h2>Floors</h2>", reading_help(drawing), *floors, legend(job, drawing)]
     return document(name, '<main id="projector">%s</main>' % "".join(body))
 
@@ -40,7 +45,7 @@ def verdict_box(unreached: Unreached, tried: List[str]) -> str:
     return '<section class="slide"><div class="refused"><p><b>%s</b></p>%s</div>%s%s</section>' % (escape(headline(unreached)), known, helps, like)
 
 
-def in_the_way(drawing: "SinkDrawing") -> str:
+def in_the_way(drawing: SinkDrawing) -> str:
     """What the edges and the letters of the floors mean; nothing where no wall is told."""
     if not drawing.told.reached:
         return ""
@@ -53,8 +58,11 @@ def _spans(items: List[Tuple[str, str]]) -> str:
     return '<div class="legend">%s</div>' % spans if items else ""
 
 
-def room_picture(drawing: "SinkDrawing") -> str:
-    picture = Picture(drawing.job, drawing.answer, (), drawing.told.reached)
+def room_picture(drawing: SinkDrawing) -> str:
+    return pictured(drawing, Picture(drawing.job, drawing.answer, (), drawing.told.reached))
+
+
+def pictured(drawing: SinkDrawing, picture: Picture) -> str:
     return ('<figure class="iso slide" id="room"><figcaption>The room, seen from the south-east: %s%s</figcaption>'
             '<svg xmlns="http://www.w3.org/2000/svg" class="large" viewBox="0 0 %g %g" width="%g" role="img" aria-label="the room">%s</svg></figure>'
             % (SO_FAR, ", and where wire gets to from sink %d" % drawing.unreached.place if drawing.told.reached else "", picture.width, picture.height,

@@ -133,12 +133,18 @@ class Picture(Canvas):
 
     def branches(self) -> Iterator[str]:
         for place, branch in enumerate(self.answer.branches):
-            points = [middle(at) for at in branch[:1]]
-            for one, other in zip(branch, branch[1:]):
-                points += step_points(one, other)
-            if len(points) > 1:
-                yield self.line(points, 'stroke="#fff" stroke-width="7" stroke-linejoin="round"')
-                yield self.line(points, '%s stroke-width="4" stroke-linejoin="round" data-wire="%d"' % (line_style(place), place + 1))
+            yield from self.branch(branch, line_style(place), place + 1)
+
+    def branch(self, cells: Sequence[Pos], style: str, number: int) -> Iterator[str]:
+        points = [middle(at) for at in cells[:1]]
+        for one, other in zip(cells, cells[1:]):
+            points += step_points(one, other)
+        if len(points) > 1:
+            yield self.line(points, 'stroke="#fff" stroke-width="7" stroke-linejoin="round"')
+            yield self.line(points, '%s stroke-width="4" stroke-linejoin="round" data-wire="%d"' % (style, number))
+
+    def repeaters(self) -> List[Pos]:
+        return self.answer.repeaters
 
     def repeater(self, at: Pos) -> str:
         ahead = AHEAD[self.facing[at]]
@@ -156,13 +162,17 @@ class Picture(Canvas):
 
     def warnings(self) -> Iterator[str]:
         """A flag above each cell that a remark speaks of, with the remark's number; a refusal's cell has an exclamation mark."""
-        flags: Dict[Pos, List[str]] = {at: ["!"] for at in marked_cells(self.answer, self.job)}
+        flags: Dict[Pos, List[str]] = {at: ["!"] for at in self.flagged()}
         for place, remark in enumerate(self.remarks, 1):
             flags.setdefault(remark.at, []).append(str(place))
         for at, numbers in sorted(flags.items()):
             x, y = self.flat((at[0] + 0.5, at[1] + 1.1, at[2] + 0.5))
             flag = '<path class="warned" d="M%g %gl9 16h-18z" fill="#ffd43b" stroke="#a8201a" stroke-width="1.6"/>' % (x, round(y - 13, 1))
             yield flag + self.text((at[0] + 0.5, at[1] + 1.23, at[2] + 0.5), " ".join(numbers), INK, 9)
+
+    def flagged(self) -> List[Pos]:
+        """The cells that a refusal speaks of."""
+        return marked_cells(self.answer, self.job)
 
     def walls(self) -> str:
         """The edges of what is drawn, behind everything, with the names of the axes."""
@@ -188,7 +198,7 @@ class Picture(Canvas):
                 parts.append(self.cell(at))
             parts.append(self.top_seams(level, runs))
         parts += [self.axes(), *self.branches()]
-        parts += [self.repeater(at) for at in sorted(self.answer.repeaters, key=nearness)]
+        parts += [self.repeater(at) for at in sorted(self.repeaters(), key=nearness)]
         parts += [*self.ends(), *self.warnings()]
         return "\n".join(part for part in parts if part)
 

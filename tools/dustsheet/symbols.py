@@ -116,6 +116,7 @@ th, td { text-align: left; padding: .15em .8em .15em 0; border-bottom: 1px solid
 .source { fill: #111; }
 .sink { fill: #fff; stroke-width: 3; }
 .end { font-size: 16px; font-weight: bold; text-anchor: middle; fill: #111; }
+.end.nets { font-size: 13px; }
 .end-light { font-size: 16px; font-weight: bold; text-anchor: middle; fill: #fff; }
 .stair { fill: #fff; stroke: #111; stroke-width: 1.5; }
 .stair-dark { fill: #111; }

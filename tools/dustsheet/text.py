@@ -4,7 +4,7 @@ from __future__ import annotations
 import difflib
 import re
 from dataclasses import dataclass, field
-from typing import Dict, Iterator, List, Set, Tuple
+from typing import Dict, Iterator, List, Optional, Sequence, Set, Tuple
 
 from .job import (FACINGS, KINDS, PLACE_LISTS, PORTS, USUAL_RUN, USUAL_TAIL, AnyEnd, Block, End, Fault, Job, Pos, Sink, faults, record_name,
                   spell)
@@ -26,7 +26,11 @@ FORMS = {
     **{word: word + " X Y Z [to X Y Z]" for word in PLACE_WORDS},
     "source": "source [PORT] X Y Z [FACING]",
     "sink": "sink [PORT] X Y Z [FACING] [tail STEPS]",
+    "net": "net [NAME]",
 }
+ROOM_WORDS = ("room", "block", "clear")  # one for all nets of a text
+END_WORDS = ("source", "sink")  # each net's own
+MOST_NAME = 24  # letters of a net's name
 
 
 @dataclass(frozen=True)
@@ -158,6 +162,11 @@ class Draft:
         default_factory=lambda: {part: [] for part in ["blocks", *PLACE_LISTS, "sinks"]})
     tried: Set[str] = field(default_factory=set)  # first words of lines, good ones and bad ones
     last: int = 1
+    # of a text of several nets: what stands before the first `net` line is shared by all, and each has its own draft
+    nets: List[Draft] = field(default_factory=list)
+    shared: Optional[Draft] = None
+    name: str = ""
+    begins: int = 0  # the line of the net's word
 
     def put_once(self, word: str, line: int, value: object) -> None:
         if word in self.once:
@@ -170,16 +179,31 @@ class Draft:
             raise BadLine("more than %d %ss; a sheet can't count them" % (most, record_name(part, 0)[:-2]))
         self.records[part] += [(line, value) for value in values]
 
+    def said(self, word: str) -> Optional[Tuple[int, object]]:
+        """The line and the value of a word that comes once: the net's own before what is shared."""
+        return self.once[word] if word in self.once else self.shared.said(word) if self.shared else None
+
     def value(self, word: str, default: object) -> object:
-        return self.once[word][1] if word in self.once else default
+        said = self.said(word)
+        return said[1] if said else default
+
+    def all(self, part: str) -> List[Tuple[int, object]]:
+        """The records of a list with their lines: what is shared, and then the net's own."""
+        return [*(self.shared.all(part) if self.shared else []), *self.records[part]]
 
     def listed(self, part: str) -> list:
-        return [value for _, value in self.records[part]]
+        return [value for _, value in self.all(part)]
+
+    def record(self, part: str, index: int) -> Tuple[int, object]:
+        """One of them."""
+        shared = self.shared.records[part] if self.shared else []
+        return shared[index] if index < len(shared) else self.records[part][index - len(shared)]
 
     def line_of(self, fault: Fault) -> int:
         if fault.part in self.records:
-            return self.records[fault.part][fault.index][0]
-        return self.once[fault.part][0] if fault.part in self.once else self.last
+            return self.record(fault.part, fault.index)[0]
+        said = self.said(fault.part)
+        return said[0] if said else self.last
 
 
 def cells_of(low: Pos, high: Pos) -> List[Pos]:
@@ -201,18 +225,37 @@ def read(text: str, path: str) -> Draft:
             except BadLine as bad:
                 draft.problems.append(Problem(line, str(bad)))
     for word in ("room", "source"):
-        if word not in draft.tried:
+        if word not in draft.tried and not (draft.nets and word == "source"):
             draft.problems.append(Problem(draft.last, "no '%s' line; expected somewhere: %s" % (word, FORMS[word])))
+    for place, net in enumerate(draft.nets):
+        if "source" not in net.tried:
+            draft.problems.append(Problem(net.begins, "%s has no 'source' line; expected behind it: %s" % (net_name(place, net.name), FORMS["source"])))
     return draft
 
 
-def _read_line(draft: Draft, line: int, words: Words) -> None:
+def net_name(place: int, name: str) -> str:
+    """A net of a list in words, by its place, from 0, and its name, if it has one."""
+    return "net %d (%s)" % (place, name) if name else "net %d" % place
+
+
+def drafts_of(draft: Draft) -> List[Draft]:
+    """The draft of each net; of a text without a `net` line there is one."""
+    return draft.nets or [draft]
+
+
+def _read_line(whole: Draft, line: int, words: Words) -> None:
     first = words.next("the first word")
     word = plain(first[:2 * MOST_QUOTED])
     if word not in FORMS:
         raise BadLine("unknown word %s; %s" % (quoted(first), _hint(word)))
     words.form = FORMS[word]
+    draft = whole.nets[-1] if whole.nets else whole
     draft.tried.add(word)
+    draft.last = line
+    if word == "net":
+        return _begin_net(whole, line, words)
+    if whole.nets and word in ROOM_WORDS:
+        raise BadLine("a '%s' line behind a 'net' line; the room is one for all nets: put it before the first 'net' line" % word)
     if word == "block":
         _read_block(draft, line, words)
     elif word == "clear":
@@ -225,6 +268,27 @@ def _read_line(draft: Draft, line: int, words: Words) -> None:
         _read_end(draft, line, word, words)
     else:
         _read_head(draft, line, word, words)
+
+
+def _begin_net(whole: Draft, line: int, words: Words) -> None:
+    """A net's name is one word, which no other net has. A number is no name: a net is known by its place, too."""
+    name = words.left.pop(0) if words.left else ""
+    words.end()
+    place = len(whole.nets)
+    net = Draft(whole.path, shared=whole, begins=line, last=line)
+    whole.nets.append(net)
+    for word in END_WORDS if not place else ():
+        if word in whole.tried:
+            raise BadLine("a '%s' line stands before the first 'net' line; each net has its own, behind its 'net' line" % word)
+    if name.isascii() and name.isdigit():
+        if name != str(place):
+            raise BadLine("this is net %d, and not %s; nets are counted from 0" % (place, quoted(name)))
+        return
+    if len(name) > MOST_NAME or not name.isprintable():
+        raise BadLine("the name %s; a net's name has at most %d letters" % (quoted(name), MOST_NAME))
+    if name and name in [other.name for other in whole.nets]:
+        raise BadLine("a second net %s; each has a name of its own" % quoted(name))
+    net.name = name
 
 
 def _hint(word: str) -> str:
@@ -291,21 +355,35 @@ def job_of(draft: Draft) -> Job:
     return job
 
 
+def jobs_of(draft: Draft) -> List[Job]:
+    """The jobs of a draft without problems, one for each net."""
+    return [job_of(net) for net in drafts_of(draft)]
+
+
 def problems_of(draft: Draft, job: Job) -> List[Problem]:
     """What the router would refuse by numbers 1 to 5, or else 7 to 9, each at its line."""
-    found = list(faults(job)) or list(late_faults(job))
+    return _problems([(draft, job)])
+
+
+def problems_of_all(draft: Draft) -> List[Problem]:
+    """The same of every net of a text; what is shared is told once."""
+    return _problems([(net, job_of(net)) for net in drafts_of(draft)])
+
+
+def _problems(nets: Sequence[Tuple[Draft, Job]]) -> List[Problem]:
     by_line: Dict[int, Problem] = {}  # of each line the first: a box can be wrong in many cells
-    for fault in found:
-        line = draft.line_of(fault)
-        if line not in by_line:
-            by_line[line] = Problem(line, "%s (the router refuses this with number %d)" % (_full_words(draft, fault), fault.number))
+    for draft, job in nets:
+        for fault in list(faults(job)) or list(late_faults(job)):
+            line = draft.line_of(fault)
+            if line not in by_line:
+                by_line[line] = Problem(line, "%s (the router refuses this with number %d)" % (_full_words(draft, fault), fault.number))
     return [by_line[line] for line in sorted(by_line)]
 
 
 def _full_words(draft: Draft, fault: Fault) -> str:
     if fault.number == 7:
-        at = draft.records["blocks"][fault.index][1].at
-        lines = [line for line, block in draft.records["blocks"] if block.at == at]
+        at = draft.record("blocks", fault.index)[1].at  # type: ignore[attr-defined]
+        lines = [line for line, block in draft.all("blocks") if block.at == at]
         return fault.words + "; blocks are put there by the lines " + " and ".join(str(line) for line in lines)
     if fault.number in (8, 9):
         return "%s: %s" % (record_name(fault.part, fault.index), fault.words)
@@ -316,18 +394,60 @@ def _full_words(draft: Draft, fault: Fault) -> str:
 
 def write(job: Job) -> str:
     """The canonical text: the parts in sheet order, boxes as long as they go. It makes the same sheet again."""
-    lines = ["room %d %d %d  # sides: x to the east, y up, z to the south" % job.sides,
-             "costs %d %d %d  # flat step, stair, new support; in tenths" % job.costs,
-             "limit %d  # node limit" % job.limit]
-    if job.run != USUAL_RUN:
-        lines.append("run %d  # so many steps need no repeater" % job.run)
-    lines += _section("blocks", [_block_line(*box) for box in boxes([(b.at, (b.kind, b.facing, b.node)) for b in job.blocks])])
-    for word, part in PLACE_WORDS.items():
-        found = boxes([(at, ()) for at in getattr(job, part)])
-        title = "cells that are reserved" if part == "reserved" else part + " of other nets"
-        lines += _section(title, ["%s %s" % (word, _box_text(low, high)) for low, high, _ in found])
-    lines += _section("the net", [_end_line("source", job.source)] + [_sink_line(sink) for sink in job.sinks])
+    lines = [*_head_lines(job), *_list_lines({part: getattr(job, part) for part in PLACE_LISTS})]
+    lines += _section("the net", _end_lines(job))
     return "\n".join(lines) + "\n"
+
+
+def write_all(jobs: Sequence[Job], names: Sequence[str]) -> str:
+    """The canonical text of several nets over one room: what all share, by the first, and each net's own. It makes the same list again."""
+    first = jobs[0]
+    shared = {part: _common([getattr(job, part) for job in jobs]) for part in PLACE_LISTS}
+    lines = [*_head_lines(first), *_list_lines(shared)]
+    for place, job in enumerate(jobs):
+        lines += ["", "net %s" % (names[place] or place)]
+        lines += [line for line, own, all_share in zip(_cost_lines(job), (job.costs, job.limit, job.run), (first.costs, first.limit, first.run))
+                  if own != all_share]
+        for word, part in PLACE_WORDS.items():
+            lines += _place_lines(word, getattr(job, part)[len(shared[part]):])
+        lines += _end_lines(job)
+    return "\n".join(lines) + "\n"
+
+
+def _common(lists: List[List[Pos]]) -> List[Pos]:
+    """The longest list with which all of these begin."""
+    length = next((place for place, ats in enumerate(zip(*lists)) if len(set(ats)) > 1), min(map(len, lists)))
+    return lists[0][:length]
+
+
+def _cost_lines(job: Job) -> List[str]:
+    return ["costs %d %d %d  # flat step, stair, new support; in tenths" % job.costs, "limit %d  # node limit" % job.limit,
+            "run %d  # so many steps need no repeater" % job.run]
+
+
+def _head_lines(job: Job) -> List[str]:
+    """The room, what all is paid with, and the blocks."""
+    costs, limit, run = _cost_lines(job)
+    lines = ["room %d %d %d  # sides: x to the east, y up, z to the south" % job.sides, costs, limit]
+    if job.run != USUAL_RUN:
+        lines.append(run)
+    return lines + _section("blocks", [_block_line(*box) for box in boxes([(b.at, (b.kind, b.facing, b.node)) for b in job.blocks])])
+
+
+def _list_lines(lists: Dict[str, List[Pos]]) -> List[str]:
+    lines: List[str] = []
+    for word, part in PLACE_WORDS.items():
+        title = "cells that are reserved" if part == "reserved" else part + " of other nets"
+        lines += _section(title, _place_lines(word, lists[part]))
+    return lines
+
+
+def _place_lines(word: str, places: List[Pos]) -> List[str]:
+    return ["%s %s" % (word, _box_text(low, high)) for low, high, _ in boxes([(at, ()) for at in places])]
+
+
+def _end_lines(job: Job) -> List[str]:
+    return [_end_line("source", job.source), *(_sink_line(sink) for sink in job.sinks)]
 
 
 def _section(title: str, lines: List[str]) -> List[str]:

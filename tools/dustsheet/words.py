@@ -4,7 +4,7 @@ from __future__ import annotations
 from typing import Iterator, Optional, Sequence, Tuple
 
 from .job import (BLOCK_POWER, KINDS, MAX_CELLS, MAX_COST, MAX_LIMIT, MAX_NODES, MAX_PRODUCT, MAX_SIDE, MAX_SINKS, ROUTE_CELLS, Fault, Job, Pos, Refused,
-                  first_fault, from_bytes, place_of, record_name, spell)
+                  first_fault, from_bytes, head, place_of, record_name, spell)
 from .rules import approach, end_name, is_step, late_faults
 
 # for a number whose cause can't be named more closely
@@ -73,6 +73,46 @@ def sink_of(cell: int, job: Job) -> Tuple[int, Pos]:
         if job.number(approach(sink)) == cell:
             return place, sink.at
     raise ValueError("no sink is approached from cell %d" % cell)
+
+
+# ---- several nets
+
+def of_net(number: int, detail: int, net: int, sheets: Sequence[bytes]) -> str:
+    """Why the library refuses a net of a list, of which these are the sheets."""
+    if number == 1 and net:
+        differs = _difference(sheets[0], sheets[net])
+        if differs:
+            return differs
+    if number == 16:
+        return of_overlap(detail, head(sheets[0])[0])
+    return of_sheet(number, detail, sheets[net])
+
+
+def of_overlap(cell: int, sides: Pos) -> str:
+    return "its wire would lie in a cell that a net before it occupies: %s, number %d" % (spell(place_of(cell, sides)), cell)
+
+
+def _difference(first: bytes, other: bytes) -> Optional[str]:
+    """In what a sheet has another room than the first one of its list; nothing where one of them is no sheet."""
+    try:
+        one, two = from_bytes(first), from_bytes(other)
+    except Refused:
+        return None
+    return of_difference(one, two)
+
+
+def of_difference(one: Job, two: Job) -> Optional[str]:
+    """In what a job has another room than the first one of its list."""
+    if one.sides != two.sides:
+        return "its room is %dx%dx%d, and that of net 0 is %dx%dx%d: nets of a list share one room" % (*two.sides, *one.sides)
+    if one.blocks == two.blocks:
+        return None
+    more, less = ([block for block in these.blocks if block not in those.blocks] for these, those in ((two, one), (one, two)))
+    if more or less:
+        block, has, hasnt = (more[0], "it has", "net 0 hasn't") if more else (less[0], "net 0 has", "it hasn't")
+        name = KINDS[block.kind] if block.kind < len(KINDS) else "block"
+        return "its blocks aren't those of net 0: %s a %s at %s that %s; nets of a list share one room" % (has, name, spell(block.at), hasnt)
+    return "its blocks stand in another order than those of net 0, or one of them twice; nets of a list share one room"
 
 
 # ---- limits

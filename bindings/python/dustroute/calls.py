@@ -141,9 +141,11 @@ def sheet_of(sheet_or_text: Union[bytes, str, Job]) -> bytes:
         except texts.NoText as bad:
             raise BadText([texts.Problem(bad.line, str(bad))]) from None
     draft = texts.read(sheet_or_text, "text")
-    if draft.problems:
-        raise BadText(draft.problems)
-    return sheet_made(texts.job_of(draft))
+    first, *more = texts.drafts_of(draft)
+    problems = draft.problems or [texts.Problem(net.begins, "a second net; `nets` routes several") for net in more[:1]]
+    if problems:
+        raise BadText(problems)
+    return sheet_made(texts.job_of(first))
 
 
 def route(sheet_or_text: Union[bytes, str, Job], memory: Optional[Memory] = None, *, strict: bool = False) -> Tree:

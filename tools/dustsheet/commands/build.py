@@ -1,4 +1,4 @@
-"""`build FILE -o room.mcfunction` routes a job, lays its net and writes the room as a function file for the game."""
+"""`build FILE.. -o room.mcfunction` routes one net or several, lays them and writes the room as a function file for the game."""
 from __future__ import annotations
 
 import argparse
@@ -9,17 +9,19 @@ from typing import List, Optional, TextIO
 
 import dustroute
 
-from .. import answer as answers, datapack, files, job as jobs, laying
+from .. import datapack, files, job as jobs
 from ..check import remarks
 from ..progress import Progress
-from .given import read
-from .route import NAME, REFUSED, attempt, load, print_out, printed, refusal_lines, stopped_at, tell
+from ..several import Laid, all_remarks
+from .nets import GivenNet, attempt, explained, nets_of, read_nets
+from .route import NAME, REFUSED, load, print_out, refusal_lines, stopped_at, tell
 
-ABOUT = "route a job and write the room as a function file for the game"
+ABOUT = "route one net or several and write the room as a function file for the game"
 
 
 def configure(parser: argparse.ArgumentParser) -> None:
-    parser.add_argument("file", metavar="FILE", nargs="+", help="the text of a job, or a job sheet, or - for standard input")
+    parser.add_argument("file", metavar="FILE", nargs="+", help="a text, of one net or of several, a job sheet or a list of sheets, or - for standard "
+                        "input; several files are nets over one room, in this order")
     parser.add_argument("-o", "--output", metavar="ROOM.mcfunction", help="the function file; else it goes to standard output, unless --pack is "
                         "given")
     parser.add_argument("--pack", metavar="ROOM.zip", help="also write it as a data pack, for %s" % datapack.VERSIONS)
@@ -29,34 +31,40 @@ def configure(parser: argparse.ArgumentParser) -> None:
 
 
 def build(args: argparse.Namespace) -> int:
-    if len(args.file) > 1:
-        raise files.Stop("%s: build takes one net, and %d files are named: build each by itself" % (NAME, len(args.file)))
-    path = args.file[0]
-    given = read(path)
+    given = read_nets(args.file)
     progress = Progress(NAME, args.quiet)
     load(progress)
-    answered = progress.watch("routing", lambda: attempt(given.sheet, args.strict))
-    job = given.job()
-    if isinstance(answered, dustroute.Refusal) or job is None:
-        print_out(printed(answered))
-        tell(refusal_lines(given, answered, args.strict, stopped_at(given, answered, args.strict)), [])
+    answered = progress.watch("routing", lambda: attempt(given, args.strict))
+    if isinstance(answered, dustroute.NetRefusal):
+        print_out(answered.line() if len(given) > 1 else dustroute.Refusal.line(answered))
+        tell(reason_of(given, answered, args.strict), [])
         return REFUSED
-    answer = answers.read(printed(answered), job, args.strict)
-    laid = laying.lay(job, answer)
+    nets = nets_of(given, answered)
+    laid = Laid(answered.kinds, answered.facings, answered.owners)
+    job = nets[0].job
     unfit = unfit_words(job, laid)
     if unfit:
         tell(unfit, [])
         return REFUSED
     text = dustroute.write_function(job.sides, laid.kinds, laid.facings)
-    name = datapack.function_name(args.output or args.pack or ("room" if path == "-" else path))
+    named = args.file[0] if len(args.file) == 1 and args.file[0] != "-" else "room"
+    name = datapack.function_name(args.output or args.pack or named)
     if args.pack:
         files.write(args.pack, datapack.zipped(name, text), is_text=False)
     if args.output or not args.pack:
         files.write(args.output, text, is_text=True)
     if not args.quiet:
-        told(job, text, name, args.output, args.pack, sys.stdout if args.output or args.pack else sys.stderr)
-    tell([], remarks(job, answer))
+        told(job, laid, text, name, args.output, args.pack, sys.stdout if args.output or args.pack else sys.stderr)
+    tell([], remarks(job, nets[0].answer) if len(nets) == 1 else all_remarks(nets, laid))
     return 0
+
+
+def reason_of(given: List[GivenNet], refusal: dustroute.NetRefusal, strict: bool) -> List[str]:
+    """Why there is nothing to build: of a net that is alone as `route` says it."""
+    if len(given) > 1:
+        return explained(given, refusal, strict).reason
+    alone = given[0].given
+    return refusal_lines(alone, refusal, strict, stopped_at(alone, refusal, strict))
 
 
 # ---- where a facing can't be
@@ -72,7 +80,7 @@ def facings_of(kind: int) -> List[int]:
     return [facing for facing in range(len(jobs.FACINGS)) if can(facing)]
 
 
-def unfit_words(job: jobs.Job, laid: laying.Laid) -> List[str]:
+def unfit_words(job: jobs.Job, laid: Laid) -> List[str]:
     """Each block that can't be written, and what to write instead. Routing doesn't look at these facings."""
     lawful = {kind: facings_of(kind) for kind in set(laid.kinds)}
     found = []
@@ -97,14 +105,20 @@ def standing(kind: int, facing: int) -> str:
 
 # ---- what a builder is told
 
-def fetched(text: bytes) -> List[str]:
-    """The blocks to fetch, by the game's names, as the text has them."""
-    names = Counter(re.findall(r"minecraft:(\w+)", text.decode("ascii")))
-    return ["%6d  %s" % (count, name) for name, count in sorted(names.items())]
+def fetched(job: jobs.Job, laid: Laid, text: bytes) -> Counter:
+    """The blocks to fetch, by the game's names as the text has them: all that is laid, less what stands in the room already."""
+    stands = {job.number(block.at): (block.kind, block.facing) for block in job.blocks}
+    cells = (cell for cell, kind in enumerate(laid.kinds) if kind != jobs.AIR)
+    lines = text.decode("ascii").splitlines()
+    new = (line for cell, line in zip(cells, lines) if stands.get(cell) != (laid.kinds[cell], laid.facings[cell]))
+    return Counter(re.findall(r"minecraft:(\w+)", "\n".join(new)))
 
 
-def told(job: jobs.Job, text: bytes, name: str, output: Optional[str], pack: Optional[str], out: TextIO) -> None:
-    lines = ["blocks to fetch, %d in all:" % text.count(b"\n"), *fetched(text), "to load it:"]
+def told(job: jobs.Job, laid: Laid, text: bytes, name: str, output: Optional[str], pack: Optional[str], out: TextIO) -> None:
+    counts = fetched(job, laid, text)
+    total = sum(counts.values())
+    lines = ["blocks to fetch, %d in all, beside the %d of the room itself:" % (total, text.count(b"\n") - total)]
+    lines += [*("%6d  %s" % (counts[block], block) for block in sorted(counts)), "to load it:"]
     if pack:
         lines.append("  put %s into the folder datapacks of the world (%s), and type /reload" % (pack, datapack.VERSIONS))
     else:

@@ -1,7 +1,7 @@
 """The job that a word of the command line is given: a text or a sheet, told by its first byte."""
 from __future__ import annotations
 
-from typing import NamedTuple, Optional
+from typing import List, NamedTuple, Optional, Tuple
 
 import dustroute
 
@@ -24,11 +24,20 @@ class Given(NamedTuple):
 
 
 def read(path: str, is_hex: bool = False) -> Given:
-    """A text that can't be read is told with its lines; one that the router refuses is taken."""
+    """A text that can't be read is told with its lines; one that the router refuses is taken. Of several nets none is."""
     if is_hex:
         return Given(files.read_sheet(path, is_hex), None)
+    nets = read_all(path)
+    if len(nets) > 1:
+        raise files.Stop("%s: %d nets; this word takes one: `./dustroute nets` routes and draws them all" % (files.shown(path), len(nets)))
+    return nets[0][1]
+
+
+def read_all(path: str, takes_any: bool = False) -> List[Tuple[str, Given]]:
+    """The nets of a text or of a list of sheets, each with its name, if it has one. Bytes that are no whole sheets are one sheet, which is
+    refused, unless any list is taken."""
     content = files.read_bytes(path)
     if jobs.is_sheet(content):
-        return Given(content, None)
+        return [("", Given(sheet, None)) for sheet in (jobs.sheets_of(content) if takes_any or jobs.is_list(content) else [content])]
     draft = sheets.read_draft(files.text_of(content, path), files.shown(path))
-    return Given(dustroute.sheet_made(texts.job_of(draft)), draft)
+    return [(net.name, Given(dustroute.sheet_made(texts.job_of(net)), net)) for net in texts.drafts_of(draft)]

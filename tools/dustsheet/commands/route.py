@@ -4,7 +4,7 @@ from __future__ import annotations
 import argparse
 import dataclasses
 import sys
-from typing import List, Optional, Union
+from typing import List, Optional, Tuple, Union
 
 import dustroute
 
@@ -14,7 +14,7 @@ from ..progress import Progress
 from ..rules import ample_limit
 from ..sinks import Unreached
 from . import sheet as sheets, unreached, view as views
-from .given import Given, read
+from .given import Given, read_all
 
 ABOUT = "route a job: a text or a sheet"
 NOT_BUILT, DIFFERS, REFUSED = 1, 1, 3
@@ -37,7 +37,10 @@ Answered = Union[dustroute.Tree, dustroute.Refusal]
 
 
 def route(args: argparse.Namespace) -> int:
-    given = read(args.file)
+    listed = read_all(args.file)
+    if len(listed) > 1:
+        return several_nets(args, listed)
+    given = listed[0][1]
     progress = Progress(NAME, args.quiet)
     load(progress)
     answered = progress.watch("routing", lambda: attempt(given.sheet, args.strict))
@@ -59,6 +62,15 @@ def route(args: argparse.Namespace) -> int:
     tell(reason, found)
     is_sound = not args.check or cross_check(progress, job, answered, args.strict)
     return REFUSED if isinstance(answered, dustroute.Refusal) else 0 if is_sound else DIFFERS
+
+
+def several_nets(args: argparse.Namespace, listed: List[Tuple[str, Given]]) -> int:
+    """A text of several nets, or a list of sheets, is routed as `nets` does it."""
+    from . import nets  # which takes much from here
+    if args.check:
+        raise files.Stop("%s: %d nets; --check takes one" % (files.shown(args.file), len(listed)))
+    args.file = [args.file]
+    return nets.routed(args, [nets.GivenNet(place, name, args.file[0], given) for place, (name, given) in enumerate(listed)])
 
 
 def printed(answered: Answered) -> str:

@@ -7,9 +7,9 @@ from typing import List
 
 import dustroute
 
-from .. import files, job as jobs, rules, text as texts
+from .. import files, job as jobs, rules, text as texts, words
 
-ABOUT = "make a job sheet from a text, or show a sheet as its text"
+ABOUT = "make a job sheet, or of several nets a list, from a text, or show it as its text"
 MOST_SHOWN = 20
 
 
@@ -28,14 +28,15 @@ def configure(parser: argparse.ArgumentParser) -> None:
 
 def make(args: argparse.Namespace) -> None:
     draft = read_draft(files.read_text(args.file), files.shown(args.file))
-    job = texts.job_of(draft)
-    problems = texts.problems_of(draft, job)
+    nets = texts.jobs_of(draft)
+    problems = texts.problems_of_all(draft)
     if problems and not args.any:
         raise files.Stop(listed(draft, problems) + "\nno sheet was made; --any makes it all the same")
-    for warning in [listed(draft, problems)] if problems else size_warning(job):
+    for warning in [listed(draft, problems)] if problems else size_warning(nets[0]):
         print("sheet: warning: " + warning, file=sys.stderr)
-    sheet = dustroute.sheet_made(job)
-    files.write(args.out, jobs.to_hex(job, sheet).encode() if args.hex else sheet, is_text=args.hex)
+    sheets = [dustroute.sheet_made(job) for job in nets]  # of several nets one behind the other: a list
+    digits = "".join(jobs.to_hex(job, sheet) for job, sheet in zip(nets, sheets))
+    files.write(args.out, digits.encode() if args.hex else b"".join(sheets), is_text=args.hex)
 
 
 def read_draft(text: str, path: str) -> texts.Draft:
@@ -62,12 +63,30 @@ def size_warning(job: jobs.Job) -> List[str]:
 
 def show(args: argparse.Namespace) -> None:
     path = files.shown(args.file)
-    job = files.read_job(args.file, args.hex)
+    content = files.read_sheet(args.file, args.hex)
+    sheets = jobs.sheets_of(content) if jobs.is_list(content) else [content]
+    nets = [shown_job(sheet, "%s: net %d" % (path, place) if len(sheets) > 1 else path, args.any) for place, sheet in enumerate(sheets)]
+    if len(nets) == 1:
+        files.write(args.out, texts.write(nets[0]).encode(), is_text=True)
+        return
+    for place, job in enumerate(nets):
+        differs = words.of_difference(nets[0], job)
+        if differs:
+            raise files.Stop("%s: net %d: %s (number 1)" % (path, place, differs))
+    files.write(args.out, texts.write_all(nets, [""] * len(nets)).encode(), is_text=True)
+
+
+def shown_job(sheet: bytes, path: str, takes_any: bool) -> jobs.Job:
+    """The job of a sheet, with what is wrong told; one that numbers 1 to 5 refuse is shown if any is."""
+    try:
+        job = jobs.from_bytes(sheet)
+    except jobs.Refused as refused:
+        raise files.Stop("%s: %s (number %d)" % (path, refused, refused.number)) from None
     fault = jobs.first_fault(job)
-    if fault and not args.any:
+    if fault and not takes_any:
         raise files.Stop("%s: %s: %s (number %d)" % (path, jobs.record_name(fault.part, fault.index), fault.words, fault.number))
     late = [] if fault else list(rules.late_faults(job))[:1]
     for found in [fault] if fault else late:
         print("sheet: warning: %s: %s: %s (the router refuses this with number %d)"
               % (path, jobs.record_name(found.part, found.index), found.words, found.number), file=sys.stderr)
-    files.write(args.out, texts.write(job).encode(), is_text=True)
+    return job

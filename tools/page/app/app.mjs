@@ -1,23 +1,23 @@
 // The room that is drawn and its answer: what changes it, and what is told of each change. The page's parts hang on here.
-import { KINDS, LIMITS, firstFault, holds, numberOf, step } from "../job/job.mjs";
-import { jobOf, problemsOf, readText } from "../job/text.mjs";
-import { writeText } from "../job/write.mjs";
+import { LIMITS, firstFault, holds, numberOf, step } from "../job/job.mjs";
+import { draftsOf, jobsOf, problemsOfAll, readText } from "../job/text.mjs";
 import { netOf } from "../job/net.mjs";
 import { remarks } from "../job/check.mjs";
 import { sheetOf } from "../job/sheet.mjs";
-import { TABLES } from "../job/tables.mjs";
 import { cellWords, drawn, resized } from "../room/edit.mjs";
 import { History } from "../room/history.mjs";
 import { TOOLS } from "../room/tools.mjs";
 import { sceneOf, triesByCell } from "../view/scene.mjs";
-import { causeWords, netWords, soFarWords } from "../view/told.mjs";
+import { netsSceneOf } from "../view/nets-scene.mjs";
+import { causeWords, soFarWords } from "../view/told.mjs";
+import { KIND_NAMES, SeveralNets } from "./several-nets.mjs";
 
 const TYPING = 1500; // milliseconds within which typed letters are one step back
-const KIND_NAMES = KINDS.map((name) => TABLES.KIND_NAMES[name]);
 
-export class App {
+export class App extends SeveralNets {
     // `shows` has what is called when something is to be shown or asked (main.mjs).
     constructor(text, shows) {
+        super();
         Object.assign(this, { shows, tool: TOOLS[0], how: { facing: 0, node: 0, port: 0, high: 1, tail: LIMITS.usualTail }, isStrict: false });
         Object.assign(this, { asked: 0, answer: null, net: null, soFar: null, reasons: [], remarks: [], box: [], strokeText: null, typedAt: 0 });
         this.history = new History(text);
@@ -33,10 +33,11 @@ export class App {
         this.text = text;
         this.problems = draft.problems;
         if (draft.problems.length) return false;
-        const job = jobOf(draft);
-        this.problems = problemsOf(draft, job);
-        if (firstFault(job) !== null) return false;
-        this.job = job;
+        const jobs = jobsOf(draft);
+        this.problems = problemsOfAll(draft);
+        if (jobs.some((job) => firstFault(job) !== null)) return false;
+        Object.assign(this, { jobs, names: draftsOf(draft).map(({ name }) => name) });
+        this.active = Math.min(this.active, jobs.length - 1);
         return true;
     }
 
@@ -57,6 +58,7 @@ export class App {
 
     opened(text) {
         this.typedAt = 0;
+        this.active = 0;
         this.shows.text(text);
         if (!this.show(text)) return;
         this.moveCursor([...this.job.source.at]);
@@ -90,17 +92,6 @@ export class App {
         return lines.slice(0, Math.max(end, 0)).join("\n").trimEnd();
     }
 
-    change(job) {
-        if (job === this.job) return;
-        this.changedAt = performance.now();
-        const head = this.headOfText();
-        const text = (head ? head + "\n" : "") + writeText(job);
-        if (text === this.text) return;
-        this.typedAt = 0;
-        this.shows.text(text);
-        this.show(text, this.strokeText !== null && this.history.now() !== this.strokeText);
-    }
-
     // All changes from a press to its release are one step back.
     beginStroke() {
         this.strokeText = this.history.now();
@@ -113,24 +104,18 @@ export class App {
     draw(cells, tool = this.tool) {
         const floors = tool.does === "block" || tool.does === "place" || tool.does === "erase" ? this.how.high : 1;
         const all = cells.flatMap((at) => Array.from({ length: floors }, (_, up) => step(at, [0, up, 0])));
-        this.change(drawn(this.job, tool, all, this.how));
+        if (tool.does === "erase") this.changeNets(this.jobs.map((job) => drawn(job, tool, all, this.how)));
+        else this.change(drawn(this.job, tool, all, this.how));
     }
 
     resize(sides) {
-        this.change(resized(this.job, sides));
+        this.changeNets(this.jobs.map((job) => resized(job, sides)));
         this.moveCursor(this.cursor.map((place, axis) => Math.min(place, sides[axis] - 1)));
     }
 
     choose(tool) {
         this.tool = tool;
         this.shows.tool();
-    }
-
-    // The hand on a cell: the lever, or what else drives the source, is switched.
-    press(at) {
-        const kind = KINDS[this.scene.kinds[numberOf(this.job, at)]];
-        const isSource = String(this.job.source.at) === String(at);
-        if (isSource || ["lever", "button", "pressure-plate"].includes(kind)) this.shows.switched();
     }
 
     // ---- the cursor
@@ -155,7 +140,7 @@ export class App {
 
     tell(at) {
         const cell = numberOf(this.job, at);
-        const words = [...cellWords(this.job, at, KIND_NAMES), ...netWords(this.answer, this.net, cell), ...soFarWords(this.soFar, cell),
+        const words = [...cellWords(this.job, at, KIND_NAMES), ...this.wireWords(cell, at), ...soFarWords(this.soFar, cell),
             ...causeWords(this.scene?.causes, cell)];
         if (this.scene?.supports.has(cell)) words.push("a support is laid here");
         if (this.scene?.blocked.has(cell)) words.push("kept free at the outset");
@@ -164,26 +149,41 @@ export class App {
 
     // ---- the answer
 
+    // What the worker is asked about: the sheet of one net, or those of several.
+    question() {
+        const asked = { id: this.asked, sheet: sheetOf(this.job), strict: this.isStrict };
+        return this.isSeveral ? { ...asked, sheets: this.jobs.map(sheetOf), names: this.names } : asked;
+    }
+
     ask() {
         this.asked++;
         this.begunAt = this.changedAt ?? performance.now();
-        this.shows.ask({ id: this.asked, sheet: sheetOf(this.job), strict: this.isStrict });
+        this.shows.ask(this.question());
     }
 
-    answered({ id, answer, reasons, took }) {
+    answered({ id, answer, reasons, took, before = [] }) {
         if (id !== this.asked) return;
-        Object.assign(this, { answer, reasons, took, tries: null });
-        this.net = answer.number ? null : netOf(answer, this.job);
+        Object.assign(this, { answer, reasons, took, before, tries: null });
+        if (this.isSeveral) this.answeredNets();
+        else {
+            this.nets = null;
+            this.net = answer.number ? null : netOf(answer, this.job);
+            this.remarks = remarks(this.job, answer, this.net);
+        }
         this.soFar = reasons.find((reason) => reason.soFar)?.soFar ?? null;
-        this.remarks = remarks(this.job, answer, this.net);
-        this.scene = sceneOf(this, reasons.find((reason) => reason.reached));
+        this.rescene();
         this.shows.answer();
-        if (this.soFar) this.askTries();
+        if (this.isSeveral ? answer.number >= 13 : this.soFar) this.askTries();
     }
 
-    // What to try: the worker tries a few changes each time it is asked.
+    rescene(reason = this.reasons.find((one) => one.reached)) {
+        this.scene = this.isSeveral ? netsSceneOf(this, reason) : sceneOf(this, reason);
+    }
+
+    // What to try: the worker tries a few changes each time it is asked; of several nets, other orders.
     askTries() {
-        this.shows.askIdly({ id: this.asked, sheet: sheetOf(this.job), strict: this.isStrict, asks: "tries" });
+        const asks = this.isSeveral ? { asks: "order", net: this.answer.net } : { asks: "tries" };
+        this.shows.askIdly({ ...this.question(), ...asks });
     }
 
     triedOf({ id, tries }) {
@@ -200,8 +200,9 @@ export class App {
     }
 
     // Does what was offered to be tried. The room can be taken back as any step.
-    take({ job, strict, at }) {
-        if (strict !== this.isStrict) {
+    take({ job, strict, at, order }) {
+        if (order) this.reorder(order);
+        else if (strict !== this.isStrict) {
             this.isStrict = strict;
             this.shows.mode();
             this.ask();
@@ -215,17 +216,17 @@ export class App {
     }
 
     askFor(question) {
-        this.shows.askAlso({ id: this.asked, sheet: sheetOf(this.job), strict: this.isStrict, ...question });
+        this.shows.askAlso({ ...this.question(), ...question });
     }
 
     toldOf(reason) {
-        this.scene = sceneOf(this, reason);
+        this.rescene(reason);
         this.shows.reason(reason);
     }
 
     // No answer came: the room is shown as it was drawn.
     unanswered() {
-        Object.assign(this, { answer: null, net: null, soFar: null, tries: null, reasons: [], remarks: [] });
-        this.scene = sceneOf(this, null);
+        Object.assign(this, { answer: null, net: null, nets: null, before: [], soFar: null, tries: null, reasons: [], remarks: [] });
+        this.rescene(null);
     }
 }

@@ -1,8 +1,8 @@
 // Texts and sheets, opened from a disk and saved to it.
 import { firstFault, recordName } from "../job/job.mjs";
 import { said } from "../job/said.mjs";
-import { Refused, isSheet, jobOfSheet } from "../job/sheet.mjs";
-import { writeText } from "../job/write.mjs";
+import { Refused, isList, isSheet, jobOfSheet, sheetsOf } from "../job/sheet.mjs";
+import { writeAll, writeText } from "../job/write.mjs";
 
 // The text of a file's bytes, a sheet's or its own; an Error with words for a person where there is none.
 export function textOfFile(name, content) {
@@ -13,16 +13,21 @@ export function textOfFile(name, content) {
             throw new Error(`${name}: ${said("this is no text (UTF-8 was expected)")}`);
         }
     }
+    const jobs = (isList(content) ? sheetsOf(content) : [content]).map((sheet) => jobOfFile(name, sheet));
+    return jobs.length > 1 ? writeAll(jobs, []) : writeText(jobs[0]);
+}
+
+function jobOfFile(name, sheet) {
     let job;
     try {
-        job = jobOfSheet(content);
+        job = jobOfSheet(sheet);
     } catch (refused) {
         if (!(refused instanceof Refused)) throw refused;
         throw new Error(said("%s: %s (number %d)", name, refused.message, refused.number));
     }
     const fault = firstFault(job);
     if (fault) throw new Error(said("%s: %s: %s (number %d)", name, recordName(fault.part, fault.index), fault.words, fault.number));
-    return writeText(job);
+    return job;
 }
 
 // A text or bytes.

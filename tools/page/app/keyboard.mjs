@@ -18,6 +18,8 @@ export function listenToKeys(canvas, app) {
             put(app.tool);
         } else if (key === "Delete" || key === "Backspace") {
             put({ does: "erase" });
+        } else if (/^[0-9]$/.test(key) && app.isSeveral) {
+            app.chooseNet(Number(key));
         } else if (key.length === 1 && toolOfKey(key.toLowerCase())) {
             const tool = toolOfKey(key.toLowerCase());
             app.choose(tool);

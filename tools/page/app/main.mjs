@@ -1,22 +1,22 @@
 // The page: finds its elements, hangs them on the app, and draws.
 import { FACINGS, LIMITS, PORTS } from "../job/job.mjs";
-import { sheetOf } from "../job/sheet.mjs";
 import { TABLES } from "../job/tables.mjs";
+import { netName } from "../job/text.mjs";
 import { Background } from "../router/background.mjs";
-import { OFFERS, QUESTIONS } from "../router/reasons.mjs";
 import { answerParts, element, reasonParts } from "../view/told.mjs";
 import { App } from "./app.mjs";
+import { Nets } from "./nets-bar.mjs";
 import { buildPalette } from "./palette.mjs";
 import { listenToKeys, listenToPageKeys, listenToTurnKeys } from "./keyboard.mjs";
 import { listenToPointer, listenToTurning } from "./pointer.mjs";
-import { save, textOfFile } from "./files.mjs";
+import { Kept } from "./kept.mjs";
+import { save } from "./files.mjs";
 import { Offered } from "./offered.mjs";
 import { Screen } from "./screen.mjs";
 import { Signal } from "./signal.mjs";
 
 const at = (id) => document.getElementById(id);
 const EXAMPLES = JSON.parse(at("examples").textContent);
-let fileName = EXAMPLES[0].name;
 
 // what the app calls when something is to be shown or asked
 const shows = {
@@ -28,6 +28,7 @@ const shows = {
     problems: showProblems,
     history: showHistory,
     switched: switchLever,
+    nets: showNets,
     ask,
     askAlso: (question) => background.askAlso(question),
     askIdly: (question) => background.askIdly(question),
@@ -38,11 +39,13 @@ const shows = {
 };
 const app = new App(EXAMPLES[0].text, shows);
 app.unanswered();
+const netsBar = new Nets(app, at);
 const signal = new Signal(() => screen.paint());
 const screen = new Screen(app, signal, { floors: at("floors"), space: at("floors-space"), whole: at("whole") });
 const offered = new Offered(app, screen, at("floors"));
 const bytes = Uint8Array.from(atob(at("module").textContent.trim()), (letter) => letter.charCodeAt(0));
 const background = new Background(at("worker").textContent, { module: bytes, functions: TABLES.FUNCTIONS }, heard);
+const kept = new Kept(app, background, EXAMPLES[0].name);
 const showTool = buildPalette(at("tools"), (tool) => app.choose(tool));
 app.cellAt = (left, top) => screen.grids.cellAt(app.job.sides, left, top);
 
@@ -62,8 +65,16 @@ function showRoom() {
     app.job.costs.forEach((cost, index) => (at(`cost-${index}`).value = cost));
     at("limit").value = app.job.limit;
     at("run").value = app.job.run;
+    netsBar.show();
     if (!app.cursor.every((place, axis) => place < app.job.sides[axis])) app.cursor = [...app.job.source.at];
     showLevel();
+}
+
+// Another net is drawn on.
+function showNets() {
+    netsBar.show();
+    app.net = app.nets?.[app.active]?.net ?? app.net;
+    showLever();
 }
 
 // ---- answers
@@ -89,6 +100,7 @@ function showNothing(title, words, look) {
 function heard(data) {
     if (data.names) {
         at("strict-choice").hidden = !data.names.includes("dustroute_tree_mode");
+        netsBar.allow(data.names.includes("dustroute_nets"));
         return undefined;
     }
     if (data.told?.file) return save(data.told.saveAs, data.told.file);
@@ -107,8 +119,7 @@ function showAnswer() {
     signal.reset(app.scene);
     showRoom();
     at("answer").replaceChildren(...answerParts(app));
-    at("lever").setAttribute("aria-pressed", "false");
-    at("lever").disabled = !app.net?.branches.length;
+    showLever();
     screen.paintNow();
     const drawn = performance.now() - app.begunAt;
     at("times").textContent = `routed in ${app.took.toFixed(1)} ms, on the screen after ${drawn.toFixed(0)} ms`;
@@ -123,21 +134,6 @@ function showReason(reason) {
     screen.paint();
 }
 
-function showOffers() {
-    for (const { id, label, tip, asks, end } of OFFERS) {
-        const button = element("button", label, { type: "button", id, title: tip });
-        button.addEventListener("click", () => app.askFor({ asks, saveAs: fileName + end }));
-        at("files").append(button);
-    }
-}
-
-// By the proved writer, where the module has it and could be loaded; else the script's own bytes, which are the same.
-function saveSheet() {
-    const saveAs = fileName + ".sheet";
-    if (QUESTIONS.sheetFile && background.isLoaded) app.askFor({ asks: "sheetFile", job: app.job, saveAs });
-    else save(saveAs, sheetOf(app.job));
-}
-
 // What is wrong with the text; where it is no room that can be drawn, the last one stays, and pales.
 function showProblems(problems, isRead = true) {
     document.body.classList.toggle("stale", !isRead);
@@ -150,8 +146,16 @@ function showHistory() {
     at("redo").disabled = !app.history.canRedo();
 }
 
-function switchLever() {
-    at("lever").setAttribute("aria-pressed", String(signal.switchOver()));
+// The lever of a net; the button is that of the net which is drawn on.
+function switchLever(net = app.active) {
+    signal.switchOver(net);
+    showLever();
+}
+
+function showLever() {
+    at("lever").setAttribute("aria-pressed", String(signal.isOn(app.active)));
+    at("lever").disabled = !app.net?.branches.length;
+    at("lever").textContent = app.isSeveral ? `Switch the lever of ${netName(app.active, app.names[app.active])}` : "Switch the lever";
 }
 
 // ---- what is pressed
@@ -160,13 +164,13 @@ function listenToButtons() {
     const press = (id, does) => at(id).addEventListener("click", does);
     press("undo", () => app.undo());
     press("redo", () => app.redo());
-    press("lever", switchLever);
+    press("lever", () => switchLever());
     press("up", () => app.moveCursorBy([0, 1, 0]));
     press("down", () => app.moveCursorBy([0, -1, 0]));
     press("turn-left", () => screen.turnBy(Math.PI / 4, 0));
     press("turn-right", () => screen.turnBy(-Math.PI / 4, 0));
-    press("save-text", () => save(fileName + ".txt", app.text));
-    press("save-sheet", saveSheet);
+    press("save-text", () => kept.saveText());
+    press("save-sheet", () => kept.saveSheet());
     press("open", () => at("file").click());
     press("help", () => at("help-words").showModal());
     press("large", () => {
@@ -182,14 +186,17 @@ function listenToFields() {
     const changes = (id, does) => at(id).addEventListener("change", does);
     changes("example", ({ target }) => {
         const example = EXAMPLES[Number(target.value)];
-        fileName = example.name;
+        kept.name = example.name;
         app.opened(example.text);
     });
     changes("strict", ({ target }) => {
         app.isStrict = target.checked;
         app.ask();
     });
-    changes("file", openFile);
+    changes("file", ({ target }) => kept.open(target, (words) => {
+        shows.status(words);
+        showProblems([{ line: 0, words }]);
+    }));
     at("text").addEventListener("input", ({ target }) => app.typed(target.value));
     const number = (id, most) => Math.min(Math.max(Math.floor(Number(at(id).value)) || 0, 0), most);
     for (const axis of [0, 1, 2]) changes(`side-${axis}`, () => resize([0, 1, 2].map((one) => Math.max(1, number(`side-${one}`, LIMITS.side)))));
@@ -208,27 +215,13 @@ function resize(sides) {
     return shows.status(TABLES.GENERAL[2]);
 }
 
-async function openFile({ target }) {
-    const [file] = target.files;
-    if (!file) return;
-    try {
-        const text = textOfFile(file.name, new Uint8Array(await file.arrayBuffer()));
-        fileName = file.name.replace(/\.(txt|sheet)$/, "");
-        app.opened(text);
-    } catch (error) {
-        shows.status(error.message);
-        showProblems([{ line: 0, words: error.message }]);
-    }
-    target.value = "";
-}
-
 function begin() {
     const option = (name, value) => element("option", name, { value });
     at("example").append(...EXAMPLES.map(({ name }, index) => option(name, index)));
     at("facing").append(...FACINGS.map(option));
     at("port").append(...PORTS.map(option));
     at("text").value = app.text;
-    showOffers();
+    kept.showOffers(at("files"));
     listenToButtons();
     listenToFields();
     listenToPointer(at("floors"), app);

@@ -36,7 +36,10 @@ export function listenToPointer(canvas, app) {
         [from, last, isMoved] = [at, at, false];
         app.moveCursor(at);
         app.beginStroke();
-        if (app.tool.does === "hand") held = heldAt(app.job, at);
+        if (app.tool.does === "hand") {
+            app.chooseNet(app.netAt(at), at);
+            held = heldAt(app.job, at);
+        }
         else if (!event.shiftKey && app.tool.does !== "ask") app.draw([at]);
     });
     canvas.addEventListener("pointermove", (event) => {

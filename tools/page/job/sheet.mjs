@@ -63,6 +63,43 @@ export function sheetOf(job) {
     return sheet;
 }
 
+// ---- a list: whole sheets one behind the other
+
+const HEAD_BYTES = 5; // a sheet's version, and the length of all that follows
+
+export function joined(sheets) {
+    const list = new Uint8Array(sheets.reduce((sum, sheet) => sum + sheet.length, 0));
+    let at = 0;
+    for (const sheet of sheets) {
+        list.set(sheet, at);
+        at += sheet.length;
+    }
+    return list;
+}
+
+// The sheets of a list: each ends where its own length says, or where the list ends.
+export function sheetsOf(content) {
+    const found = [];
+    for (let rest = content; ; ) {
+        const length = rest.length < HEAD_BYTES ? rest.length : saidLength(rest);
+        found.push(rest.subarray(0, length));
+        rest = rest.subarray(length);
+        if (!rest.length) return found;
+    }
+}
+
+function saidLength(sheet) {
+    return HEAD_BYTES + sheet.subarray(1, HEAD_BYTES).reduce((sum, byte) => sum * 256 + byte, 0);
+}
+
+// Whether these bytes are several whole sheets, and not one with something left over.
+export function isList(content) {
+    const isKnown = (version) => LIMITS.versions.some(({ number }) => number === version);
+    const isWhole = (sheet) => sheet.length >= HEAD_BYTES && sheet.length === saidLength(sheet) && isKnown(sheet[0]);
+    const sheets = sheetsOf(content);
+    return sheets.length > 1 && sheets.every(isWhole);
+}
+
 // ---- bytes to a job
 
 // The sheet's bytes and the place of the next one. They are read as the version of the first byte has them; of one that isn't known, as

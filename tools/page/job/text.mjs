@@ -6,16 +6,18 @@ import { said } from "./said.mjs";
 import { closest } from "./close.mjs";
 import { BadLine, CODES, Words, codeOf, plain, quoted } from "./words-of-line.mjs";
 
-const { FORMS, PLACE_WORDS } = TABLES;
+const { FORMS, PLACE_WORDS, ROOM_WORDS } = TABLES;
 
 // A job as far as it is read, with the line of each record.
 class Draft {
-    constructor() {
+    // Of a text of several nets: what stands before the first `net` line is shared by all, and each has its own draft.
+    constructor(shared = null, begins = 0) {
+        Object.assign(this, { shared, begins, nets: [], name: "" });
         this.problems = [];
         this.once = new Map(); // the lines that come once: line and value
         this.records = Object.fromEntries(["blocks", ...PLACE_LISTS, "sinks"].map((part) => [part, []]));
         this.tried = new Set(); // first words of lines, good ones and bad ones
-        this.last = 1;
+        this.last = begins || 1;
     }
 
     putOnce(word, line, value) {
@@ -30,13 +32,29 @@ class Draft {
         for (const value of values) this.records[part].push({ line, value });
     }
 
+    // The line and the value of a word that comes once: the net's own before what is shared.
+    said(word) {
+        return this.once.get(word) ?? this.shared?.said(word) ?? null;
+    }
+
     value(word, otherwise) {
-        return this.once.has(word) ? this.once.get(word).value : otherwise;
+        return this.said(word)?.value ?? otherwise;
+    }
+
+    // The records of a list with their lines: what is shared, and then the net's own.
+    all(part) {
+        return [...(this.shared?.all(part) ?? []), ...this.records[part]];
+    }
+
+    // One of them.
+    record(part, index) {
+        const shared = this.shared?.records[part] ?? [];
+        return shared[index] ?? this.records[part][index - shared.length];
     }
 
     lineOf(fault) {
-        if (fault.part in this.records) return this.records[fault.part][fault.index].line;
-        return this.once.has(fault.part) ? this.once.get(fault.part).line : this.last;
+        if (fault.part in this.records) return this.record(fault.part, fault.index).line;
+        return this.said(fault.part)?.line ?? this.last;
     }
 }
 
@@ -64,18 +82,37 @@ export function readText(text) {
         }
     });
     for (const word of ["room", "source"]) {
-        if (!draft.tried.has(word))
+        if (!draft.tried.has(word) && !(draft.nets.length && word === "source"))
             draft.problems.push({ line: draft.last, words: said("no '%s' line; expected somewhere: %s", word, FORMS[word]) });
     }
+    draft.nets.forEach((net, place) => {
+        const words = said("%s has no 'source' line; expected behind it: %s", netName(place, net.name), FORMS.source);
+        if (!net.tried.has("source")) draft.problems.push({ line: net.begins, words });
+    });
     return draft;
 }
 
-function readLine(draft, line, words) {
+// A net of a list in words, by its place, from 0, and its name, if it has one.
+export function netName(place, name) {
+    return name ? said("net %d (%s)", place, name) : said("net %d", place);
+}
+
+// The draft of each net; of a text without a `net` line there is one.
+export function draftsOf(draft) {
+    return draft.nets.length ? draft.nets : [draft];
+}
+
+function readLine(whole, line, words) {
     const first = words.next("the first word");
     const word = plain(first.slice(0, 2 * LIMITS.quoted));
     if (!Object.hasOwn(FORMS, word)) throw new BadLine(said("unknown word %s; %s", quoted(first), hint(word)));
     words.form = FORMS[word];
+    const draft = whole.nets.at(-1) ?? whole;
     draft.tried.add(word);
+    draft.last = line;
+    if (word === "net") return beginNet(whole, line, words);
+    if (whole.nets.length && ROOM_WORDS.includes(word))
+        throw new BadLine(said("a '%s' line behind a 'net' line; the room is one for all nets: put it before the first 'net' line", word));
     if (word === "block") readBlock(draft, line, words);
     else if (word === "clear") clear(draft, words);
     else if (word in PLACE_WORDS) {
@@ -84,6 +121,28 @@ function readLine(draft, line, words) {
         draft.put(PLACE_WORDS[word], line, cellsOf(low, high));
     } else if (word === "source" || word === "sink") readEnd(draft, line, word, words);
     else readHead(draft, line, word, words);
+    return undefined;
+}
+
+// A net's name is one word, which no other net has. A number is no name: a net is known by its place, too.
+function beginNet(whole, line, words) {
+    const name = words.left.length ? words.left.shift() : "";
+    words.end();
+    const place = whole.nets.length;
+    const net = new Draft(whole, line);
+    whole.nets.push(net);
+    for (const word of place ? [] : ["source", "sink"]) {
+        if (whole.tried.has(word))
+            throw new BadLine(said("a '%s' line stands before the first 'net' line; each net has its own, behind its 'net' line", word));
+    }
+    if (/^[0-9]+$/.test(name)) {
+        if (name !== String(place)) throw new BadLine(said("this is net %d, and not %s; nets are counted from 0", place, quoted(name)));
+        return;
+    }
+    if ([...name].length > LIMITS.netName || /[\p{C}\p{Z}]/u.test(name))
+        throw new BadLine(said("the name %s; a net's name has at most %d letters", quoted(name), LIMITS.netName));
+    if (name && whole.nets.some((other) => other.name === name)) throw new BadLine(said("a second net %s; each has a name of its own", quoted(name)));
+    net.name = name;
 }
 
 // What a line's first word may have been meant to be.
@@ -141,27 +200,36 @@ export function jobOf(draft) {
     job.costs = draft.value("costs", job.costs);
     job.run = draft.value("run", job.run);
     job.source = draft.value("source");
-    for (const part of Object.keys(draft.records)) job[part] = draft.records[part].map(({ value }) => value);
+    for (const part of Object.keys(draft.records)) job[part] = draft.all(part).map(({ value }) => value);
     return job;
 }
 
-// What the router would refuse by numbers 1 to 5, or else 7 to 9, each at its line: of each line the first.
-export function problemsOf(draft, job) {
-    let found = [...faults(job)];
-    if (!found.length) found = [...lateFaults(job)];
+// The jobs of a draft without problems, one for each net.
+export function jobsOf(draft) {
+    return draftsOf(draft).map(jobOf);
+}
+
+// What the router would refuse of any net by numbers 1 to 5, or else 7 to 9, each at its line: of each line the first, so that what is shared is
+// told once.
+export function problemsOfAll(draft) {
     const byLine = new Map();
-    for (const fault of found) {
-        const line = draft.lineOf(fault);
-        if (!byLine.has(line))
-            byLine.set(line, { line, words: said("%s (the router refuses this with number %d)", fullWords(draft, fault), fault.number) });
+    for (const net of draftsOf(draft)) {
+        const job = jobOf(net);
+        let found = [...faults(job)];
+        if (!found.length) found = [...lateFaults(job)];
+        for (const fault of found) {
+            const line = net.lineOf(fault);
+            if (!byLine.has(line))
+                byLine.set(line, { line, words: said("%s (the router refuses this with number %d)", fullWords(net, fault), fault.number) });
+        }
     }
     return [...byLine.values()].sort((one, other) => one.line - other.line);
 }
 
 function fullWords(draft, fault) {
     if (fault.number === 7) {
-        const { at } = draft.records.blocks[fault.index].value;
-        const lines = draft.records.blocks.filter(({ value }) => same(value.at, at)).map(({ line }) => line);
+        const { at } = draft.record("blocks", fault.index).value;
+        const lines = draft.all("blocks").filter(({ value }) => same(value.at, at)).map(({ line }) => line);
         return fault.words + said("; blocks are put there by the lines ") + lines.join(" and ");
     }
     if (fault.number === 8 || fault.number === 9) return said("%s: %s", recordName(fault.part, fault.index), fault.words);

@@ -18,6 +18,11 @@ export function refusalWords(number, detail, job) {
     return said("the branches up to %s have more cells than the branch buffer holds", endName(detail));
 }
 
+// Why a net of a list can't be laid: it meets one before it.
+export function overlapWords(cell, sides) {
+    return said("its wire would lie in a cell that a net before it occupies: %s, number %d", spell(placeOf(sides, cell)), cell);
+}
+
 function faultWords(number, fault, job) {
     if (fault !== null && fault.number === number) return said("%s: %s", recordName(fault.part, fault.index), fault.words);
     if (number === 2 && cellCount(job) > LIMITS.routeCells && cellCount(job) <= LIMITS.cells)

@@ -1,25 +1,66 @@
 // A job as its canonical text: the parts in sheet order, boxes as long as they go. In step with tools/dustsheet/text.py.
-import { FACINGS, KINDS, LIMITS, PORTS, same } from "./job.mjs";
+import { FACINGS, KINDS, LIMITS, PLACE_LISTS, PORTS, same } from "./job.mjs";
 import { TABLES } from "./tables.mjs";
 import { said } from "./said.mjs";
 import { cellsOf } from "./text.mjs";
 
 export function writeText(job) {
-    const lines = [
-        said("room %d %d %d  # sides: x to the east, y up, z to the south", ...job.sides),
+    const lines = [...headLines(job), ...listLines(job), ...section("the net", endLines(job))];
+    return lines.join("\n") + "\n";
+}
+
+// The canonical text of several nets over one room: what all share, by the first, and each net's own.
+export function writeAll(jobs, names) {
+    const [first] = jobs;
+    const shared = Object.fromEntries(PLACE_LISTS.map((part) => [part, common(jobs.map((job) => job[part]))]));
+    const lines = [...headLines(first), ...listLines(shared)];
+    jobs.forEach((job, place) => {
+        lines.push("", said("net %s", names[place] || place));
+        const isOwn = [String(job.costs) !== String(first.costs), job.limit !== first.limit, job.run !== first.run];
+        lines.push(...costLines(job).filter((_, index) => isOwn[index]));
+        for (const [word, part] of Object.entries(TABLES.PLACE_WORDS)) lines.push(...placeLines(word, job[part].slice(shared[part].length)));
+        lines.push(...endLines(job));
+    });
+    return lines.join("\n") + "\n";
+}
+
+// The longest list with which all of these begin.
+function common(lists) {
+    const [first, ...rest] = lists;
+    const length = first.findIndex((at, place) => rest.some((other) => !other[place] || !same(other[place], at)));
+    return length < 0 ? first : first.slice(0, length);
+}
+
+function costLines(job) {
+    return [
         said("costs %d %d %d  # flat step, stair, new support; in tenths", ...job.costs),
         said("limit %d  # node limit", job.limit),
+        said("run %d  # so many steps need no repeater", job.run),
     ];
-    if (job.run !== LIMITS.usualRun) lines.push(said("run %d  # so many steps need no repeater", job.run));
+}
+
+// The room, what all is paid with, and the blocks.
+function headLines(job) {
+    const [costs, limit, run] = costLines(job);
+    const lines = [said("room %d %d %d  # sides: x to the east, y up, z to the south", ...job.sides), costs, limit];
+    if (job.run !== LIMITS.usualRun) lines.push(run);
     const blocks = boxes(job.blocks.map((block) => ({ at: block.at, like: `${block.kind} ${block.facing} ${block.node}` })));
-    lines.push(...section("blocks", blocks.map(blockLine)));
-    for (const [word, part] of Object.entries(TABLES.PLACE_WORDS)) {
+    return [...lines, ...section("blocks", blocks.map(blockLine))];
+}
+
+function listLines(lists) {
+    return Object.entries(TABLES.PLACE_WORDS).flatMap(([word, part]) => {
         const title = part === "reserved" ? said("cells that are reserved") : part + said(" of other nets");
-        const found = boxes(job[part].map((at) => ({ at, like: "" })));
-        lines.push(...section(title, found.map(({ low, high }) => said("%s %s", word, boxText(low, high)))));
-    }
-    lines.push(...section("the net", [endLine("source", job.source), ...job.sinks.map(sinkLine)]));
-    return lines.join("\n") + "\n";
+        return section(title, placeLines(word, lists[part]));
+    });
+}
+
+function placeLines(word, places) {
+    return boxes(places.map((at) => ({ at, like: "" }))).map(({ low, high }) => said("%s %s", word, boxText(low, high)));
+}
+
+function endLines(job) {
+    return [endLine("source", job.source), ...job.sinks.map(sinkLine)];
 }
 
 function section(title, lines) {

@@ -6,6 +6,7 @@ import { said, sentence } from "../job/said.mjs";
 import { jobOfSheet } from "../job/sheet.mjs";
 import { OFFERS, QUESTIONS } from "../router/reasons.mjs";
 import { treeOf } from "../router/answers.mjs";
+import { netsOf } from "../router/nets.mjs";
 
 const UNFIT = 5; // the number of a facing that its kind can't have
 
@@ -13,11 +14,13 @@ OFFERS.push({ id: "save-function", label: "Save function", tip: "the finished ro
     end: ".mcfunction" });
 QUESTIONS.functionFile = functionFile;
 
-function functionFile(router, { sheet, strict }) {
-    const job = jobOfSheet(sheet);
-    const answer = treeOf(router, sheet, strict);
+// Of one net or of several, laid by the module where it can; else one, laid here.
+function functionFile(router, { sheet, sheets = [sheet], strict }) {
+    const job = jobOfSheet(sheets[0]);
+    const isLaid = router.has("dustroute_nets");
+    const answer = isLaid ? netsOf(router, sheets, strict) : treeOf(router, sheets[0], strict);
     if (answer.number) return { words: ["There is no net to build yet."] };
-    const laid = lay(job, answer);
+    const laid = isLaid ? answer : lay(job, answer);
     const { number, text } = commands(router, job.sides, laid);
     if (number === UNFIT) return { words: unfitWords(router, job, laid).map(sentence) };
     if (number) return { words: [sentence(said("refused with number %d", number))] };

@@ -2,16 +2,22 @@
 // A job's sheet by the proved writer: what the router reads of it is this job, its records in their order. As bindings/python does it.
 import { LIMITS, PLACE_LISTS, sheetSize } from "../job/job.mjs";
 import { said } from "../job/said.mjs";
+import { joined } from "../job/sheet.mjs";
 import { refusalWords } from "../job/words.mjs";
 import { QUESTIONS } from "../router/reasons.mjs";
 
 QUESTIONS.sheetFile = sheetFile;
 
-function sheetFile(router, { job, saveAs }) {
-    const { number, sheet } = sheetWritten(router, job);
-    const unread = { ...job, readAs: null }; // the writer has no sheet, in whose version it would be judged
-    if (number) return { words: [said("%s: %s (number %d)", saveAs, refusalWords(number, 0, unread), number)] };
-    return { words: [], file: sheet };
+// Of several nets their sheets, one behind the other.
+function sheetFile(router, { job, jobs = [job], saveAs }) {
+    const sheets = [];
+    for (const one of jobs) {
+        const { number, sheet } = sheetWritten(router, one);
+        const unread = { ...one, readAs: null }; // the writer has no sheet, in whose version it would be judged
+        if (number) return { words: [said("%s: %s (number %d)", saveAs, refusalWords(number, 0, unread), number)] };
+        sheets.push(sheet);
+    }
+    return { words: [], file: joined(sheets) };
 }
 
 export function sheetWritten(router, job) {

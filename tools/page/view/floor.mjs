@@ -20,7 +20,7 @@ export function paintFloor(pen, scene, level, lit) {
         paintCell(pen, scene, cell, lit);
         pen.restore();
     });
-    scene.branches.forEach((branch, index) => paintBranch(pen, scene, branch, index, level, lit));
+    scene.branches.forEach((branch, index) => paintBranch(pen, scene, branch, scene.lines[index], level, lit));
     for (const piece of piecesOf(scene.way, level)) line(pen, piece, INK, 4, [3, 5]);
     paintStairs(pen, scene, level);
     paintRepeaters(pen, scene, level, lit);
@@ -132,7 +132,7 @@ function paintRepeaters(pen, scene, level, lit) {
         if (at[1] !== level) continue;
         pen.save();
         pen.translate(...centre(at));
-        pen.rotate(TURNS[scene.net.facing.get(cell)] ?? 0);
+        pen.rotate(TURNS[scene.turned.get(cell)] ?? 0);
         shape(pen, [[-14, -10], [14, -10], [14, 10], [-14, 10]], lit.cells.has(cell) ? "#ffd1ce" : "#fff", INK, 2.5);
         shape(pen, [[-7, -6], [9, 0], [-7, 6]], INK);
         pen.restore();
@@ -145,18 +145,26 @@ function paintEnds(pen, scene, level) {
             line(pen, [centre(end.at), centre(end.wire)], INK, 2.5, [3, 3]);
         if (end.at[1] !== level) continue;
         const [x, y] = centre(end.at);
-        if (end.place) circle(pen, x, y, 11, "#fff", branchColour(end.place - 1), 4);
-        else shape(pen, [[x - 11, y - 11], [x + 11, y - 11], [x + 11, y + 11], [x - 11, y + 11]], INK);
-        letters(pen, end.place ? String(end.place) : "S", x, y + 1, 16, end.place ? INK : "#fff");
+        const radius = end.label.length > 1 ? 13 : 11;
+        if (end.isActive) paintActive(pen, end, x, y);
+        if (end.place) circle(pen, x, y, radius, "#fff", end.colour, 4);
+        else shape(pen, [[x - 11, y - 11], [x + 11, y - 11], [x + 11, y + 11], [x - 11, y + 11]], end.colour);
+        letters(pen, end.label, x, y + 1, end.label.length > 1 ? 13 : 16, end.place ? INK : "#fff");
     }
+}
+
+// The ends of the net that is drawn on stand out among those of others.
+function paintActive(pen, end, x, y) {
+    if (end.place) circle(pen, x, y, 16, null, INK, 2);
+    else shape(pen, [[x - 15, y - 15], [x + 15, y - 15], [x + 15, y + 15], [x - 15, y + 15]], "#fff", INK, 2);
 }
 
 // A small number in the corner: the signal there. At the source it is always full.
 function paintSignals(pen, scene, level) {
-    const source = String(scene.ends[0].at);
-    for (const [cell, strength] of scene.net?.strength ?? []) {
+    const sources = scene.ends.filter(({ place }) => !place).map(({ at }) => String(at));
+    for (const [cell, strength] of scene.strength) {
         const at = placeOf(scene.job.sides, cell);
-        if (at[1] !== level || String(at) === source) continue;
+        if (at[1] !== level || sources.includes(String(at))) continue;
         const [x, y] = [at[0] * CELL + 32, at[2] * CELL + 34.5];
         pen.fillStyle = "#fff";
         pen.fillRect(x - 8, y - 4.5, 16, 9.5);

@@ -3,6 +3,7 @@ import { AHEAD, AIR, KIND, FLAT_STEPS, BLOCK_POWER, holds, kindsOf, numberOf, pl
 import { supports } from "../job/net.mjs";
 import { BELOW, approach, blocked, isSound, terminal } from "../job/rules.mjs";
 import { MOVES } from "../router/reasons.mjs";
+import { INK, branchColour } from "./signs.mjs";
 
 // Of a room and its answer, a net or the net so far, with what a reason has to draw.
 export function sceneOf({ job, answer, net, soFar, remarks, tries }, reason) {
@@ -18,7 +19,11 @@ export function sceneOf({ job, answer, net, soFar, remarks, tries }, reason) {
         blocked: isSoundJob ? blocked(job) : new Set(),
         branches: branches.map((branch) => branch.map((cell) => placeOf(job.sides, cell))),
         supports: net?.supports ?? new Set(supports({ branches }, job).flat()),
+        lines: branches.map((_, index) => index), // the number of each branch's colour and dashes
         repeaters: net ? answer.repeaters : [],
+        turned: net?.facing ?? new Map(), // the way that a repeater faces
+        strength: net?.strength ?? new Map(),
+        laid: null, // of several nets: supports by cell, as they are laid
         warned: new Map(),
         refused: new Set(refusedCells(job, answer)),
         reached: new Set(reason?.reached ?? []),
@@ -29,7 +34,7 @@ export function sceneOf({ job, answer, net, soFar, remarks, tries }, reason) {
         way: (reason?.way ?? []).map((cell) => placeOf(job.sides, cell)), // that was asked for
         tries: triesByCell(job, tries?.found ?? []),
         ends: endsOf(job),
-        lamps: net ? lampsOf(job) : [],
+        runs: net ? [{ net, lamps: lampsOf(job) }] : [], // what a lever lights, net by net
     };
     remarks.forEach(({ at }, index) => {
         const cell = numberOf(job, at);
@@ -47,10 +52,12 @@ export function triesByCell(job, found) {
     return cells;
 }
 
-function endsOf(job) {
+export function endsOf(job) {
     return [job.source, ...job.sinks].map((end, place) => {
         const hasWire = end.port !== BLOCK_POWER || end.facing in AHEAD;
-        return { place, at: end.at, facing: end.facing, wire: hasWire ? terminal(end) : end.at, near: hasWire && place ? approach(end) : end.at };
+        const look = { label: place ? String(place) : "S", colour: place ? branchColour(place - 1) : INK };
+        const near = hasWire && place ? approach(end) : end.at;
+        return { ...look, place, at: end.at, facing: end.facing, wire: hasWire ? terminal(end) : end.at, near };
     });
 }
 
@@ -63,7 +70,7 @@ function refusedCells(job, answer) {
 }
 
 // The lamps beside each sink's wire, with the cell of the wire that lights them.
-function lampsOf(job) {
+export function lampsOf(job) {
     const kinds = kindsOf(job);
     const found = [];
     for (const sink of job.sinks) {

@@ -1,9 +1,12 @@
 // What is told of the answer: the numbers of each branch, a refusal with its reason, warnings.
-import { spell } from "../job/job.mjs";
+import { KINDS, spell } from "../job/job.mjs";
 import { counted, said, sentence } from "../job/said.mjs";
+import { putCells } from "../job/several.mjs";
 import { TABLES } from "../job/tables.mjs";
+import { netName } from "../job/text.mjs";
 import { stepLimitWords, refusalWords } from "../job/words.mjs";
 import { printed } from "../router/answers.mjs";
+import { netRefusalWords, printedNets } from "../router/nets.mjs";
 import { branchColour, branchDashes } from "./signs.mjs";
 import { WALL_LINES } from "./floor.mjs";
 
@@ -28,17 +31,67 @@ function sample(colour, dashes, width = 5) {
     return made;
 }
 
-export function answerParts({ job, answer, net, soFar, reasons, remarks }) {
-    const parts = answer.number ? refusalParts(job, answer, reasons, soFar) : netParts(job, answer, net);
+export function answerParts({ job, jobs, names, nets, answer, net, soFar, reasons, remarks, isSeveral }) {
+    const parts = isSeveral ? severalParts({ jobs, names, nets, answer, soFar, reasons })
+        : answer.number ? refusalParts(job, answer, reasons, soFar) : netParts(job, answer, net);
     if (remarks.length) {
         const listed = remarks.map(({ words }) => element("li", sentence(words)));
         const inside = [element("h3", "To look at before building"), element("ol", listed)];
         parts.push(element("section", inside, { class: "warnings", title: TABLES.NOT_KNOWN }));
     }
-    const lines = element("pre", printed(answer), { id: "printed" });
+    const lines = element("pre", isSeveral ? printedNets(answer, names) : printed(answer), { id: "printed" });
     parts.push(element("details", [element("summary", "The router's own lines"), lines]));
     return parts;
 }
+
+// ---- several nets
+
+function severalParts({ jobs, names, nets, answer, soFar, reasons }) {
+    return answer.number ? refusedNetParts(jobs, names, answer, reasons, soFar) : netsParts(jobs[0], names, nets, answer);
+}
+
+// Which net it was, and why; then what to try, and what is known of its sink.
+function refusedNetParts(jobs, names, answer, reasons, soFar) {
+    const who = netName(answer.net, names[answer.net]);
+    const words = sentence(said("%s: %s", who, netRefusalWords(answer, jobs[answer.net])));
+    const head = element("h2", `Refused: ${who}, number ${answer.number}`, { class: "bad" });
+    const toTry = answer.number >= 13 ? [element("section", "", { id: "tries" })] : []; // filled in when it is known
+    const drawn = names.slice(0, answer.net).map((name, index) => element("li", netSample(index, name)));
+    const title = element("p", "The nets before it, as they are drawn:", { class: "note" });
+    const before = drawn.length ? [title, element("ul", drawn, { class: "legend" })] : [];
+    return [head, element("p", words, { id: "refusal", class: "refused" }), ...toTry, ...reasons.flatMap(reasonParts), ...before,
+        ...(soFar && !soFar.isExact ? soFarParts({ branches: [], isExact: false }) : [])];
+}
+
+function netSample(index, name) {
+    return [sample(branchColour(index), branchDashes(index)), ` ${netName(index, name)}`];
+}
+
+function netsParts(job, names, nets, answer) {
+    const rows = nets.map(({ net }, index) => {
+        const head = element("th", netSample(index, names[index]), { scope: "rowgroup", colspan: 6 });
+        const branches = net.branches.map((branch, place) => {
+            const numbers = [branch.steps, branch.stairs, branch.supports, branch.repeaters, branch.signal];
+            const sink = element("th", `${index}.${place + 1} at ${spell(branch.sink.at)}`, { scope: "row" });
+            return element("tr", [sink, ...numbers.map((number) => element("td", String(number)))], { class: "of-net" });
+        });
+        return element("tbody", [element("tr", [head]), ...branches], { class: "net-rows" });
+    });
+    const titles = ["Sink", "Steps", "Stairs", "Supports", "Repeaters", "Signal"].map((word) => element("th", word, { scope: "col" }));
+    const table = element("table", [element("thead", [element("tr", titles)]), ...rows]);
+    const head = element("h2", `A way to every sink of ${nets.length} nets`, { class: "good" });
+    return [head, table, element("p", fetchWords(job, answer), { id: "fetch" })];
+}
+
+// What is laid beside the room's own blocks, by kinds.
+function fetchWords(job, answer) {
+    const counts = new Map();
+    for (const cell of putCells(job, answer)) counts.set(answer.kinds[cell], (counts.get(answer.kinds[cell]) ?? 0) + 1);
+    const listed = [...counts].sort(([one], [other]) => one - other).map(([kind, count]) => `${count} ${TABLES.KIND_NAMES[KINDS[kind]]}`);
+    return `To fetch: ${listed.join(", ") || "nothing"}.`;
+}
+
+// ---- one net
 
 function netParts(job, answer, net) {
     const total = { steps: 0, stairs: 0, supports: 0, repeaters: answer.repeaters.length };

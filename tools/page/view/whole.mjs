@@ -26,7 +26,7 @@ export function paintWhole(canvas, scene, lit, { turn, tilt }, width, height) {
     view.glass = glassCells(view);
     paintFrame(view);
     for (const at of view.eye.cells()) paintBlock(view, at, numberOf(scene.job, at));
-    scene.branches.forEach((branch, index) => paintWire(view, branch, index));
+    scene.branches.forEach((branch, index) => paintWire(view, branch, scene.lines[index]));
     line(pen, wayOf(scene.way).map((point) => view.eye.on(point)), INK, 2.5, [3, 4]);
     for (const cell of scene.repeaters) paintRepeater(view, cell);
     for (const end of scene.ends) paintEnd(view, end);
@@ -96,10 +96,17 @@ function paintBlock(view, at, cell) {
         if (isLit) circle(pen, x, y, eye.unit * 0.36, null, INK, 2);
         letters(pen, word, x, y, Math.max(8, eye.unit * 0.34));
     }
-    if (scene.supports.has(cell)) small(view, at, 0, 1, "#fbf6dc", "#9b8a3a", 0.6);
+    if (scene.laid?.has(cell)) paintLaid(view, at, scene.laid.get(cell));
+    else if (scene.supports.has(cell)) small(view, at, 0, 1, "#fbf6dc", "#9b8a3a", 0.6);
     if (scene.conductors.has(cell)) small(view, at, 0.22, 0.08, "#8a6238", "#2b1a0a", 1);
     if (scene.reserved.has(cell)) small(view, at, 0.1, 0.05, "#dddddd", "#444", 0.8);
     if (scene.reached.has(cell)) small(view, at, 0.12, 0.04, "#8fc4e8", "#1b4965", 0.85);
+}
+
+// A support as it is laid: stone, or glass.
+function paintLaid(view, at, kind) {
+    if (kind === SOLID) small(view, at, 0, 1, "#d8cfae", "#6b5f2a", view.glass.has(numberOf(view.scene.job, at)) ? 0.45 : 0.85);
+    else small(view, at, 0, 1, "#e3f4fc", "#3a8fc4", 0.5);
 }
 
 function onFloor(at) {
@@ -129,18 +136,19 @@ function paintWire({ pen, eye, scene, lit }, branch, index) {
 function paintRepeater(view, cell) {
     const { pen, eye, scene, lit } = view;
     const at = placeOf(scene.job.sides, cell);
-    const ahead = AHEAD[scene.net.facing.get(cell)] ?? [1, 0, 0];
+    const ahead = AHEAD[scene.turned.get(cell)] ?? [1, 0, 0];
     small(view, at, 0.06, 0.16, lit.cells.has(cell) ? "#ffb3ad" : "#ffffff", INK, 1);
     const tip = ARROW.map(([along, across]) => eye.on([at[0] + 0.5 + along * ahead[0] + across * ahead[2], at[1] + 0.17,
         at[2] + 0.5 + along * ahead[2] - across * ahead[0]]));
     shape(pen, tip, INK);
 }
 
-function paintEnd({ pen, eye }, { place, at }) {
+function paintEnd({ pen, eye }, { place, at, colour, label, net }) {
     const [x, y] = eye.on(onFloor(at));
-    const radius = Math.max(7, eye.unit * 0.34);
-    circle(pen, x, y, radius, place ? "#fff" : INK, place ? branchColour(place - 1) : INK, 2.5);
-    letters(pen, place ? String(place) : "S", x, y + 0.5, radius * 1.3, place ? INK : "#fff");
+    const radius = Math.max(net === undefined ? 7 : 9, eye.unit * 0.34);
+    if (place || net === undefined) circle(pen, x, y, radius, place ? "#fff" : colour, colour, 2.5);
+    else shape(pen, [[x - radius, y - radius], [x + radius, y - radius], [x + radius, y + radius], [x - radius, y + radius]], colour, INK, 1.5);
+    letters(pen, label, x, y + 0.5, label.length > 1 ? radius : radius * 1.3, place ? INK : "#fff");
 }
 
 // Where north is, in a corner.
