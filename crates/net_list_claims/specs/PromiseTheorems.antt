@@ -8,6 +8,7 @@ use Rattle.basics.specs.Folds.{along}
 use Rattle.room.specs.declared.Room.{Room}
 use Rattle.ground.specs.declared.Mode.{Mode}
 use Rattle.laying.specs.Laying.{Net, Laid, laidNet}
+use Rattle.laying.specs.Statements.{Keeps, Unnamed}
 use Rattle.job_list.specs.Split.{firstSheet}
 use Rattle.job_list.specs.Judged.{judgedList}
 use Rattle.nets.specs.Nets.{Routing, all-kept, refused-by, routedList}
@@ -19,10 +20,10 @@ use Rattle.list_routing.specs.Walking.{roomOf}
 use Rattle.several_nets.specs.declared.ListAnswer.{ListAnswer}
 use Rattle.several_nets.specs.Answers.{memoryOf, ListOutcome, all-laid, no-list, laidOutcome, routedOutcome, ListComes, due, repeated, walked, Promise}
 use Rattle.net_list_claims.specs.Statements.{netIn, Routed, AllKept, AllDirected, Apart, OwnersTold}
-use Rattle.net_list_claims.specs.Theorems.{each-net-single, never-seventeen, routed-one-room, sixteen-means, owners-mean, laid-in-order}
+use Rattle.net_list_claims.specs.Theorems.{each-net-single, never-seventeen, routed-one-room, sixteen-means, owners-mean, laid-in-order, unnamed-stay}
 
--- all nets are laid: each is a single job's, no two of them share a cell, `owners` tells whose each cell is, every repeater has a direction, and the room is that of the
--- blocks with the nets laid one behind another
+-- all nets are laid: each is a single job's, no two of them share a cell, `owners` tells whose each cell is, every repeater has a direction, the room is that of the
+-- blocks with the nets laid one behind another, and a cell that no net names keeps its block
 pub record LaidList (mode : Mode) (list : List ℕ) (B : ListLent) (nets : List Net) (owners : List ℕ) (room : Laid) : Type 0 where
   pub routed : Routed mode list (length (B .branches)) (length (B .queue)) nets
   pub each : AllKept mode list (length (B .branches)) (length (B .queue)) nets
@@ -30,6 +31,7 @@ pub record LaidList (mode : Mode) (list : List ℕ) (B : ListLent) (nets : List 
   pub owners-tell : OwnersTold (roomOf list) nets owners
   pub directed : (k : ℕ) → k < length nets → AllDirected (roomOf list) (netIn nets k)
   pub in-order : room ≡ along (laidNet (roomOf list)) nets (roomAt (firstSheet list))
+  pub unnamed : (v : ℕ) → ((k : ℕ) → k < length nets → Unnamed (roomOf list) (netIn nets k) v) → Keeps (roomAt (firstSheet list)) room v
 
 module _ {mode : Mode} {list : List ℕ} {B : ListLent} {r : ListAnswer} {B′ : ListLent} (P : Promise mode list B r B′) (nets : List Net) (planned owners : List ℕ) (room : Laid) where
   pub laid-means : P .outcome ≡ all-laid nets planned owners room → LaidList mode list B nets owners room
@@ -51,6 +53,7 @@ module _ {mode : Mode} {list : List ℕ} {B : ListLent} {r : ListAnswer} {B′ :
             owners-tell = subst (OwnersTold R nets) (sym o) (owners-mean R one (roomAt (firstSheet list)) m);
             directed = never-seventeen T;
             in-order = q ∙ laid-in-order R nets (roomAt (firstSheet list));
+            unnamed = λ v h. subst (λ x. Keeps (roomAt (firstSheet list)) x v) (sym q) (unnamed-stay R nets (roomAt (firstSheet list)) v h);
           }
 
       met : (kept : List Net) (m : Meeting) → S kept .met ≡ m → laidOutcome m R kept (S kept) ≡ all-laid nets planned owners room
