@@ -1,0 +1,10 @@
+setblock ~ ~ ~ minecraft:redstone_wire replace
+setblock ~1 ~ ~ minecraft:repeater[facing=west] replace
+setblock ~2 ~ ~ minecraft:redstone_wire replace
+setblock ~3 ~ ~ minecraft:redstone_wire replace
+setblock ~4 ~ ~ minecraft:redstone_wire replace
+setblock ~5 ~ ~ minecraft:redstone_wire replace
+setblock ~6 ~ ~ minecraft:redstone_wire replace
+setblock ~7 ~ ~ minecraft:redstone_wire replace
+setblock ~8 ~ ~ minecraft:redstone_wire replace
+setblock ~9 ~ ~ minecraft:redstone_wire replace
