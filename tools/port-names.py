@@ -90,6 +90,16 @@ def table(root):
     return turned, clashes
 
 
+def foreign(text, crates):
+    """The names that a file takes from libraries that are not the repository's."""
+    taken = set()
+    for m in re.finditer(r"^\s*(?:ghost )?use ([\w.'+-]+)\.\{([^}]*)\}", text, re.M):
+        path = m.group(1).split(".")
+        if path[0] != "Rattle" or path[1] not in crates:
+            taken.update(word.split(" as ")[0].strip() for word in m.group(2).split(","))
+    return taken
+
+
 def turn(text, turned, code):
     """Every whole word of `turned` in the text; in a source file's comments only words that no plain sentence has."""
     # A path keeps its folders' names, which are those of functions; so does code, where a lemma has a function's name.
@@ -120,11 +130,13 @@ def main():
         for k in sorted(turned):
             print(k, turned[k])
         return
+    crates = set(os.listdir(os.path.join(root, "crates")))
     changed = 0
     for path in files(os.path.join(root, "crates"), (".antt", ".rt", ".edit")):
         with open(path, encoding="utf-8") as f:
             old = f.read()
-        new = turn(old, turned, "--" if path.endswith(".antt") else "//" if path.endswith(".rt") else None)
+        own = {k: v for k, v in turned.items() if k not in foreign(old, crates)}
+        new = turn(old, own, "--" if path.endswith(".antt") else "//" if path.endswith(".rt") else None)
         if new != old:
             changed += 1
             with open(path, "w", encoding="utf-8") as f:

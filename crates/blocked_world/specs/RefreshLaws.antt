@@ -2,7 +2,7 @@
 use Rattle.std.specs.Prelude.{◌≡◌, ◌≢◌, List, ℕ, ◌<◌, eqb, get_or}
 use Rattle.std.proofs.Math.Path.{refl, sym, ap}
 use Rattle.std.proofs.Common.{◌∙◌, arith, get_or-set_same, get_or-set_other, ne_eqb}
-use Rattle.std.proofs.Math.Bool.{or_false, or_self}
+use Rattle.std.proofs.Math.Bool.{or-false, or_self}
 use Rattle.std.proofs.Math.ListN.{length, length-set}
 use Rattle.basics.specs.Tests.{ask_same, never}
 use Rattle.room.specs.declared.Room.{Room}
@@ -47,7 +47,7 @@ mark-put byte cell kinds blocked start goal =
 -- to the second, with a refresh at each
 module _ (kinds blocked : List ℕ) (start goal : ℕ) where
   no_goal : (v : ℕ) → v ≢ goal → an_end start goal v ≡ an_end start start v
-  no_goal v n = rw (ne_eqb v goal n, or_false (eqb v start), or_self (eqb v start))
+  no_goal v n = rw (ne_eqb v goal n, or-false (eqb v start), or_self (eqb v start))
 
   pub goal-left : SameBut goal kinds blocked start goal blocked start start
   goal-left = same_but goal kinds blocked start goal blocked start start (λ v n. refl) no_goal

@@ -1,6 +1,8 @@
 // The class bytes of a room in which cells are blocked. For a search, each blocked Air cell other than its start and goal
 // counts as Solid, as a support too; in strict mode it is neither entered nor used as a support. The bytes are filled in
 // once, and after a change at one cell two of them are written anew.
+#![tactic(auto)]
+
 ghost use Rattle.std.specs.Prelude.{◌≡◌, ◌<◌, length};
 ghost use Rattle.room.specs.Room.{volume, beneath};
 ghost use Rattle.room_search.specs.Routing.{kind_at, an_end};

@@ -1,4 +1,2 @@
 pub mod Blocks
 pub mod Laying
-pub mod BlockLaws
-pub mod LayingLaws

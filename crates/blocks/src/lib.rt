@@ -1,4 +1,6 @@
 // The blocks of a sheet laid out in a room, and number 7: two blocks in one cell.
+#![tactic(auto)]
+
 ghost use Rattle.std.specs.Prelude.{◌≡◌, ◌^◌, ◌<◌, length, replicate};
 ghost use Rattle.room.specs.Room.{Good, Within, volume};
 ghost use Rattle.job_sheet.specs.Accepted.{BlockList};
@@ -14,7 +16,7 @@ use room::{Room, as_index};
 const PER_NODE: usize = 65536;
 
 // What laying out comes to: each block has a cell of its own, or number 7 is due, with the cell of the repeat.
-#[derive(Drop)]
+#[derive(Clone, Copy)]
 pub enum Placement {
     Placed,
     RepeatAt(usize),

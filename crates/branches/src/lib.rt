@@ -1,4 +1,6 @@
 // A sink's branch: written into what is left of the lent branch buffer, put in sheet order, its cells marked.
+#![tactic(auto)]
+
 ghost use Rattle.std.specs.Prelude.{◌≡◌, ◌++◌, reverse, ◌+◌, ◌^◌, ◌≤◌, ◌<◌, length, take, drop};
 ghost use Rattle.job_sheet.specs.Sheet.{max_sinks};
 ghost use Rattle.routing_resources.specs.Marks.{marked_by, CellsBelow};
@@ -10,7 +12,7 @@ use job_sheet::MAX_SINKS;
 use room::as_index;
 
 // How long each sink's branch is, in sheet order, 0 for a sink that has none yet; as one value with the sinks' count.
-#[derive(Drop)]
+#[derive(Clone, Copy)]
 pub struct BranchLengths {
     pub count: usize,
     pub each: [usize; MAX_SINKS],

@@ -2,7 +2,7 @@
 use Rattle.std.specs.Prelude.{◌≡◌, ◌≢◌, Bool, true, false, not, ◌&&◌, ◌||◌, eqb, length, get_or, set, replicate}
 use Rattle.std.proofs.Math.Path.{refl, sym, ap}
 use Rattle.std.proofs.Common.{◌∙◌, le_of_suc-le-suc, not-suc-le-zero, ne_eqb}
-use Rattle.std.proofs.Math.Bool.{or_assoc, or_comm, or_false, and-false}
+use Rattle.std.proofs.Math.Bool.{or_assoc, or_comm, or-false, and-false}
 use mathlib.Core.List.{List, [], ◌∷◌}
 use Prim.Native.Nat.{ℕ, zero, suc, ◌+◌, ◌≤◌, ◌<◌}
 use native.Mathlib.Omega.{arith}
@@ -24,7 +24,7 @@ use Rattle.branches.specs.Branches.{branch_of}
 use Rattle.multinet.specs.Tree.{Plot, Tree, Growth, grown, stopped, tap_at, sink_now, planted, with_branch, fits_in, after_sink, grow_sink, grow_on, grow_from}
 use Rattle.multinet.specs.Growing.{turn_in, branch_in}
 use Rattle.multinet.specs.GrowthLaws.{same-tree}
-use Rattle.multinet.specs.GrowingLaws.{sink-now}
+use Rattle.multinet.proofs.GrowingLaws.{sink-now}
 use Rattle.causes.specs.Causes.{bit_for, beside_conductor, foreign_cause, cleared_by, cause_of, own_bit}
 use Rattle.causes.specs.CauseLaws.{fresh-marks}
 
@@ -36,7 +36,7 @@ has_cause x = not (eqb x 0)
 
 bit_or : (x weight : ℕ) (b : Bool) → 0 < weight → has_cause (x + bit_for weight b) ≡ has_cause x || b
 bit_or x weight true h = rw (ne_eqb (x + weight) 0 (λ e. omega (arith, e)), or_comm (has_cause x) true)
-bit_or x weight false h = let z : x + 0 ≡ x = omega arith in rw (z, or_false (has_cause x))
+bit_or x weight false h = let z : x + 0 ≡ x = omega arith in rw (z, or-false (has_cause x))
 
 first_bit : (a : Bool) → has_cause (bit_for 1 a) ≡ a
 first_bit true = refl

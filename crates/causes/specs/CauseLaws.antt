@@ -1,7 +1,7 @@
 -- Laws of the causes: a bit added where its marks are, bits added one after another, and the branches that stand one behind the other.
 use Rattle.std.specs.Prelude.{◌≡◌, refl, Bool, true, false, List, [], ◌∷◌, ℕ, zero, suc, ◌+◌, ◌-◌, ◌≤◌, ◌<◌, eqb, length, get_or, take, drop, replicate}
 use Rattle.std.proofs.Common.{sym, ap, ◌∙◌, le_of_suc-le-suc, not-suc-le-zero, arith, get_or-take, drop-drop}
-use Rattle.std.proofs.Math.Bool.{or_false}
+use Rattle.std.proofs.Math.Bool.{or-false}
 use Rattle.std.proofs.lemmas.List.{length-replicate}
 use Rattle.basics.specs.Lists.{any}
 use Rattle.basics.specs.Tests.{either}
@@ -55,7 +55,7 @@ next-free {n} {weight} {reason} F A twice e = record {
 -- marks made afresh are where the reason holds
 pub fresh-marks : (n : ℕ) (reason : ℕ → Bool) (v : ℕ) → v < n → is_marked (marked_by reason (no_marks n)) v ≡ reason v
 fresh-marks n reason v h =
-    marked-after reason (no_marks n) v (rw (length-replicate {A = ℕ} n 0) h) ∙ rw (zeros n v) (or_false (reason v))
+    marked-after reason (no_marks n) v (rw (length-replicate {A = ℕ} n 0) h) ∙ rw (zeros n v) (or-false (reason v))
 
 module _ {n : ℕ} (reason : ℕ → Bool) (marks₀ : List ℕ) {marks₁ marks₂ : List ℕ} (long : length marks₀ ≡ n) (clear : marks₁ ≡ replicate (length marks₀) 0)
     (marked : marks₂ ≡ marked_by reason marks₁) where

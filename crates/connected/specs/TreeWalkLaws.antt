@@ -8,7 +8,7 @@ use Rattle.repeaters.specs.Masks.{Steps, AllSteps}
 use Rattle.walk.specs.Chains.{Chained}
 use Rattle.walk.specs.ChainLaws.{chained-here}
 use Rattle.walk.specs.Walks.{parents_from, root_path, PathFrom}
-use Rattle.walk.specs.WalkLaws.{root-path}
+use Rattle.walk.proofs.WalkLaws.{root-path}
 use Rattle.repeater_claims.specs.BothWaysLaws.{neighbours-below}
 use Rattle.connected.specs.Grafts.{OnSome, TreeFrom}
 use Rattle.connected.specs.GraftLaws.{grafts_chained, chain-goes}
@@ -24,7 +24,7 @@ module _ {n source : ℕ} {branches : List (List ℕ)} (T : TreeFrom n source br
 
   pub tree-chained : (v : ℕ) → (v ≡ source) ⊎ OnSome v branches → Chained (tree_neighbours branches n) source v
   tree-chained v (inl e) = rw e (chained-here (tree_neighbours branches n) source)
-  tree-chained v (inr i) = grafts_chained branches n T.within source T.order T.of_Tree T.grafted v (T.all v i)
+  tree-chained v (inr i) = grafts_chained branches n T.within source T.order T.of_tree T.grafted v (T.all v i)
 
   -- the path by parents leads to each of its cells
   pub tree-path : (v : ℕ) → (v ≡ source) ⊎ OnSome v branches

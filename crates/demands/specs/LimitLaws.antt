@@ -12,9 +12,9 @@ use Rattle.room.specs.Room.{volume}
 use Rattle.best_first.specs.Search.{Graph, State, Taken, Pushed, full, on, push, Answer, route, no_route, limit-passed, queue-full, take_all, first_state, best_first}
 use Rattle.best_first.specs.Ways.{Sound}
 use Rattle.best_first.specs.Statements.{Taking, cost_of, outcome, Reached, at_first, then}
-use Rattle.best_first.specs.Equations.{TakeCases, none-waits, goal-taken, goes_on, take_cases, take_all_ends, take_all_limit, take_all_full, take_all_on}
-use Rattle.best_first.specs.Reached.{through, expanded-stays}
-use Rattle.best_first.specs.Bounds.{Still, skip_still, push-still, take_still, sane}
+use Rattle.best_first.proofs.Equations.{TakeCases, none-waits, goal-taken, goes_on, take_cases, take_all_ends, take_all_limit, take_all_full, take_all_on}
+use Rattle.best_first.proofs.Reached.{through, expanded-stays}
+use Rattle.best_first.proofs.Bounds.{Still, skip_still, push-still, take_still, sane}
 use Rattle.room_search.specs.Routing.{Task, routeable, entering, graph_of, graph, searched}
 use Rattle.room_search.specs.GraphLaws.{sound}
 use Rattle.routing_resources.specs.Marks.{is_marked, marked_by}

@@ -12,10 +12,10 @@ use Rattle.room_search.specs.Routing.{Task, routeable}
 use Rattle.ends.specs.Ends.{NetInside}
 use Rattle.goals.specs.Goals.{Trial, found, failed, full, route_to_tree}
 use Rattle.goals.specs.NeverFull.{FivePlaces}
-use Rattle.goals.specs.FullLaws.{cells-never, route_not_full}
+use Rattle.goals.proofs.FullLaws.{cells-never, route_not_full}
 use Rattle.branches.specs.Branches.{branch_of}
 use Rattle.multinet.specs.Tree.{Plot, Tree, Growth, grown, stopped, tap_at, site_at, sink_now, fits_in, after_sink, grow_sink, grow_on, grow_from, growth_of}
-use Rattle.multinet.specs.GrowingLaws.{sink-now}
+use Rattle.multinet.proofs.GrowingLaws.{sink-now}
 use Rattle.demands.specs.Statements.{Posed, Priced}
 
 -- ---- one search

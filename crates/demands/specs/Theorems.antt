@@ -12,7 +12,7 @@ use Rattle.basics.specs.Counts.{times}
 use Rattle.best_first.specs.Search.{State, Taken, on, one_more_expanded, Answer, route, no_route, limit-passed, queue-full}
 use Rattle.best_first.specs.Ways.{GraphStep, Way, Sound, Consistent}
 use Rattle.best_first.specs.Statements.{Honest, Right, Decided, by-route, by_no_route, expanded_of, known_at, Taking, outcome, Reached, pushes, Slacks}
-use Rattle.best_first.specs.Theorems as any-graph
+use Rattle.best_first.proofs.Theorems as any-graph
 use Rattle.routing.specs.declared.Judgement.{Judgement}
 use Rattle.routing.specs.declared.Judgement.TheVariants.{Fit, Unfit}
 use Rattle.routing.specs.declared.Refusal.{Refusal}

@@ -13,19 +13,19 @@ use Rattle.basics.specs.Tests.{ask, ask_same, never}
 use Rattle.room.specs.declared.Neighbour.{Neighbour}
 use Rattle.room.specs.declared.Neighbour.TheVariants.{Inside, Outside}
 use Rattle.room.specs.Room.{Good, volume}
-use Rattle.best_first.specs.Search.{Answer, route, no_route}
+use Rattle.best_first.specs.Search.{Answer, route, no_route, limit-passed, queue-full}
 use Rattle.best_first.specs.Statements.{Decided}
 use Rattle.room_search.specs.Routing.{Task, places_in, routeable, searched}
 use Rattle.ground.specs.declared.Mode.{Mode}
 use Rattle.job_sheet.specs.Sheet.{Contents, Means}
-use Rattle.job_sheet.specs.Theorems.{one-meaning}
+use Rattle.job_sheet.proofs.Theorems.{one-meaning}
 use Rattle.routing_resources.specs.Marks.{is_marked, marked_by}
 use Rattle.geometry.specs.Geometry.{conflict_of}
 use Rattle.goals.specs.Goals.{Site, Trial, found, failed, full, trial_of, searched_for, at_conflict, after_search, max_attempts, attempts, tried_goal, route_to_tree, site_task, ends_goal}
 use Rattle.goals.specs.PathLaws.{found-by}
 use Rattle.goals.specs.Routes.{as_blocked, one_more}
-use Rattle.goals.specs.FullLaws.{search_not_full, cells-never, route_not_full}
-use Rattle.goals.specs.RouteLaws.{tree-joins, below-failed}
+use Rattle.goals.proofs.FullLaws.{search_not_full, cells-never, route_not_full}
+use Rattle.goals.proofs.RouteLaws.{tree-joins, below-failed}
 use Rattle.ends.specs.Ends.{ends_of}
 use Rattle.turns.specs.Turns.{far}
 use Rattle.turns.specs.TurnLaws.{turn_in_lem}
@@ -33,7 +33,7 @@ use Rattle.branches.specs.Branches.{branch_of}
 use Rattle.multinet.specs.Tree.{Plot, Tree, Growth, grown, stopped, tap_at, site_at, sink_now, planted, with_branch, fits_in, after_sink, grow_sink, grow_on, grow_from, growth_of}
 use Rattle.multinet.specs.Growing.{SoundPlot, turn_in, branch_in}
 use Rattle.multinet.specs.GrowthLaws.{same-tree, turn_more, turns_count, growth-count}
-use Rattle.multinet.specs.GrowingLaws.{sink-now, other-turn}
+use Rattle.multinet.proofs.GrowingLaws.{sink-now, other-turn}
 use Rattle.net_tree.specs.declared.Lengths.{Lengths}
 use Rattle.net_tree.specs.declared.Answer as trees
 use Rattle.net_tree.specs.declared.Ended.TheVariants.{Routed, Refused}
@@ -70,6 +70,8 @@ module _ (T : Task) (G : Good T.room) (start_in : T.start < volume T.room) (goal
         go : routeable T T.start ≡ true → routeable T T.goal ≡ true → (a : Answer) → searched T ≡ a → trial_of a ≡ failed → Decided a → NoLawfulWay T
         go s g (route path cost x) w q d = never (cc)
         go s g (no_route x) w q d = no_route_true (posed T G start_in goal_in s g) w
+        go s g (limit-passed x) w q d = elim d [ ]
+        go s g (queue-full x) w q d = elim d [ ]
 
   -- what is proved of one search is proved of each search that a goal is tried by
   pub search_means : SearchMeans T

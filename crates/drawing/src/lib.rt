@@ -1,5 +1,7 @@
 // One route drawn into a room of kinds: supports and wire along a path, then repeaters; both public functions judge what they
 // are given before they touch it.
+#![tactic(auto)]
+
 mod judge; // judge.rt: numbers 2, 6, 5 and 4
 mod repeating; // repeating.rt: insert_repeaters
 mod told; // told.rt: both, told as numbers
@@ -11,14 +13,14 @@ pub use told::{insert_repeaters_told, materialize_route_told};
 pub use wiring::materialize_route;
 
 // What `materialize_route` answers: the route is laid, or why it is refused.
-#[derive(Drop)]
+#[derive(Clone, Copy)]
 pub enum Drawn {
     Laid,
     NotLaid(Refusal),
 }
 
 // What `insert_repeaters` answers: how many repeaters are listed, or why it is refused.
-#[derive(Drop)]
+#[derive(Clone, Copy)]
 pub enum Listed {
     Repeaters(usize),
     NotListed(Refusal),

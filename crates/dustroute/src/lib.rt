@@ -1,5 +1,7 @@
 // One net's router, exported for other languages: numbers pass as themselves, a slice as a pointer and then a length. Here is
 // the search; the others are in the files beside.
+#![tactic(auto)]
+
 mod drawing_export; // drawing_export.rt: one route drawn
 mod function_export; // function_export.rt: a function file
 mod nets_export; // nets_export.rt: several nets, one after another

@@ -1,4 +1,6 @@
 // The ends of one net: numbers 8 and 9, else the source's terminal, and each sink's terminal and approach.
+#![tactic(auto)]
+
 ghost use Rattle.std.specs.Prelude.{◌≡◌};
 ghost use Rattle.room.specs.Room.{Good, Within};
 ghost use Rattle.job_sheet.specs.Accepted.{SinkList};
@@ -9,7 +11,7 @@ use port_realization::{Realized, Terminal};
 use room::Room;
 
 // A sink as the wire meets it: where its branch ends, where its searches start, whether its port is Wire, and its tail limit.
-#[derive(Drop)]
+#[derive(Clone, Copy)]
 pub struct Tap {
     pub terminal: usize,
     pub approach: usize,
@@ -18,14 +20,14 @@ pub struct Tap {
 }
 
 // The sinks' taps with their count, as one value.
-#[derive(Drop)]
+#[derive(Clone, Copy)]
 pub struct Taps {
     pub count: usize,
     pub taps: [Tap; MAX_SINKS],
 }
 
 // Number 8 or 9 with its detail, 0 for the source and k for the k-th sink; or neither.
-#[derive(Drop)]
+#[derive(Clone, Copy)]
 pub enum Fault {
     Good,
     NoFacing(usize),
@@ -33,7 +35,7 @@ pub enum Fault {
 }
 
 // The source's terminal and the sinks' taps; where a number is due for one of them, it holds zeros.
-#[derive(Drop)]
+#[derive(Clone, Copy)]
 pub struct Ends {
     pub fault: Fault,
     pub source: usize,

@@ -11,7 +11,7 @@ use Rattle.lent.specs.Lent.{touches}
 use Rattle.ground.specs.declared.Mode.{Mode}
 use Rattle.job_sheet.specs.declared.Judgement.{Judgement}
 use Rattle.job_sheet.specs.Sheet.{is_good, number_of}
-use Rattle.job_sheet.specs.Theorems.{coincide as one-reading}
+use Rattle.job_sheet.proofs.Theorems.{coincide as one-reading}
 use Rattle.net_tree.specs.declared.Answer.{Answer}
 use Rattle.net_tree.specs.declared.Lengths.{Lengths}
 use Rattle.net_tree.specs.Answers.{Lent, TreeOutcome, no_tree, answer_of, lent_after, Promise}

@@ -1,4 +1,6 @@
 // Answers as other languages get them, a number and values; the promises of the exported functions are in specs/.
+#![tactic(auto)]
+
 mod plain_values; // plain_values.rt: the plain engine's
 mod search_values; // search_values.rt: a search's
 mod tree_values; // tree_values.rt: a tree's

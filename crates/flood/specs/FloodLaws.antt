@@ -15,7 +15,7 @@ use Rattle.room.specs.MoveLaws.{leads}
 use Rattle.best_first.specs.ListsAfterSet.{nonzeros-none, nonzeros-new, in_reach, AfterStore, hit, miss, after}
 use Rattle.walk.specs.Chains.{Chained}
 use Rattle.walk.specs.ChainLaws.{chained-here, chained-step, chained-on, chain-closed}
-use Rattle.walk.specs.WalkLaws.{reached-exactly}
+use Rattle.walk.proofs.WalkLaws.{reached-exactly}
 use Rattle.flood.specs.Walls.{free_at, free_by, reached_by, marks_by}
 use Rattle.flood.specs.Flooding.{Spot, Held, Met, OpenAt, OpenBy, Flooding, Flooded}
 use Rattle.flood.specs.TableLaws.{is-tabled}

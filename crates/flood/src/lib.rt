@@ -1,5 +1,7 @@
 // Which cells free moves lead to from a start, and what stands against each move out of them, over any obstacle bytes: 0 where
 // a cell may be entered, else a number that tells why not.
+#![tactic(auto)]
+
 mod marks; // marks.rt: the cells that free moves lead to
 mod walls; // walls.rt: what stands against each move
 

@@ -1,5 +1,7 @@
 // A function file: the lines that lay a room of kinds and facings in the game, written and read. Each of the two is there with
 // an answer of its own, and told as numbers for other languages.
+#![tactic(auto)]
+
 mod words; // words.rt: the table of words, put into a buffer
 mod lines; // lines.rt: numbers, states and lines
 mod writing; // writing.rt: the whole text, written
@@ -12,7 +14,7 @@ pub use told::{tell_read_function, tell_write_function};
 pub use writing::write_function;
 
 // What writing answers: the length of the text; or the refusals 2, 6, 5 and 18.
-#[derive(Drop)]
+#[derive(Clone, Copy)]
 pub enum Written {
     Text(usize),
     Sides,
@@ -22,7 +24,7 @@ pub enum Written {
 }
 
 // What reading answers: how many lines the text has; or the refusals 2, 6 and 19, with the number of the first bad line.
-#[derive(Drop)]
+#[derive(Clone, Copy)]
 pub enum Read {
     Lines(usize),
     Sides,
@@ -31,7 +33,7 @@ pub enum Read {
 }
 
 // The block that a line is taken for.
-#[derive(Drop)]
+#[derive(Clone, Copy)]
 pub struct Guess {
     pub place: room::Pos,
     pub kind: u8,
@@ -39,7 +41,7 @@ pub struct Guess {
 }
 
 // How far the lines were read: how many are good, and the number of the first bad one, 0 where there is none.
-#[derive(Drop)]
+#[derive(Clone, Copy)]
 pub struct LinesRead {
     pub lines: usize,
     pub bad: usize,

@@ -2,7 +2,7 @@
 use Rattle.std.specs.Prelude.{◌≡◌, ◌⊎◌, Bool, true, false, not, ◌&&◌, ◌||◌, ℕ, zero, suc, ◌≤◌, ◌<◌, eqb, get_or, set, drop}
 use Rattle.std.proofs.Math.Path.{refl, ap, fun_ext}
 use Rattle.std.proofs.Common.{sym, ◌∙◌, inl, inr, arith, length-set, get_or-set_same, get_or-set_other, ext_get_or, eqb-true, eq-eqb, ne_eqb}
-use Rattle.std.proofs.Math.Bool.{and-false, or_true}
+use Rattle.std.proofs.Math.Bool.{and-false, or-true}
 use mathlib.Core.List.{List, [], ◌∷◌}
 use Rattle.std.proofs.Math.ListN.{length, get_or-eq_default}
 use Rattle.std.proofs.lemmas.Bool.{eqb-false}
@@ -28,7 +28,7 @@ pub in_stands : (path : List ℕ) (v : ℕ) → In v path → stands_in path v �
 unfolding stands_in
 in_stands [] v i = absurd i
 in_stands (c ∷ cs) v (inl e) = rw (eq-eqb c v (sym e))
-in_stands (c ∷ cs) v (inr i) = rw (in_stands cs v i, or_true)
+in_stands (c ∷ cs) v (inr i) = rw (in_stands cs v i, or-true)
 
 pub cells_in : (R : Room) (path : List ℕ) → AllCells R path → (v : ℕ) → In v path → v < volume R
 cells_in R [] all v i = absurd i
@@ -138,7 +138,7 @@ module _ (joinable path : List ℕ) (marks : Marks joinable) where
 -- where no two joinable cells make a pair, each pair of conductors has a cell of the path
 on-path : (R : Room) (joinable path : List ℕ) → NoPair R (is_marked joinable) → OnPath R (conductor joinable path) path
 unfolding conductor upper_of_pair
-on-path R joinable path alone = record { conducting = λ v i. rw (in_stands path v i) (or_true (is_marked joinable v)); touched = met }
+on-path R joinable path alone = record { conducting = λ v i. rw (in_stands path v i) (or-true (is_marked joinable v)); touched = met }
   where
     pair : (v u : ℕ) → v < volume R → beneath R v ≡ Inside u → is_marked joinable v ≡ true → is_marked joinable u ≡ true → ⊥
     pair v u h b p q = let n : true ≡ false = rw (p, b, q) at (alone.none v h) in never (cc)

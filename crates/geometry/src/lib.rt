@@ -1,5 +1,7 @@
 // The conflict of a path with the joinable cells. Conductors are both together: in the lent bytes a joinable cell has 1,
 // and a cell of the path that is not joinable has 2 while the test runs, so that one look-up tells a conductor.
+#![tactic(auto)]
+
 ghost use Rattle.std.specs.Prelude.{◌≡◌, ℕ, ◌<◌, length};
 ghost use Rattle.room.specs.Room.{Good, volume};
 ghost use Rattle.routing_resources.specs.Marks.{is_marked, Marks, CellsBelow, AllCells};

@@ -3,7 +3,7 @@
 use Rattle.std.specs.Prelude.{◌≡◌, refl, ◌≢◌, Bool, true, false, ◌||◌, List, [], ◌∷◌, eqb, get_or}
 use Rattle.std.proofs.Common.{sym, ◌∙◌, mul-one, eq-eqb, ne_eqb}
 use Rattle.std.proofs.Math.Path.{ap}
-use Rattle.std.proofs.Math.Bool.{or_false, or_self}
+use Rattle.std.proofs.Math.Bool.{or-false, or_self}
 use Prim.Native.Nat.{ℕ, zero, suc, ◌+◌, ◌≤◌, ◌<◌, zero-le}
 use native.Mathlib.Omega.{arith}
 use Rattle.std.proofs.Math.ListN.{length}
@@ -62,7 +62,7 @@ air-bears kind t = rw t (λ e. omega arith)
 
 module _ (mode : Mode) (R : Room) (kinds blocked blocked' : List ℕ) (start goal : ℕ) (still : StillBlocked blocked blocked') where
   same_end : (v : ℕ) → v ≢ goal → an_end start goal v ≡ an_end start start v
-  same_end v n = rw (ne_eqb v goal n, or_false (eqb v start), or_self (eqb v start))
+  same_end v n = rw (ne_eqb v goal n, or-false (eqb v start), or_self (eqb v start))
 
   -- a cell other than the goal that is blocked Air at the turn is so in the search
   wall_still : (v : ℕ) → v ≢ goal → blocked_air kinds blocked start start v ≡ true → blocked_air kinds blocked' start goal v ≡ true

@@ -6,11 +6,4 @@ pub mod Passing
 pub mod Labelled
 pub mod SearchForLaws
 pub mod PathLaws
-pub mod AttemptLaws
-pub mod GoalLaws
-pub mod RouteLaws
-pub mod LeastLaws
 pub mod EnterLaws
-pub mod FullLaws
-pub mod PassingLaws
-pub mod LabelledLaws

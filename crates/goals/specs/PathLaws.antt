@@ -14,8 +14,8 @@ use Rattle.room.specs.Units.{air}
 use Rattle.best_first.specs.Search.{Graph, Answer, route, no_route, limit-passed, queue-full}
 use Rattle.best_first.specs.Ways.{GraphStep, Way, Sound}
 use Rattle.best_first.specs.Statements.{Lawful}
-use Rattle.best_first.specs.Reached.{Ending, empty, arrives, passes, fills, ending}
-use Rattle.best_first.specs.Theorems.{honest}
+use Rattle.best_first.proofs.Reached.{Ending, empty, arrives, passes, fills, ending}
+use Rattle.best_first.proofs.Theorems.{honest}
 use Rattle.room_search.specs.Routing.{Task, routeable, entering, graph_of, graph, searched}
 use Rattle.room_search.specs.GraphLaws.{sound}
 use Rattle.trace.specs.TraceLaws.{trace-short}

@@ -54,10 +54,10 @@ pub record SearchTold (R : Room) (C : RouterConfig) (kinds classes queue : List 
 -- ---- one attempt
 
 abbrev pub site_of : Ground → List ℕ → List ℕ → List ℕ → Site
-site_of ground kinds joinable queue = record {
-  room = ground.room;
-  config = ground.config;
-  mode = ground.mode;
+site_of under kinds joinable queue = record {
+  room = under.room;
+  config = under.config;
+  mode = under.mode;
   kinds = kinds;
   joinable = joinable;
   places = places_of queue;

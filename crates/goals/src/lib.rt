@@ -1,5 +1,7 @@
 // The goals of one sink. "Each searches from its approach to every joinable cell in number order, at most 64 attempts a
 // goal." The class bytes are changed in place and put back.
+#![tactic(auto)]
+
 mod attempts; // attempts.rt: the attempts for one goal
 mod cheapest; // cheapest.rt: the first strictly cheapest route is kept
 mod one_search; // one_search.rt: the search for one goal
@@ -12,7 +14,7 @@ mod to_tree; // to_tree.rt: the cheapest of all goals
 pub use to_tree::route_to_tree;
 
 // What a goal comes to: a route, whose path stands at the front of a lent buffer; nothing; or a push found the queue full.
-#[derive(Drop)]
+#[derive(Clone, Copy)]
 pub enum Tried {
     Found { length: usize, cost: room::Cost },
     Failed,
@@ -20,7 +22,7 @@ pub enum Tried {
 }
 
 // What is kept of the goals that are done, and its goal.
-#[derive(Drop)]
+#[derive(Clone, Copy)]
 pub struct Kept {
     pub tried: Tried,
     pub goal: usize,
@@ -28,7 +30,7 @@ pub struct Kept {
 
 // The lowest of some goals' bids, each the least that a route to it can cost and its number, as one number; its goal; and
 // the second lowest.
-#[derive(Drop)]
+#[derive(Clone, Copy)]
 pub struct Bid {
     pub bid: u64,
     pub goal: usize,
@@ -36,7 +38,7 @@ pub struct Bid {
 }
 
 // What one attempt comes to: the goal is ended, or the conflict at a cell is to be blocked and the search to be repeated.
-#[derive(Drop)]
+#[derive(Clone, Copy)]
 pub enum Attempt {
     Ended(Tried),
     Conflict(usize),

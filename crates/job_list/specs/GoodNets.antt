@@ -18,7 +18,7 @@ use Rattle.job_sheet.specs.Sheet.{Contents, max_sinks, is_good, number_of, judge
 use Rattle.job_sheet.specs.Places.{shaped}
 use Rattle.job_sheet.specs.Accepted.{Accepted}
 use Rattle.job_sheet.specs.RecordLaws.{Bytes}
-use Rattle.job_sheet.specs.Theorems.{accepted-by}
+use Rattle.job_sheet.proofs.Theorems.{accepted-by}
 use Rattle.blocks.specs.declared.Placement.{Placement}
 use Rattle.ends.specs.declared.Fault.{Fault}
 use Rattle.ends.specs.Ends.{fault_of}

@@ -18,9 +18,9 @@ use Rattle.job_sheet.specs.Places.{contents_in, shaped, blocks_in}
 use Rattle.job_sheet.specs.Accepted.{Accepted}
 use Rattle.job_sheet.specs.RecordLaws.{Bytes}
 use Rattle.job_sheet.specs.LayoutLaws.{contents-back}
-use Rattle.job_sheet.specs.FaultLaws.{good-is}
-use Rattle.job_sheet.specs.ReadLaws.{shaped-is, read-refused, read-accepted, read-nothing}
-use Rattle.job_sheet.specs.Theorems.{coincide}
+use Rattle.job_sheet.proofs.FaultLaws.{good-is}
+use Rattle.job_sheet.proofs.ReadLaws.{shaped-is, read-refused, read-accepted, read-nothing}
+use Rattle.job_sheet.proofs.Theorems.{coincide}
 use Rattle.blocks.specs.declared.Placement.{Placement}
 use Rattle.ends.specs.declared.Ends.{Ends}
 use Rattle.ends.specs.Ends.{sinks_in, ends_of}

@@ -11,9 +11,9 @@ use Rattle.job_sheet.specs.Sheet.{Contents, Means, judged, answer, refused}
 use Rattle.job_sheet.specs.Places.{contents_in, shaped, no_block}
 use Rattle.job_sheet.specs.RecordLaws.{Bytes}
 use Rattle.job_sheet.specs.LayoutLaws.{contents-back}
-use Rattle.job_sheet.specs.FaultLaws.{judged_not}
-use Rattle.job_sheet.specs.ReadLaws.{read-nothing}
-use Rattle.job_sheet.specs.Theorems.{number-one}
+use Rattle.job_sheet.proofs.FaultLaws.{judged_not}
+use Rattle.job_sheet.proofs.ReadLaws.{read-nothing}
+use Rattle.job_sheet.proofs.Theorems.{number-one}
 use Rattle.blocks.specs.declared.Placement.{Placement}
 use Rattle.blocks.specs.declared.Placement.TheVariants.{Placed, RepeatAt}
 use Rattle.blocks.specs.Blocks.{block_cell, record_cell, record_node, Repeat, Placing, each-its-own, one-repeated}

@@ -1,5 +1,7 @@
 // A job list: whole job sheets one behind the other. Where each ends, and numbers 1 to 9 of all of them, before any is
 // routed and with no lent memory touched.
+#![tactic(auto)]
+
 mod ground; // ground.rt: whether a sheet has the first one's room and blocks, and whether two blocks take one cell
 mod judge; // judge.rt: the numbers, net by net
 
@@ -11,7 +13,7 @@ pub use judge::judge_list;
 
 // What is lent, as far as number 6 asks: the cells of the shortest buffer that has one a cell of the room, the places of
 // the queue, and how many lengths of branches there is place for.
-#[derive(Drop)]
+#[derive(Clone, Copy)]
 pub struct Memory {
     pub cells: usize,
     pub places: usize,
@@ -19,14 +21,14 @@ pub struct Memory {
 }
 
 // The number that is due for a net, 0 for none, and its detail. Of number 7 the detail is told later, by `place_blocks`.
-#[derive(Drop)]
+#[derive(Clone, Copy)]
 pub struct Due {
     pub number: u32,
     pub detail: usize,
 }
 
 // The number that is due for a list, 0 for none, the net that it is due for, from 0, and its detail.
-#[derive(Drop)]
+#[derive(Clone, Copy)]
 pub struct Verdict {
     pub number: u32,
     pub net: usize,

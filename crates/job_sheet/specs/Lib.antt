@@ -5,9 +5,4 @@ pub mod Sheet
 pub mod Places
 pub mod RecordLaws
 pub mod LayoutLaws
-pub mod FaultLaws
-pub mod ScanLaws
-pub mod ReadLaws
 pub mod Accepted
-pub mod AcceptedLaws
-pub mod Theorems

@@ -13,7 +13,7 @@ use room::{Pos, Room, RouterConfig};
 const MOST_LIMIT: usize = 15;
 
 // The sorts of records in a sheet.
-#[derive(Drop)]
+#[derive(Clone, Copy)]
 enum Records {
     Blocks,
     Positions,

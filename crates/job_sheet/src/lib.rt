@@ -1,5 +1,7 @@
 // The job sheet over plain bytes: a job's room, config, source and sinks are read into one value; its lists of records
 // stay in the sheet's bytes and are read there, record by record.
+#![tactic(auto)]
+
 pub mod faults; // faults.rt: numbers 2 to 5
 pub mod places; // places.rt: what stands at a place of a sheet, and number 1
 pub mod usual_limits; // usual_limits.rt: the limits of a sheet that carries none
@@ -19,7 +21,7 @@ pub const MAX_SINKS: usize = 16;
 
 // What the version of a sheet means: its number, whether sides and coordinates are long, that is of two bytes and not one,
 // whether limits are carried, and the ranges that its job is judged at.
-#[derive(Drop)]
+#[derive(Clone, Copy)]
 pub struct Version {
     pub number: u8,
     pub long: bool,
@@ -28,7 +30,7 @@ pub struct Version {
 }
 
 // The longest side, the most cells, the highest node limit and the highest cost.
-#[derive(Drop)]
+#[derive(Clone, Copy)]
 pub struct Ranges {
     pub side: usize,
     pub cells: usize,
@@ -38,7 +40,7 @@ pub struct Ranges {
 
 // A list that stays in the sheet's bytes: its first record begins at `from`, and each takes `size` bytes, with long
 // coordinates or not.
-#[derive(Drop)]
+#[derive(Clone, Copy)]
 pub struct Part {
     pub from: usize,
     pub count: usize,
@@ -47,7 +49,7 @@ pub struct Part {
 }
 
 // "node two bytes, x, y, z, kind, facing".
-#[derive(Drop)]
+#[derive(Clone, Copy)]
 pub struct Block {
     pub node: u16,
     pub at: Pos,
@@ -56,7 +58,7 @@ pub struct Block {
 }
 
 // Where the source or a sink stands, and how it is joined.
-#[derive(Drop)]
+#[derive(Clone, Copy)]
 pub struct Endpoint {
     pub at: Pos,
     pub port: u8,
@@ -64,21 +66,21 @@ pub struct Endpoint {
 }
 
 // A sink is an endpoint with its tail limit; its record need not be as long as the source's.
-#[derive(Drop)]
+#[derive(Clone, Copy)]
 pub struct Sink {
     pub end: Endpoint,
     pub tail: usize,
 }
 
 // "The sixteen sinks with their count travel as one value."
-#[derive(Drop)]
+#[derive(Clone, Copy)]
 pub struct Sinks {
     pub count: usize,
     pub ends: [Sink; MAX_SINKS],
 }
 
 // What a sheet says; `run` is the run limit. Its lists are told by where they stand.
-#[derive(Drop)]
+#[derive(Clone, Copy)]
 pub struct Job {
     pub room: Room,
     pub config: RouterConfig,
@@ -93,7 +95,7 @@ pub struct Job {
 }
 
 // What a sheet comes to: accepted, or the first of numbers 1 to 5 that is due.
-#[derive(Drop)]
+#[derive(Clone, Copy)]
 pub enum Judgement {
     Good,
     Sheet,
@@ -104,7 +106,7 @@ pub enum Judgement {
 }
 
 // What comes of a sheet: its job where it is accepted, else zeros.
-#[derive(Drop)]
+#[derive(Clone, Copy)]
 pub struct Reading {
     pub judgement: Judgement,
     pub job: Job,

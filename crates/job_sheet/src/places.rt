@@ -9,7 +9,7 @@ use crate::{Block, Endpoint, Part, Sink, Version, versions};
 use room::{Cost, Nodes, Pos, Room, RouterConfig};
 
 // Where the parts of a sheet stand.
-#[derive(Drop)]
+#[derive(Clone, Copy)]
 pub struct Layout {
     pub blocks: Part,
     pub conductors: Part,

@@ -18,14 +18,14 @@ use Rattle.geometry.specs.Geometry.{stands_in}
 use Rattle.job_sheet.specs.Sheet.{max_sinks}
 use Rattle.ends.specs.declared.Tap.{Tap}
 use Rattle.goals.specs.Goals.{Trial, found, failed, full, route_to_tree}
-use Rattle.goals.specs.RouteLaws.{tree-joins, joins-lawful, joins-cells, joins-short, joins-steps}
+use Rattle.goals.proofs.RouteLaws.{tree-joins, joins-lawful, joins-cells, joins-short, joins-steps}
 use Rattle.branches.specs.Branches.{branch_of, terminal_added}
 use Rattle.branches.specs.BranchLaws.{branch-below}
 use Rattle.repeaters.specs.Masks.{Steps}
 use Rattle.multinet.specs.Tree.{Plot, Tree, Growth, grown, stopped, tap_at, site_at, sink_now, planted, with_branch, fits_in, after_sink, grow_sink, grow_on, grow_from, growth_of}
 use Rattle.multinet.specs.Growing.{SoundPlot, branch_in}
 use Rattle.multinet.specs.GrowthLaws.{same-tree, growth-count}
-use Rattle.multinet.specs.GrowingLaws.{sink-now}
+use Rattle.multinet.proofs.GrowingLaws.{sink-now}
 use Rattle.multinet.specs.StepLaws.{steps-by-place, branch-steps}
 
 pub record GoodBranch (R : Room) (branch : List ℕ) : Type 0 where

@@ -1,4 +1,6 @@
 // One net of a list routed and kept for the nets behind it and for the answer.
+#![tactic(auto)]
+
 ghost use Rattle.lent.specs.Lent.{Cleared};
 ghost use Rattle.net_tree.specs.Answers.{lent};
 ghost use Rattle.kept_nets.specs.Keep.{AnswerKeepable, AnswerKept, NextAsked, NextRouted};

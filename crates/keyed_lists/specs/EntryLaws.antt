@@ -4,7 +4,7 @@ use Rattle.std.proofs.Common.{sym, ◌∙◌, inl, inr, arith, eq-eqb, ne_eqb}
 use Rattle.basics.specs.Tests.{ask_same}
 use Rattle.basics.specs.Lists.{In}
 use Rattle.best_first.specs.Search.{Entry}
-use Rattle.best_first.specs.Entries.{Same, same_refl, same_trans, same-cons, same-swap}
+use Rattle.best_first.proofs.Entries.{Same, same_refl, same_trans, same-cons, same-swap}
 use Rattle.keyed_lists.specs.KeyedLists.{mark_of, cell_of, entry_of, entries_up_to}
 
 -- the entry of one place is one more, or none

@@ -6,7 +6,7 @@
 use Rattle.std.specs.Prelude.{◌≡◌, ◌≢◌, List, [], ◌∷◌, ℕ, zero, suc, ◌+◌, ◌-◌, ◌/◌, ◌%◌, ◌^◌, ◌≤◌, ◌<◌, length, get_or, eqb}
 use Rattle.basics.specs.Tests.{either}
 use Rattle.best_first.specs.Search.{Entry}
-use Rattle.best_first.specs.Entries.{TakenOut}
+use Rattle.best_first.proofs.Entries.{TakenOut}
 
 abbrev pub floor_of : List ℕ → ℕ
 floor_of q = get_or q 64 0

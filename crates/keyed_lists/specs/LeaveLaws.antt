@@ -4,7 +4,7 @@ use Rattle.std.proofs.Common.{sym, ap, ◌∙◌, arith}
 use Rattle.basics.specs.Tests.{ask_same, ask_less}
 use Rattle.basics.specs.Lists.{In}
 use Rattle.best_first.specs.Search.{Entry}
-use Rattle.best_first.specs.Entries.{Late, by_key, by-serial, Same}
+use Rattle.best_first.proofs.Entries.{Late, by_key, by-serial, Same}
 use Rattle.keyed_lists.specs.KeyedLists.{used_of, floor_of, ends_of, first_of, last_of, next_of, mark_of, cell_of, key_of, entry_of, keyed_entries, Waits, InList, Linked, Ended, Keyed, KeyedLeft}
 use Rattle.keyed_lists.specs.Steps.{LeastKey}
 use Rattle.keyed_lists.specs.ListLaws.{in_place, first-kept, last-kept}

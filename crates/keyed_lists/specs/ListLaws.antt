@@ -51,4 +51,4 @@ pub last_has_none : (q : List ℕ) (j : ℕ) → Keyed q → Ended q j → next_
 last_has_none q j K E =
     ask_same (next_of q (last_of q j)) 0 (λ z. z)
     (λ n. let N = K.linked (last_of q j) E.last_in.waits n in
-    absurd (omega (arith, N.later, E.greatest (next_of q (last_of q j)) (rw E.last_in.list at N.in_List))))
+    absurd (omega (arith, N.later, E.greatest (next_of q (last_of q j)) (rw E.last_in.list at N.in_list))))

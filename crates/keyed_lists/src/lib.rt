@@ -2,6 +2,8 @@
 // of each other, the list of the least key is found by going up, and of one key the first in is the first out. Nothing is moved to let an
 // entry in or out. The slice has, in this order: the two ends of each of 64 lists, the least key that may still come, how many places are
 // used, and the places. A place is used once: entries are put in the order of their serials, and the place tells the serial.
+#![tactic(auto)]
+
 ghost use Rattle.std.specs.Prelude.{◌+◌, ◌*◌, ◌%◌, ◌^◌, ◌<◌, ◌≡◌, ◌≢◌, true, length, get_or, set};
 ghost use Rattle.keyed_lists.specs.KeyedLists.{keyed_entries, Keyed, Begun, KeyedJoined, KeyedLeft};
 ghost use Rattle.keyed_lists.specs.Steps.{EndsCleared, Open, Hangable, Hung, LeastKey, FirstGone};

@@ -16,7 +16,7 @@ use Rattle.room.specs.Units.{no_facing}
 use Rattle.job_sheet.specs.declared.Block.{Block}
 use Rattle.job_sheet.specs.Places.{no_block}
 use Rattle.blocks.specs.Blocks.{block_cell, of_block}
-use Rattle.blocks.specs.BlockLaws.{tabulated-long, tabulated-at, tabulated-is}
+use Rattle.blocks.proofs.BlockLaws.{tabulated-long, tabulated-at, tabulated-is}
 use Rattle.laid_nets.specs.LaidNets.{facings_of}
 
 module _ (R : Room) where

@@ -1,5 +1,7 @@
 // All nets of a list laid into one room: its blocks with their facings, one net behind the other, whose each cell is, and
 // where two nets overlap.
+#![tactic(auto)]
+
 ghost use Rattle.std.specs.Prelude.{◌≡◌, length, replicate};
 ghost use Rattle.room.specs.Room.{Good, volume};
 ghost use Rattle.job_sheet.specs.Accepted.{BlockList};
@@ -14,7 +16,7 @@ use job_sheet::{Job, Part};
 use room::{Neighbour, Room};
 
 // Where two nets overlap: the first net to meet a lower one, and its least such cell. Number 16 with them.
-#[derive(Drop)]
+#[derive(Clone, Copy)]
 pub enum Meeting {
     Nowhere,
     At(usize, usize),

@@ -1,4 +1,6 @@
 // One routed net laid into a room that the nets before it have been laid into.
+#![tactic(auto)]
+
 mod bearing;
 mod directions;
 mod owners;

@@ -1,4 +1,6 @@
 // Lent memory: whether a number touches it; cleared to its very end, at each width in use.
+#![tactic(auto)]
+
 ghost use Rattle.std.specs.Prelude.{◌≡◌};
 ghost use Rattle.lent.specs.Lent.{touches, Cleared};
 

@@ -6,7 +6,6 @@ use Rattle.job_sheet.specs.Sheet.{max_sinks}
 use Rattle.branches.specs.declared.BranchLengths.{BranchLengths}
 use Rattle.branches.specs.Branches.{sum, lengths_in, Short}
 use Rattle.net_tree.specs.declared.Answer.{Answer}
-use Rattle.net_tree.specs.declared.Ended.{Ended}
 use Rattle.net_tree.specs.declared.Ended.TheVariants.{Routed, Refused}
 use Rattle.net_tree.specs.Answers.{Lent, lent}
 use Rattle.kept_nets.specs.Keep.{NextAsked, NextRouted}

@@ -1,5 +1,5 @@
 -- Laws of what is left of a buffer.
-use Rattle.std.specs.Prelude.{◌≡◌, refl, List, [], ◌++◌, ℕ, ◌+◌, ◌-◌, ◌≤◌, length, take, drop, replicate}
+use Rattle.std.specs.Prelude.{◌≡◌, List, ◌++◌, ℕ, ◌+◌, ◌-◌, ◌≤◌, length, take, drop, replicate}
 use Rattle.std.proofs.Common.{sym, ap, ◌∙◌, append-nil, append_assoc, arith, length-append, length-drop, drop_of_length-le, take_all, take_at, drop_at, length-take-le}
 use Rattle.lent.specs.Lent.{filled}
 use Rattle.list_routing.specs.Parts.{rest_of, put_back}

@@ -1,5 +1,5 @@
 -- Laws of one step of the walk: what its parts ask, and that one net more keeps what is known of the nets so far.
-use Rattle.std.specs.Prelude.{◌≡◌, refl, true, ℕ, suc, ◌+◌, ◌-◌, ◌*◌, ◌≤◌, ◌<◌, get_or, take, drop}
+use Rattle.std.specs.Prelude.{◌≡◌, refl, true, ℕ, suc, ◌+◌, ◌-◌, ◌≤◌, ◌<◌, get_or, take, drop}
 use Rattle.std.proofs.Math.Path.{sym, ap}
 use Rattle.std.proofs.Common.{subst, ◌∙◌, arith, length-append, length-drop, drop-drop}
 use mathlib.Core.List.{List, [], ◌∷◌, ◌++◌}
@@ -13,39 +13,36 @@ use Rattle.room.specs.declared.Room.{Room}
 use Rattle.room.specs.Room.{Good, volume}
 use Rattle.ground.specs.declared.Mode.{Mode}
 use Rattle.room_search.specs.TriedMoves.{places_of}
-use Rattle.routing_resources.specs.Marks.{marked_by, is_marked, no_marks}
+use Rattle.routing_resources.specs.Marks.{marked_by, is_marked}
 use Rattle.job_sheet.specs.Sheet.{max_sinks}
-use Rattle.branches.specs.declared.BranchLengths.{BranchLengths}
 use Rattle.branches.specs.Branches.{sum, lengths_in, branch_lengths, branches_of}
 use Rattle.branches.specs.BranchLaws.{lengths_theirs, lengths-sum}
-use Rattle.repeaters.specs.Masks.{Steps, AllSteps, BranchesReady}
+use Rattle.repeaters.specs.Masks.{AllSteps, BranchesReady}
 use Rattle.net_tree.specs.declared.Answer.{Answer}
 use Rattle.net_tree.specs.declared.Ended.TheVariants.{Routed, Refused}
 use Rattle.net_tree.specs.Answers.{Lent, lent, TreeOutcome, routed, no_tree, answer_of}
-use Rattle.laying.specs.Laying.{Net, laid_room}
-use Rattle.laying.specs.Layable.{net_of}
-use Rattle.job_list.specs.Split.{sheet_long, first_sheet, behind_first, sheets_in}
+use Rattle.laying.specs.Laying.{Net}
+use Rattle.job_list.specs.Split.{sheet_long, first_sheet, sheets_in}
 use Rattle.job_list.specs.SplitLaws.{long-most, long-some, sheets_some, sheets_none}
 use Rattle.job_list.specs.Judged.{contents_at}
 use Rattle.job_list.specs.GoodNets.{GoodNet, GoodFrom, good-room-is, memory-lengths-enough}
 use Rattle.other_nets.specs.Others.{net_clear, ends_at}
 use Rattle.other_nets.specs.OtherLaws.{ListReady, list-still}
-use Rattle.nets.specs.Nets.{net_at, taken_by, Routing, all-kept, refused-by, route_from, routed_list, net_outcome}
+use Rattle.nets.specs.Nets.{net_at, taken_by, route_from, routed_list, net_outcome}
 use Rattle.laid_nets.specs.declared.Meeting.{Meeting}
-use Rattle.laid_nets.specs.declared.Meeting.TheVariants.{Nowhere}
-use Rattle.laid_nets.specs.LaidNets.{room_at, LaidNets, laid_so_far, unlaid, with_net, laid_nets}
+use Rattle.laid_nets.specs.LaidNets.{room_at, unlaid, with_net, laid_nets}
 use Rattle.laid_nets.specs.Layings.{SheetLaid}
 use Rattle.laid_nets.specs.NetLaws.{laid_more}
 use Rattle.laid_nets.specs.CountLaws.{Counted, number_fits, counted-more}
-use Rattle.kept_nets.specs.BranchSound.{GoodBranch, GoodNetBranches}
+use Rattle.kept_nets.specs.BranchSound.{GoodBranch}
 use Rattle.kept_nets.specs.Keep.{NextKept, NextHeld}
 use Rattle.kept_nets.specs.KeepLaws.{their_branched, their_branches, their_short}
 use Rattle.list_routing.specs.declared.Stand.{Stand}
 use Rattle.list_routing.specs.declared.Step.{Step}
 use Rattle.list_routing.specs.declared.Step.TheVariants as step
 use Rattle.list_routing.specs.ListLent.{ListLent, SameSizes, Desk}
-use Rattle.list_routing.specs.Walk.{cells_of, lengths_of, planned_by, cells-more, lengths-more, taken_more, planned-more, before-is, step-routed, step-refused, outcome-by-marks}
-use Rattle.list_routing.specs.Parts.{sheet_here, rest_of, put_back, counted_at, left_of, PartAsked, PartRouted, TreeLayable, AnswerLayable, further, AnswerLaid, laid_one, laid_none}
+use Rattle.list_routing.specs.Walk.{cells_of, lengths_of, cells-more, lengths-more, taken_more, planned-more, before-is, step-routed, step-refused, outcome-by-marks}
+use Rattle.list_routing.specs.Parts.{sheet_here, rest_of, counted_at, PartAsked, PartRouted, TreeLayable, AnswerLayable, further, AnswerLaid, laid_one, laid_none}
 use Rattle.list_routing.specs.RestLaws.{rest-long, rest-clear, rest-cleared, more-filled, more-fits, part-back}
 use Rattle.list_routing.specs.Walking.{room_of, so_far, Walking, WalkingOn, Stepped, EndsWith, Walked}
 

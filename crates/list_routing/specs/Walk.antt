@@ -1,27 +1,23 @@
 -- The walk along a list, net by net: what is kept of the nets so far, and that one net more keeps it. The nets left, routed behind those so far, come to what the
 -- whole list comes to.
-use Rattle.std.specs.Prelude.{◌≡◌, refl, Bool, true, false, not, ◌&&◌, ◌||◌, List, [], ◌∷◌, ◌++◌, map, ℕ, zero, suc, ◌+◌, ◌-◌, ◌*◌, ◌≤◌, ◌<◌, length}
+use Rattle.std.specs.Prelude.{◌≡◌, refl, Bool, true, false, not, ◌&&◌, ◌||◌, List, [], ◌∷◌, ◌++◌, ℕ, ◌+◌, ◌-◌, ◌<◌, length}
 use Rattle.std.proofs.Math.Path.{sym, ap}
-use Rattle.std.proofs.Common.{subst, ◌∙◌, append_assoc, append-nil, arith}
+use Rattle.std.proofs.Common.{◌∙◌, append_assoc, append-nil}
 use Rattle.std.proofs.lemmas.List.{length-replicate, get_or-replicate}
-use Rattle.numbers.specs.Refusals.{buffer_number}
-use Rattle.basics.specs.Tests.{never}
 use Rattle.basics.specs.Lists.{any, joined}
-use Rattle.lent.specs.Lent.{filled}
 use Rattle.room.specs.declared.Room.{Room}
 use Rattle.room.specs.Room.{volume}
 use Rattle.ground.specs.declared.Mode.{Mode}
 use Rattle.routing_resources.specs.Marks.{marked_by, is_marked, no_marks}
-use Rattle.routing_resources.specs.MarkLaws.{with_or, with_same, with_none, with_length_lem, marked-after}
-use Rattle.job_sheet.specs.Sheet.{max_sinks}
+use Rattle.routing_resources.specs.MarkLaws.{with_or, with_same, marked-after}
 use Rattle.branches.specs.Branches.{branch_lengths}
 use Rattle.outset.specs.Outset.{blocked_by, own_cell}
-use Rattle.net_tree.specs.Answers.{TreeOutcome, routed, no_tree, job_outcome}
+use Rattle.net_tree.specs.Answers.{routed, no_tree, job_outcome}
 use Rattle.job_list.specs.Split.{sheets_of}
 use Rattle.job_list.specs.Judged.{contents_at}
 use Rattle.other_nets.specs.Others.{net_clear, ends_at, protected_from, blocked_in_list}
 use Rattle.laying.specs.Laying.{Net}
-use Rattle.nets.specs.Nets.{net_at, taken_by, Routing, all-kept, refused-by, keep_on, route_from, net_outcome, blocked_at, lent_for, kinds_at, nodes_at, outset_at}
+use Rattle.nets.specs.Nets.{net_at, taken_by, refused-by, route_from, net_outcome, blocked_at, lent_for, kinds_at, nodes_at, outset_at}
 
 -- ---- the answer of the nets kept so far, one behind the other in list order
 

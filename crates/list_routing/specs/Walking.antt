@@ -20,7 +20,7 @@ use Rattle.laid_nets.specs.CountLaws.{Counted}
 use Rattle.list_routing.specs.declared.Stand.{Stand}
 use Rattle.list_routing.specs.declared.Step.{Step}
 use Rattle.list_routing.specs.declared.Step.TheVariants.{On, Refused}
-use Rattle.list_routing.specs.ListLent.{ListLent, SameSizes, Desk}
+use Rattle.list_routing.specs.ListLent.{ListLent, Desk}
 use Rattle.list_routing.specs.Walk.{cells_of, lengths_of, planned_by}
 
 -- the room that all nets of a list share

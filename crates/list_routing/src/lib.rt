@@ -1,4 +1,6 @@
 // The walk along a job list, net by net: each is routed over what the others leave it, kept for those behind it, and laid.
+#![tactic(auto)]
+
 ghost use Rattle.std.specs.Prelude.{◌≡◌, ◌+◌, ◌≤◌, length, drop};
 ghost use Rattle.job_list.specs.Split.{sheet_long};
 ghost use Rattle.net_tree.specs.Answers.{lent};
@@ -13,7 +15,7 @@ use net_tree::{Answer, Ended};
 
 // How far the walk has come: where the next sheet begins, the number of its net, how many cells of the branch buffer are in
 // use, and where two nets overlap.
-#[derive(Drop)]
+#[derive(Clone, Copy)]
 pub struct Stand {
     pub place: usize,
     pub net: usize,
@@ -23,7 +25,7 @@ pub struct Stand {
 
 // What a net, or a whole list, comes to: the walk goes on from here, or the net refuses: its number in the list, the number
 // that comes back, and the detail.
-#[derive(Drop)]
+#[derive(Clone, Copy)]
 pub enum Step {
     On(Stand),
     Refused(usize, u32, usize),

@@ -64,7 +64,7 @@ module _ {R : Room} {source : ℕ} {taps : Taps} {L : BranchLengths} {branches o
     good = F.good;
     net = F.net;
     laid = record {
-      branched = record { whole = F.lengths_Short.whole; few = F.few; within = used-fits refl };
+      branched = record { whole = F.lengths_short.whole; few = F.few; within = used-fits refl };
       steps = rw (branches-back F.holds) (all-steps R F.bs (λ i h. F.steps i (omega (arith, F.holds.count-is))));
     };
     repeaters-clear = F.repeaters-clear;

@@ -5,9 +5,7 @@ pub mod Growing
 pub mod StepLaws
 pub mod NearLaws
 pub mod GrowthLaws
-pub mod GrowingLaws
 pub mod SinkTurns
-pub mod SinkTurnLaws
 pub mod TreeLaws
 pub mod Finishing
 pub mod FinishingLaws

@@ -29,11 +29,11 @@ pub record Findable (S : Site) (blocked classes known previous path best : List 
 
 -- the plot, as the functions are handed it
 abbrev pub plot_of : Ground → List ℕ → List ℕ → List ℕ → ℕ → Taps → Plot
-plot_of ground kinds queue branches source taps = record {
-  room = ground.room;
-  config = ground.config;
-  mode = ground.mode;
-  run = ground.run;
+plot_of under kinds queue branches source taps = record {
+  room = under.room;
+  config = under.config;
+  mode = under.mode;
+  run = under.run;
   kinds = kinds;
   places = places_of queue;
   buffer = length branches;

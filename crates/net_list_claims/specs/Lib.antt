@@ -1,11 +1,6 @@
 pub mod Statements
-pub mod RoutingLaws
 pub mod SingleLaws
 pub mod OutcomeLaws
 pub mod SinkLaws
 pub mod StandingLaws
-pub mod MeetingLaws
-pub mod AloneLaws
 pub mod LaidLaws
-pub mod Theorems
-pub mod PromiseTheorems

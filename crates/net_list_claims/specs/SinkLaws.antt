@@ -18,7 +18,7 @@ use Rattle.job_sheet.specs.declared.Judgement.TheVariants as judgement
 use Rattle.job_sheet.specs.Version.{version_in}
 use Rattle.job_sheet.specs.Sheet.{Contents, max_sinks, is_good, judged, sink_fault}
 use Rattle.job_sheet.specs.Places.{shaped}
-use Rattle.job_sheet.specs.AcceptedLaws.{no_fault, sink-within}
+use Rattle.job_sheet.proofs.AcceptedLaws.{no_fault, sink-within}
 use Rattle.ends.specs.declared.Tap.{Tap}
 use Rattle.ends.specs.declared.Fault.{Fault}
 use Rattle.ends.specs.Ends.{sink_end, due_for, first_due, no_tap, tap_from, tap_of, taps_in, fault_by, fault_of, ends_of}

@@ -25,7 +25,7 @@ use Rattle.multinet.specs.declared.GrownBranches.{GrownBranches}
 use Rattle.multinet.specs.Tree.{Plot, grown, stopped, grow_from, growth_of, repeaters_of}
 use Rattle.multinet.specs.Growing.{Growing}
 use Rattle.multinet.specs.SinkTurns.{Plantable, EndTold, GrowthTold}
-use Rattle.multinet.specs.SinkTurnLaws.{early-growth}
+use Rattle.multinet.proofs.SinkTurnLaws.{early-growth}
 use Rattle.multinet.specs.Finishing.{BufferHolds, Finishable}
 use Rattle.net_tree.specs.declared.Answer.{Answer}
 use Rattle.net_tree.specs.declared.Ended.TheVariants.{Routed}

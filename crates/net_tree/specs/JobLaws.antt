@@ -14,10 +14,10 @@ use Rattle.job_sheet.specs.declared.Judgement.TheVariants.{Good}
 use Rattle.job_sheet.specs.Version.{version_in}
 use Rattle.job_sheet.specs.Sheet.{Contents, Means, judged, job_of}
 use Rattle.job_sheet.specs.Accepted.{Accepted}
-use Rattle.job_sheet.specs.Theorems.{one-meaning}
+use Rattle.job_sheet.proofs.Theorems.{one-meaning}
 use Rattle.blocks.specs.declared.Placement.{Placement}
 use Rattle.blocks.specs.Blocks.{kinds_of, nodes_of, BlocksLaid}
-use Rattle.blocks.specs.BlockLaws.{tabulated-long}
+use Rattle.blocks.proofs.BlockLaws.{tabulated-long}
 use Rattle.ends.specs.declared.Fault.{Fault}
 use Rattle.ends.specs.Ends.{no_tap, sinks_in, ends_of}
 use Rattle.ends.specs.EndLaws.{sinks-long}

@@ -14,7 +14,7 @@ use Rattle.job_sheet.specs.declared.Judgement.{Judgement}
 use Rattle.job_sheet.specs.declared.Judgement.TheVariants as judgement
 use Rattle.job_sheet.specs.Sheet.{Read, is_good, number_of}
 use Rattle.job_sheet.specs.Accepted.{Accepted}
-use Rattle.job_sheet.specs.Theorems.{usable}
+use Rattle.job_sheet.proofs.Theorems.{usable}
 use Rattle.net_tree.specs.declared.Answer.{Answer}
 use Rattle.net_tree.specs.Answers.{Lent, lent, lengths_of, buffers_good, TreeOutcome, routed, no_tree, job_outcome, Comes, unread, unlent, set_out, answer_of, number_for, branches_for, occupied_for, repeaters_for, lent_after, Promise}
 use Rattle.net_tree.specs.Entry.{OutputsHold, Lendable, OutputsClear, FrontRouted, settled_by}

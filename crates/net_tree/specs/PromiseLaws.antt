@@ -8,7 +8,7 @@ use Rattle.job_sheet.specs.declared.Reading.{Reading}
 use Rattle.job_sheet.specs.declared.Judgement.TheVariants as judgement
 use Rattle.job_sheet.specs.Version.{version_in}
 use Rattle.job_sheet.specs.Sheet.{Contents, Means, Read, judged, is_good}
-use Rattle.job_sheet.specs.Theorems.{one-meaning, coincide as one-reading, answers-meaning}
+use Rattle.job_sheet.proofs.Theorems.{one-meaning, coincide as one-reading, answers-meaning}
 use Rattle.outset.specs.declared.Outset.{Outset}
 use Rattle.outset.specs.SetOut.{OutsetOf}
 use Rattle.outset.specs.SetOutLaws.{outset-one}

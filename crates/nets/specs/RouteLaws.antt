@@ -22,7 +22,7 @@ use Rattle.job_sheet.specs.Accepted.{Accepted}
 use Rattle.blocks.specs.declared.Placement.{Placement}
 use Rattle.blocks.specs.declared.Placement.TheVariants.{Placed, RepeatAt}
 use Rattle.blocks.specs.Blocks.{kinds_of, nodes_of, BlocksLaid}
-use Rattle.blocks.specs.BlockLaws.{tabulated-long}
+use Rattle.blocks.proofs.BlockLaws.{tabulated-long}
 use Rattle.ends.specs.declared.Fault.{Fault}
 use Rattle.ends.specs.declared.Ends.{Ends}
 use Rattle.ends.specs.Ends.{sinks_in, ends_of}

@@ -1,4 +1,6 @@
 // A job list routed net by net, each over what the nets before it and the other jobs leave it.
+#![tactic(auto)]
+
 ghost use Rattle.net_tree.specs.Answers.{lent};
 ghost use Rattle.nets.specs.Routes.{PrepareAsked, Prepared, NetAsked, NetRouted};
 

@@ -1,4 +1,6 @@
 // Several nets, told as numbers, for other languages: all of `dustroute_nets` but its exported name.
+#![tactic(auto)]
+
 ghost use Rattle.std.specs.Prelude.{◌≡◌, ◌≤◌, length, true};
 ghost use Rattle.list_routing.specs.ListLent.{list_lent};
 ghost use Rattle.nets_reply.specs.Reply.{value_count, values_after, NetsTold};

@@ -1,5 +1,7 @@
 // The numbers that come back, each under its name. docs/RULES.md tells their details and the order in which they
 // are judged.
+#![tactic(auto)]
+
 ghost use Rattle.std.specs.Prelude.{◌≡◌};
 ghost use Rattle.numbers.specs.Refusals.{all_numbers};
 

@@ -20,7 +20,7 @@ use Rattle.job_sheet.specs.declared.Reading.{Reading}
 use Rattle.job_sheet.specs.Version.{version_in}
 use Rattle.job_sheet.specs.Sheet.{Contents, Read}
 use Rattle.job_sheet.specs.Places.{shaped}
-use Rattle.job_sheet.specs.ReadLaws.{shaped-is}
+use Rattle.job_sheet.proofs.ReadLaws.{shaped-is}
 use Rattle.job_sheet.specs.RecordLaws.{Bytes}
 use Rattle.job_sheet.specs.Accepted.{Accepted}
 use Rattle.ends.specs.declared.Tap.{Tap}

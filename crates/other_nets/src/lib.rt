@@ -1,5 +1,7 @@
 // What a net of a list keeps off beside its own sheet's lists, as marks: the conductors and clearances of the nets before
 // it, and the protected cells of all other jobs.
+#![tactic(auto)]
+
 mod keeping; // keeping.rt: a routed net kept for the nets behind it and for the answer
 mod protected; // protected.rt: the protected cells of the other jobs, and what is blocked for a net of a list
 

@@ -15,11 +15,11 @@ use Rattle.job_sheet.specs.declared.Job.{Job}
 use Rattle.job_sheet.specs.Sheet.{Contents, sinks_of, job_of}
 use Rattle.job_sheet.specs.Accepted.{Accepted, BlockList, SinkList, Usable}
 use Rattle.job_sheet.specs.Places.{blocks_in}
-use Rattle.job_sheet.specs.Theorems.{one-meaning, usable}
+use Rattle.job_sheet.proofs.Theorems.{one-meaning, usable}
 use Rattle.blocks.specs.declared.Placement.{Placement}
 use Rattle.blocks.specs.Blocks.{kinds_of, nodes_of, BlocksLaid}
-use Rattle.blocks.specs.BlockLaws as blocks
-use Rattle.blocks.specs.BlockLaws.{tabulated-long, own-list, blocks_laid_for}
+use Rattle.blocks.proofs.BlockLaws as blocks
+use Rattle.blocks.proofs.BlockLaws.{tabulated-long, own-list, blocks_laid_for}
 use Rattle.ends.specs.declared.Ends.{Ends}
 use Rattle.ends.specs.declared.Fault.{Fault}
 use Rattle.ends.specs.Ends.{sinks_in, ends_of, NetInside}

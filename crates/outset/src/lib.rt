@@ -1,4 +1,6 @@
 // The cells that are blocked at the outset of a tree, as marks: one byte a cell in a lent slice.
+#![tactic(auto)]
+
 mod setting_out; // setting_out.rt: the whole outset, from an accepted sheet
 
 ghost use Rattle.std.specs.Prelude.{◌≡◌, ◌||◌, ◌<◌, eqb, length};
@@ -18,7 +20,7 @@ use room::{Neighbour, Room};
 pub use setting_out::{detail_by, number_by, ready_by, set_out};
 
 // What setting a tree out comes to: whether each block has a cell of its own, and the net's ends.
-#[derive(Drop)]
+#[derive(Clone, Copy)]
 pub struct Outset {
     pub placement: Placement,
     pub ends: Ends,

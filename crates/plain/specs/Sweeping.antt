@@ -7,8 +7,8 @@ use Rattle.room.specs.Room.{Good, volume, neighbour}
 use Rattle.room.specs.Units.{dearest, GoodConfig}
 use Rattle.best_first.specs.Search
 use Rattle.best_first.specs.Search.{Graph}
-use Rattle.best_first.specs.Equations.{Gain}
-use Rattle.best_first.specs.Base.{Loose}
+use Rattle.best_first.proofs.Equations.{Gain}
+use Rattle.best_first.proofs.Base.{Loose}
 use Rattle.sweeps.specs.Sweeps.{ReachedCount, Grounded, AtRest, Progress, NoHigher, TriedFrom}
 use Rattle.room_search.specs.Routing.{places_in, total, price_of, graph_of}
 use Rattle.plain.specs.declared.Errand.{Errand}

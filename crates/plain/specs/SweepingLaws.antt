@@ -19,8 +19,8 @@ use Rattle.room.specs.MoveLaws.{leads}
 use Rattle.best_first.specs.Search
 use Rattle.best_first.specs.Ways.{Sound}
 use Rattle.best_first.specs.ListsAfterSet.{in_reach}
-use Rattle.best_first.specs.Base.{Loose}
-use Rattle.best_first.specs.Predecessors.{lowered}
+use Rattle.best_first.proofs.Base.{Loose}
+use Rattle.best_first.proofs.Predecessors.{lowered}
 use Rattle.sweeps.specs.Sweeps.{Grounded, AtRest, Progress, NoHigher, TriedFrom, BeatenBy, known_sum}
 use Rattle.sweeps.specs.RestLaws.{rest-counted, count-one}
 use Rattle.sweeps.specs.FewSweeps.{beaten-more, sweeps_few, some_known}

@@ -1,4 +1,6 @@
 // Where an end of a net meets the wire. An end is its position, which lies in the room, its port kind and its facing.
+#![tactic(auto)]
+
 ghost use Rattle.std.specs.Prelude.{◌≡◌, ◌<◌};
 ghost use Rattle.room.specs.Room.{Good, Within, volume};
 ghost use Rattle.port_realization.specs.Ports.{terminal_of, approach_of, approached, realized_of};
@@ -6,7 +8,7 @@ ghost use Rattle.port_realization.specs.Ports.{terminal_of, approach_of, approac
 use room::{Neighbour, Pos, Room};
 
 // The terminal of an end. Number 8 is due for NoFacing, number 9 for Outside.
-#[derive(Drop)]
+#[derive(Clone, Copy)]
 pub enum Terminal {
     At(usize),
     NoFacing,
@@ -14,7 +16,7 @@ pub enum Terminal {
 }
 
 // The terminal and the approach of a sink, from which its searches start; numbers as for a terminal.
-#[derive(Drop)]
+#[derive(Clone, Copy)]
 pub enum Realized {
     At { terminal: usize, approach: usize },
     NoFacing,

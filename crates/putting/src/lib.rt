@@ -1,4 +1,6 @@
 // Bytes put one after another into a lent buffer, as text and sheets are written.
+#![tactic(auto)]
+
 ghost use Rattle.putting.specs.Putting.{Put, Fits};
 
 // Puts bytes at a place, and answers the place behind them.

@@ -2,6 +2,8 @@
 // without a goal and with supports that cost nothing, over every cell that some search of the turn may enter, labels each
 // cell with its cost. The labels are then looked at step by step: where no step undercuts one, no way is cheaper than its
 // goal's label, however they were found.
+#![tactic(auto)]
+
 mod opening; // opening.rt: the cells that some search of the turn may enter
 mod check; // check.rt: whether no step undercuts a label
 mod labelling; // labelling.rt: the turn's labels

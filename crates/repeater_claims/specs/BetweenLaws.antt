@@ -11,12 +11,12 @@ use Rattle.room.specs.Room.{volume}
 use Rattle.routing_resources.specs.Marks.{is_marked}
 use Rattle.ends.specs.declared.Tap.{Tap}
 use Rattle.best_first.specs.Search.{trace}
-use Rattle.best_first.specs.Equations.{trace-start}
+use Rattle.best_first.proofs.Equations.{trace-start}
 use Rattle.repeaters.specs.Repeaters.{path_cell, fits, RunWalk, run_walk, strides, run, last_reset, end, reinforced, path_to, run_of, tail_of, tree_neighbours, repeater_marks}
 use Rattle.walk.specs.Chains.{Chained}
 use Rattle.walk.specs.ChainLaws.{chain-last, chain-step-at, chain-all, none-twice-at}
 use Rattle.walk.specs.Walks.{parents_from, root_path, StaysBelow, PathFrom}
-use Rattle.walk.specs.WalkLaws.{parent-chained, root-path, path_parent}
+use Rattle.walk.proofs.WalkLaws.{parent-chained, root-path, path_parent}
 use Rattle.repeater_claims.specs.Between.{StandsBetween}
 use Rattle.repeater_claims.specs.BothWaysLaws.{neighbours-below, neighbour-back}
 use Rattle.repeater_claims.specs.Standing.{PlaceFits}

@@ -71,6 +71,7 @@ beside-both (a ∷ (b ∷ rest)) = (
 
 beside-neighbouring : (branches : List (List ℕ)) (branch : List ℕ) → In branch branches → (u v : ℕ) → beside_on branch u v ≡ true → neighbouring branches u v ≡ true
 unfolding neighbouring
+beside-neighbouring [] branch i u v e = absurd i
 beside-neighbouring (b ∷ bs) branch (inl q) u v e = or_first (beside_on b u v) (neighbouring bs u v) (rw q at e)
 beside-neighbouring (b ∷ bs) branch (inr i) u v e = or_second (beside_on b u v) (neighbouring bs u v) (beside-neighbouring bs branch i u v e)
 

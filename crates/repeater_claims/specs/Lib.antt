@@ -6,4 +6,3 @@ pub mod OppositeLaws
 pub mod BetweenLaws
 pub mod LengthLaws
 pub mod Claims
-pub mod ClaimTheorems

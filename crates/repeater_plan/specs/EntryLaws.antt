@@ -4,40 +4,38 @@ use Rattle.std.proofs.Math.Path.{refl, ap}
 use Rattle.std.proofs.Common.{sym, ◌∙◌, inl, inr, arith, length-take-le, take_at, get_or-take}
 use mathlib.Core.List.{List, [], ◌∷◌, ◌++◌, map}
 use Rattle.std.proofs.lemmas.List.{length-map}
-use borrow.Author.Tests.{leb-true, ltb-true, eqb-true, le-leb, lt-leb}
+use borrow.Author.Tests.{ltb-true, eqb-true, le-leb, lt-leb}
 use Rattle.numbers.specs.Refusals.{buffer_number, port_facing_number, end_outside_number}
 use Rattle.basics.specs.Tests.{ask, and_left, and_right, passed, never}
 use Rattle.basics.specs.Lists.{In, any, every, every_in, every_map, every_append, in_at}
 use Rattle.basics.specs.Zeros.{take_zeros, drop_zeros, cleared-to, zeros-long}
-use Rattle.lent.specs.Lent.{filled, output_after, work_after}
+use Rattle.lent.specs.Lent.{filled}
 use Rattle.room.specs.declared.Room.{Room}
-use Rattle.room.specs.declared.Move.{Move}
 use Rattle.room.specs.declared.Neighbour.{Neighbour}
 use Rattle.room.specs.Room.{Good, Within, sides_good, volume, moves, holds_at, neighbour, Step}
 use Rattle.room.specs.RoomLaws.{good}
 use Rattle.routing_resources.specs.Marks.{no_marks}
 use Rattle.job_sheet.specs.declared.Judgement.{Judgement}
 use Rattle.job_sheet.specs.declared.Judgement.TheVariants as judgement
-use Rattle.job_sheet.specs.declared.Sink.{Sink}
-use Rattle.job_sheet.specs.Sheet.{max_sinks, no_sink, is_good, first_fault, endpoint_fault, sink_fault, number_of}
-use Rattle.job_sheet.specs.FaultLaws.{good-is}
+use Rattle.job_sheet.specs.Sheet.{max_sinks, no_sink, is_good, sink_fault, number_of}
+use Rattle.job_sheet.proofs.FaultLaws.{good-is}
 use Rattle.job_sheet.specs.Accepted.{SinkList}
-use Rattle.job_sheet.specs.AcceptedLaws.{first_good, faultless, endpoint-within, sink-within}
+use Rattle.job_sheet.proofs.AcceptedLaws.{first_good, faultless, endpoint-within, sink-within}
 use Rattle.ends.specs.declared.Taps.{Taps}
 use Rattle.ends.specs.declared.Ends.{Ends}
 use Rattle.ends.specs.declared.Fault.{Fault}
 use Rattle.ends.specs.declared.Fault.TheVariants as fault
-use Rattle.ends.specs.Ends.{sinks_in, fault_of, terminal_in, source_end, taps_of, ends_of}
+use Rattle.ends.specs.Ends.{sinks_in, ends_of}
 use Rattle.ends.specs.EndLaws.{net_in}
 use Rattle.branches.specs.declared.BranchLengths.{BranchLengths}
-use Rattle.branches.specs.Branches.{lengths_in, branches_of, sum, marked_count}
+use Rattle.branches.specs.Branches.{lengths_in, sum, marked_count}
 use Rattle.repeaters.specs.Masks.{Steps, AllSteps, BranchesReady}
 use Rattle.repeaters.specs.Sinks.{Placeable}
 use Rattle.repeaters.specs.NetEnds.{net_repeaters}
 use Rattle.repeater_plan.specs.declared.Lengths.{Lengths}
 use Rattle.repeater_plan.specs.declared.Planned.{Planned}
 use Rattle.repeater_plan.specs.declared.Planned.TheVariants.{Repeaters, Refused}
-use Rattle.repeater_plan.specs.Plan.{Net, branches_in, is_move, head_good, branch_good, branch_fault, room_fault, judged, Lent, lent, lengths_of, lent_good, counts_good, Outcome, planned, unplanned, planned_marks, outcome_by, outcome_of, answer_of, lent_after, Promise}
+use Rattle.repeater_plan.specs.Plan.{Net, branches_in, is_move, head_good, branch_good, branch_fault, room_fault, judged, Lent, lent, lengths_of, lent_good, counts_good, unplanned, planned_marks, outcome_by, outcome_of, answer_of, lent_after, Promise}
 use Rattle.repeater_plan.specs.Entry.{Enough, Lendable, Frontable, FrontPlaced, PlacedBy, Settled}
 
 -- ---- number 6
@@ -130,7 +128,7 @@ pub record NoFault (N : Net) : Type 0 where
 pub no_fault : (N : Net) → is_good (judged N) ≡ true → NoFault N
 unfolding judged
 no_fault N g =
-    let all = rw every_append at (first_good _ (good-is _ g)) in
+    let all = rw (every_append is_good) at (first_good _ (good-is _ g)) in
     let x : is_good (room_fault N.room) ≡ true = search passed in
     record {
       room-good = good N.room (faultless (sides_good N.room) judgement.Sides refl x);

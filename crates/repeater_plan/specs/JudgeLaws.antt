@@ -1,24 +1,24 @@
 -- Laws of the judging: how its loops go, and what is known of branches that no number refuses.
-use Rattle.std.specs.Prelude.{◌≡◌, Bool, ◌&&◌, ◌||◌, eqb, leb, ltb, get_or, take}
+use Rattle.std.specs.Prelude.{◌≡◌, Bool, eqb, leb, get_or, take}
 use Rattle.std.proofs.Math.Path.{refl, sym, ap}
-use Rattle.std.proofs.Common.{◌∙◌, add-one, length-drop, drop_of_length-le, take_all, length-take-le, drop-drop, get_or-take, eqb-true, ltb-true, lt-ltb, le-ltb, leb-true, leb-false, le-leb}
+use Rattle.std.proofs.Common.{◌∙◌, length-drop, drop_of_length-le, take_all, length-take-le, drop-drop, get_or-take, lt-ltb, le-ltb, le-leb}
 use Rattle.std.proofs.Math.Bool.{true, false}
-use mathlib.Core.List.{List, [], ◌∷◌, ◌++◌, map}
-use Prim.Native.Nat.{ℕ, zero, suc, ◌+◌, ◌-◌, ◌≤◌, ◌<◌}
+use mathlib.Core.List.{List, [], ◌∷◌, map}
+use Prim.Native.Nat.{ℕ, ◌+◌, ◌-◌, ◌≤◌, ◌<◌}
 use native.Mathlib.Omega.{arith}
 use Rattle.std.proofs.Math.ListN.{length, drop}
 use Rattle.std.proofs.lemmas.Bool.{lt-leb}
-use Rattle.basics.specs.Tests.{either, ask, ask_less, and_left, and_right, never}
-use Rattle.basics.specs.Lists.{In, any, drop_next, in_at}
+use Rattle.basics.specs.Tests.{ask_less}
+use Rattle.basics.specs.Lists.{any, drop_next, in_at}
 use Rattle.room.specs.declared.Room.{Room}
 use Rattle.room.specs.declared.Move.{Move}
 use Rattle.room.specs.declared.Neighbour.{Neighbour}
-use Rattle.room.specs.Room.{sides_good, volume, moves, move_at, by, holds_at, neighbour, Step}
+use Rattle.room.specs.Room.{sides_good, volume, moves, move_at, by, holds_at, neighbour}
 use Rattle.room.specs.MoveLaws.{small}
 use Rattle.job_sheet.specs.declared.Judgement.{Judgement}
 use Rattle.job_sheet.specs.declared.Judgement.TheVariants as judgement
 use Rattle.job_sheet.specs.Sheet.{max_sinks, is_good, first_fault, limit_fault, endpoint_fault, sink_fault}
-use Rattle.job_sheet.specs.FaultLaws.{fault_first, good-first, only-first, first_on}
+use Rattle.job_sheet.proofs.FaultLaws.{fault_first, good-first, only-first, first_on}
 use Rattle.ends.specs.Ends.{sinks_in}
 use Rattle.branches.specs.Branches.{cut_into, sum}
 use Rattle.repeater_plan.specs.Plan.{Net, branches_in, is_move, head_good, branch_good, branch_fault, judged}

@@ -1,5 +1,4 @@
 -- The promise of `plan_net` determines everything.
-use Rattle.std.specs.Prelude.{◌≡◌}
 use Rattle.std.proofs.Common.{sym, ◌∙◌}
 use Rattle.basics.specs.Promises.{Determines}
 use Rattle.repeater_plan.specs.declared.Planned.{Planned}

@@ -1,19 +1,21 @@
 // The repeaters of a net in one call: its source, sinks, branches and limits are judged, then the runs of all sinks are planned
 // and only then the tails.
+#![tactic(auto)]
+
 mod entry; // entry.rt: the public call
 mod judge; // judge.rt: numbers 2 to 6
 
 pub use entry::plan_net;
 
 // What comes of it: how many repeaters are marked, or a number with its detail.
-#[derive(Drop)]
+#[derive(Clone, Copy)]
 pub enum Planned {
     Repeaters(usize),
     Refused { number: u32, detail: usize },
 }
 
 // How long the lent slices are.
-#[derive(Drop)]
+#[derive(Clone, Copy)]
 pub struct Lengths {
     pub repeaters: usize,
     pub forbidden: usize,

@@ -1,5 +1,7 @@
 // The repeaters of a net in one call, told as numbers, for other languages: all of `dustroute_place_repeaters` but its exported
 // name.
+#![tactic(auto)]
+
 ghost use Rattle.std.specs.Prelude.{◌≡◌, [], ◌∷◌, ◌≤◌, length};
 ghost use Rattle.basics.specs.Tests.{either};
 ghost use Rattle.lent.specs.Lent.{filled, output_after};

@@ -3,7 +3,7 @@ use Rattle.std.specs.Prelude.{◌≡◌, refl, ◌⊎◌, Bool, false, ◌&&◌,
 use Rattle.std.proofs.Common.{sym, ap, ◌∙◌, inl, inr, le_of_suc-le-suc, not-suc-le-zero, arith, eqb-true, ltb-true}
 use Rattle.std.proofs.Math.Path.{fun_ext}
 use Rattle.std.proofs.Math.Logic.{⊎_elim}
-use Rattle.std.proofs.Math.Bool.{true, or_false}
+use Rattle.std.proofs.Math.Bool.{true, or-false}
 use mathlib.Core.List.{List, [], ◌∷◌}
 use Prim.Native.Nat.{ℕ, zero, suc, ◌+◌, ◌≤◌, ◌<◌}
 use Rattle.std.proofs.Math.Dec.{eqb}
@@ -229,6 +229,7 @@ module _ {R : Room} (G : Good R) where
   steps-both (a ∷ (b ∷ rest)) s = (s.0, step_back s.0 G, steps-both (b ∷ rest) s.1)
 
   all_both : (branches : List (List ℕ)) → AllSteps R branches → (branch : List ℕ) → In branch branches → BothWays (Step R) branch
+  all_both [] s branch i = absurd i
   all_both (b ∷ bs) s branch (inl e) = rw e (steps-both b s.0)
   all_both (b ∷ bs) s branch (inr i) = all_both bs s.1 branch i
 
@@ -277,4 +278,4 @@ module _ {R : Room} (G : Good R) where
 -- cells linked from none on are those of the branches
 pub tree-linked : {R : Room} → Good R → (branches : List (List ℕ)) → AllSteps R branches → {start links : List ℕ} → start ≡ replicate (volume R) 0
     → NowLinked R (neighbouring branches) start links → linked_cells R links ≡ tree_neighbours branches (volume R)
-tree-linked {R} G branches S e J = linked-neighbours G branches S _ (masks-same (λ u v. or_false (neighbouring branches u v)) (J.goes (λ u v. false) (rw e (masks-none R))))
+tree-linked {R} G branches S e J = linked-neighbours G branches S _ (masks-same (λ u v. or-false (neighbouring branches u v)) (J.goes (λ u v. false) (rw e (masks-none R))))

@@ -19,7 +19,7 @@ use Rattle.best_first.specs.ListsAfterSet.{nonzeros, nonzeros-none, nonzeros-new
 use Rattle.trace.specs.Traces.{PreviousInside}
 use Rattle.trace.specs.TraceLaws.{trace-cells}
 use Rattle.walk.specs.Walks.{Wave, wave, meet_all, spread, first_parents, parents_from, root_path}
-use Rattle.walk.specs.WalkLaws.{meet-new, meet-old, spread_visit, spread-done}
+use Rattle.walk.proofs.WalkLaws.{meet-new, meet-old, spread_visit, spread-done}
 use Rattle.repeaters.specs.Links.{ordered_moves, ordered_move, linked_place, cons_place, cells_by, linked_cells}
 use Rattle.repeaters.specs.LinkLaws.{cells_left, cells-more, cells-none}
 use Rattle.repeaters.specs.Roots.{LineHeld, Met, Rooted, Traced}

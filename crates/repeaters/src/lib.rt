@@ -1,4 +1,6 @@
 // Where the repeaters of a net's tree stand.
+#![tactic(auto)]
+
 mod candidates;
 mod links;
 mod net_ends;
@@ -24,7 +26,7 @@ pub use roots::rooted_parent;
 
 // How far the walk along a path has come: its last reset, its place, and the latest place after that reset and before this
 // one where a repeater may stand, 0 for none.
-#[derive(Drop)]
+#[derive(Clone, Copy)]
 pub struct Stride {
     pub reset: usize,
     pub place: usize,

@@ -9,7 +9,7 @@ use stored::memory::{
 use stored::runs::{Verdict, expected_length};
 
 // The lengths at which buffers are lent: those of a number a cell, and the queue.
-#[derive(Drop)]
+#[derive(Clone, Copy)]
 pub struct LentLengths {
     pub cells: usize,
     pub queue: usize,

@@ -6,7 +6,7 @@ use stored::file_places::{FIRST_PLACE, count_in};
 use stored::runs::{Verdict, longer_queue, longer_unless};
 
 // How many runs of one search agreed, and whether all did.
-#[derive(Drop)]
+#[derive(Clone, Copy)]
 struct Agreement {
     runs: u32,
     agreed: bool,
@@ -14,7 +14,7 @@ struct Agreement {
 
 // How far the file has been replayed: to which place, how many searches and runs agreed, how many of the searches have each number,
 // and whether all agreed. A file of a million bytes has far too few of them for a count to wrap.
-#[derive(Drop)]
+#[derive(Clone, Copy)]
 pub struct Stand {
     pub at: usize,
     pub searches: u32,

@@ -6,7 +6,7 @@ use stored::file_places::{byte_at, past, word_at};
 pub const LETTERS: usize = 0x44525331;
 
 // The answer that is stored. The path's cells, as many as its length, stay in the file, behind their count at this place.
-#[derive(Drop)]
+#[derive(Clone, Copy)]
 pub struct Told {
     pub number: u32,
     pub detail: usize,
@@ -17,7 +17,7 @@ pub struct Told {
 }
 
 // A stored search: what is handed over, the answer, and the place behind it. The kinds, of this count, stay in the file, from this place on.
-#[derive(Drop)]
+#[derive(Clone, Copy)]
 pub struct Stored {
     pub room: Room,
     pub config: RouterConfig,

@@ -7,7 +7,7 @@ use stored::memory::{bytes_hold, longs_hold, words_hold};
 use stored::runs::{Verdict, expected_length};
 
 // What a buffer gives that is too short: a number, and the greatest detail that it can have. The least is 1.
-#[derive(Drop)]
+#[derive(Clone, Copy)]
 pub struct Shortage {
     pub number: u32,
     pub most: usize,

@@ -22,14 +22,14 @@ pub const BRANCH_SHORT: usize = 3;
 pub const QUEUE: usize = 4;
 
 // How far the file has been replayed: where the next record stands, and what has come of those before it.
-#[derive(Drop)]
+#[derive(Clone, Copy)]
 pub struct Stand {
     pub at: usize,
     pub tally: Tally,
 }
 
 // A sheet's size: V, or the stored length where that is shorter, and the node limit. A sheet that is not accepted has the stored length.
-#[derive(Drop)]
+#[derive(Clone, Copy)]
 struct Size {
     cells: usize,
     limit: usize,

@@ -9,7 +9,7 @@ use stored::memory::{OWN_LENGTH, spoil_bytes, spoil_longs, spoil_words};
 use stored::runs::Verdict;
 
 // The lengths at which buffers are lent: those of a number a cell, the branch buffer, and the queue.
-#[derive(Drop)]
+#[derive(Clone, Copy)]
 pub struct LentLengths {
     pub cells: usize,
     pub branches: usize,

@@ -11,7 +11,7 @@ use stored::runs::smaller;
 pub const LETTERS: usize = 0x44525431;
 
 // The lengths that a sheet comes with: the queue's places, the cells of the branch buffer, and the length of each other buffer.
-#[derive(Drop)]
+#[derive(Clone, Copy)]
 pub struct Asked {
     pub places: u32,
     pub branches: usize,
@@ -20,7 +20,7 @@ pub struct Asked {
 
 // A stored answer: its number, 0 for a tree, and its detail; the branches' lengths, and how many cells they have together; how many
 // cells are occupied, and how many repeaters there are.
-#[derive(Drop)]
+#[derive(Clone, Copy)]
 pub struct Told {
     pub number: u32,
     pub detail: usize,
@@ -31,14 +31,14 @@ pub struct Told {
 }
 
 // A stored answer, and where its record ends.
-#[derive(Drop)]
+#[derive(Clone, Copy)]
 pub struct Answered {
     pub told: Told,
     pub end: usize,
 }
 
 // A tree's branches: the length of each, how many cells they have together, and where they end.
-#[derive(Drop)]
+#[derive(Clone, Copy)]
 struct Branches {
     each: [usize; MAX_SINKS],
     total: usize,

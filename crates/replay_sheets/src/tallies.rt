@@ -5,7 +5,7 @@ use std::num::wrapping_add_u32;
 
 // How many sheets there are, and how many have each number; for each kind of comparison how many were compared, how many of them
 // differ, and which is the first that does (counted from 1, 0 for none).
-#[derive(Drop)]
+#[derive(Clone, Copy)]
 pub struct Tally {
     pub sheets: u32,
     pub met: [u32; 16],

@@ -1,4 +1,6 @@
 // An answer by its number and detail, as "Numbers that come back" lists them.
+#![tactic(auto)]
+
 ghost use Rattle.std.specs.Prelude.{◌≡◌};
 ghost use Rattle.routing.specs.Answers.{refusal_number, number_of, detail_of};
 ghost use Rattle.reply.specs.Replies.{route_of};

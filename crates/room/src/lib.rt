@@ -1,5 +1,7 @@
 // The room: its sides, the numbers of its cells, the twelve moves, the cells beneath, above and ahead, distances; kinds,
 // facings and port kinds; cost and node count as units of their own; the config with its ranges.
+#![tactic(auto)]
+
 ghost use Rattle.std.specs.Prelude.{◌≡◌, ◌≤◌, ◌<◌, ◌^◌};
 ghost use Rattle.room.specs.Room.{Good, Within, SmallPos, between, sides_good, volume, cell_of, pos_of, within, move_at, neighbour_at, neighbour, beneath, above, apart, distance_at, distance};
 ghost use Rattle.room.specs.Units.{kind_known, facing_known, facing_horizontal, facing_move, ahead, port_known, dearest, ranges_good, config_good, GoodRanges};
@@ -63,15 +65,15 @@ pub const WIRE: u8 = 0;
 pub const BLOCK_POWER: u8 = 1;
 
 // A cost, in tenths. A struct of its own, so that it can't be mixed with a count.
-#[derive(Drop)]
+#[derive(Clone, Copy)]
 pub struct Cost(pub u32);
 
 // A count of cells expanded.
-#[derive(Drop)]
+#[derive(Clone, Copy)]
 pub struct Nodes(pub u32);
 
 // What a search pays for its steps, and how many cells it may expand.
-#[derive(Drop)]
+#[derive(Clone, Copy)]
 pub struct RouterConfig {
     pub limit: Nodes,
     pub horizontal: Cost,
@@ -80,14 +82,14 @@ pub struct RouterConfig {
 }
 
 // A room by its sides X, Y and Z. Everything outside is Solid.
-#[derive(Drop)]
+#[derive(Clone, Copy)]
 pub struct Room {
     pub wide: usize,
     pub high: usize,
     pub deep: usize,
 }
 
-#[derive(Drop)]
+#[derive(Clone, Copy)]
 pub struct Pos {
     pub x: usize,
     pub y: usize,
@@ -95,7 +97,7 @@ pub struct Pos {
 }
 
 // A move. Each part is one more than its change: 0, 1 and 2 stand for -1, 0 and 1.
-#[derive(Drop)]
+#[derive(Clone, Copy)]
 pub struct Move {
     pub x: usize,
     pub y: usize,
@@ -103,7 +105,7 @@ pub struct Move {
 }
 
 // A cell, or none: where a move leads, a clearance, a conflict. `Outside` says that there is none.
-#[derive(Drop)]
+#[derive(Clone, Copy)]
 pub enum Neighbour {
     Inside(usize),
     Outside,

@@ -3,7 +3,7 @@
 use Rattle.std.specs.Prelude.{◌≡◌, ◌≢◌, List, ◌∷◌, map, ℕ, suc, ◌+◌, ◌-◌, ◌*◌, ◌/◌, ◌%◌, ◌^◌, ◌<◌, eqb}
 use Rattle.basics.specs.Tests.{either}
 use Rattle.best_first.specs.Search.{Entry, State}
-use Rattle.best_first.specs.Entries.{Same, TakenOut}
+use Rattle.best_first.proofs.Entries.{Same, TakenOut}
 use Rattle.queue.specs.Queue.{as_one, bag, entry, Heap}
 use Rattle.packed_queue.specs.PackedQueue.{one}
 use Rattle.room_search.specs.declared.Line.{Line}

@@ -8,7 +8,7 @@ use Rattle.std.proofs.lemmas.List.{length-map}
 use Rattle.basics.specs.Tests.{ask_same, ask_less}
 use Rattle.basics.specs.Lists.{In}
 use Rattle.best_first.specs.Search.{Entry}
-use Rattle.best_first.specs.Entries.{Late, by_key, by-serial, Same, same_refl, same_trans, same-cons, same-swap, TakenOut}
+use Rattle.best_first.proofs.Entries.{Late, by_key, by-serial, Same, same_refl, same_trans, same-cons, same-swap, TakenOut}
 use Rattle.queue.specs.Queue.{as_one, insert, bag, entry, EntryPushed, EntryTaken}
 use Rattle.queue.specs.BagLaws.{insert_nil, insert_le, insert_gt, bag_zero, bag_suc, length_bag}
 use Rattle.queue.specs.HeapLaws.{heap-empty}

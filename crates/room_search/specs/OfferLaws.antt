@@ -5,8 +5,8 @@ use Rattle.std.proofs.Common.{inl, inr}
 use Rattle.std.proofs.Math.Numerals.{add-one}
 use native.Mathlib.Omega.{arith}
 use Rattle.best_first.specs.Search.{cheaper, push}
-use Rattle.best_first.specs.Equations.{is-cheaper, no_cheaper}
-use Rattle.best_first.specs.Loops.{trying_skip, trying_push, trying_full}
+use Rattle.best_first.proofs.Equations.{is-cheaper, no_cheaper}
+use Rattle.best_first.proofs.Loops.{trying_skip, trying_push, trying_full}
 use Rattle.room_search.specs.declared.Line.{Line}
 use Rattle.room_search.specs.declared.MovesTried.TheVariants.{On, Full}
 use Rattle.room_search.specs.Held.{Joined, held}

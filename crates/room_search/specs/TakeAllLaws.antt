@@ -8,9 +8,9 @@ use Rattle.room.specs.Room.{Good, volume, distance_at, distance, pos_of}
 use Rattle.room.specs.Units.{dearest, GoodConfig}
 use Rattle.room.specs.UnitLaws.{few-steps}
 use Rattle.best_first.specs.Search.{Graph, no_route, first_state, best_first, Answer}
-use Rattle.best_first.specs.Entries.{Same}
+use Rattle.best_first.proofs.Entries.{Same}
 use Rattle.best_first.specs.Statements.{Bounded}
-use Rattle.best_first.specs.Loops.{Going, going-first, going-alike, going-bounded, going-none}
+use Rattle.best_first.proofs.Loops.{Going, going-first, going-alike, going-bounded, going-none}
 use Rattle.room_search.specs.declared.Line.{Line}
 use Rattle.room_search.specs.declared.Spot.{Spot}
 use Rattle.room_search.specs.declared.Outcome.{Outcome}

@@ -10,9 +10,9 @@ use Rattle.room.specs.declared.RouterConfig.{RouterConfig}
 use Rattle.room.specs.Room.{volume, moves}
 use Rattle.best_first.specs.Search.{Graph, Answer, Entry, State, one_more_expanded}
 use Rattle.best_first.specs.Search as search
-use Rattle.best_first.specs.Entries.{TakenOut, taken-out-taking}
+use Rattle.best_first.proofs.Entries.{TakenOut, taken-out-taking}
 use Rattle.best_first.specs.Statements.{cost_of}
-use Rattle.best_first.specs.Loops.{Going, going-bounded, going-goal, going-limit, going-full, going_try, going_on}
+use Rattle.best_first.proofs.Loops.{Going, going-bounded, going-goal, going-limit, going-full, going_try, going_on}
 use Rattle.room_search.specs.declared.Line.{Line}
 use Rattle.room_search.specs.declared.Spot.{Spot}
 use Rattle.room_search.specs.declared.MovesTried.TheVariants.{On, Full}

@@ -7,7 +7,7 @@ use Rattle.room.specs.Units.{dearest, GoodConfig}
 use Rattle.basics.specs.Lists.{In}
 use Rattle.trace.specs.Traces.{PreviousInside}
 use Rattle.best_first.specs.Search.{Graph, Answer, Entry, trace, route, no_route, limit-passed, queue-full, best_first}
-use Rattle.best_first.specs.Loops.{Going}
+use Rattle.best_first.proofs.Loops.{Going}
 use Rattle.room_search.specs.declared.Line.{Line}
 use Rattle.room_search.specs.declared.Spot.{Spot}
 use Rattle.room_search.specs.declared.Outcome.{Outcome}

@@ -9,7 +9,7 @@ use Rattle.room.specs.Units.{max_product, dearest, GoodConfig}
 use Rattle.best_first.specs.Search
 use Rattle.best_first.specs.Search.{Graph, Pushed, full}
 use Rattle.best_first.specs.Ways.{Sound}
-use Rattle.best_first.specs.Loops.{Trying}
+use Rattle.best_first.proofs.Loops.{Trying}
 use Rattle.room_search.specs.declared.Line.{Line}
 use Rattle.room_search.specs.declared.Spot.{Spot}
 use Rattle.room_search.specs.declared.MovesTried.{MovesTried}

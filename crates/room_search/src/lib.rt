@@ -1,4 +1,6 @@
 // The search over a room: what it takes to enter each cell, the moves tried from a cell, and the takings one after another.
+#![tactic(auto)]
+
 mod classes; // classes.rt: what it takes to enter each cell
 mod expand; // expand.rt: the moves of a cell, each offered to the queue
 mod idle; // idle.rt: the sides of a cell that are worth a try
@@ -9,7 +11,7 @@ pub use classes::{class_for, fill_classes, kind_beneath, make_end, routeable_kin
 pub use search::search_classes;
 
 // How many entries wait, the last serial given, and how many numbers of the queue hold an entry: one, or two.
-#[derive(Drop)]
+#[derive(Clone, Copy)]
 pub struct Line {
     pub waiting: usize,
     pub serial: u64,
@@ -17,28 +19,28 @@ pub struct Line {
 }
 
 // The price of a step: the step alone, and a new support, 0 where none is laid.
-#[derive(Drop)]
+#[derive(Clone, Copy)]
 pub struct Price {
     pub step: room::Cost,
     pub support: room::Cost,
 }
 
 // What trying a cell's moves comes to: the search goes on, or a push found the queue full.
-#[derive(Drop)]
+#[derive(Clone, Copy)]
 pub enum MovesTried {
     On(Line),
     Full,
 }
 
 // A cell and its position.
-#[derive(Drop)]
+#[derive(Clone, Copy)]
 pub struct Spot {
     pub cell: usize,
     pub at: room::Pos,
 }
 
 // How a search has ended, with the expanded count.
-#[derive(Drop)]
+#[derive(Clone, Copy)]
 pub enum Outcome {
     Arrived(room::Nodes),
     NoRoute(room::Nodes),
@@ -47,7 +49,7 @@ pub enum Outcome {
 }
 
 // What one taking comes to.
-#[derive(Drop)]
+#[derive(Clone, Copy)]
 pub enum AfterTaking {
     GoesOn(Line),
     Ended(Outcome),

@@ -1,5 +1,5 @@
 -- Number 6 can't come in this program: its own memory suffices for every room that it takes.
-use Rattle.std.specs.Prelude.{◌≡◌, Bool, true, false, List, ℕ, zero, suc, ◌+◌, ◌≤◌, ◌<◌}
+use Rattle.std.specs.Prelude.{◌≡◌, Bool, true, false, List, ℕ, zero, suc, ◌+◌, ◌≤◌}
 use Rattle.std.proofs.Common.{sym, ap, ◌∙◌, arith, le-leb}
 use Rattle.numbers.specs.Refusals.{sides_number, buffer_number, queue_full_number, branches_full_number}
 use Rattle.basics.specs.Tests.{either, ask, never}

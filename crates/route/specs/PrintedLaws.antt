@@ -19,7 +19,7 @@ use Rattle.job_sheet.specs.Version.{version_in, sides_place}
 use Rattle.job_sheet.specs.Sheet.{Contents, Means, Read, meaning, means-nothing, number_of, max_sinks}
 use Rattle.job_sheet.specs.Places.{room_in}
 use Rattle.job_sheet.specs.RecordLaws.{Bytes, coordinate-small}
-use Rattle.job_sheet.specs.Theorems.{number-one, room-stands}
+use Rattle.job_sheet.proofs.Theorems.{number-one, room-stands}
 use Rattle.branches.specs.declared.BranchLengths.{BranchLengths}
 use Rattle.branches.specs.Branches.{sum, branch_lengths, lengths_in, cut_into, branches_of, Branched}
 use Rattle.branches.specs.BranchLaws.{lengths_theirs, lengths-sum, cut-joined}
@@ -172,7 +172,7 @@ outcome-branched (no_tree code detail) c B = record { whole = refl; few = omega 
 
 module _ {mode : Mode} {sheet : List ℕ} {B : Lent} {r : Answer} {B' : Lent} (P : Promise mode sheet B r B') where
   pub promise_branched : Branched r.lengths B'.branches
-  promise_branched = rw (P.Lent-is, P.answer) (outcome-branched P.outcome P.comes B)
+  promise_branched = rw (P.lent_is, P.answer) (outcome-branched P.outcome P.comes B)
 
   pub promise_fits : {out : List ℕ} → length B'.branches ≡ max_branch_cells → length B'.repeaters ≡ max_cells → longest_text ≤ length out
       → Fits out 0 (answer_text r B'.branches B'.repeaters)
@@ -184,7 +184,7 @@ module _ {mode : Mode} {sheet : List ℕ} {B : Lent} {r : Answer} {B' : Lent} (P
     outcome = P.outcome;
     so = rw e at P.comes;
     within = omega (arith, f.place, p.ends, p.same);
-    is = p.front ∙ rw (P.answer, P.Lent-is) (answer-printed P.outcome B);
+    is = p.front ∙ rw (P.answer, P.lent_is) (answer-printed P.outcome B);
   }
 
 -- ---- what is printed of a sheet

@@ -33,7 +33,8 @@ fn too_large(sheet: &[u8]) -> bool
 {
     let reading = sheet_reader::read_sheet(sheet);
     let judgement = reading.judgement;
-    if judgement.number() == numbers::SHEET_NUMBER {
+    let means_nothing = judgement.number() == numbers::SHEET_NUMBER;
+    if means_nothing {
         return false;
     }
     MAX_CELLS < cells_in(sheet)

@@ -1,4 +1,6 @@
 // One search over a room of kinds: its input is judged, its memory cleared, and its answer told.
+#![tactic(auto)]
+
 mod astar; // astar.rt: the public search
 mod counts; // counts.rt: the totals of a path
 pub mod judge; // judge.rt: numbers 2, 3, 6, 5 and 4
@@ -7,7 +9,7 @@ pub use astar::{astar_route, bad_end};
 
 // A route: how many cells its path has, its cost in tenths, and how many cells were expanded; what its steps and its new
 // supports come to in that cost, and how many supports are new.
-#[derive(Drop)]
+#[derive(Clone, Copy)]
 pub struct Route {
     pub length: usize,
     pub cost: room::Cost,
@@ -18,7 +20,7 @@ pub struct Route {
 }
 
 // What the steps and the new supports of a path come to, and how many supports are new.
-#[derive(Drop)]
+#[derive(Clone, Copy)]
 pub struct Totals {
     pub steps: room::Cost,
     pub supports: room::Cost,
@@ -26,7 +28,7 @@ pub struct Totals {
 }
 
 // The lengths of the lent buffers.
-#[derive(Drop)]
+#[derive(Clone, Copy)]
 pub struct Lengths {
     pub path: usize,
     pub known: usize,
@@ -36,7 +38,7 @@ pub struct Lengths {
 }
 
 // Why an input is refused before anything is touched: numbers 2, 3, 6, 5 and 4.
-#[derive(Drop)]
+#[derive(Clone, Copy)]
 pub enum Refusal {
     Sides,
     Config,
@@ -46,14 +48,14 @@ pub enum Refusal {
 }
 
 // Whether an input can be searched, or why it is refused.
-#[derive(Drop)]
+#[derive(Clone, Copy)]
 pub enum Judgement {
     Fit,
     Unfit(Refusal),
 }
 
 // Whether both ends are routeable, or which is not: the start, else the goal.
-#[derive(Drop)]
+#[derive(Clone, Copy)]
 pub enum EndsFit {
     Good,
     Bad(usize),
@@ -61,7 +63,7 @@ pub enum EndsFit {
 
 // What a search answers: a route; a refusal; the end that is not routeable (10); or no route (11), the node limit passed
 // (12), the queue full (13), each with the expanded count.
-#[derive(Drop)]
+#[derive(Clone, Copy)]
 pub enum Answer {
     Routed(Route),
     Refused(Refusal),

@@ -1,5 +1,7 @@
 // What a wire keeps clear of others, as marks: one byte a cell in a lent slice, 1 where the cell is marked and 0 where
 // it is not. Cells outside the room have no mark.
+#![tactic(auto)]
+
 ghost use Rattle.std.specs.Prelude.{◌≡◌, ℕ, ◌<◌, eqb, length};
 ghost use Rattle.room.specs.Room.{Good, volume};
 ghost use Rattle.routing_resources.specs.Marks.{with_byte, marked_by, unmarked_by, is_cell, AllCells};

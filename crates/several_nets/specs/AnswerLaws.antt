@@ -1,46 +1,43 @@
 -- Laws of a judged list answered over memory of exactly V cells.
-use Rattle.std.specs.Prelude.{◌≡◌, refl, ◌≢◌, Bool, true, false, ℕ, ◌+◌, ◌-◌, ◌≤◌, ◌<◌, eqb, ltb}
+use Rattle.std.specs.Prelude.{◌≡◌, refl, ◌≢◌, true, false, ℕ, ◌-◌, ◌<◌}
 use Rattle.std.proofs.Math.Path.{sym, ap}
-use Rattle.std.proofs.Common.{subst, ◌∙◌, eq-eqb, ne_eqb, ltb-true}
-use mathlib.Core.List.{List, [], ◌∷◌}
+use Rattle.std.proofs.Common.{◌∙◌, eq-eqb, ne_eqb, ltb-true}
+use mathlib.Core.List.{List, []}
 use native.Mathlib.Omega.{arith}
 use Rattle.std.proofs.Math.ListN.{length, replicate}
-use Rattle.std.proofs.lemmas.List.{length-replicate}
-use Rattle.numbers.specs.Refusals.{done_number, buffer_number, overlap_number, nets_overlap_number}
-use Rattle.basics.specs.Tests.{either, ask, ask_same, never}
+use Rattle.numbers.specs.Refusals.{done_number, buffer_number, overlap_number}
+use Rattle.basics.specs.Tests.{ask_same, never}
 use Rattle.basics.specs.Zeros.{cleared-to}
 use Rattle.lent.specs.Lent.{touches, filled}
 use Rattle.room.specs.declared.Room.{Room}
-use Rattle.room.specs.Room.{Good, volume}
+use Rattle.room.specs.Room.{volume}
 use Rattle.ground.specs.declared.Mode.{Mode}
 use Rattle.routing_resources.specs.Marks.{marked_by, no_marks}
 use Rattle.routing_resources.specs.MarkLaws.{with_none}
 use Rattle.blocks.specs.declared.Placement.{Placement}
 use Rattle.blocks.specs.declared.Placement.TheVariants.{Placed, RepeatAt}
 use Rattle.laying.specs.Laying.{Net, Laid, laid_room}
-use Rattle.job_list.specs.declared.Memory.{Memory}
 use Rattle.job_list.specs.declared.Verdict.{Verdict}
-use Rattle.job_list.specs.Split.{first_sheet, behind_first, sheets_in, sheets_of}
+use Rattle.job_list.specs.Split.{first_sheet, sheets_in, sheets_of}
 use Rattle.job_list.specs.SplitLaws.{sheets_some}
-use Rattle.job_list.specs.Judged.{contents_at, repeats_in, judged_list}
+use Rattle.job_list.specs.Judged.{contents_at, repeats_in}
 use Rattle.job_list.specs.Theorems.{is_repeat, repeats_placing}
 use Rattle.job_list.specs.GoodNets.{GoodFrom, good-list}
 use Rattle.other_nets.specs.OtherLaws.{ListReady, list-some}
-use Rattle.nets.specs.Nets.{taken_by, Routing, all-kept, refused-by, route_from, routed_list}
+use Rattle.nets.specs.Nets.{taken_by, route_from, routed_list}
 use Rattle.laid_nets.specs.declared.Meeting.{Meeting}
 use Rattle.laid_nets.specs.declared.Meeting.TheVariants.{Nowhere, At}
 use Rattle.laid_nets.specs.LaidNets.{room_at, LaidNets, laid_so_far, unlaid, laid_nets}
 use Rattle.laid_nets.specs.CountLaws.{counted_none}
-use Rattle.list_routing.specs.declared.Stand.{Stand}
 use Rattle.list_routing.specs.declared.Step.{Step}
 use Rattle.list_routing.specs.declared.Step.TheVariants.{On, Refused}
 use Rattle.list_routing.specs.Walk.{cells_of, lengths_of, planned_by}
-use Rattle.list_routing.specs.ListLent.{ListLent, SameSizes, Desk}
-use Rattle.list_routing.specs.Walking.{room_of, at_first, so_far, Walking, WalkedTo, Walked}
+use Rattle.list_routing.specs.ListLent.{ListLent, SameSizes}
+use Rattle.list_routing.specs.Walking.{room_of, at_first, Walking, WalkedTo, Walked}
 use Rattle.list_routing.specs.StepLaws.{desk-still}
 use Rattle.several_nets.specs.declared.ListAnswer.{ListAnswer}
-use Rattle.several_nets.specs.Answers.{ListOutcome, all_laid, no_list, laid_outcome, routed_outcome, repeat_cell, ListComes, due, repeated, walked, answer_of}
-use Rattle.several_nets.specs.Entry.{detail_for, met_answer, answer_for, FirstGood, FirstAsked, FirstSet, Clear, AnswerAsked, Holds, Answered}
+use Rattle.several_nets.specs.Answers.{no_list, laid_outcome, routed_outcome, repeat_cell, due, repeated, walked, answer_of}
+use Rattle.several_nets.specs.Entry.{detail_for, met_answer, answer_for, FirstGood, FirstAsked, FirstSet, AnswerAsked, Holds, Answered}
 use Rattle.several_nets.specs.FirstLaws.{past_first}
 
 -- a number that touches and is no success

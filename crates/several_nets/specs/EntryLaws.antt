@@ -1,16 +1,15 @@
 -- Laws of the entry: the verdict is that of what is lent, and the promise by its cases.
-use Rattle.std.specs.Prelude.{◌≡◌, refl, ◌≢◌, Bool, true, false, List, ℕ, length}
-use Rattle.std.proofs.Common.{sym, ap, subst, ◌∙◌, arith}
+use Rattle.std.specs.Prelude.{◌≡◌, refl, ◌≢◌, false, List, ℕ, length}
+use Rattle.std.proofs.Common.{sym, ap, subst, ◌∙◌}
 use Rattle.numbers.specs.Refusals.{done_number, overlap_number}
 use Rattle.basics.specs.Tests.{never}
 use Rattle.lent.specs.Lent.{touches}
 use Rattle.ground.specs.declared.Mode.{Mode}
-use Rattle.job_list.specs.declared.Memory.{Memory}
 use Rattle.job_list.specs.declared.Verdict.{Verdict}
 use Rattle.job_list.specs.Judged.{judged_list}
 use Rattle.list_routing.specs.ListLent.{ListLent}
 use Rattle.several_nets.specs.declared.ListAnswer.{ListAnswer}
-use Rattle.several_nets.specs.Answers.{memory_of, ListOutcome, no_list, ListComes, due, answer_of, lent_after, Promise}
+use Rattle.several_nets.specs.Answers.{memory_of, no_list, ListComes, due, answer_of, Promise}
 use Rattle.several_nets.specs.Entry.{LentAnswered}
 
 pub judged-by : (list : List ℕ) (B : ListLent) {cells : ℕ} → cells ≡ (memory_of B).cells → {verdict : Verdict}

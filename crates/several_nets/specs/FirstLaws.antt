@@ -1,29 +1,27 @@
 -- Laws of a list whose verdict touches lent memory: its first sheet is good, and what is lent suffices; and of the least of some numbers.
-use Rattle.std.specs.Prelude.{◌≡◌, refl, Bool, List, [], ◌∷◌, ℕ, zero, suc, ◌+◌, ◌≤◌, ◌<◌, eqb, ltb, leb, length, get_or, take, drop}
+use Rattle.std.specs.Prelude.{◌≡◌, refl, List, [], ◌∷◌, ℕ, zero, suc, ◌+◌, ◌≤◌, ◌<◌, eqb, ltb, leb, length, get_or, take, drop}
 use Rattle.std.proofs.Common.{sym, ap, subst, ◌∙◌, arith, get_or-take, add-one, eqb-true, ltb-true, ltb-false, lt-ltb, le-ltb, leb-true}
 use Rattle.std.proofs.Math.Bool.{true, false}
 use Rattle.std.proofs.Math.ListN.{get_or-eq_default}
-use Rattle.numbers.specs.Refusals.{done_number, buffer_number}
-use Rattle.basics.specs.Tests.{either, ask, ask_less, never, and_left, and_right}
+use Rattle.numbers.specs.Refusals.{done_number}
+use Rattle.basics.specs.Tests.{ask, ask_less, never, and_left, and_right}
 use Rattle.basics.specs.Zeros.{cleared-to}
-use Rattle.basics.specs.Lists.{drop_next}
 use Rattle.lent.specs.Lent.{touches}
-use Rattle.room.specs.declared.Room.{Room}
 use Rattle.room.specs.Room.{Good, volume}
 use Rattle.job_sheet.specs.declared.Job.{Job}
 use Rattle.job_sheet.specs.declared.Judgement.{Judgement}
 use Rattle.job_sheet.specs.declared.Judgement.TheVariants as judgement
 use Rattle.job_sheet.specs.declared.Reading.{Reading}
 use Rattle.job_sheet.specs.Version.{version_in}
-use Rattle.job_sheet.specs.Sheet.{Contents, is_good, number_of, judged, Read}
+use Rattle.job_sheet.specs.Sheet.{Contents, is_good, number_of, Read}
 use Rattle.job_sheet.specs.Places.{shaped}
 use Rattle.job_sheet.specs.Accepted.{Accepted}
 use Rattle.job_sheet.specs.RecordLaws.{Bytes}
-use Rattle.job_sheet.specs.Theorems.{accepted-by}
+use Rattle.job_sheet.proofs.Theorems.{accepted-by}
 use Rattle.job_list.specs.declared.Memory.{Memory}
 use Rattle.job_list.specs.declared.Verdict.{Verdict}
-use Rattle.job_list.specs.Split.{first_sheet, behind_first, sheets_in, sheets_of}
-use Rattle.job_list.specs.Judged.{same_ground, contents_at, net_judgement, memory_good, ends_due, net_due, refused_at, judged_from, judged_list}
+use Rattle.job_list.specs.Split.{first_sheet, sheets_of}
+use Rattle.job_list.specs.Judged.{same_ground, contents_at, net_judgement, memory_good, net_due, judged_from, judged_list}
 use Rattle.blocks.specs.declared.Placement.{Placement}
 use Rattle.outset.specs.SetOutLaws.{good-room}
 use Rattle.job_list.specs.JudgeLaws.{judgement-is, accepted-room}
@@ -32,7 +30,7 @@ use Rattle.laid_nets.specs.Layings.{RoomAsked, RoomSet}
 use Rattle.list_routing.specs.ListLent.{ListLent}
 use Rattle.list_routing.specs.Walking.{room_of}
 use Rattle.several_nets.specs.Answers.{lesser, least_of, memory_of}
-use Rattle.several_nets.specs.Entry.{FirstGood, FirstAsked, FirstSet, JudgedTo, Enough, LentAsked}
+use Rattle.several_nets.specs.Entry.{FirstGood, FirstAsked, FirstSet, LentAsked}
 
 -- ---- the first sheet
 

@@ -1,21 +1,19 @@
 -- Laws of lent memory of any length: the first V numbers are lent on, and in the end every byte is as the promise says.
-use Rattle.std.specs.Prelude.{◌≡◌, refl, Bool, true, false, List, [], ◌∷◌, ◌++◌, ℕ, ◌+◌, ◌-◌, ◌≤◌, ◌<◌, eqb, ltb, length, take, drop, replicate}
+use Rattle.std.specs.Prelude.{◌≡◌, refl, true, false, List, [], ◌++◌, ℕ, ◌+◌, ◌-◌, ◌≤◌, ◌<◌, eqb, length, take, drop, replicate}
 use Rattle.std.proofs.Common.{sym, ap, subst, ◌∙◌, arith, length-append, length-drop, length-take-le, eq-eqb, ne_eqb, lt-ltb}
 use Rattle.numbers.specs.Refusals.{done_number, buffer_number}
-use Rattle.basics.specs.Tests.{either}
 use Rattle.basics.specs.Zeros.{take_zeros, drop_zeros, zeros-long, cleared-to}
 use Rattle.lent.specs.Lent.{touches, Cleared, filled, output_after, work_after}
 use Rattle.room.specs.Room.{volume}
 use Rattle.ground.specs.declared.Mode.{Mode}
-use Rattle.laying.specs.Laying.{Net, Laid}
 use Rattle.job_list.specs.declared.Verdict.{Verdict}
-use Rattle.list_routing.specs.ListLent.{ListLent, SameSizes, Desk}
+use Rattle.list_routing.specs.ListLent.{ListLent, SameSizes}
 use Rattle.list_routing.specs.Walk.{cells_of, lengths_of}
 use Rattle.list_routing.specs.Walking.{room_of}
 use Rattle.several_nets.specs.declared.ListAnswer.{ListAnswer}
-use Rattle.several_nets.specs.Answers.{ListOutcome, all_laid, no_list, ListComes, answer_of, lent_after, branches_for, lengths_for, owners_for, repeaters_for, kinds_for, facings_for}
+use Rattle.several_nets.specs.Answers.{ListOutcome, all_laid, no_list, ListComes, answer_of, lent_after}
 use Rattle.several_nets.specs.FirstLaws.{past_first}
-use Rattle.several_nets.specs.Entry.{settled_by, FirstGood, JudgedTo, Clear, AnswerAsked, Holds, Answered, Enough, front_of, FrontAsked, FrontAnswered, LentAsked, LentAnswered}
+use Rattle.several_nets.specs.Entry.{settled_by, FirstGood, AnswerAsked, Holds, Answered, front_of, FrontAsked, FrontAnswered, LentAsked, LentAnswered}
 
 high : (n : ℕ) → buffer_number < n → touches n ≡ true
 high n h = rw (ne_eqb n done_number (omega arith), lt-ltb buffer_number n h)

@@ -2,14 +2,13 @@
 use Rattle.std.specs.Prelude.{◌≡◌, refl, List, ℕ, length}
 use Rattle.std.proofs.Common.{sym, ap, ◌∙◌, arith}
 use Rattle.numbers.specs.Refusals.{done_number, overlap_number}
-use Rattle.basics.specs.Tests.{never}
 use Rattle.basics.specs.Promises.{Determines}
 use Rattle.ground.specs.declared.Mode.{Mode}
 use Rattle.room.specs.declared.Room.{Room}
 use Rattle.job_sheet.specs.declared.Block.{Block}
 use Rattle.blocks.specs.declared.Placement.{Placement}
 use Rattle.blocks.specs.Blocks.{Placing, left_by, kinds_of, nodes_of}
-use Rattle.blocks.specs.BlockLaws as blocks
+use Rattle.blocks.proofs.BlockLaws as blocks
 use Rattle.job_list.specs.declared.Verdict.{Verdict}
 use Rattle.list_routing.specs.ListLent.{ListLent}
 use Rattle.several_nets.specs.declared.ListAnswer.{ListAnswer}

@@ -1,5 +1,7 @@
 // Several nets, one after another: a job list over one room and its blocks, judged, routed net by net in the order given, and
 // all of it laid into the room.
+#![tactic(auto)]
+
 ghost use Rattle.std.specs.Prelude.{◌≡◌};
 ghost use Rattle.lent.specs.Lent.{Cleared};
 ghost use Rattle.room.specs.Room.{volume};
@@ -16,7 +18,7 @@ use list_routing::Step;
 
 // What a list comes to: the number, 0 where all nets are laid; of a number the net that it is due for, from 0, and its detail;
 // of a laid list how many nets it has.
-#[derive(Drop)]
+#[derive(Clone, Copy)]
 pub struct ListAnswer {
     pub number: u32,
     pub net: usize,

@@ -1,4 +1,1 @@
-pub mod Calling
-pub mod Methods
-pub mod Reading
-pub mod Walking
+pub mod Moved

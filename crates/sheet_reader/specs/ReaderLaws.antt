@@ -21,7 +21,7 @@ use Rattle.job_sheet.specs.VersionLaws.{width_few, limit-few}
 use Rattle.job_sheet.specs.Sheet.{max_sinks, source_at, behind, no_part, sinks_of, job_of}
 use Rattle.job_sheet.specs.Places.{two_in, four_in, position_in, config_in, limit_in, endpoint_in, sinks_in, list_at, sinks_at, layout_in, contents_in, Listed, SourceListed, SinksListed, Shaped}
 use Rattle.job_sheet.specs.RecordLaws.{Bytes}
-use Rattle.job_sheet.specs.ReadLaws.{job-forth}
+use Rattle.job_sheet.proofs.ReadLaws.{job-forth}
 use Rattle.sheet_reader.specs.declared.Head.{Head}
 use Rattle.sheet_reader.specs.declared.Body.{Body}
 use Rattle.sheet_reader.specs.declared.Found.{Found}

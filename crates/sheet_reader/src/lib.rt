@@ -2,6 +2,8 @@
 // over the bytes and the place, which the borrow checker covers. One reader goes from the front of a sheet to its end:
 // `read_through` makes it, reads the head and hands it on to `read_body`. The records of the lists stay in the sheet's bytes,
 // where they are judged.
+#![tactic(auto)]
+
 mod steps; // steps.rt: the reader's work over bytes and a place
 
 ghost use Rattle.std.specs.Prelude.{◌≡◌, ◌+◌, ◌*◌, ◌<◌, ◌^◌, eqb, length, get_or, drop};
@@ -28,7 +30,7 @@ const NO_COUNT_SIZE: usize = 0;
 
 // It stands on the sheet, at its end, or just off it. What is too short for a step leads it off, from where no step leads
 // back: so it is not at the end, which refuses the sheet. What it reads past the end is 0, and is not used.
-#[derive(Drop)]
+#[derive(Clone, Copy)]
 pub struct Reader<'a> {
     pub sheet: &'a [u8],
     pub place: usize,
@@ -36,7 +38,7 @@ pub struct Reader<'a> {
 
 // What stands before the lists: "version byte, four-byte length of the rest, then X, Y, Z; node limit, horizontal, stair,
 // support cost", and the run limit.
-#[derive(Drop)]
+#[derive(Clone, Copy)]
 struct Head {
     version: u8,
     rest: u32,
@@ -46,7 +48,7 @@ struct Head {
 }
 
 // The lists, the source and the sinks, and whether the sheet ends right behind them.
-#[derive(Drop)]
+#[derive(Clone, Copy)]
 struct Body {
     layout: Layout,
     source: Endpoint,
@@ -55,7 +57,7 @@ struct Body {
 }
 
 // All that a reader finds on its way through a sheet.
-#[derive(Drop)]
+#[derive(Clone, Copy)]
 struct Found {
     head: Head,
     body: Body,

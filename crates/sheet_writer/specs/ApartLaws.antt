@@ -21,7 +21,7 @@ use Rattle.job_sheet.specs.Sheet.{Contents, max_bytes, behind, layout_of, job_of
 use Rattle.job_sheet.specs.Places.{many, coordinate_in, block_in, position_in}
 use Rattle.job_sheet.specs.RecordLaws.{Bytes, coordinate-small}
 use Rattle.job_sheet.specs.Accepted.{Accepted, Usable}
-use Rattle.job_sheet.specs.Theorems.{accepted-by, usable}
+use Rattle.job_sheet.proofs.Theorems.{accepted-by, usable}
 use Rattle.sheet_writer.specs.declared.Lengths.{Lengths}
 use Rattle.sheet_writer.specs.declared.Records.{Records}
 use Rattle.sheet_writer.specs.declared.Records.TheVariants.{Blocks, Positions}

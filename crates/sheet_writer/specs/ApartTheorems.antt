@@ -12,9 +12,9 @@ use Rattle.job_sheet.specs.declared.Part.{Part}
 use Rattle.job_sheet.specs.declared.Reading.{Reading}
 use Rattle.job_sheet.specs.Sheet.{Contents, job_of, is_good, number_of, Read}
 use Rattle.job_sheet.specs.Places.{block_in, position_in, blocks_in, positions_in}
-use Rattle.job_sheet.specs.FaultLaws.{many_map}
+use Rattle.job_sheet.proofs.FaultLaws.{many_map}
 use Rattle.job_sheet.specs.Accepted.{Accepted}
-use Rattle.job_sheet.specs.Theorems.{accepted-by, usable, coincide as one-reading}
+use Rattle.job_sheet.proofs.Theorems.{accepted-by, usable, coincide as one-reading}
 use Rattle.sheet_writer.specs.declared.Records.TheVariants.{Blocks, Positions}
 use Rattle.sheet_writer.specs.declared.apart.Taking.{Taking}
 use Rattle.sheet_writer.specs.Writer.{numbers_of_block, numbers_of_position, block_list, position_list, parts_of}

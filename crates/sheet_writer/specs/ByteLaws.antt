@@ -20,8 +20,8 @@ use Rattle.job_sheet.specs.declared.Version.{Version}
 use Rattle.job_sheet.specs.Version.{position_size, block_size, sides_within, most_limit, limit_within, Searchable}
 use Rattle.job_sheet.specs.VersionLaws.{good-config}
 use Rattle.job_sheet.specs.Sheet.{Contents, max_bytes, max_sinks, layout_of, two, four, coordinate, sides, costs, position, block, endpoint, limit, sink, counted, sink_bytes, rest, bytes_by, is_good, judged, block_fault, position_fault, endpoint_fault, sink_fault}
-use Rattle.job_sheet.specs.FaultLaws.{good-is}
-use Rattle.job_sheet.specs.AcceptedLaws.{NoFault, no_fault, first_good, faultless, position-within, block_within, endpoint-within, tail_within}
+use Rattle.job_sheet.proofs.FaultLaws.{good-is}
+use Rattle.job_sheet.proofs.AcceptedLaws.{NoFault, no_fault, first_good, faultless, position-within, block_within, endpoint-within, tail_within}
 use Rattle.job_sheet.specs.Places.{many}
 use Rattle.sheet_writer.specs.Writer.{block_numbers, block_from, blocks_of, low}
 use Rattle.sheet_writer.specs.ChoiceLaws.{side_end, Writable}

@@ -15,7 +15,7 @@ use Rattle.job_sheet.specs.Version.{first_ranges, hall_ranges, version_one, vers
 use Rattle.job_sheet.specs.VersionLaws.{one_known, two-known, three-known, first-searchable, hall_searchable}
 use Rattle.job_sheet.specs.declared.Judgement.TheVariants.{Good}
 use Rattle.job_sheet.specs.Sheet.{Contents, max_sinks, bytes_by, usual, tells_limits, layout_of, judged, no_sink}
-use Rattle.job_sheet.specs.AcceptedLaws.{NoFault, no_fault}
+use Rattle.job_sheet.proofs.AcceptedLaws.{NoFault, no_fault}
 use Rattle.sheet_writer.specs.Writer.{Parts, contents_of, holds_first, version_for, written}
 use Rattle.sheet_writer.specs.Choice.{usual_tails, version_by_limits, version_by}
 use Rattle.sheet_writer.specs.SizeLaws.{bytes-end}

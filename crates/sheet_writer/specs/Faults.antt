@@ -11,7 +11,7 @@ use Rattle.job_sheet.specs.declared.Judgement.{Judgement}
 use Rattle.job_sheet.specs.declared.Version.{Version}
 use Rattle.job_sheet.specs.Sheet.{max_sinks, is_good, first_fault, sides_fault, config_fault, limit_fault, position_fault, block_fault, endpoint_fault, sink_fault, judged, no_sink}
 use Rattle.job_sheet.specs.Places.{many, head_fault}
-use Rattle.job_sheet.specs.FaultLaws.{fault_first, good-first, only-first, first_on, many_map, carried, carried-is}
+use Rattle.job_sheet.proofs.FaultLaws.{fault_first, good-first, only-first, first_on, many_map, carried, carried-is}
 use Rattle.sheet_writer.specs.declared.Records.{Records}
 use Rattle.sheet_writer.specs.declared.Records.TheVariants.{Blocks, Positions}
 use Rattle.sheet_writer.specs.Writer.{Parts, numbers_for, block_numbers, position_numbers, block_from, position_from, blocks_of, positions_of, contents_of}

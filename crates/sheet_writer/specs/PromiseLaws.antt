@@ -14,7 +14,7 @@ use Rattle.job_sheet.specs.declared.Judgement.TheVariants.{Good, Sheet, Sides, C
 use Rattle.job_sheet.specs.declared.Version.{Version}
 use Rattle.job_sheet.specs.Version.{sides_place}
 use Rattle.job_sheet.specs.Sheet.{Contents, max_bytes, max_sinks, rest, bytes_by, is_good, judged, number_of}
-use Rattle.job_sheet.specs.FaultLaws.{good-is}
+use Rattle.job_sheet.proofs.FaultLaws.{good-is}
 use Rattle.sheet_writer.specs.declared.Lengths.{Lengths}
 use Rattle.sheet_writer.specs.declared.Writing.TheVariants.{Written, Refused}
 use Rattle.sheet_writer.specs.Writer.{Parts, contents_of, version_for, written, lengths_in, formed, judged_parts, number_due, answer_of, Promise, low}

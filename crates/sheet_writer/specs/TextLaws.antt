@@ -16,7 +16,7 @@ use Rattle.job_sheet.specs.declared.Sinks.{Sinks}
 use Rattle.job_sheet.specs.declared.Version.{Version}
 use Rattle.job_sheet.specs.Sheet.{Contents, max_sinks, two, four, coordinate, sides, costs, position, block, endpoint, limit, sink, counted, sink_bytes, rest, bytes_by, no_sink}
 use Rattle.job_sheet.specs.Places.{many}
-use Rattle.job_sheet.specs.FaultLaws.{many_map}
+use Rattle.job_sheet.proofs.FaultLaws.{many_map}
 use Rattle.sheet_writer.specs.declared.Records.{Records}
 use Rattle.sheet_writer.specs.declared.Records.TheVariants.{Blocks, Positions}
 use Rattle.sheet_writer.specs.Writer.{Parts, numbers_for, block_numbers, position_numbers, block_from, position_from, blocks_of, positions_of, contents_of, low}

@@ -14,7 +14,7 @@ use Rattle.job_sheet.specs.declared.Judgement.TheVariants.{Good, Sheet, Sides, C
 use Rattle.job_sheet.specs.Version.{version_one, version_two, version_three, version_in}
 use Rattle.job_sheet.specs.Sheet.{Contents, MeansBy, Means, max_bytes, max_sinks, usual, bytes_by, is_good, judged, number_of, accepted, Read}
 use Rattle.job_sheet.specs.Accepted.{Accepted}
-use Rattle.job_sheet.specs.Theorems.{answers-meaning, means-by}
+use Rattle.job_sheet.proofs.Theorems.{answers-meaning, means-by}
 use Rattle.sheet_writer.specs.declared.Writing.{Writing}
 use Rattle.sheet_writer.specs.declared.Writing.TheVariants.{Written, Refused}
 use Rattle.sheet_writer.specs.Writer.{Parts, block_numbers, position_numbers, contents_of, holds_first, version_for, written, whole, wholes, lengths_in, formed, judged_parts, number_due, answer_of, Promise, block_list, position_list, parts_of}

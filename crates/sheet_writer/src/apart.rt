@@ -11,7 +11,7 @@ use job_sheet::places::{block_from, position_from};
 use job_sheet::{Job, Part};
 
 // What comes of taking a sheet apart: the number, 0 where its lists were copied, and its job.
-#[derive(Drop)]
+#[derive(Clone, Copy)]
 pub struct Taking {
     pub number: u32,
     pub job: Job,

@@ -1,6 +1,7 @@
 // A job sheet written from the parts of a job: its room, config, source and sinks by value, its lists as 16-bit numbers, six a
 // block, three a position. What was written is read as those parts, and an accepted sheet's parts give its own bytes back
 // where it is of its job's version, which is the lowest that tells the job; any other gives back the same job.
+#![tactic(auto)]
 
 mod apart; // apart.rt: a sheet taken apart into such lists
 mod choice; // choice.rt: the version that is written
@@ -31,21 +32,21 @@ const ENDPOINT_NUMBERS: usize = 5;
 const SINK_NUMBERS: usize = 6;
 
 // What comes of a job's parts: the bytes of its sheet, how many, or the number that is due.
-#[derive(Drop)]
+#[derive(Clone, Copy)]
 pub enum Writing {
     Written(usize),
     Refused(u32),
 }
 
 // The sorts of records in a list.
-#[derive(Drop)]
+#[derive(Clone, Copy)]
 enum Records {
     Blocks,
     Positions,
 }
 
 // How many numbers each list of a job has, and how many sinks there are.
-#[derive(Drop)]
+#[derive(Clone, Copy)]
 struct Lengths {
     pub blocks: usize,
     pub conductors: usize,

@@ -15,7 +15,7 @@ use Rattle.routing_resources.specs.Marks.{is_marked, marked_by}
 use Rattle.geometry.specs.Geometry.{conflict_of}
 use Rattle.goals.specs.Goals.{Site, Trial, found, failed, full, trial_of, searched_for, at_conflict, after_search, max_attempts, attempts, tried_goal, route_to_tree, site_task, ends_goal}
 use Rattle.goals.specs.Routes.{as_blocked, one_more}
-use Rattle.goals.specs.RouteLaws.{below-failed}
+use Rattle.goals.proofs.RouteLaws.{below-failed}
 use Rattle.demands.specs.Statements.{Priced, NoLawfulWay}
 use Rattle.demands.specs.Theorems.{no_route_true, never-passed}
 use Rattle.demands.specs.QueueLaws.{posed}

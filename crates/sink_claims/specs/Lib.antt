@@ -6,6 +6,4 @@ pub mod SomeWayLaws
 pub mod VerdictLaws
 pub mod CauseTrueLaws
 pub mod AnswerStatements
-pub mod Theorems
-pub mod ExportTheorems
 pub mod Samples

@@ -14,14 +14,14 @@ use Rattle.routing.specs.Answers.{fit_answer}
 use Rattle.routing_resources.specs.Marks.{is_marked, marked_by, with_byte}
 use Rattle.goals.specs.Goals.{Site, Trial, found, failed, full, route_to_tree, site_task}
 use Rattle.goals.specs.Routes.{Conflicts, as_blocked, one_more, Reaches}
-use Rattle.goals.specs.RouteLaws.{attempts_reach, tree-joins}
+use Rattle.goals.proofs.RouteLaws.{attempts_reach, tree-joins}
 use Rattle.flood.specs.FloodLaws.{reached-free}
 use Rattle.why.specs.Why.{obstacle_of, is_reached_of}
 use Rattle.multinet.specs.Tree.{Plot, Tree, stopped, site_at, after_sink, grow_sink, fits_in, tap_at}
 use Rattle.multinet.specs.Growing.{SoundPlot}
 use Rattle.branches.specs.Branches.{branch_of}
 use Rattle.why_tree.specs.WhyTree.{approach_taken, is_shut_in, only_conflicts, cut_short, reaches_none, ample, reached_from, verdict_for, sink_approach, ground_of, verdict_of}
-use Rattle.why_tree.specs.ShutInLaws.{goal-unreached, start-shut}
+use Rattle.why_tree.proofs.ShutInLaws.{goal-unreached, start-shut}
 use Rattle.demands.specs.Statements.{Priced, NoLawfulWay}
 use Rattle.demands.specs.TreeTheorems.{search_means}
 use Rattle.why_demands.specs.StepLaws.{reached-chained}

@@ -1,4 +1,6 @@
 // Why a sink couldn't be reached, told as numbers: the tree's number and twenty values, and two values behind them.
+#![tactic(auto)]
+
 ghost use Rattle.std.specs.Prelude.{◌≡◌, ◌≤◌, length};
 ghost use Rattle.net_tree.specs.Answers.{lent};
 ghost use Rattle.exports.specs.TreeExport.{mode_of, number_told};

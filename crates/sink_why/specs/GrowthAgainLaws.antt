@@ -31,7 +31,7 @@ use Rattle.multinet.specs.declared.GrowthEnd.TheVariants.{Whole, Early}
 use Rattle.multinet.specs.declared.GrownBranches.{GrownBranches}
 use Rattle.multinet.specs.Tree.{Plot, Tree, grown, grow_from, growth_of}
 use Rattle.multinet.specs.Growing.{SoundPlot, Growing}
-use Rattle.multinet.specs.GrowingLaws.{sink-now}
+use Rattle.multinet.proofs.GrowingLaws.{sink-now}
 use Rattle.multinet.specs.SinkTurns.{stop_number, stop_detail, Plantable, EndTold, GrowthTold}
 use Rattle.flood.specs.Walls.{tabled}
 use Rattle.causes.specs.Causes.{cause_of, OwnBranches}

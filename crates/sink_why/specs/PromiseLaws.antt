@@ -6,7 +6,7 @@ use Rattle.basics.specs.Promises.{Determines}
 use Rattle.lent.specs.Lent.{output_after}
 use Rattle.ground.specs.declared.Mode.{Mode}
 use Rattle.job_sheet.specs.Sheet.{Contents}
-use Rattle.job_sheet.specs.Theorems.{one-meaning}
+use Rattle.job_sheet.proofs.Theorems.{one-meaning}
 use Rattle.outset.specs.declared.Outset.{Outset}
 use Rattle.outset.specs.SetOut.{OutsetOf}
 use Rattle.outset.specs.SetOutLaws.{outset-one}

@@ -9,7 +9,7 @@ use Rattle.ground.specs.declared.Ground.{Ground}
 use Rattle.job_sheet.specs.declared.Job.{Job}
 use Rattle.job_sheet.specs.Sheet.{Contents, Means}
 use Rattle.job_sheet.specs.Accepted.{Accepted, Usable}
-use Rattle.job_sheet.specs.Theorems.{one-meaning}
+use Rattle.job_sheet.proofs.Theorems.{one-meaning}
 use Rattle.ends.specs.declared.Taps.{Taps}
 use Rattle.outset.specs.declared.Outset.{Outset}
 use Rattle.outset.specs.SetOut.{OutsetOf, SetOut}

@@ -17,7 +17,7 @@ use Rattle.job_sheet.specs.declared.Reading.{Reading}
 use Rattle.job_sheet.specs.declared.Judgement.TheVariants as judgement
 use Rattle.job_sheet.specs.Sheet.{Contents, Means, Read, judged, is_good}
 use Rattle.job_sheet.specs.Accepted.{Accepted}
-use Rattle.job_sheet.specs.Theorems.{one-meaning, usable, accepted-by}
+use Rattle.job_sheet.proofs.Theorems.{one-meaning, usable, accepted-by}
 use Rattle.outset.specs.declared.Outset.{Outset}
 use Rattle.outset.specs.SetOut.{ready, OutsetOf, SetOut}
 use Rattle.outset.specs.SetOutLaws.{use_of, good-room, outset-one}

@@ -15,7 +15,7 @@ use Rattle.basics.specs.Sums.{sum_below, sum_le, sum_more, single, Single, there
 use Rattle.best_first.specs.Search.{Graph, Move}
 use Rattle.best_first.specs.Ways.{GraphStep, Way}
 use Rattle.best_first.specs.ListsAfterSet.{in_reach}
-use Rattle.best_first.specs.Predecessors.{Linked, Link, Origin}
+use Rattle.best_first.proofs.Predecessors.{Linked, Link, Origin}
 use Rattle.sweeps.specs.Sweeps.{Grounded, BeatenBy, NoHigher, TriedFrom, Progress, known_sum, above_all}
 
 -- ---- ways by their last step

@@ -11,8 +11,8 @@ use Rattle.best_first.specs.Search.{Graph, trace}
 use Rattle.best_first.specs.Ways.{GraphStep, Way, NoWay}
 use Rattle.best_first.specs.Statements.{Lawful, Cheapest}
 use Rattle.best_first.specs.ListsAfterSet.{in_reach}
-use Rattle.best_first.specs.Predecessors.{Linked, Link, Origin}
-use Rattle.best_first.specs.Trail.{Up, here, further-up, goal-trail}
+use Rattle.best_first.proofs.Predecessors.{Linked, Link, Origin}
+use Rattle.best_first.proofs.Trail.{Up, here, further-up, goal-trail}
 use Rattle.sweeps.specs.Sweeps.{Reachable, ReachedCount, Grounded, AtRest}
 
 -- the same graph with another goal

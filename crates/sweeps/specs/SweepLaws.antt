@@ -8,8 +8,8 @@ use Rattle.basics.specs.Zeros.{zeros}
 use Rattle.best_first.specs.Search.{Graph, Move}
 use Rattle.best_first.specs.Ways.{Sound}
 use Rattle.best_first.specs.ListsAfterSet.{AfterStore, hit, miss, after, in_reach, nonzeros, nonzeros-none, nonzeros-new, nonzeros-old}
-use Rattle.best_first.specs.Equations.{Gain}
-use Rattle.best_first.specs.Predecessors.{Linked, to_in, not_itself, push-linked, start-placed, start-alone, first-linked}
+use Rattle.best_first.proofs.Equations.{Gain}
+use Rattle.best_first.proofs.Predecessors.{Linked, to_in, not_itself, push-linked, start-placed, start-alone, first-linked}
 use Rattle.sweeps.specs.Sweeps.{Grounded, known_sum, above_all, Progress}
 
 -- ---- the sum falls

@@ -5,8 +5,8 @@ use Rattle.basics.specs.Lists.{In}
 use Rattle.basics.specs.Counts.{times}
 use Rattle.best_first.specs.Search.{Graph, Move}
 use Rattle.best_first.specs.Ways.{Way}
-use Rattle.best_first.specs.Base.{Loose}
-use Rattle.best_first.specs.Predecessors.{Linked}
+use Rattle.best_first.proofs.Base.{Loose}
+use Rattle.best_first.proofs.Predecessors.{Linked}
 
 -- ---- what is claimed
 

@@ -8,7 +8,7 @@ use Rattle.std.proofs.Math.Nat.{sub-zero}
 use native.Mathlib.Omega.{arith}
 use Rattle.std.proofs.Math.ListN.{length, get_or, drop}
 use Rattle.best_first.specs.Search.{trace}
-use Rattle.best_first.specs.Equations.{trace-start, trace-back}
+use Rattle.best_first.proofs.Equations.{trace-start, trace-back}
 use Rattle.trace.specs.Traces.{PreviousInside}
 
 -- the path has at most n cells

@@ -1,4 +1,6 @@
 // The path by predecessors: counted first, then written from its end. A predecessor u stands as u + 1, and 0 for none.
+#![tactic(auto)]
+
 ghost use Rattle.std.specs.Prelude.{◌≡◌, [], ◌++◌, ◌^◌, ◌≤◌, ◌<◌, length, drop};
 ghost use Rattle.best_first.specs.Search.{trace};
 ghost use Rattle.trace.specs.Traces.{PreviousInside};

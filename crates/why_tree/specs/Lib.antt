@@ -1,4 +1,2 @@
 pub mod WhyTree
-pub mod ShutInLaws
 pub mod Telling
-pub mod TellingLaws

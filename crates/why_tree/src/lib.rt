@@ -1,4 +1,6 @@
 // What may be said of a sink that could not be reached: where wire gets to from its approach, and what stands against it.
+#![tactic(auto)]
+
 mod obstacles; // obstacles.rt: what stands against entering each cell
 mod sink; // sink.rt: what may be said of one sink
 

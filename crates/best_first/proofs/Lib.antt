@@ -1,0 +1,20 @@
+-- What rests on a definition that a wrong meaning in must-fail/ changes.
+pub mod Base
+pub mod Bounds
+pub mod Cheapest
+pub mod Demand
+pub mod Entries
+pub mod Equations
+pub mod Induction
+pub mod Loops
+pub mod NoRoute
+pub mod Orders
+pub mod Paced
+pub mod Predecessors
+pub mod Pushes
+pub mod Reached
+pub mod Rising
+pub mod Slacks
+pub mod Theorems
+pub mod Trail
+pub mod WayBack

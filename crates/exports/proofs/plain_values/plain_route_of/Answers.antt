@@ -1,0 +1,12 @@
+-- `plain_route_of` meets its contract, answer by answer.
+use borrow.Author.Rules.{rules}
+use Rattle.exports.proofs.plain_values.plain_route_of.Goals as goal
+
+pub returns-in-Refused : goal.returns-in-Refused
+returns-in-Refused c = rw c.in-Refused.is
+
+pub returns-in-NotRouteable : goal.returns-in-NotRouteable
+returns-in-NotRouteable c = rw c.in-NotRouteable.is
+
+pub returns-in-NoRoute : goal.returns-in-NoRoute
+returns-in-NoRoute c = rw c.in-NoRoute.is

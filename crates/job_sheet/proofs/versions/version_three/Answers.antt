@@ -1,0 +1,6 @@
+-- `version_three` meets its contract: it writes out the definition.
+use borrow.Author.Rules.{rules}
+use Rattle.job_sheet.proofs.versions.version_three.Goals as goal
+
+pub returns : goal.returns
+returns c = rw c.hall_ranges.ensures

@@ -1,0 +1,12 @@
+-- `least_key` passes over the keys whose lists are empty; some entry waits, so it ends.
+use borrow.Author.Rules.{rules}
+use Prim.Native.Nat.{◌-◌, ◌^◌}
+use native.Mathlib.Omega.{arith}
+use Rattle.keyed_lists.specs.BeginLaws.{Reached, floor-reached, passed_over, reached-small, reached-least}
+use Rattle.keyed_lists.proofs.least_key.Given as goal
+
+abbrev pub invariant-loop-key : goal.invariant-loop-key
+invariant-loop-key l = Reached l.queue l.key
+
+abbrev pub decreases-loop-key : goal.decreases-loop-key
+decreases-loop-key l = 2 ^ 24 - l.key

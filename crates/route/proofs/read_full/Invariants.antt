@@ -1,0 +1,9 @@
+-- `read_full` ends: each read brings a byte at least, or is the last.
+use Rattle.std.proofs.Common.{◌≡◌, ◌-◌, ◌^◌, ◌≤◌, ◌<◌, length}
+use Rattle.route.proofs.read_full.Given as goal
+
+abbrev pub invariant-loop-done : goal.invariant-loop-done
+invariant-loop-done g l = (length l.sheet ≡ length l.initial.sheet) × (l.done ≤ length l.sheet) × (length l.sheet < 2 ^ 64)
+
+abbrev pub decreases-loop-done : goal.decreases-loop-done
+decreases-loop-done g l = length l.sheet - l.done

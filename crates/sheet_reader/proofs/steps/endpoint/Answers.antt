@@ -1,0 +1,6 @@
+-- `endpoint` meets its contract: it reads in the sheet's version.
+use borrow.Author.Rules.{rules}
+use Rattle.sheet_reader.proofs.steps.endpoint.Goals as goal
+
+pub returns : goal.returns
+returns c = rw (c.endpoint_from.ensures, c.version_in.ensures)

@@ -1,0 +1,6 @@
+-- `position` meets its contract: it reads in the sheet's version.
+use borrow.Author.Rules.{rules}
+use Rattle.sheet_reader.proofs.steps.position.Goals as goal
+
+pub returns : goal.returns
+returns c = rw (c.position_from.ensures, c.version_in.ensures)

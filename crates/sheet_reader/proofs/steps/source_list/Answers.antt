@@ -1,0 +1,6 @@
+-- `source_list` meets its contract: it stands as the sheet's version says.
+use borrow.Author.Rules.{rules}
+use Rattle.sheet_reader.proofs.steps.source_list.Goals as goal
+
+pub returns : goal.returns
+returns c = rw c.version_in.ensures at c.source_at.ensures

@@ -1,0 +1,2 @@
+-- What rests on a definition that a wrong meaning in must-fail/ changes.
+pub mod WalkLaws
