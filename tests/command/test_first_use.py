@@ -1,5 +1,5 @@
 """The first use of ./dustroute proves and builds, tells how far it is, and is ended with all its processes. A copy of the repository, with
-an `rt` and a tools/native-archive that stand in for the true ones (tests/python/test_built.py)."""
+a tools/native-archive that stands in for the true one (tests/python/test_built.py)."""
 import shutil
 import signal
 import subprocess
@@ -36,7 +36,7 @@ class FirstUse(test_built.Copy):
         again = self.run_it()
         self.assertEqual(again.stdout, ANSWER)
         self.assertNotIn("crates", again.stderr)
-        self.assertEqual(self.calls(), ["rt", "archive"])
+        self.assertEqual(self.calls(), ["archive"])
 
     def test_quiet(self):
         done = self.run_it("-q")
@@ -60,7 +60,7 @@ class FirstUse(test_built.Copy):
         self.assertIn("the router is not proved, so it is not used", done.stderr)
 
     def test_signals_end_it_with_all_its_processes(self):
-        self.script(self.folder / "bin" / "rt", test_built.LONG)
+        self.script(self.root / "tools" / "native-archive", test_built.LONG)
         for how, status in ((signal.SIGINT, 130), (signal.SIGTERM, 143)):
             with self.subTest(how=how):
                 self.places["pids"].unlink(missing_ok=True)

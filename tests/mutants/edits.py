@@ -106,7 +106,7 @@ def answer_edits(lines, place):
 
 def code_edits(line):
     """Of a line of code: no comment, no contract, no name from elsewhere, no head of a function."""
-    if re.match(r" *(//|use |ghost |pub use |mod |pub mod |#|(pub )?(extern \"C\" )?fn )", line) or "⌜" in line or 'b"' in line:
+    if re.match(r" *(//|use |ghost |pub use |mod |pub mod |#|(requires|ensures)\b|(pub )?(extern \"C\" )?fn )", line) or 'b"' in line:
         return
     first, last = 0, line.find("//") % (len(line) + 1)
     yield from operator_edits(line, first, last, CODE_OTHERS)
@@ -123,7 +123,7 @@ def definition_edits(line, imported):
         return
     first = max(re.search(r"^\S.*? =( |$)|^ +(pub )?[\w-]+ : |^ *", line).end() - 1, 0)
     last = len(re.split(r" --( |$)", line)[0])
-    others = {token: [other for other in tokens if f"_{other}_" in imported] for token, tokens in DEFINITION_OTHERS.items()}
+    others = {token: [other for other in tokens if f"◌{other}◌" in imported] for token, tokens in DEFINITION_OTHERS.items()}
     words = {word: [other for other in names if other in imported] for word, names in DEFINITION_WORDS.items()}
     yield from operator_edits(line, first, last, others)
     yield from word_edits(line, first, last, words)

@@ -1,6 +1,6 @@
 """The library is proved and built once, by the content of its sources, and a build that is ended leaves no process behind.
 
-In a copy of the repository an `rt` and a tools/native-archive that count their calls stand in for the true ones."""
+In a copy of the repository a tools/native-archive that counts its calls stands in for the true one, and an `rt` that does nothing."""
 import os
 import shutil
 import signal
@@ -17,13 +17,13 @@ from dustroute.repository import ROOT
 ROUTED = "import sys; sys.dont_write_bytecode = True; import dustroute; print(dustroute.route('room 3 1 1\\nsource 0 0 0\\nsink 2 0 0'))"
 ANSWER = "net 1 3\nbranch 0 1 2\nrepeaters\n\n"
 RT = """#!/bin/sh
-echo rt >>"%(calls)s"
-shift
-for name in "$@"; do echo "some words"; echo "rt: $name proved (1 s)"; done
-exit "$(cat "%(status)s")"
+exit 1
 """
+# what it says of each crate is what `rt` prints behind one that it has checked
 ARCHIVE = """#!/bin/sh
 echo archive >>"%(calls)s"
+for name in $(sed -n 's/^\\([a-z0-9_]*\\).*:.*/\\1/p' crates.txt); do echo "some words"; echo "crate $name: modules loaded=1 checked=2"; done
+[ "$(cat "%(status)s")" = 0 ] || exit 1
 cp "%(library)s" "$3"
 """
 # a build that goes on for long, with processes below it, each of which is noted
@@ -31,7 +31,7 @@ LONG = """#!/bin/sh
 trap '' INT
 sh -c 'echo $$ >>"%(pids)s"; sleep 300 & echo $! >>"%(pids)s"; wait' &
 echo $$ >>"%(pids)s"
-echo "rt: basics proved (1 s)"
+echo "crate basics: modules loaded=1 checked=2"
 wait
 """
 
@@ -45,7 +45,7 @@ class Copy(unittest.TestCase):
         self.folder = Path(holder.name)
         self.root = self.folder / "copy"
         for part in ("bindings/python", "tools/dustsheet", "crates"):
-            shutil.copytree(ROOT / part, self.root / part, ignore=shutil.ignore_patterns("__pycache__", "proofs", "data"))
+            shutil.copytree(ROOT / part, self.root / part, ignore=shutil.ignore_patterns("__pycache__", "proofs", "data", "out"))
         for part in ("crates.txt", "bindings/c/dustroute.h"):
             (self.root / part).parent.mkdir(exist_ok=True)
             shutil.copy(ROOT / part, self.root / part)
@@ -55,7 +55,7 @@ class Copy(unittest.TestCase):
         self.status(0)
         self.script(self.folder / "bin" / "rt", RT)
         self.script(self.root / "tools" / "native-archive", ARCHIVE)
-        self.environment = {name: value for name, value in os.environ.items() if name not in ("DUSTROUTE_ARCHIVE", "RATTLE_HOME")}
+        self.environment = {name: value for name, value in os.environ.items() if name != "DUSTROUTE_ARCHIVE"}
         self.environment["PATH"] = "%s:%s" % (self.folder / "bin", os.environ["PATH"])
         self.environment["PYTHONPATH"] = str(self.root / "bindings" / "python")
 
@@ -87,7 +87,7 @@ class Once(Copy):
     def builds(self, what, times):
         done = self.route()
         self.assertEqual((done.stdout, done.returncode), (ANSWER, 0), (what, done.stderr))
-        self.assertEqual(self.calls(), ["rt", "archive"] * times, what)
+        self.assertEqual(self.calls(), ["archive"] * times, what)
 
     def test_by_content(self):
         self.builds("the first run", 1)
@@ -127,7 +127,7 @@ class Once(Copy):
             done = self.route()
             self.assertNotEqual(done.returncode, 0)
             self.assertIn("the router is not proved, so it is not used", done.stderr)
-            self.assertEqual(self.calls(), ["rt"] * times)
+            self.assertEqual(self.calls(), ["archive"] * times)
 
     def test_progress(self):
         done = self.route("import dustroute; dustroute.library(print)")
@@ -169,7 +169,7 @@ class Ended(Copy):
     """Ctrl-C, TERM and HUP end a build with all its processes."""
 
     def started(self):
-        self.script(self.folder / "bin" / "rt", LONG)
+        self.script(self.root / "tools" / "native-archive", LONG)
         process = subprocess.Popen(self.words("import dustroute; dustroute.library()"), env=self.environment, stderr=subprocess.DEVNULL)
         self.addCleanup(process.wait)
         self.addCleanup(process.kill)
