@@ -5,7 +5,8 @@
 mod lines; // lines.rt: the lines that are printed
 mod printing; // printing.rt: from a sheet's bytes to the lines
 
-ghost use Rattle.std.specs.Prelude.{◌≤◌, length, IfOk};
+ghost use Rattle.std.specs.Prelude.{◌<◌, ◌≤◌, length, take, IfOk};
+ghost use Rattle.std.specs.Io.KnownBytes.{Consumes, IsAtEnd};
 
 use crate::printing::put_sheet;
 use std::io;
@@ -18,15 +19,17 @@ const INPUT_BYTES: usize = 60001;
 const TEXT_BYTES: usize = 430248;
 
 // Reads on until the input ends or the buffer is full, however the input comes in pieces, and answers how many bytes were
-// read.
-fn read_full(input: &mut impl Read, sheet: &mut [u8]) -> io::Result<usize>
-    ensures { IfOk result (λ bytes. bytes ≤ length sheet.new) }
+// read: the first that the input has, and all of them unless the buffer is full.
+fn read_full<I: Read>(input: &mut I, sheet: &mut [u8]) -> io::Result<usize>
+    ensures within { IfOk result (λ bytes. bytes ≤ length sheet.new) }
+    ensures first { IfOk result (λ bytes. Consumes (I.remaining input.old) (I.remaining input.new) (take bytes sheet.new)) }
+    ensures whole { IfOk result (λ bytes. bytes < length sheet.new → IsAtEnd (I.remaining input.new)) }
 {
     let mut done: usize = 0;
     while done < sheet.len() {
         let bytes = input.read(&mut sheet[done..])?;
         if bytes == 0 {
-            break;
+            return Ok(done);
         }
         done += bytes;
     }

@@ -41,12 +41,11 @@ bounds-nodes-cell-2 c =
     omega (arith, cell-small c.requires.good c.requires.within _ c.cell-cell.ensures, c.requires.kinds_len)
 
 pub repeat_number-requires : goal.repeat_number-requires
-repeat_number-requires c =
-    (
-      c.as_index-known.ensures.1,
-      search rules,
-      (cell-small c.requires.good c.requires.within _ c.cell-cell.ensures).1,
-    )
+repeat_number-requires c = (
+  c.as_index-known.ensures.1,
+  search rules,
+  (cell-small c.requires.good c.requires.within _ c.cell-cell.ensures).1,
+)
 
 pub returns : goal.returns
 returns c =

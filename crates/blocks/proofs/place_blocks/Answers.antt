@@ -30,7 +30,6 @@ returns-then-found-eq0 c = kept-all (of-all _ _ _ c.place_each-found.ensures) c.
 pub returns : goal.returns
 returns c =
     let all = c.place_each-found.ensures in
-    
     let kinds = c.clear_bytes.ensures in
     let nodes = c.clear_words.ensures in
     kept-refused (of-all _ _ _ all) c.if-found-eq0.false (cells-small c.requires.good c.requires.block_list) kinds nodes

@@ -18,22 +18,18 @@ block_at-block-requires c = (c.loop-i-test.true, c.requires.block_list.inside)
 
 pub place_block-found-requires-clause-good : goal.place_block-found-requires-clause-good
 place_block-found-requires-clause-good c =
-    
     let kept = c.loop-i.invariant.1 in c.requires.good
 
 pub place_block-found-requires-clause-within : goal.place_block-found-requires-clause-within
 place_block-found-requires-clause-within c =
-    
     let kept = c.loop-i.invariant.1 in rw c.block_at-block.ensures (c.requires.block_list.within _ c.loop-i-test.true)
 
 pub place_block-found-requires-clause-kinds_len : goal.place_block-found-requires-clause-kinds_len
 place_block-found-requires-clause-kinds_len c =
-    
     let kept = c.loop-i.invariant.1 in (kept.kinds-long, kept.nodes-long)
 
 pub loop-i-preserved : goal.loop-i-preserved
 loop-i-preserved c =
-    
     let at = c.loop-i in
     let more = c.loop-i-test.true in
     let block = c.block_at-block in

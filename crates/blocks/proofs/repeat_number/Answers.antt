@@ -11,6 +11,6 @@ pub returns : goal.returns
 returns c =
     let some = c.if-known-eq0.false in
     elim c.if-known-node.branch [
-      then-known-node w ↦ rw w.higher-is (sym (new_repeats _ _ _ some w.if-known-node.true))
-    | else-known-node w ↦ rw w.higher-is (sym (old_repeats _ _ _ some w.if-known-node.false))
+      | then-known-node w ↦ rw w.higher-is (sym (new_repeats _ _ _ some w.if-known-node.true))
+      | else-known-node w ↦ rw w.higher-is (sym (old_repeats _ _ _ some w.if-known-node.false))
     ]

@@ -21,7 +21,6 @@ slice_bounds-rotate-end c =
 pub returns : goal.returns
 returns c =
     let args = c.args in
-    
     let written = c.write_branch in
     let count = c.branch_length in
     let rotated = c.rotate in

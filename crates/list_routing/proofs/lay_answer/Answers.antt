@@ -2,7 +2,6 @@ use Rattle.list_routing.specs.Parts.{laid_one, laid_none, further-by}
 use native.Mathlib.Omega.{arith}
 use mathlib.Core.Path.{◌≡◌, refl}
 use Rattle.list_routing.proofs.lay_answer.Goals as goal
-
 -- `lay_answer` meets its contract: a tree is laid, and a refusal told.
 
 use Rattle.branches.specs.Branches.{sum, lengths_in}

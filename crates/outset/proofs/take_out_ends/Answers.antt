@@ -29,17 +29,14 @@ bounds-taps-i c = omega (arith, c.loop-i-test.true, c.requires.net_inside.taps_i
 
 pub take_out_tap-requires-clause-good : goal.take_out_tap-requires-clause-good
 take_out_tap-requires-clause-good c =
-    
     let more = c.loop-i-test.true in c.requires.good
 
 pub take_out_tap-requires-clause-terminal_bound : goal.take_out_tap-requires-clause-terminal_bound
 take_out_tap-requires-clause-terminal_bound c =
-    
     let more = c.loop-i-test.true in (c.requires.net_inside.taps_in_lem.terminal_in_lem _ more, c.requires.net_inside.taps_in_lem.approach_in _ more)
 
 pub take_out_tap-requires-clause-marks_len : goal.take_out_tap-requires-clause-marks_len
 take_out_tap-requires-clause-marks_len c =
-    
     let more = c.loop-i-test.true in rw (c.loop-i.invariant.long, c.take_out.auto.marks) c.requires.marks_len
 
 pub overflow_add-i : goal.overflow_add-i

@@ -10,17 +10,14 @@ returns-then-count-run c = due-early _ _ _ _ _ c.if-count-run.true
 
 pub facing-into-requires-clause-good : goal.facing-into-requires-clause-good
 facing-into-requires-clause-good c =
-    
     let i = c.args.i in c.requires.good
 
 pub facing-into-requires-clause-a_bound : goal.facing-into-requires-clause-a_bound
 facing-into-requires-clause-a_bound c =
-    
     let i = c.args.i in rw c.as_index.ensures.0 (c.requires.all_cells.below (i - 1) (omega (arith, c.requires.i_in_bounds)))
 
 pub facing-into-requires-clause-b_bound : goal.facing-into-requires-clause-b_bound
 facing-into-requires-clause-b_bound c =
-    
     let i = c.args.i in rw c.as_index-cell.ensures.0 (c.requires.all_cells.below i (omega (arith, c.requires.i_in_bounds)))
 
 pub returns-then-into-eq-NO_FACING : goal.returns-then-into-eq-NO_FACING
@@ -28,17 +25,14 @@ returns-then-into-eq-NO_FACING c = due_no_step _ _ _ _ _ c.if-count-run.false (r
 
 pub facing-out-requires-clause-good : goal.facing-out-requires-clause-good
 facing-out-requires-clause-good c =
-    
     let i = c.args.i in c.requires.good
 
 pub facing-out-requires-clause-a_bound : goal.facing-out-requires-clause-a_bound
 facing-out-requires-clause-a_bound c =
-    
     let i = c.args.i in rw c.as_index-cell.ensures.0 (c.requires.all_cells.below i (omega (arith, c.requires.i_in_bounds)))
 
 pub facing-out-requires-clause-b_bound : goal.facing-out-requires-clause-b_bound
 facing-out-requires-clause-b_bound c =
-    
     let i = c.args.i in rw c.as_index-2.ensures.0 (c.requires.all_cells.below (i + 1) c.requires.i_in_bounds)
 
 pub returns-then-into-out : goal.returns-then-into-out

@@ -6,7 +6,6 @@ use Rattle.goals.proofs.attempts.set_blocked.Goals as goal
 
 pub put_mark-requires : goal.put_mark-requires
 put_mark-requires c =
-    
     λ v e. rw (← same-cell _ v e, c.requires.world_fits.blocked-long) c.requires.cell_bound
 
 pub returns-clause-blocked_after : goal.returns-clause-blocked_after

@@ -21,7 +21,6 @@ loop-goal-init c = goals-first _ _ _ _ _ _ _ _ _ _
 
 pub try_next-kept-requires-clause-attemptable : goal.try_next-kept-requires-clause-attemptable
 try_next-kept-requires-clause-attemptable c =
-    
     let loop-test = c.loop-goal-test in
     let args = c.args in
     let loop = c.loop-goal in
@@ -29,7 +28,6 @@ try_next-kept-requires-clause-attemptable c =
 
 pub try_next-kept-requires-clause-goal_bound : goal.try_next-kept-requires-clause-goal_bound
 try_next-kept-requires-clause-goal_bound c =
-    
     let loop-test = c.loop-goal-test in
     let args = c.args in
     let loop = c.loop-goal in
@@ -37,7 +35,6 @@ try_next-kept-requires-clause-goal_bound c =
 
 pub try_next-kept-requires-clause-goes_on : goal.try_next-kept-requires-clause-goes_on
 try_next-kept-requires-clause-goes_on c =
-    
     let loop-test = c.loop-goal-test in
     let args = c.args in
     let loop = c.loop-goal in
@@ -45,7 +42,6 @@ try_next-kept-requires-clause-goes_on c =
 
 pub try_next-kept-requires-clause-tells : goal.try_next-kept-requires-clause-tells
 try_next-kept-requires-clause-tells c =
-    
     let loop-test = c.loop-goal-test in
     let args = c.args in
     let loop = c.loop-goal in
@@ -53,7 +49,6 @@ try_next-kept-requires-clause-tells c =
 
 pub returns-in-Full-clause-tells : goal.returns-in-Full-clause-tells
 returns-in-Full-clause-tells c =
-    
     let loop-test = c.loop-goal-test in
     let args = c.args in
     let loop = c.loop-goal in
@@ -64,7 +59,6 @@ returns-in-Full-clause-tells c =
 
 pub returns-in-Full-clause-joinable_unchanged : goal.returns-in-Full-clause-joinable_unchanged
 returns-in-Full-clause-joinable_unchanged c =
-    
     let loop-test = c.loop-goal-test in
     let args = c.args in
     let loop = c.loop-goal in
@@ -75,7 +69,6 @@ returns-in-Full-clause-joinable_unchanged c =
 
 pub overflow_add-goal : goal.overflow_add-goal
 overflow_add-goal c =
-    
     let loop-test = c.loop-goal-test in
     let h = rw c.requires.attemptable.grounds.kinds-long at loop-test.true in
     record { fits = omega (arith, c.requires.attemptable.grounds.good.few) }
@@ -85,7 +78,6 @@ loop-goal-smaller c = omega (arith, c.loop-goal-test.true)
 
 pub loop-goal-preserved : goal.loop-goal-preserved
 loop-goal-preserved c =
-    
     let loop-test = c.loop-goal-test in
     let args = c.args in
     let loop = c.loop-goal in
@@ -95,14 +87,12 @@ loop-goal-preserved c =
 
 pub returns-clause-tells : goal.returns-clause-tells
 returns-clause-tells c =
-    
     let args = c.args in
     let loop = c.loop-goal in
     let h = rw c.requires.attemptable.grounds.kinds-long at c.loop-goal-test.false in tree_all (site_of args.ground args.kinds.now args.joinable.now args.queue.now) args.start loop.goal args.blocked.now loop.invariant.tells loop.invariant.within h
 
 pub returns-clause-joinable_unchanged : goal.returns-clause-joinable_unchanged
 returns-clause-joinable_unchanged c =
-    
     let args = c.args in
     let loop = c.loop-goal in
     let h = rw c.requires.attemptable.grounds.kinds-long at c.loop-goal-test.false in (loop.invariant.same.joinable-is, loop.invariant.same.blocked-is, loop.invariant.same.classes-is)

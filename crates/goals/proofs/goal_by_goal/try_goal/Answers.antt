@@ -8,14 +8,12 @@ use Rattle.goals.proofs.goal_by_goal.try_goal.Goals as goal
 
 pub attempt_goal-tried-requires : goal.attempt_goal-tried-requires
 attempt_goal-tried-requires c =
-    
     let args = c.args in
     let refresh = c.refresh in
     able-towards c.requires.attemptable args.goal c.requires.goal_bound refresh.ensures
 
 pub refresh-requires-2-clause-world_fits : goal.refresh-requires-2-clause-world_fits
 refresh-requires-2-clause-world_fits c =
-    
     let args = c.args in
     let refresh = c.refresh in
     let attempt-goal = c.attempt_goal-tried in
@@ -24,7 +22,6 @@ refresh-requires-2-clause-world_fits c =
 
 pub refresh-requires-2-clause-classes_len : goal.refresh-requires-2-clause-classes_len
 refresh-requires-2-clause-classes_len c =
-    
     let args = c.args in
     let refresh = c.refresh in
     let attempt-goal = c.attempt_goal-tried in
@@ -33,7 +30,6 @@ refresh-requires-2-clause-classes_len c =
 
 pub refresh-requires-2-clause-cell_bound : goal.refresh-requires-2-clause-cell_bound
 refresh-requires-2-clause-cell_bound c =
-    
     let args = c.args in
     let refresh = c.refresh in
     let attempt-goal = c.attempt_goal-tried in
@@ -42,7 +38,6 @@ refresh-requires-2-clause-cell_bound c =
 
 pub returns-clause-tells : goal.returns-clause-tells
 returns-clause-tells c =
-    
     let args = c.args in
     let refresh = c.refresh in
     let attempt-goal = c.attempt_goal-tried in
@@ -52,7 +47,6 @@ returns-clause-tells c =
 
 pub returns-clause-joinable_unchanged : goal.returns-clause-joinable_unchanged
 returns-clause-joinable_unchanged c =
-    
     let args = c.args in
     let refresh = c.refresh in
     let attempt-goal = c.attempt_goal-tried in

@@ -12,18 +12,15 @@ try_goal-tried-requires-clause-goal_bound c = fetched_goal c.requires.never_full
 
 pub copy_path-requires : goal.copy_path-requires
 copy_path-requires c =
-    
     let try-goal = c.try_goal-tried in
     (try-goal.auto.path ∙ c.requires.attemptable.memory.path-long ∙ sym c.requires.best_len, try-goal.ensures.tells.fits)
 
 pub returns-in-Found-clause-tells : goal.returns-in-Found-clause-tells
 returns-in-Found-clause-tells c =
-    
     let try-goal = c.try_goal-tried in fetched_route c.requires.never_full c.requires.all_passed c.in-Found.is try-goal.ensures.tells c.copy_path.ensures
 
 pub returns-in-Found-clause-joinable_unchanged : goal.returns-in-Found-clause-joinable_unchanged
 returns-in-Found-clause-joinable_unchanged c =
-    
     let try-goal = c.try_goal-tried in try-goal.ensures.joinable_unchanged
 
 pub returns-in-Failed-clause-tells : goal.returns-in-Failed-clause-tells

@@ -35,7 +35,6 @@ bounds-labels-cell c = omega (arith, c.loop-cell-test.true, c.requires.joinable_
 
 pub loop-cell-preserved : goal.loop-cell-preserved
 loop-cell-preserved c =
-    
     let round = c.loop-cell.invariant in
     (labels_next round.0 (omega (arith, c.loop-cell-test.true, c.requires.joinable_len.0, c.requires.joinable_len.2, round.1)) c.label_of.ensures, simp (length-set) round.1)
 

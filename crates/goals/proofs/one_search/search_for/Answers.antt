@@ -11,14 +11,12 @@ use Rattle.goals.proofs.one_search.search_for.Goals as goal
 
 pub returns-then-not-both_routeable : goal.returns-then-not-both_routeable
 returns-then-not-both_routeable c =
-    
     told-failed _ c.requires.kinds_len.0 c.requires.searchable.start_in c.requires.searchable.goal_in (test_fails c.both_routeable.ensures c.if-not-both_routeable.true-raw) _
 
 pub tried_of-requires-clause-goal_in_bounds : goal.tried_of-requires-clause-goal_in_bounds
 unfolding graph_of
 tried_of-requires-clause-goal_in_bounds c =
     let search-classes = c.search_classes-outcome in
-    
     let known = search-classes.auto.known ∙ c.requires.searchable.known-long in
     let previous = search-classes.auto.previous ∙ c.requires.searchable.previous-long in
     let args = c.args in
@@ -28,7 +26,6 @@ pub tried_of-requires-clause-showable : goal.tried_of-requires-clause-showable
 unfolding graph_of
 tried_of-requires-clause-showable c =
     let search-classes = c.search_classes-outcome in
-    
     let known = search-classes.auto.known ∙ c.requires.searchable.known-long in
     let previous = search-classes.auto.previous ∙ c.requires.searchable.previous-long in
     let args = c.args in
@@ -36,7 +33,6 @@ tried_of-requires-clause-showable c =
 
 pub returns : goal.returns
 returns c =
-    
     let both-routeable = c.both_routeable in
     let search-classes = c.search_classes-outcome in
     told-searched _ c.requires.kinds_len.0 c.requires.searchable.start_in c.requires.searchable.goal_in (test-passes both-routeable.ensures c.if-not-both_routeable.false-raw) search-classes.ensures (search-classes.auto.previous ∙ c.requires.searchable.previous-long) c.tried_of.ensures

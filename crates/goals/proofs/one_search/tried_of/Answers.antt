@@ -27,17 +27,14 @@ returns-in_default c = rw c.in-QueueFull.is (outcome-full _ _)
 
 pub write_route-requires-clause-goal_in_bounds : goal.write_route-requires-clause-goal_in_bounds
 write_route-requires-clause-goal_in_bounds c =
-    
     let shows = rw c.in-Arrived.is at c.requires.showable in c.requires.goal_in_bounds
 
 pub write_route-requires-clause-previous_inside : goal.write_route-requires-clause-previous_inside
 write_route-requires-clause-previous_inside c =
-    
     let shows = rw c.in-Arrived.is at c.requires.showable in shows.0
 
 pub write_route-requires-clause-nonzero : goal.write_route-requires-clause-nonzero
 write_route-requires-clause-nonzero c =
-    
     let shows = rw c.in-Arrived.is at c.requires.showable in shows.1
 
 pub returns : goal.returns

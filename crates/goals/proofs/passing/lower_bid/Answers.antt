@@ -14,5 +14,4 @@ returns-then-next-bid c = lower_third _ _ _ _ c.bid_of-bid.ensures c.if-bid-next
 
 pub returns : goal.returns
 returns c =
-    
     lower-second _ _ _ _ c.bid_of-bid.ensures c.requires.goal_bound c.if-bid-low.false c.requires.good c.if-bid-next.false c.if-next-bid.false

@@ -6,7 +6,6 @@ use Rattle.goals.proofs.passing.makes_detour.Goals as goal
 
 pub overflow_add-straight : goal.overflow_add-straight
 overflow_add-straight c =
-    
     let up = apart-few _ _ c.apart-up.ensures c.requires.small_pos.y_small c.requires.small_pos_2.y_small in
     let x = apart-few _ _ c.apart.ensures c.requires.small_pos.x_small c.requires.small_pos_2.x_small in
     let z = apart-few _ _ c.apart-2.ensures c.requires.small_pos.z_small c.requires.small_pos_2.z_small in
@@ -14,7 +13,6 @@ overflow_add-straight c =
 
 pub overflow_mul-result : goal.overflow_mul-result
 overflow_mul-result c =
-    
     let up = apart-few _ _ c.apart-up.ensures c.requires.small_pos.y_small c.requires.small_pos_2.y_small in
     let x = apart-few _ _ c.apart.ensures c.requires.small_pos.x_small c.requires.small_pos_2.x_small in
     let z = apart-few _ _ c.apart-2.ensures c.requires.small_pos.z_small c.requires.small_pos_2.z_small in
@@ -22,7 +20,6 @@ overflow_mul-result c =
 
 pub overflow_add-result : goal.overflow_add-result
 overflow_add-result c =
-    
     let up = apart-few _ _ c.apart-up.ensures c.requires.small_pos.y_small c.requires.small_pos_2.y_small in
     let x = apart-few _ _ c.apart.ensures c.requires.small_pos.x_small c.requires.small_pos_2.x_small in
     let z = apart-few _ _ c.apart-2.ensures c.requires.small_pos.z_small c.requires.small_pos_2.z_small in

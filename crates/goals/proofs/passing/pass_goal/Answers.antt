@@ -6,7 +6,6 @@ use Rattle.goals.proofs.passing.pass_goal.Goals as goal
 
 pub keep_first-requires : goal.keep_first-requires
 keep_first-requires c =
-    
     let try-goal = c.try_goal-tried in
     (try-goal.auto.path ∙ c.requires.attemptable.memory.path-long ∙ sym c.requires.passable.best-long, try-goal.ensures.tells.fits)
 

@@ -12,10 +12,8 @@ returns-in_default c = labels_fail
 
 pub labels_agree-requires-clause-fits : goal.labels_agree-requires-clause-fits
 labels_agree-requires-clause-fits c =
-    
     let fits = c.requires.fits in record { good = fits.good; config-good = fits.config-good; bytes-long = fits.bytes-long; labels_long = c.search_classes-outcome.auto.known ∙ fits.labels_long }
 
 pub labels_agree-requires-clause-start_bound : goal.labels_agree-requires-clause-start_bound
 labels_agree-requires-clause-start_bound c =
-    
     let fits = c.requires.fits in c.requires.previous_len.1

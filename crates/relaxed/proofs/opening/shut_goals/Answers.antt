@@ -27,7 +27,6 @@ refresh-requires-clause-cell_bound c =
 
 pub loop-cell-preserved : goal.loop-cell-preserved
 loop-cell-preserved c =
-    
     let round = c.loop-cell.invariant in
     let inside : c.loop-cell.cell < volume c.args.ground.room = omega (arith, c.loop-cell-test.true, c.requires.joinable_len) in
     elim c.if-joinable-cell-eq-MARKED.branch [ then-joinable-cell-eq-MARKED w ↦ rw w.classes-is (shut-next _ _ c.requires.world_fits.good _ _ _ _ round inside w.refresh.ensures) | else-joinable-cell-eq-MARKED w ↦ rw w.classes-is (shut-same _ _ c.requires.world_fits.good _ _ _ _ round w.if-joinable-cell-eq-MARKED.false) ]

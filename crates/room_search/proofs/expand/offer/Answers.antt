@@ -23,11 +23,11 @@ join-requires-clause-heap_in c =
 pub join-requires-clause-holdable : goal.join-requires-clause-holdable
 join-requires-clause-holdable c =
     record {
-          key-most = omega (arith, c.estimate.ensures, c.as_long.ensures);
-          key_in_one = λ w. omega (arith, c.requires.cost_bound w, c.estimate.ensures, c.as_long.ensures);
-          serial-most = omega arith;
-          cell-most = omega arith;
-        }
+      key-most = omega (arith, c.estimate.ensures, c.as_long.ensures);
+      key_in_one = λ w. omega (arith, c.requires.cost_bound w, c.estimate.ensures, c.as_long.ensures);
+      serial-most = omega arith;
+      cell-most = omega arith;
+    }
 
 pub returns : goal.returns
 returns c = let a = c.args in offer-pushed a.from a.cell a.cost.0 _ a.known.now a.previous.now a.queue.now a.line c.requires.heap_ready (elim c.if-old-ne0.branch [ then-old-ne0+else-old-cost w ↦ inr w.if-old-cost.false | else-old-ne0 w ↦ inl w.if-old-ne0.false ]) _ c.if-queue-waiting.false c.join.auto.queue (rw (c.as_long.ensures, c.estimate.ensures) at c.join.ensures)

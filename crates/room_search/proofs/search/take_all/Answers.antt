@@ -45,11 +45,11 @@ join-requires-clause-holdable c =
     let F = c.requires in
     let P = placed-small _ F.good _ F.start-placed in
     let Q = placed-small _ F.good _ F.goal-placed in record {
-          key-most = omega (arith, c.estimate.ensures, P, Q);
-          key_in_one = λ _. omega (arith, c.estimate.ensures, P, Q);
-          serial-most = omega arith;
-          cell-most = omega (arith, F.start-placed.inside, F.good.few);
-        }
+      key-most = omega (arith, c.estimate.ensures, P, Q);
+      key_in_one = λ _. omega (arith, c.estimate.ensures, P, Q);
+      serial-most = omega arith;
+      cell-most = omega (arith, F.start-placed.inside, F.good.few);
+    }
 
 pub loop-line-init : goal.loop-line-init
 loop-line-init c =
