@@ -1,10 +1,10 @@
 -- How the lines are made of pieces, and numbers of digits.
-use Rattle.std.specs.Prelude.{◌≡◌, refl, List, [], ◌∷◌, ◌++◌, ℕ, zero, suc, ◌+◌, ◌/◌, ◌%◌, ◌^◌, ◌≤◌, ◌<◌, length, drop, get_or}
-use Rattle.std.proofs.Common.{sym, ap, ◌∙◌, append_assoc, append-nil, pow-suc, div-lt_iff_lt-mul, add-one, arith, drop_of_length-le, lt-ltb, le-ltb, eq-eqb, ne_eqb}
+use Rattle.std.specs.Prelude.{◌≡◌, refl, List, [], ◌∷◌, ◌++◌, ℕ, zero, suc, ◌+◌, ◌-◌, ◌/◌, ◌%◌, ◌^◌, ◌≤◌, ◌<◌, length, take, drop, get_or}
+use Rattle.std.proofs.Common.{sym, ap, ◌∙◌, append_assoc, append-nil, mod-eq_of_lt, mod-lt, pow-suc, div-lt_iff_lt-mul, le-div_iff_mul-le, add-one, sub-one, arith, drop_of_length-le, lt-ltb, le-ltb, eq-eqb, ne_eqb}
+use Rattle.std.proofs.Math.Nat.{one-le-pow, pow-le-pow_right}
 use Rattle.basics.specs.Tests.{ask_less, never}
 use Rattle.basics.specs.Lists.{drop_next}
-use Rattle.std.specs.Fmt.{decimal as text_of}
-use Rattle.std.proofs.lemmas.Fmt.{decimal_digit, decimal_step}
+use Rattle.io.specs.Digits.{last_digits, hex_digit_ascii, IsDigitCount}
 use Rattle.route.specs.Lines.{decimal_within, decimal, spaced, spaced_all, line}
 use Rattle.putting.specs.Putting.{Put, Fits, PutSoFar}
 use Rattle.putting.specs.PutLaws.{both, then-fits, first_fits, putting_on, putting_done, putting_fits}
@@ -12,25 +12,41 @@ use Rattle.route.specs.Marked.{if_marked, marked_from}
 
 -- ---- numbers
 
--- std's decimal of a number of 64 bits, which has at most 20 digits
-text-one : (most n : ℕ) → n < 10 → text_of n ≡ decimal_within (suc most) n
+glyph_digit : (d : ℕ) → d < 10 → hex_digit_ascii d ≡ 48 + d
+glyph_digit d h = rw (lt-ltb d 10 h) refl
+
+last-digit : (n : ℕ) → hex_digit_ascii (n % 10) ≡ 48 + n % 10
+last-digit n = glyph_digit (n % 10) (mod-lt n (omega arith))
+
+-- the fewest digits that hold a number are its decimal
+fewest_decimal : (most k n : ℕ) → k ≤ most → IsDigitCount 10 1 n k → last_digits 10 k n ≡ decimal_within most n
 unfolding decimal_within
-text-one most n small = rw (lt-ltb n 10 small) (decimal_digit n small)
+fewest_decimal most zero n h f = never (omega (arith, f.0))
+fewest_decimal zero (suc k) n h f = never (omega (arith, h))
+fewest_decimal (suc most) (suc zero) n h f =
+    let small : n < 10 = omega (arith, f.1) in
+    rw (lt-ltb n 10 small, mod-eq_of_lt small, glyph_digit n small) refl
+fewest_decimal (suc most) (suc (suc k)) n h f =
+    let low : 10 ^ suc k ≤ n = simp sub-one at (f.2 (omega arith)) in
+    let high : n < 10 ^ suc (suc k) = f.1 in
+    let some : 1 ≤ 10 ^ k = one-le-pow k 10 (omega arith) in
+    let large : 10 ≤ n = omega (arith, low, some, pow-suc 10 k) in
+    let less : n / 10 < 10 ^ suc k = (div-lt_iff_lt-mul {k = 10} (omega arith)).1 (rw (pow-suc 10 (suc k)) at high) in
+    let more : 10 ^ k ≤ n / 10 = (le-div_iff_mul-le {k = 10} (omega arith)).1 (rw (pow-suc 10 k) at low) in
+    rw (le-ltb n 10 large, last-digit n, fewest_decimal most (suc k) (n / 10) (omega arith) (omega arith, less, λ _. simp sub-one more)) refl
 
-text-more : (most n : ℕ) → 10 ≤ n → n < 2 ^ 64 → text_of (n / 10) ≡ decimal_within most (n / 10) → text_of n ≡ decimal_within (suc most) n
-unfolding decimal_within
-text-more most n large w e = rw (le-ltb n 10 large) (decimal_step n large w ∙ ap (λ l. l ++ ((48 + n % 10) ∷ [])) e)
+-- a number of 64 bits has at most 20 digits
+few_digits : (k n : ℕ) → n < 2 ^ 64 → IsDigitCount 10 1 n k → k ≤ 20
+few_digits k n h f = ask_less 20 k too_many (λ few. few)
+  where
+    too_many : 20 < k → k ≤ 20
+    too_many many =
+        let low : 10 ^ (k - 1) ≤ n = f.2 (omega arith) in
+        let much : 10 ^ 20 ≤ 10 ^ (k - 1) = pow-le-pow_right (omega arith) {i = 20} {j = k - 1} (omega arith) in
+        never (omega arith)
 
-text-within : (most n : ℕ) → 0 < most → n < 10 ^ most → n < 2 ^ 64 → text_of n ≡ decimal_within most n
-text-within zero n some h w = never (omega (arith, some))
-text-within (suc zero) n some h w = text-one zero n (omega (arith, h))
-text-within (suc (suc most)) n some h w =
-    ask_less n 10 (text-one (suc most) n) (λ large.
-    let less : n / 10 < 10 ^ suc most = (div-lt_iff_lt-mul {k = 10} (omega arith)).1 (rw (pow-suc 10 (suc most)) at h) in
-    text-more (suc most) n large w (text-within (suc most) (n / 10) (omega arith) less (omega (arith, w))))
-
-pub written-decimal : (n : ℕ) (text : List ℕ) → n < 2 ^ 64 → text ≡ text_of n → text ≡ decimal n
-written-decimal n text h e = e ∙ text-within 20 n (omega arith) (omega (arith, h)) h
+pub written-decimal : (k n : ℕ) (text : List ℕ) → n < 2 ^ 64 → IsDigitCount 10 1 n k → take k text ≡ last_digits 10 k n → take k text ≡ decimal n
+written-decimal k n text h f e = e ∙ fewest_decimal 20 k n (few_digits k n h f) f
 
 -- a number: a space, then its digits
 module _ (n : ℕ) {out : List ℕ} {at : ℕ} {out1 : List ℕ} {e1 : ℕ} (p : Put out at (32 ∷ []) out1 e1) {text : List ℕ} (e : text ≡ decimal n) where

@@ -14,9 +14,10 @@ fn put_number(out: &mut [u8], at: usize, n: u64) -> usize
     requires { Fits out.old at (spaced n) }
     ensures { Put out.old at (spaced n) out.new result }
 {
+    let mut digits = [0u8; 20];
+    let count = io::decimal(n, &mut digits);
     let spaced = put_bytes(out, at, b" ");
-    let mut digits = itoa::Buffer::new();
-    put_bytes(out, spaced, digits.format(n).as_bytes())
+    put_bytes(out, spaced, &digits[..count])
 }
 
 fn put_cells(out: &mut [u8], at: usize, cells: &[u32]) -> usize
