@@ -149,6 +149,8 @@ module _ {T : Task} (P : Posed T) where
           go : NoLawfulWay T → (a : Answer) → searched T ≡ a → Decided a → (x : ℕ) × (a ≡ no_route x)
           go n (route path cost x) e d = let l = route-lawful e in absurd (n l.after l.lawful)
           go n (no_route x) e d = (x, refl)
+          go n (limit-passed x) e d = elim d [ ]
+          go n (queue-full x) e d = elim d [ ]
 
   -- "a node limit and queue of that size or more", 12 for each cell, are enough
   pub ample-enough : Ample T → Enough T.room T.config T.places
