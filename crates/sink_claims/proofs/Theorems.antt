@@ -27,8 +27,8 @@ use Rattle.sink_why.specs.SinkWhy.{StoppedAt, no_reason, reason_at, reason_of, a
 use Rattle.sink_claims.specs.Statements.{WallsSay, CausesSay}
 use Rattle.sink_claims.specs.AnswerStatements.{plot_there, sink_there, approach_there, AllZero, Told, Untold, WhyMeans}
 use Rattle.sink_claims.specs.TreeWallLaws.{walls_say}
-use Rattle.sink_claims.specs.VerdictLaws.{verdict_true, none-reached, verdict-exact, else_way}
-use Rattle.sink_claims.specs.CauseTrueLaws.{outset-is, causes_say, kept_caused}
+use Rattle.sink_claims.proofs.VerdictLaws.{verdict_true, none-reached, verdict-exact, else_way}
+use Rattle.sink_claims.proofs.CauseTrueLaws.{outset-is, causes_say, kept_caused}
 
 -- ---- where the growth stopped
 

@@ -3,7 +3,5 @@ pub mod BitLaws
 pub mod TreeWallLaws
 pub mod ConflictLaws
 pub mod SomeWayLaws
-pub mod VerdictLaws
-pub mod CauseTrueLaws
 pub mod AnswerStatements
 pub mod Samples
