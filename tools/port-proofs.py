@@ -38,15 +38,8 @@ def functions(root):
             if m.group(0) == "}":
                 owner = None
                 continue
-            depth, at = 0, m.end()
-            while text[at] != "(":
-                at += 1
-            begin = at
-            while True:
-                depth += {"(": 1, ")": -1}.get(text[at], 0)
-                at += 1
-                if depth == 0:
-                    break
+            begin = text.index("(", m.end())
+            at = behind(text, begin)
             params = [re.sub(r"^(mut|ref) ", "", p.split(":")[0].strip().lstrip("&").replace("mut ", "")) for p in split(text[begin + 1 : at - 1], ",") if p.strip()]
             clauses = {"requires": [], "ensures": []}
             for c in re.finditer(r"\n *(requires|ensures)\*? ?(\w*) ?\{|\n *\}?\{?\n|\{\n", text[at:]):
@@ -301,6 +294,16 @@ class Function:
         return text, left
 
 
+def behind(text, at):
+    """The place behind the bracket that closes the one at `at`."""
+    depth = 0
+    while True:
+        depth += {"(": 1, ")": -1}.get(text[at], 0)
+        at += 1
+        if depth == 0:
+            return at
+
+
 def branches_of(text):
     """`⊎_elim (λ w. A) (λ w. B) c.if-x.branch` as an `elim` with an arm for each branch."""
     m = re.search(r"(\s*)⊎_elim(?: \{[^}]*\})?\s+(?=\()", text)
@@ -308,12 +311,7 @@ def branches_of(text):
         return text
     parts, at = [], m.end()
     for _ in range(2):
-        depth, j = 0, at
-        while True:
-            depth += {"(": 1, ")": -1}.get(text[j], 0)
-            j += 1
-            if depth == 0:
-                break
+        j = behind(text, at)
         parts.append(text[at + 1 : j - 1])
         at = j + (len(text[j:]) - len(text[j:].lstrip()))
         if at >= len(text) or _ == 0 and text[at] != "(":
@@ -403,12 +401,7 @@ def terms_of(text):
         if text[i].isspace():
             i += 1
         elif text[i] == "(":
-            depth, j = 0, i
-            while True:
-                depth += {"(": 1, ")": -1}.get(text[j], 0)
-                j += 1
-                if depth == 0:
-                    break
+            j = behind(text, i)
             out.append(text[i + 1 : j - 1])
             i = j
         else:
