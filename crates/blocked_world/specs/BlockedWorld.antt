@@ -1,12 +1,10 @@
 -- The room as a search sees it: "For a search, each blocked Air cell other than its start and goal counts as Solid, as a support too." In strict mode
 -- "blocked air may be neither entered nor used as support; the search's own start and goal stay exempt from blocking". Definitions alone; their laws are
 -- in the files named Laws.
-use Rattle.std.specs.Prelude.{◌≡◌, Bool, not, ◌&&◌, List, ℕ, suc, ◌<◌, eqb, length, get_or, set}
+use Rattle.std.specs.Prelude.{◌≡◌, Bool, not, ◌&&◌, List, ℕ, suc, ◌<◌, eqb, length, get_or, set, Option, Some, None}
 use Rattle.basics.specs.Tests.{either}
 use Rattle.room.specs.declared.Room.{Room}
 use Rattle.room.specs.declared.RouterConfig.{RouterConfig}
-use Rattle.room.specs.declared.Neighbour.{Neighbour}
-use Rattle.room.specs.declared.Neighbour.TheVariants.{Inside, Outside}
 use Rattle.room.specs.Room.{Good, volume, above}
 use Rattle.room.specs.Units.{air, solid, max_kind}
 use Rattle.ground.specs.declared.Mode.{Mode}
@@ -61,9 +59,9 @@ pub record WorldFits (R : Room) (kinds blocked : List ℕ) : Type 0 where
 abbrev pub renewed : Mode → Room → List ℕ → List ℕ → ℕ → ℕ → ℕ → List ℕ → List ℕ
 renewed mode R kinds blocked start goal v classes = set classes v (class_seen mode R kinds blocked start goal v)
 
-abbrev pub renewed_at : Mode → Room → List ℕ → List ℕ → ℕ → ℕ → Neighbour → List ℕ → List ℕ
-renewed_at mode R kinds blocked start goal (Inside v) classes = renewed mode R kinds blocked start goal v classes
-renewed_at mode R kinds blocked start goal Outside classes = classes
+abbrev pub renewed_at : Mode → Room → List ℕ → List ℕ → ℕ → ℕ → Option ℕ → List ℕ → List ℕ
+renewed_at mode R kinds blocked start goal (Some v) classes = renewed mode R kinds blocked start goal v classes
+renewed_at mode R kinds blocked start goal None classes = classes
 
 unfoldable pub refreshed : Mode → Room → List ℕ → List ℕ → ℕ → ℕ → ℕ → List ℕ → List ℕ
 refreshed mode R kinds blocked start goal cell classes =

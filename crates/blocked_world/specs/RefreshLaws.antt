@@ -1,13 +1,11 @@
 -- Laws of refreshing: class bytes that say one setting, refreshed at the one cell at which another differs, say the other.
-use Rattle.std.specs.Prelude.{◌≡◌, ◌≢◌, List, ℕ, ◌<◌, eqb, get_or}
+use Rattle.std.specs.Prelude.{◌≡◌, ◌≢◌, List, ℕ, ◌<◌, eqb, get_or, Option, Some, None}
 use Rattle.std.proofs.Math.Path.{refl, sym, ap}
 use Rattle.std.proofs.Common.{◌∙◌, arith, get_or-set_same, get_or-set_other, ne_eqb}
 use Rattle.std.proofs.Math.Bool.{or-false, or_self}
 use Rattle.std.proofs.Math.ListN.{length, length-set}
 use Rattle.basics.specs.Tests.{ask_same, never}
 use Rattle.room.specs.declared.Room.{Room}
-use Rattle.room.specs.declared.Neighbour.{Neighbour}
-use Rattle.room.specs.declared.Neighbour.TheVariants.{Inside, Outside}
 use Rattle.room.specs.Room.{Good, volume, beneath, above}
 use Rattle.routing_resources.specs.Marks.{is_marked, with_byte}
 use Rattle.routing_resources.specs.MarkLaws.{with_set}
@@ -64,14 +62,14 @@ module _ (mode : Mode) (R : Room) (G : Good R) (cell : ℕ) (kinds blocked : Lis
       seen_at mode kinds blocked start goal v l ∙ seen ∙ sym (seen_at mode kinds blocked' start' goal' v l)
 
   -- a cell other than that one, which it does not bear either, has the class that it had
-  class_same : (v : ℕ) → v ≢ cell → (beneath R v ≡ Inside cell → ⊥) → v < volume R
+  class_same : (v : ℕ) → v ≢ cell → (beneath R v ≡ Some cell → ⊥) → v < volume R
       → class_seen mode R kinds blocked start goal v ≡ class_seen mode R kinds blocked' start' goal' v
   unfolding class_seen
   class_same v n o h = rw (same.ends v n, seen_same v n h, below (beneath R v) refl)
     where
-      below : (place : Neighbour) → beneath R v ≡ place → kind_at (seen_kinds mode kinds blocked start goal) place ≡ kind_at (seen_kinds mode kinds blocked' start' goal') place
-      below (Inside u) e = seen_same u (λ q. o (e ∙ ap Inside q)) (beneath_in R v u h e)
-      below Outside e = refl
+      below : (place : Option ℕ) → beneath R v ≡ place → kind_at (seen_kinds mode kinds blocked start goal) place ≡ kind_at (seen_kinds mode kinds blocked' start' goal') place
+      below (Some u) e = seen_same u (λ q. o (e ∙ ap Some q)) (beneath_in R v u h e)
+      below None e = refl
 
   module _ (classes : List ℕ) (says : Says mode R kinds blocked start goal classes) (cell_in : cell < volume R) where
     abbrev first : List ℕ
@@ -80,7 +78,7 @@ module _ (mode : Mode) (R : Room) (G : Good R) (cell : ℕ) (kinds blocked : Lis
     first_length : length first ≡ volume R
     first_length = length-set classes cell (class_seen mode R kinds blocked' start' goal' cell) ∙ says.long
 
-    first-each : (v : ℕ) → v < volume R → (beneath R v ≡ Inside cell → ⊥) → get_or first v 0 ≡ class_seen mode R kinds blocked' start' goal' v
+    first-each : (v : ℕ) → v < volume R → (beneath R v ≡ Some cell → ⊥) → get_or first v 0 ≡ class_seen mode R kinds blocked' start' goal' v
     first-each v h o =
         ask_same v cell
         (λ q. rw q (get_or-set_same classes cell (class_seen mode R kinds blocked' start' goal' cell) 0 (omega (arith, says.long))))
@@ -90,15 +88,15 @@ module _ (mode : Mode) (R : Room) (G : Good R) (cell : ℕ) (kinds blocked : Lis
     unfolding refreshed
     refreshed-says = go (above R cell) refl
       where
-        go : (place : Neighbour) → above R cell ≡ place → Says mode R kinds blocked' start' goal' (renewed_at mode R kinds blocked' start' goal' place first)
-        go Outside e = record {
+        go : (place : Option ℕ) → above R cell ≡ place → Says mode R kinds blocked' start' goal' (renewed_at mode R kinds blocked' start' goal' place first)
+        go None e = record {
           long = first_length;
           each = λ v h. first-each v h (λ b. clash v (beneath-above R G v cell h b));
         }
           where
-            clash : (v : ℕ) → above R cell ≡ Inside v → ⊥
+            clash : (v : ℕ) → above R cell ≡ Some v → ⊥
             clash v q = never (cc)
-        go (Inside u) e = record {
+        go (Some u) e = record {
           long = length-set first u (class_seen mode R kinds blocked' start' goal' u) ∙ first_length;
           each = λ v h.
               ask_same v u
@@ -106,5 +104,5 @@ module _ (mode : Mode) (R : Room) (G : Good R) (cell : ℕ) (kinds blocked : Lis
               (λ n. renewed_right mode R kinds blocked' start' goal' u first v (omega (arith, first_length)) (first-each v h (other v h n)));
         }
           where
-            other : (v : ℕ) → v < volume R → v ≢ u → beneath R v ≡ Inside cell → ⊥
+            other : (v : ℕ) → v < volume R → v ≢ u → beneath R v ≡ Some cell → ⊥
             other v h n b = let q = beneath-above R G v cell h b in let z : u ≡ v = cc in n (sym z)

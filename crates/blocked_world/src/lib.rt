@@ -9,7 +9,7 @@ ghost use Rattle.room_search.specs.Routing.{kind_at, an_end};
 ghost use Rattle.blocked_world.specs.BlockedWorld.{wall_of, seen_kind, seen_kinds, class_seen, Says, WorldFits, renewed, refreshed};
 
 use ground::{Ground, Mode};
-use room::{Neighbour, Room};
+use room::Room;
 
 // The first code that is no kind: neither routeable nor bearing.
 const NO_KIND: u8 = 13;
@@ -18,10 +18,7 @@ const NO_KIND: u8 = 13;
 pub fn an_end(start: usize, goal: usize, cell: usize) -> bool
     ensures { result ≡ an_end start goal cell }
 {
-    if cell == start {
-        return true;
-    }
-    cell == goal
+    cell == start || cell == goal
 }
 
 // The kind that blocked Air is seen as.
@@ -34,82 +31,66 @@ fn wall_of(mode: Mode) -> u8
     }
 }
 
-// The kind that a search sees at a cell. A blocked cell that isn't Air keeps its kind.
-fn seen_kind(mode: Mode, kinds: &[u8], blocked: &[u8], start: usize, goal: usize, cell: usize) -> u8
-    requires { (cell < length kinds.now) × (cell < length blocked.now) }
-    ensures { result ≡ seen_kind mode kinds.now blocked.now start goal cell }
-{
-    let kind = kinds[cell];
-    if kind != room::AIR {
-        return kind;
-    }
-    if blocked[cell] != routing_resources::MARKED {
-        return kind;
-    }
-    if an_end(start, goal, cell) {
-        return kind;
-    }
-    wall_of(mode)
-}
-
-// The kind that a search sees right beneath a cell; outside is Solid.
-fn seen_beneath(
-    mode: Mode,
-    room: Room,
-    kinds: &[u8],
-    blocked: &[u8],
-    start: usize,
-    goal: usize,
-    cell: usize,
-) -> u8
-    requires world_fits { WorldFits room kinds.now blocked.now }
-    requires cell_bound { cell < volume room }
-    ensures { result ≡ kind_at (seen_kinds mode kinds.now blocked.now start goal) (beneath room cell) }
-{
-    match room.beneath(cell) {
-        Neighbour::Inside(below) => seen_kind(mode, kinds, blocked, start, goal, below),
-        Neighbour::Outside => room::SOLID,
-    }
-}
-
-// What it takes a search to enter a cell.
-fn class_seen(
+// The room as one search sees it.
+#[derive(Clone, Copy)]
+struct World<'a> {
     ground: Ground,
-    kinds: &[u8],
-    blocked: &[u8],
+    kinds: &'a [u8],
+    blocked: &'a [u8],
     start: usize,
     goal: usize,
-    cell: usize,
-) -> u8
-    requires world_fits { WorldFits ground.room kinds.now blocked.now }
-    requires cell_bound { cell < volume ground.room }
-    ensures { result ≡ class_seen ground.mode ground.room kinds.now blocked.now start goal cell }
-{
-    let mode = ground.mode;
-    let below = seen_beneath(mode, ground.room, kinds, blocked, start, goal, cell);
-    let kind = seen_kind(mode, kinds, blocked, start, goal, cell);
-    room_search::class_for(an_end(start, goal, cell), kind, below)
+    ghost fits: { WorldFits ground.room kinds.now blocked.now },
 }
 
-// Writes one cell's class anew.
-fn renew(
-    ground: Ground,
-    kinds: &[u8],
-    blocked: &[u8],
-    start: usize,
-    goal: usize,
-    classes: &mut [u8],
-    cell: usize,
-)
-    requires world_fits { WorldFits ground.room kinds.now blocked.now }
-    requires classes_len { length classes.old ≡ volume ground.room }
-    requires cell_bound { cell < volume ground.room }
-    ensures { classes.new ≡ renewed ground.mode ground.room kinds.now blocked.now start goal cell classes.old }
-{
-    classes[cell] = class_seen(ground, kinds, blocked, start, goal, cell);
+impl World<'_> {
+    // The kind that the search sees at a cell. A blocked cell that isn't Air keeps its kind.
+    fn seen_kind(&self, cell: usize) -> u8
+        requires { cell < volume self.now.ground.room }
+        ensures { result ≡ seen_kind self.now.ground.mode self.now.kinds.now self.now.blocked.now self.now.start self.now.goal cell }
+    {
+        let kind = self.kinds[cell];
+        if kind != room::AIR || self.blocked[cell] != routing_resources::MARKED {
+            return kind;
+        }
+        if an_end(self.start, self.goal, cell) {
+            kind
+        } else {
+            wall_of(self.ground.mode)
+        }
+    }
+
+    // The kind that the search sees right beneath a cell; outside is Solid.
+    fn seen_beneath(&self, cell: usize) -> u8
+        requires { cell < volume self.now.ground.room }
+        ensures { result ≡ kind_at (seen_kinds self.now.ground.mode self.now.kinds.now self.now.blocked.now self.now.start self.now.goal) (beneath self.now.ground.room cell) }
+    {
+        match self.ground.room.beneath(cell) {
+            Some(below) => self.seen_kind(below),
+            None => room::SOLID,
+        }
+    }
+
+    // What it takes the search to enter a cell.
+    fn class_seen(&self, cell: usize) -> u8
+        requires { cell < volume self.now.ground.room }
+        ensures { result ≡ class_seen self.now.ground.mode self.now.ground.room self.now.kinds.now self.now.blocked.now self.now.start self.now.goal cell }
+    {
+        let endpoint = an_end(self.start, self.goal, cell);
+        room_search::class_for(endpoint, self.seen_kind(cell), self.seen_beneath(cell))
+    }
+
+    // Writes one cell's class anew.
+    fn renew(&self, classes: &mut [u8], cell: usize)
+        requires classes_len { length classes.old ≡ volume self.now.ground.room }
+        requires cell_bound { cell < volume self.now.ground.room }
+        ensures { classes.new ≡ renewed self.now.ground.mode self.now.ground.room self.now.kinds.now self.now.blocked.now self.now.start self.now.goal cell classes.old }
+    {
+        classes[cell] = self.class_seen(cell);
+    }
 }
 
-// Fills in each cell's class, whatever the bytes held.
+// Fills in each cell's class, whatever the bytes held. Here and in `refresh` the caller hands the parts of a `World` apart,
+// since the ends change from one search of a turn to the next: a World for each call is no plainer there.
 pub fn fill(
     ground: Ground,
     kinds: &[u8],
@@ -122,11 +103,15 @@ pub fn fill(
     requires classes_len { length classes.old ≡ volume ground.room }
     ensures { Says ground.mode ground.room kinds.now blocked.now start goal classes.new }
 {
-    let n = kinds.len();
-    let mut v: usize = 0;
-    while v < n {
-        renew(ground, kinds, blocked, start, goal, classes, v);
-        v += 1;
+    let world = World {
+        ground,
+        kinds,
+        blocked,
+        start,
+        goal,
+    };
+    for v in 0..kinds.len() {
+        world.renew(classes, v);
     }
 }
 
@@ -146,8 +131,15 @@ pub fn refresh(
     requires cell_bound { cell < volume ground.room }
     ensures { classes.new ≡ refreshed ground.mode ground.room kinds.now blocked.now start goal cell classes.old }
 {
-    renew(ground, kinds, blocked, start, goal, classes, cell);
-    if let Neighbour::Inside(over) = ground.room.above(cell) {
-        renew(ground, kinds, blocked, start, goal, classes, over);
+    let world = World {
+        ground,
+        kinds,
+        blocked,
+        start,
+        goal,
+    };
+    world.renew(classes, cell);
+    if let Some(over) = ground.room.above(cell) {
+        world.renew(classes, over);
     }
 }

@@ -17,8 +17,8 @@ use Rattle.job_sheet.specs.declared.Part.{Part}
 use Rattle.job_sheet.specs.Accepted.{BlockList}
 use Rattle.job_sheet.specs.Places.{no_block, blocks_in}
 use Rattle.job_sheet.specs.RecordLaws.{blocks-long}
-use Rattle.blocks.specs.declared.Placement.{Placement}
-use Rattle.blocks.specs.declared.Placement.TheVariants.{RepeatAt}
+use Rattle.blocks.specs.Blocks.{Placement}
+use Rattle.blocks.specs.Blocks.{RepeatAt}
 use Rattle.blocks.specs.Blocks.{block_cell, of_block, tabulated, record_cell, record_node, Repeat, NotAfter, Placing, each-its-own, one-repeated, BlocksLaid}
 
 -- ---- a table has one entry for each number

@@ -10,7 +10,7 @@ use Rattle.room.specs.Room.{volume}
 use Rattle.room.specs.Units.{air}
 use Rattle.job_sheet.specs.declared.Block.{Block}
 use Rattle.job_sheet.specs.Places.{no_block}
-use Rattle.blocks.specs.declared.Placement.TheVariants.{Placed, RepeatAt}
+use Rattle.blocks.specs.Blocks.{Placed, RepeatAt}
 use Rattle.blocks.specs.Blocks.{kind_of, node_of, kinds_of, nodes_of, record_cell, record_node, record_kind, Repeat, NotAfter, Placing, each-its-own, one-repeated, BlocksLaid}
 use Rattle.blocks.specs.Laying.{lesser_kept, per_node, numbered, repeat_number, BlockAdded, Noted, no_block_lem, of-block, RepeatFound, no_repeat, of-repeat, Kept}
 use Rattle.blocks.proofs.BlockLaws.{less_or_same, tabulated-is, OfCell, of_record, of_none, of-cell, of-its-cell}

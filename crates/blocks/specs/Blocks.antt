@@ -1,13 +1,12 @@
 -- The blocks of a sheet laid out in the room, and number 7 of docs/RULES.md. Definitions alone; their laws are in BlockLaws.
-use Rattle.std.specs.Prelude.{◌≡◌, ◌⊎◌, List, [], ◌∷◌, ℕ, zero, suc, ◌+◌, ◌≤◌, ◌<◌, eqb, length, get_or, replicate}
+use Rattle.std.specs.Prelude.{◌≡◌, ◌⊎◌, List, [], ◌∷◌, ℕ, zero, suc, ◌+◌, ◌≤◌, ◌<◌, eqb, length, get_or, replicate, Result, Ok, Err}
 use Rattle.basics.specs.Tests.{either}
 use Rattle.room.specs.declared.Room.{Room}
 use Rattle.room.specs.Room.{volume, cell_of}
 use Rattle.room.specs.Units.{air}
 use Rattle.job_sheet.specs.declared.Block.{Block}
 use Rattle.job_sheet.specs.Places.{no_block}
-use Rattle.blocks.specs.declared.Placement.{Placement}
-use Rattle.blocks.specs.declared.Placement.TheVariants.{Placed, RepeatAt}
+use Rattle.blocks.specs.declared.Overlap.{Overlap}
 
 -- the cell that a block takes
 abbrev pub block_cell : Room → Block → ℕ
@@ -64,6 +63,16 @@ pub record Repeat (R : Room) (bs : List Block) (n i : ℕ) : Type 0 where
 abbrev pub NotAfter : Room → List Block → ℕ → ℕ → Type 0
 NotAfter R bs i j = (record_node bs i < record_node bs j) ⊎ ((record_node bs i ≡ record_node bs j) × (record_cell R bs i ≤ record_cell R bs j))
 
+-- what laying out comes to: each block has a cell of its own, or number 7 is due, with the cell of the repeat
+abbrev pub Placement : Type 0
+Placement = Result Unit Overlap
+
+abbrev pub Placed : Placement
+Placed = Ok tt
+
+abbrev pub RepeatAt : ℕ → Placement
+RepeatAt v = Err (record { cell = v })
+
 -- what the first n records come to: each has a cell of its own, or "cell of the repeat: of all [repeats] the one of least node, then least cell"
 pub data Placing (R : Room) (bs : List Block) (n : ℕ) (r : Placement) : Type 0 where
   each-its-own : ((i : ℕ) → Repeat R bs n i → ⊥) → r ≡ Placed → Placing R bs n r
@@ -71,8 +80,8 @@ pub data Placing (R : Room) (bs : List Block) (n : ℕ) (r : Placement) : Type 0
 
 -- what a buffer of the room holds in the end: this, or zeros, as "7 to 15 leave every lent writable buffer zero"
 abbrev pub left_by : Placement → Room → List ℕ → List ℕ
-left_by Placed R l = l
-left_by (RepeatAt v) R l = replicate (volume R) 0
+left_by (Ok placed) R l = l
+left_by (Err repeat) R l = replicate (volume R) 0
 
 -- the blocks are laid out, or number 7 is due
 pub record BlocksLaid (R : Room) (bs : List Block) (kinds nodes : List ℕ) (r : Placement) : Type 0 where

@@ -15,14 +15,13 @@ use room::{Room, as_index};
 // then the least cell.
 const PER_NODE: usize = 65536;
 
-// What laying out comes to: each block has a cell of its own, or number 7 is due, with the cell of the repeat.
+// Number 7 is due, with the cell of the repeat.
 #[derive(Clone, Copy)]
-pub enum Placement {
-    Placed,
-    RepeatAt(usize),
+pub struct Overlap {
+    pub cell: usize,
 }
 
-// The lesser of two numbers of which 0 stands for none.
+// The lesser of two numbers of which 0 stands for none: C lends `nodes`, where it does, and no plainer with an Option beside it.
 fn lesser_kept(a: usize, b: usize) -> usize
     ensures { result ≡ lesser_kept a b }
 {
@@ -71,13 +70,10 @@ fn place_each(sheet: &[u8], part: Part, room: Room, kinds: &mut [u8], nodes: &mu
     requires nodes_value { nodes.old ≡ replicate (volume room) 0 }
     ensures { Kept room (blocks_in sheet.now part) part.count kinds.new nodes.new result }
 {
-    let count = part.count;
     let mut found: usize = 0;
-    let mut i: usize = 0;
-    while i < count {
+    for i in 0..part.count {
         let block = job_sheet::block_at(sheet, part, i);
         found = place_block(block, room, kinds, nodes, found);
-        i += 1;
     }
     found
 }
@@ -90,7 +86,7 @@ pub fn place_blocks(
     room: Room,
     kinds: &mut [u8],
     nodes: &mut [u32],
-) -> Placement
+) -> Result<(), Overlap>
     requires good { Good room }
     requires block_list { BlockList sheet.now room part (blocks_in sheet.now part) }
     requires kinds_value { kinds.old ≡ replicate (volume room) 0 }
@@ -99,9 +95,11 @@ pub fn place_blocks(
 {
     let found = place_each(sheet, part, room, kinds, nodes);
     if found == 0 {
-        return Placement::Placed;
+        return Ok(());
     }
-    lent::clear_bytes(kinds);
-    lent::clear_words(nodes);
-    Placement::RepeatAt((found - 1) % PER_NODE)
+    lent::clear(kinds);
+    lent::clear(nodes);
+    Err(Overlap {
+        cell: (found - 1) % PER_NODE,
+    })
 }

@@ -1,42 +1,19 @@
--- Laws of the loops: the marks counted so far, the lengths summed so far.
-use Rattle.std.specs.Prelude.{◌≡◌, refl, List, [], ◌∷◌, ◌++◌, ℕ, zero, suc, ◌+◌, ◌*◌, ◌≤◌, ◌<◌, eqb, length, get_or, take, drop}
-use Rattle.std.proofs.Common.{sym, ◌∙◌, add-one, arith, drop_of_length-le, take-suc, eq-eqb, ne_eqb}
+-- Laws of counting and of the loop that adds: the marks that a filter lets through, the lengths summed so far.
+use Rattle.std.specs.Prelude.{◌≡◌, refl, List, [], ◌∷◌, ◌++◌, ℕ, zero, suc, ◌+◌, ◌*◌, ◌≤◌, ◌<◌, eqb, length, get_or, take}
+use Rattle.std.proofs.Common.{sym, ◌∙◌, add-one, arith, take-suc}
 use Rattle.std.proofs.Math.Path.{ap}
-use Rattle.basics.specs.Counts.{bit, times}
-use Rattle.basics.specs.Lists.{drop_next}
+use Rattle.std.specs.List.{filter}
+use Rattle.basics.specs.Tests.{ask}
+use Rattle.basics.specs.Counts.{times}
 use Rattle.branches.specs.Branches.{marked_count, sum}
 
 -- ---- marks counted
 
--- what is counted, with the marks from the i-th cell on, is all of them
-pub record MarksCounted (marks : List ℕ) (count i : ℕ) : Type 0 where
-  pub so_far : i ≤ length marks
-  pub few : count ≤ i
-  pub same : count + marked_count (drop i marks) ≡ marked_count marks
-
-pub counted_none : (marks : List ℕ) → MarksCounted marks 0 0
-counted_none marks = record { so_far = omega arith; few = omega arith; same = omega arith }
-
-module _ {marks : List ℕ} {count i : ℕ} (C : MarksCounted marks count i) where
-  one_more : i < length marks → marked_count (drop i marks) ≡ bit (eqb (get_or marks i 0) 1) + marked_count (drop (i + 1) marks)
-  unfolding marked_count times
-  one_more h = ap marked_count (drop_next marks i 0 h)
-
-  pub counted-marked : i < length marks → get_or marks i 0 ≡ 1 → MarksCounted marks (count + 1) (i + 1)
-  counted-marked h e =
-      let m : marked_count (drop i marks) ≡ 1 + marked_count (drop (i + 1) marks) = rw (eq-eqb (get_or marks i 0) 1 e) at (one_more h) in
-      record { so_far = omega arith; few = omega (arith, C.few); same = omega (arith, C.same) }
-
-  pub counted-other : i < length marks → (get_or marks i 0 ≡ 1 → ⊥) → MarksCounted marks count (i + 1)
-  counted-other h n =
-      let m : marked_count (drop i marks) ≡ 0 + marked_count (drop (i + 1) marks) = rw (ne_eqb (get_or marks i 0) 1 n) at (one_more h) in
-      record { so_far = omega arith; few = omega (arith, C.few); same = omega (arith, C.same) }
-
-  pub counted-all : length marks ≤ i → count ≡ marked_count marks
-  unfolding marked_count times
-  counted-all h =
-      let z : marked_count (drop i marks) ≡ 0 = ap marked_count (drop_of_length-le marks h) in
-      omega (arith, C.same)
+-- the marks that a filter lets through
+pub counted : (marks : List ℕ) → length (filter (λ m. eqb m 1) marks) ≡ marked_count marks
+unfolding marked_count times
+counted [] = refl
+counted (m ∷ marks) = ask (eqb m 1) (λ t. rw t (omega (arith, counted marks))) (λ f. rw f (omega (arith, counted marks)))
 
 -- ---- lengths summed
 

@@ -11,7 +11,8 @@ use ends::Tap;
 use job_sheet::MAX_SINKS;
 use room::as_index;
 
-// How long each sink's branch is, in sheet order, 0 for a sink that has none yet; as one value with the sinks' count.
+// How long each sink's branch is, in sheet order, 0 for a sink that has none yet; as one value with the sinks' count. An
+// array with its count, and no Vec: nothing is put on a heap, and a net has at most sixteen sinks.
 #[derive(Clone, Copy)]
 pub struct BranchLengths {
     pub count: usize,
@@ -34,9 +35,10 @@ pub fn branch_length(count: usize, tap: Tap) -> usize
     ensures { result ≡ branch_length tap count }
 {
     if tap.terminal == tap.approach {
-        return count;
+        count
+    } else {
+        count + 1
     }
-    count + 1
 }
 
 // Writes a path from its end: a search goes from the approach to the tree, a branch from the tree to the sink.
@@ -44,12 +46,9 @@ fn write_reversed(path: &[u32], out: &mut [u32])
     requires { length path.now ≤ length out.old }
     ensures { out.new ≡ reverse path.now ++ drop (length path.now) out.old }
 {
-    let n = path.len();
-    let mut i: usize = 0;
-    while i < n {
-        out[i] = path[n - 1 - i];
-        i += 1;
-    }
+    let front = &mut out[..path.len()];
+    front.copy_from_slice(path);
+    front.reverse();
 }
 
 // Writes one branch to the front of what is left of the branch buffer.
@@ -65,32 +64,6 @@ fn write_branch(path: &[u32], tap: Tap, out: &mut [u32])
     }
 }
 
-// The first cell changes places with the last, and so on inwards.
-fn reverse(cells: &mut [u32])
-    ensures { cells.new ≡ reverse cells.old }
-{
-    let mut first: usize = 0;
-    let mut left = cells.len();
-    while 1 < left {
-        let last = first + (left - 1);
-        let cell = cells[first];
-        cells[first] = cells[last];
-        cells[last] = cell;
-        first += 1;
-        left -= 2;
-    }
-}
-
-// The cells from `mid` on come first, then those up to it: each part is reversed, and then the whole.
-fn rotate(cells: &mut [u32], mid: usize)
-    requires { mid ≤ length cells.old }
-    ensures { cells.new ≡ drop mid cells.old ++ take mid cells.old }
-{
-    reverse(&mut cells[..mid]);
-    reverse(&mut cells[mid..]);
-    reverse(cells);
-}
-
 // "Each branch goes into what is left of the branch buffer and is at last in sheet order": of the `used` cells those from `at`
 // on belong to later sinks, and the new branch moves before them.
 pub fn insert_branch(branches: &mut [u32], at: usize, used: usize, path: &[u32], tap: Tap)
@@ -101,7 +74,7 @@ pub fn insert_branch(branches: &mut [u32], at: usize, used: usize, path: &[u32],
 {
     write_branch(path, tap, &mut branches[used..]);
     let end = used + branch_length(path.len(), tap);
-    rotate(&mut branches[at..end], used - at);
+    branches[at..end].rotate_left(used - at);
 }
 
 // Marks these cells, among which one may stand twice.
@@ -109,10 +82,8 @@ pub fn mark_cells(marks: &mut [u8], cells: &[u32])
     requires { CellsBelow (length marks.old) cells.now }
     ensures { marks.new ≡ marked_by (stands_in cells.now) marks.old }
 {
-    let mut i: usize = 0;
-    while i < cells.len() {
-        routing_resources::mark(marks, as_index(cells[i]));
-        i += 1;
+    for cell in cells {
+        routing_resources::mark(marks, as_index(*cell));
     }
 }
 
@@ -120,15 +91,10 @@ pub fn mark_cells(marks: &mut [u8], cells: &[u32])
 pub fn count_marks(marks: &[u8]) -> usize
     ensures { result ≡ marked_count marks.now }
 {
-    let mut count: usize = 0;
-    let mut i: usize = 0;
-    while i < marks.len() {
-        if marks[i] == routing_resources::MARKED {
-            count += 1;
-        }
-        i += 1;
-    }
-    count
+    marks
+        .iter()
+        .filter(|mark| **mark == routing_resources::MARKED)
+        .count()
 }
 
 // How many cells the branches of the first k sinks have together: where the branch of the next sink stands.
@@ -138,10 +104,8 @@ pub fn joined_length(lengths: BranchLengths, k: usize) -> usize
     ensures { result ≡ sum (take k lengths.each) }
 {
     let mut sum: usize = 0;
-    let mut i: usize = 0;
-    while i < k {
-        sum += lengths.each[i];
-        i += 1;
+    for length in &lengths.each[..k] {
+        sum += *length;
     }
     sum
 }

@@ -1,5 +1,5 @@
 -- A cell is blocked exactly where it has a cause: at the outset, and turn by turn.
-use Rattle.std.specs.Prelude.{◌≡◌, ◌≢◌, Bool, true, false, not, ◌&&◌, ◌||◌, eqb, length, get_or, set, replicate}
+use Rattle.std.specs.Prelude.{◌≡◌, Bool, true, false, not, ◌&&◌, ◌||◌, eqb, length, get_or, set, replicate}
 use Rattle.std.proofs.Math.Path.{refl, sym, ap}
 use Rattle.std.proofs.Common.{◌∙◌, le_of_suc-le-suc, not-suc-le-zero, ne_eqb}
 use Rattle.std.proofs.Math.Bool.{or_assoc, or_comm, or-false, and-false}

@@ -1,5 +1,5 @@
 -- Laws of the causes: a bit added where its marks are, bits added one after another, and the branches that stand one behind the other.
-use Rattle.std.specs.Prelude.{◌≡◌, refl, Bool, true, false, List, [], ◌∷◌, ℕ, zero, suc, ◌+◌, ◌-◌, ◌≤◌, ◌<◌, eqb, length, get_or, take, drop, replicate}
+use Rattle.std.specs.Prelude.{◌≡◌, refl, Bool, true, false, List, [], ◌∷◌, ℕ, zero, suc, ◌+◌, ◌-◌, ◌≤◌, ◌<◌, length, get_or, take, drop, replicate}
 use Rattle.std.proofs.Common.{sym, ap, ◌∙◌, le_of_suc-le-suc, not-suc-le-zero, arith, get_or-take, drop-drop}
 use Rattle.std.proofs.Math.Bool.{or-false}
 use Rattle.std.proofs.lemmas.List.{length-replicate}
@@ -24,8 +24,7 @@ use Rattle.branches.specs.declared.BranchLengths.{BranchLengths}
 use Rattle.branches.specs.Branches.{sum, lengths_in, cut_into, branches_of}
 use Rattle.branches.specs.BranchLaws.{lengths-count}
 use Rattle.branches.specs.LoopLaws.{Summed, summed_none, summed_next}
-use Rattle.flood.specs.Walls.{tabled}
-use Rattle.flood.specs.TableLaws.{is-tabled, tabled-at, tabled-long}
+use Rattle.flood.specs.TableLaws.{is-tabled}
 use Rattle.why.specs.ObstacleLaws.{Turning}
 use Rattle.causes.specs.Causes.{bit_for, beside_conductor, foreign_cause, cleared_by, cause_of, own_bit, BitFree, BitAdded, OwnBranches, ForeignAsked, ForeignTold, CausesAsked, CausesTold}
 

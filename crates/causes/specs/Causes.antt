@@ -6,7 +6,7 @@ use Rattle.basics.specs.Tests.{either}
 use Rattle.basics.specs.Lists.{any}
 use Rattle.room.specs.declared.Room.{Room}
 use Rattle.room.specs.declared.Pos.{Pos}
-use Rattle.room.specs.Room.{Good, volume, cell_of}
+use Rattle.room.specs.Room.{volume, cell_of}
 use Rattle.routing_resources.specs.Marks.{AllCells}
 use Rattle.routing_resources.specs.Resources.{in_keepout, is_clearance}
 use Rattle.job_sheet.specs.declared.Job.{Job}

@@ -9,9 +9,10 @@ fn with_bit(cause: u8, bit: u8, mark: u8) -> u8
     ensures { result ≡ cause + bit_for bit (eqb mark 1) }
 {
     if mark == routing_resources::MARKED {
-        return cause + bit;
+        cause + bit
+    } else {
+        cause
     }
-    cause
 }
 
 // Adds a bit, which no byte has yet, where a cell is marked.
@@ -20,10 +21,7 @@ pub fn add_bit(marks: &[u8], bit: u8, causes: &mut [u8])
     requires bit_le_own_bit { bit ≤ own_bit }
     ensures { BitAdded (length marks.now) bit (is_marked marks.now) causes.old causes.new }
 {
-    let n = marks.len();
-    let mut v: usize = 0;
-    while v < n {
-        causes[v] = with_bit(causes[v], bit, marks[v]);
-        v += 1;
+    for (v, mark) in marks.iter().enumerate() {
+        causes[v] = with_bit(causes[v], bit, *mark);
     }
 }

@@ -28,7 +28,7 @@ pub fn add_positions(
     requires bit_le_own_bit { bit ≤ own_bit }
     ensures { BitAdded (volume room) bit (λ v. any (stands_at room v) (positions_in sheet.now part)) causes.old causes.new }
 {
-    lent::clear_bytes(marks);
+    lent::clear(marks);
     outset::mark_positions(sheet, part, room, marks);
     add_bit(marks, bit, causes);
 }
@@ -38,11 +38,9 @@ fn mark_keepouts(sheet: &[u8], part: Part, room: Room, marks: &mut [u8])
     requires { PositionsListed sheet.now room part marks.old }
     ensures { marks.new ≡ marked_by (λ v. any (beside_conductor room v) (positions_in sheet.now part)) marks.old }
 {
-    let mut i: usize = 0;
-    while i < part.count {
+    for i in 0..part.count {
         let at = job_sheet::position_at(sheet, part, i);
         routing_resources::electrical_keepout_for_wire(room, marks, room.cell(at));
-        i += 1;
     }
 }
 
@@ -52,7 +50,7 @@ pub fn add_keepouts(sheet: &[u8], part: Part, room: Room, marks: &mut [u8], caus
     requires bit_free { BitFree (volume room) keepout_bit causes.old }
     ensures { BitAdded (volume room) keepout_bit (λ v. any (beside_conductor room v) (positions_in sheet.now part)) causes.old causes.new }
 {
-    lent::clear_bytes(marks);
+    lent::clear(marks);
     mark_keepouts(sheet, part, room, marks);
     add_bit(marks, 2, causes);
 }
@@ -72,7 +70,7 @@ pub fn add_block_keepouts(
     requires bit_free { BitFree (volume room) block_bit causes.old }
     ensures { BitAdded (volume room) block_bit (λ v. any (block_keepout room kinds.now nodes.now v) (blocks_in sheet.now part)) causes.old causes.new }
 {
-    lent::clear_bytes(marks);
+    lent::clear(marks);
     outset::cell_source_keepout(sheet, part, room, kinds, nodes, marks);
     add_bit(marks, 32, causes);
 }
@@ -84,14 +82,11 @@ fn mark_own(room: Room, branches: &[u32], lengths: BranchLengths, marks: &mut [u
     requires marks_len { length marks.old ≡ volume room }
     ensures { marks.new ≡ marked_by (λ v. any (cleared_by room v) (branches_of lengths branches.now)) marks.old }
 {
-    let count = lengths.count;
     let mut from: usize = 0;
-    let mut k: usize = 0;
-    while k < count {
+    for k in 0..lengths.count {
         let to = from + lengths.each[k];
         routing_resources::branch_stair_clearances(room, &branches[from..to], marks);
         from = to;
-        k += 1;
     }
 }
 
@@ -109,7 +104,7 @@ pub fn add_own(
     requires bit_free { BitFree (volume room) own_bit causes.old }
     ensures { BitAdded (volume room) own_bit (λ v. any (cleared_by room v) (branches_of lengths branches.now)) causes.old causes.new }
 {
-    lent::clear_bytes(marks);
+    lent::clear(marks);
     mark_own(room, branches, lengths, marks);
     add_bit(marks, 64, causes);
 }

@@ -20,7 +20,7 @@ fn tell_foreign(
     ensures { ForeignTold sheet.now job kinds.now nodes.now causes.new }
 {
     let room = job.room;
-    lent::clear_bytes(causes);
+    lent::clear(causes);
     add_positions(sheet, job.conductors, room, 1, marks, causes);
     add_keepouts(sheet, job.conductors, room, marks, causes);
     add_positions(sheet, job.clearances, room, 4, marks, causes);

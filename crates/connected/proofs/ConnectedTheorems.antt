@@ -1,5 +1,5 @@
 -- THE WHOLE NET HANGS TOGETHER: what Connected claims, of each grown tree and of each tree that `route_net_tree` answers.
-use Rattle.std.specs.Prelude.{◌≡◌, refl, ◌⊎◌, ◌≢◌, true, false, List, [], ◌∷◌, ℕ, ◌<◌, length, get_or}
+use Rattle.std.specs.Prelude.{◌≡◌, Ok, refl, ◌⊎◌, ◌≢◌, true, false, List, [], ◌∷◌, ℕ, ◌<◌, length, get_or}
 use Rattle.std.proofs.Common.{sym, ap, ◌∙◌, inl, inr, ⊎_elim, arith, eqb-true}
 use Rattle.std.proofs.lemmas.List.{length-replicate}
 use Rattle.basics.specs.Tests.{ask, never}
@@ -13,9 +13,8 @@ use Rattle.repeaters.specs.NetEnds.{net_end_marks, is_net_end}
 use Rattle.multinet.specs.Tree.{Plot, Tree, grown, growth_of, tap_at, repeaters_of}
 use Rattle.multinet.specs.Growing.{SoundPlot}
 use Rattle.net_tree.specs.declared.Lengths.{Lengths}
-use Rattle.net_tree.specs.declared.Answer as trees
-use Rattle.net_tree.specs.declared.Ended.TheVariants.{Routed, Refused}
-use Rattle.net_tree.specs.Answers.{Lent, lengths_of, TreeOutcome, routed, no_tree, Comes, answer_of, lent_after, Promise}
+use Rattle.net_tree.specs.declared.Tree as trees
+use Rattle.net_tree.specs.Answers.{Answer, Lent, lengths_of, TreeOutcome, routed, no_tree, Comes, answer_of, lent_after, Promise}
 use Rattle.net_tree.specs.SheetTrees.{TreeOf}
 use Rattle.net_tree.specs.SheetTreeLaws.{tree_of}
 use Rattle.connected.specs.Grafts.{OnSome, TreeFrom}
@@ -95,9 +94,9 @@ net-connected : {mode : Mode} {sheet : List ℕ} {L : Lengths} {branches : List 
 net-connected T = record { tree_of = T; connected = connected T.sound T.blocked T.tree T.grows }
 
 -- from the promise alone: each tree answered hangs together
-pub answer-connected : {mode : Mode} {sheet : List ℕ} {B : Lent} {r : trees.Answer} {B' : Lent} → Promise mode sheet B r B' → {cells marks : ℕ} → r.ended ≡ Routed cells marks
+pub answer-connected : {mode : Mode} {sheet : List ℕ} {B : Lent} {r : Answer} {B' : Lent} → Promise mode sheet B r B' → {tree : trees.Tree} → r ≡ Ok tree
     → AnswerConnected mode sheet B r B'
-answer-connected {mode} {sheet} {B} {r} {B'} K {cells} {marks} e = go K.outcome K.comes K.answer K.lent_is
+answer-connected {mode} {sheet} {B} {r} {B'} K {tree} e = go K.outcome K.comes K.answer K.lent_is
   where
     go : (o : TreeOutcome) → Comes mode sheet (lengths_of B) o → r ≡ answer_of o → B' ≡ lent_after o B → AnswerConnected mode sheet B r B'
     go (routed branches occupied repeaters) c a l = record {
@@ -108,4 +107,4 @@ answer-connected {mode} {sheet} {B} {r} {B'} K {cells} {marks} e = go K.outcome 
       lent_is = l;
       net = net-connected (tree_of c);
     }
-    go (no_tree number detail) c a l = let z : Refused number detail ≡ Routed cells marks = sym (ap (λ x. x.ended) a) ∙ e in never (cc)
+    go (no_tree number detail) c a l = let z : answer_of (no_tree number detail) ≡ Ok tree = sym a ∙ e in never (cc)

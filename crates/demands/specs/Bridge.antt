@@ -1,5 +1,5 @@
 -- A move of a room's graph is a lawful step at its cost, and a lawful step is such a move; so a way through the graph is a lawful way.
-use Rattle.std.specs.Prelude.{◌≡◌, true, ℕ, ◌+◌, ◌≤◌, eqb}
+use Rattle.std.specs.Prelude.{◌≡◌, true, ℕ, ◌+◌, ◌≤◌, eqb, Option, Some, None}
 use Rattle.std.proofs.Math.Path.{refl, sym}
 use Rattle.std.proofs.Common.{◌∙◌, inl, inr, arith}
 use mathlib.Core.List.{List, [], ◌∷◌, ◌++◌}
@@ -9,8 +9,6 @@ use Rattle.basics.specs.Lists.{In}
 use Rattle.room.specs.declared.Room.{Room}
 use Rattle.room.specs.declared.Move.{Move}
 use Rattle.room.specs.declared.RouterConfig.{RouterConfig}
-use Rattle.room.specs.declared.Neighbour.{Neighbour}
-use Rattle.room.specs.declared.Neighbour.TheVariants.{Inside, Outside}
 use Rattle.room.specs.Room.{Good, pos_of, moves, neighbour, apart, move_between}
 use Rattle.room.specs.Units.{air, solid, transparent, redstone_block}
 use Rattle.room.specs.MoveLaws.{Moved, small, leads, leads-cell, apart_by, between-moved, between-listed}
@@ -40,7 +38,7 @@ module _ (T : Task) (v : ℕ) where
 
 -- ---- each move that leads to a cell that can be entered makes a move of the graph
 
-module _ (R : Room) (C : RouterConfig) (class : ℕ → ℕ) (u : ℕ) (m : Move) (v : ℕ) (leads_in : neighbour R u m ≡ Inside v) (can_enter_lem : class v ≡ 0 → ⊥) where
+module _ (R : Room) (C : RouterConfig) (class : ℕ → ℕ) (u : ℕ) (m : Move) (v : ℕ) (leads_in : neighbour R u m ≡ Some v) (can_enter_lem : class v ≡ 0 → ⊥) where
   abbrev g : Search.Move
   g = record { to = v; cost = total (price_of C m (class v)) }
 
@@ -50,9 +48,9 @@ module _ (R : Room) (C : RouterConfig) (class : ℕ → ℕ) (u : ℕ) (m : Move
   makes (k ∷ ms) (inl e) = rw (sym e, leads_in, ne_eqb (class v) 0 can_enter_lem) (inl refl)
   makes (k ∷ ms) (inr i) = past (neighbour R u k) (makes ms i)
     where
-      past : (w : Neighbour) → In g (moves_by R C class u ms) → In g (move_into C class k w ++ moves_by R C class u ms)
-      past Outside j = j
-      past (Inside t) j = ask (eqb (class t) 0) (λ z. rw z j) (λ z. rw z (inr j))
+      past : (w : Option ℕ) → In g (moves_by R C class u ms) → In g (move_into C class k w ++ moves_by R C class u ms)
+      past None j = j
+      past (Some t) j = ask (eqb (class t) 0) (λ z. rw z j) (λ z. rw z (inr j))
 
 -- ---- a move by positions
 
@@ -72,7 +70,7 @@ module _ (T : Task) where
   unfolding price_of step_cost
   price-exactly u v m k e = rw (class_is T v e, support_laid (support_of T v), unmoved-exactly _ _ _ k.y_by)
 
-  move-lawful : (u : ℕ) (m : Move) (v : ℕ) → In m moves → neighbour T.room u m ≡ Inside v → (entering T v ≡ 0 → ⊥)
+  move-lawful : (u : ℕ) (m : Move) (v : ℕ) → In m moves → neighbour T.room u m ≡ Some v → (entering T v ≡ 0 → ⊥)
       → LawfulStep T u v × (total (price_of T.config m (entering T v)) ≡ step_cost T u v)
   move-lawful u m v i e n =
       let l = leads T.room u m v e in

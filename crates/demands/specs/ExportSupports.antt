@@ -1,12 +1,12 @@
 -- The totals of a route, from the promise of `dustroute_search` alone: what a caller reads in the values who lends four of them or more.
-use Rattle.std.specs.Prelude.{◌≡◌, refl, ◌≢◌, List, ℕ, ◌+◌, ◌*◌, ◌≤◌, length, get_or}
+use Rattle.std.specs.Prelude.{◌≡◌, refl, ◌≢◌, List, ℕ, ◌+◌, ◌*◌, ◌≤◌, length, get_or, Ok, Err}
 use Rattle.std.proofs.Common.{sym, ◌∙◌, arith, take_all}
 use Rattle.lent.specs.Lent.{filled}
 use Rattle.routing.specs.declared.Route.{Route}
 use Rattle.routing.specs.declared.Refusal.{Refusal}
 use Rattle.routing.specs.declared.Refusal.TheVariants.{Sides, Config, Buffer, Code, Position}
-use Rattle.routing.specs.declared.Answer.{Answer}
-use Rattle.routing.specs.declared.Answer.TheVariants.{Routed, Refused, NotRouteable, NoRoute, LimitPassed, QueueFull}
+use Rattle.routing.specs.Answers.{Answer}
+use Rattle.routing.specs.declared.Unrouted.TheVariants.{Refused, NotRouteable, NoRoute, LimitPassed, QueueFull}
 use Rattle.routing.specs.Answers.{Input, answer_of, number_of, refusal_number}
 use Rattle.reply.specs.Replies.{no_route, route_of}
 use Rattle.exports.specs.Export.{Exported, values_of, values_told}
@@ -33,26 +33,26 @@ refused-some Code e = omega arith
 refused-some Position e = omega arith
 
 -- number 0 is a route's alone
-routed : (a : Answer) → number_of a ≡ 0 → (w : Route) × (a ≡ Routed w)
-routed (Routed w) e = (w, refl)
-routed (Refused why) e = absurd (refused-some why e)
-routed (NotRouteable cell) e = absurd (omega arith)
-routed (NoRoute x) e = absurd (omega arith)
-routed (LimitPassed x) e = absurd (omega arith)
-routed (QueueFull x) e = absurd (omega arith)
+routed : (a : Answer) → number_of a ≡ 0 → (w : Route) × (a ≡ Ok w)
+routed (Ok w) e = (w, refl)
+routed (Err (Refused why)) e = absurd (refused-some why e)
+routed (Err (NotRouteable cell)) e = absurd (omega arith)
+routed (Err (NoRoute x)) e = absurd (omega arith)
+routed (Err (LimitPassed x)) e = absurd (omega arith)
+routed (Err (QueueFull x)) e = absurd (omega arith)
 
 none : (a : Answer) → number_of a ≢ 0 → route_of a ≡ no_route
-none (Routed w) n = absurd (n refl)
-none (Refused why) n = refl
-none (NotRouteable cell) n = refl
-none (NoRoute x) n = refl
-none (LimitPassed x) n = refl
-none (QueueFull x) n = refl
+none (Ok w) n = absurd (n refl)
+none (Err (Refused why)) n = refl
+none (Err (NotRouteable cell)) n = refl
+none (Err (NoRoute x)) n = refl
+none (Err (LimitPassed x)) n = refl
+none (Err (QueueFull x)) n = refl
 
 -- seven values and zeros behind them, where a route is told
-module _ (w : Route) (values values' : List ℕ) (e : values' ≡ values_told (Routed w) values) (h : 7 ≤ length values) where
-  all_told : values' ≡ filled (values_of (Routed w)) values
-  all_told = rw (take_all (length values) (values_of (Routed w)) h) at e
+module _ (w : Route) (values values' : List ℕ) (e : values' ≡ values_told (Ok w) values) (h : 7 ≤ length values) where
+  all_told : values' ≡ filled (values_of (Ok w)) values
+  all_told = rw (take_all (length values) (values_of (Ok w)) h) at e
 
   module _ {I : Input} {path path' : List ℕ} (H : TotalsHeld I path w path') where
     two_add_up : get_or values' 4 0 + get_or values' 5 0 ≡ get_or values' 2 0

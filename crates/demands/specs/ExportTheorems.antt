@@ -2,7 +2,7 @@
 -- buffer what Statements has it say. Fewer than four values are refused, and nothing is said then.
 use Rattle.std.specs.Prelude.{◌≡◌, refl, true, List, ℕ, ◌≤◌, leb, length}
 use Rattle.std.proofs.Common.{le-leb}
-use Rattle.routing.specs.declared.Answer.{Answer}
+use Rattle.routing.specs.Answers.{Answer}
 use Rattle.routing.specs.Answers.{Input, Promise, answer_of, number_of}
 use Rattle.exports.specs.Export.{Exported, exported, values_told}
 use Rattle.demands.specs.Statements.{Meaning}

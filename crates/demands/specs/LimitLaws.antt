@@ -1,13 +1,11 @@
 -- A QUEUE OF 11 PLACES FOR EACH NODE OF THE LIMIT, AND ONE MORE, IS NEVER FULL, at any costs: a cell that is expanded leaves its place and enters at most
 -- twelve others.
-use Rattle.std.specs.Prelude.{◌≡◌, ◌≢◌, eqb, length}
+use Rattle.std.specs.Prelude.{◌≡◌, ◌≢◌, eqb, length, Option, Some, None}
 use Rattle.std.proofs.Math.Path.{refl}
 use Rattle.std.proofs.Common.{sym, ◌∙◌, arith, mul-le-mul_left}
 use mathlib.Core.List.{List, []}
 use Prim.Native.Nat.{ℕ, zero, suc, ◌+◌, ◌*◌, ◌≤◌, ◌<◌}
 use Rattle.basics.specs.Tests.{ask, never}
-use Rattle.room.specs.declared.Neighbour.{Neighbour}
-use Rattle.room.specs.declared.Neighbour.TheVariants.{Inside, Outside}
 use Rattle.room.specs.Room.{volume}
 use Rattle.best_first.specs.Search.{Graph, State, Taken, Pushed, full, on, push, Answer, route, no_route, limit-passed, queue-full, take_all, first_state, best_first}
 use Rattle.best_first.specs.Ways.{Sound}
@@ -99,10 +97,10 @@ module _ (S : Site) (start : ℕ) (start_in : start < volume S.room) (wide : 11 
   limit-attempts goal h zero blocked x e = never (cc)
   limit-attempts goal h (suc n) blocked x e = after (searched_for (site_task S blocked start goal)) refl e (limit-attempts goal h n)
     where
-      at : (p : List ℕ) (c : ℕ) (place : Neighbour) → at_conflict blocked start goal (attempts n S start goal) (found p c) place ≡ goals.full x
+      at : (p : List ℕ) (c : ℕ) (place : Option ℕ) → at_conflict blocked start goal (attempts n S start goal) (found p c) place ≡ goals.full x
           → ((more : List ℕ) (y : ℕ) → attempts n S start goal more ≢ goals.full y) → ⊥
-      at p c Outside q later = never (cc)
-      at p c (Inside v) q later =
+      at p c None q later = never (cc)
+      at p c (Some v) q later =
           ask (ends_goal blocked start goal v) (λ t. never (cc (rw t at q))) (λ no. later (marked_by (eqb v) blocked) x (rw no at q))
 
       after : (trial : Trial) → searched_for (site_task S blocked start goal) ≡ trial → after_search S blocked start goal (attempts n S start goal) trial ≡ goals.full x

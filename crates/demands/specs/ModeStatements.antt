@@ -1,8 +1,6 @@
 -- What a search's steps are in each mode, said by the room's own kinds and the blocked marks, so that a reader need not know what blocked Air is seen as:
 -- definitions only. "Blocked air may be neither entered nor used as support; the search's own start and goal stay exempt from blocking."
-use Rattle.std.specs.Prelude.{◌≡◌, ◌↔◌, Bool, true, false, List, ℕ, ◌+◌, ◌≤◌}
-use Rattle.room.specs.declared.Neighbour.{Neighbour}
-use Rattle.room.specs.declared.Neighbour.TheVariants.{Inside, Outside}
+use Rattle.std.specs.Prelude.{◌≡◌, ◌↔◌, Bool, true, false, List, ℕ, ◌+◌, ◌≤◌, Option, Some, None}
 use Rattle.room.specs.Room.{beneath}
 use Rattle.ground.specs.declared.Mode.{Mode}
 use Rattle.ground.specs.declared.Mode.TheVariants.{Published, Strict}
@@ -17,9 +15,9 @@ abbrev pub open_task : Site → ℕ → ℕ → Task
 open_task S start goal = record { room = S.room; config = S.config; kinds = S.kinds; start = start; goal = goal; places = S.places }
 
 -- right beneath a cell is blocked Air, neither the start nor the goal
-abbrev pub blocked_in : List ℕ → List ℕ → ℕ → ℕ → Neighbour → Bool
-blocked_in kinds blocked start goal (Inside u) = blocked_air kinds blocked start goal u
-blocked_in kinds blocked start goal Outside = false
+abbrev pub blocked_in : List ℕ → List ℕ → ℕ → ℕ → Option ℕ → Bool
+blocked_in kinds blocked start goal (Some u) = blocked_air kinds blocked start goal u
+blocked_in kinds blocked start goal None = false
 
 abbrev pub rests_on_blocked : Site → List ℕ → ℕ → ℕ → ℕ → Bool
 rests_on_blocked S blocked start goal v = blocked_in S.kinds blocked start goal (beneath S.room v)

@@ -1,11 +1,9 @@
 -- THE STEPS OF EACH MODE: what ModeStatements claims. A search's steps, which are those of the room as it is seen, are said by the room's own kinds and the
 -- blocked marks, once over both modes; and strict ways are ways of the published mode at the same price.
-use Rattle.std.specs.Prelude.{◌≡◌, refl, true, false, List, [], ◌∷◌, ℕ, ◌+◌, ◌<◌, eqb, length}
+use Rattle.std.specs.Prelude.{◌≡◌, refl, true, false, List, [], ◌∷◌, ℕ, ◌+◌, ◌<◌, eqb, length, Option, Some, None}
 use Rattle.std.proofs.Common.{sym, ◌∙◌}
 use native.Mathlib.Omega.{arith}
 use Rattle.basics.specs.Tests.{ask, never}
-use Rattle.room.specs.declared.Neighbour.{Neighbour}
-use Rattle.room.specs.declared.Neighbour.TheVariants.{Inside, Outside}
 use Rattle.room.specs.Room.{Good, volume, beneath}
 use Rattle.room.specs.RoomLaws.{beneath_in}
 use Rattle.room.specs.Units.{air}
@@ -68,18 +66,18 @@ module _ (S : Site) (long : length S.kinds ≡ volume S.room) (blocked : List �
   support_open : (v : ℕ) → v < volume S.room → rests_on_blocked S blocked start goal v ≡ false → support_of seen v ≡ support_of plain v
   support_open v h = go (beneath S.room v) refl
     where
-      go : (place : Neighbour) → beneath S.room v ≡ place → blocked_in S.kinds blocked start goal place ≡ false
+      go : (place : Option ℕ) → beneath S.room v ≡ place → blocked_in S.kinds blocked start goal place ≡ false
           → kind_at (seen_kinds S.mode S.kinds blocked start goal) place ≡ kind_at S.kinds place
-      go (Inside u) e f = seen_open S.kinds blocked start goal u S.mode (rw long (beneath_in S.room v u h e)) f
-      go Outside e f = refl
+      go (Some u) e f = seen_open S.kinds blocked start goal u S.mode (rw long (beneath_in S.room v u h e)) f
+      go None e f = refl
 
   support_blocked : (v : ℕ) → v < volume S.room → rests_on_blocked S blocked start goal v ≡ true → (support_of seen v ≡ wall_of S.mode) × (support_of plain v ≡ air)
   support_blocked v h = go (beneath S.room v) refl
     where
-      go : (place : Neighbour) → beneath S.room v ≡ place → blocked_in S.kinds blocked start goal place ≡ true
+      go : (place : Option ℕ) → beneath S.room v ≡ place → blocked_in S.kinds blocked start goal place ≡ true
           → (kind_at (seen_kinds S.mode S.kinds blocked start goal) place ≡ wall_of S.mode) × (kind_at S.kinds place ≡ air)
-      go (Inside u) e t = (seen-blocked S.kinds blocked start goal u S.mode (rw long (beneath_in S.room v u h e)) t, blocked-is-air S.kinds blocked start goal u t)
-      go Outside e t = never (cc)
+      go (Some u) e t = (seen-blocked S.kinds blocked start goal u S.mode (rw long (beneath_in S.room v u h e)) t, blocked-is-air S.kinds blocked start goal u t)
+      go None e t = never (cc)
 
   mode-step : (u v : ℕ) → LawfulStep seen u v → ModeStep S blocked start goal u v
   mode-step u v s =

@@ -21,10 +21,10 @@ use Rattle.job_sheet.specs.UsualLimits.{usual_run, usual_tail}
 use Rattle.job_sheet.specs.Version.{version_of, version_in, sides_within, costs_within, config_within, limit_within}
 use Rattle.job_sheet.specs.Sheet as sheets
 use Rattle.job_sheet.specs.Sheet.{Contents, max_bytes, max_sinks, rest, bytes_by, tells_limits, first_fault, block_fault, endpoint_fault, sink_fault, judged}
-use Rattle.blocks.specs.declared.Placement.{Placement}
+use Rattle.blocks.specs.Blocks.{Placed}
 use Rattle.blocks.specs.Blocks.{of_block, tabulated, kinds_of, nodes_of, record_node, Repeat, each-its-own}
 use Rattle.ends.specs.Ends as endings
-use Rattle.outset.specs.declared.Outset.{Outset}
+use Rattle.outset.specs.SetOut.{Outset}
 use Rattle.outset.specs.Outset as outset-of
 use Rattle.outset.specs.SetOut.{ready}
 use Rattle.geometry.specs.Geometry.{stands_in, conductor, upper_of_pair, first_pair, at_clearance, stair_conflict, conflict_among}
@@ -53,7 +53,7 @@ alone R bs few i r =
     ]
 
 abbrev outset_for : Contents → Outset
-outset_for J = record { placement = Placement.Placed; ends = endings.ends_of J.room J.source J.sinks }
+outset_for J = record { placement = Placed; fault = endings.fault_of J.room J.source J.sinks; ends = endings.ends_of J.room J.source J.sinks }
 
 abbrev blocked_for : Contents → List ℕ
 blocked_for J =
@@ -73,6 +73,7 @@ comes-by mode J {sheet} bytes limits short few good lent one is-ready is =
     (blocked_for J)
     (record {
       laid = record { placing = each-its-own (alone J.room J.blocks one) refl; kinds-are = refl; nodes-are = refl };
+      fault-is = refl;
       ends-are = refl;
       blocked-are = rw is-ready;
     })

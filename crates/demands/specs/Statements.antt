@@ -1,16 +1,15 @@
 -- What the theorems claim of one search over a room of kinds: definitions only. The defined search is `searched`; lawful steps and ways are said by
 -- positions, apart from it, in the file Lawful beside it.
-use Rattle.std.specs.Prelude.{◌≡◌, ◌⊎◌, ◌≢◌, ◌↔◌, true, List, ◌∷◌, ◌++◌, ℕ, ◌+◌, ◌-◌, ◌*◌, ◌≤◌, ◌<◌, length, replicate}
+use Rattle.std.specs.Prelude.{◌≡◌, ◌⊎◌, ◌≢◌, ◌↔◌, true, List, ◌∷◌, ◌++◌, ℕ, ◌+◌, ◌-◌, ◌*◌, ◌≤◌, ◌<◌, length, replicate, Ok, Err}
 use Rattle.numbers.specs.Refusals.{done_number, no_route_number, limit_passed_number, queue_full_number}
 use Rattle.room.specs.declared.Room.{Room}
 use Rattle.room.specs.declared.RouterConfig.{RouterConfig}
 use Rattle.room.specs.Room.{Good, volume}
 use Rattle.room_search.specs.Routing.{Task, routeable}
 use Rattle.demands.specs.Lawful.{LawfulWay, way_cost}
-use Rattle.routing.specs.declared.Answer.{Answer}
-use Rattle.routing.specs.declared.Answer.TheVariants.{Routed, Refused, NotRouteable, NoRoute, LimitPassed, QueueFull}
+use Rattle.routing.specs.Answers.{Answer}
+use Rattle.routing.specs.declared.Unrouted.TheVariants.{Refused, NotRouteable, NoRoute, LimitPassed, QueueFull}
 use Rattle.routing.specs.declared.Route.{Route}
-use Rattle.routing.specs.declared.Judgement.TheVariants.{Fit}
 use Rattle.routing.specs.Answers.{Input, task_of, judged, number_of}
 
 -- ---- of which tasks
@@ -56,18 +55,18 @@ NoLawfulWay T = (after : List ℕ) → LawfulWay T after → ⊥
 
 -- how many cells were expanded: a route's count, and the detail of 11, 12 and 13; with any other number nothing was searched
 abbrev pub expanded_for : Answer → ℕ
-expanded_for (Routed r) = r.expanded.0
-expanded_for (Refused why) = 0
-expanded_for (NotRouteable cell) = 0
-expanded_for (NoRoute x) = x.0
-expanded_for (LimitPassed x) = x.0
-expanded_for (QueueFull x) = x.0
+expanded_for (Ok r) = r.expanded.0
+expanded_for (Err (Refused why)) = 0
+expanded_for (Err (NotRouteable cell)) = 0
+expanded_for (Err (NoRoute x)) = x.0
+expanded_for (Err (LimitPassed x)) = x.0
+expanded_for (Err (QueueFull x)) = x.0
 
 -- ---- of the public search
 
 -- no number from 2 to 10 is due: "good input, both ends fit for wire"
 pub record Unrefused (I : Input) : Type 0 where
-  pub fit : judged I ≡ Fit
+  pub fit : judged I ≡ Ok tt
   pub start-free : routeable (task_of I) I.start ≡ true
   pub goal-free : routeable (task_of I) I.goal ≡ true
 
@@ -84,7 +83,7 @@ pub record RouteHeld (I : Input) (path : List ℕ) (route : Route) (path' : List
 -- it is 0 or 11, and 11 exactly when no lawful way exists; neither limit is reported then; "The search expands at most 12 cells per cell of the room",
 -- whatever its number; and at any costs 11 places for each node of the limit, and one more, never give 13
 pub record Meaning (I : Input) (path : List ℕ) (r : Answer) (path' : List ℕ) : Type 0 where
-  pub route-held : (route : Route) → r ≡ Routed route → RouteHeld I path route path'
+  pub route-held : (route : Route) → r ≡ Ok route → RouteHeld I path route path'
   pub no_route_true : number_of r ≡ no_route_number → NoLawfulWay (task_of I)
   pub no_route_exactly : Unrefused I → Priced I.config → Enough I.room I.config (task_of I).places → (number_of r ≡ no_route_number) ↔ NoLawfulWay (task_of I)
   pub settled : Unrefused I → Priced I.config → Enough I.room I.config (task_of I).places → (number_of r ≡ done_number) ⊎ (number_of r ≡ no_route_number)

@@ -1,13 +1,12 @@
 -- The totals of a route, from the promise of the search alone: at any costs they are those of the path as answered, and add up to its cost.
-use Rattle.std.specs.Prelude.{◌≡◌, refl, ◌⊎◌, List, [], ◌∷◌, ℕ, ◌+◌, ◌*◌, eqb, length}
+use Rattle.std.specs.Prelude.{◌≡◌, refl, ◌⊎◌, List, [], ◌∷◌, ℕ, ◌+◌, ◌*◌, eqb, length, Ok}
 use Rattle.std.proofs.Common.{sym, ap, ◌∙◌, inl, inr, zero-mul, one-mul, add-mul, arith}
 use Rattle.basics.specs.Tests.{ask, never}
 use Rattle.room.specs.Units.{air}
 use Rattle.best_first.specs.Search.{Answer, route, no_route, limit-passed, queue-full}
 use Rattle.room_search.specs.Routing.{Task, searched}
 use Rattle.routing.specs.declared.Route.{Route}
-use Rattle.routing.specs.declared.Answer as public
-use Rattle.routing.specs.declared.Answer.TheVariants.{Routed}
+use Rattle.routing.specs.Answers as public
 use Rattle.routing.specs.Totals.{step_of, laid_at, steps_from, laid_along, path_steps, path_laid}
 use Rattle.routing.specs.Answers.{Input, task_of, answered, answer_of, number_of, Promise}
 use Rattle.reply.specs.Replies.{route_of}
@@ -38,11 +37,11 @@ module _ (T : Task) where
 
 module _ (I : Input) {path known previous classes queue : List ℕ} {r : public.Answer} {path' known' previous' classes' queue' : List ℕ}
     (K : Promise I path known previous classes queue r path' known' previous' classes' queue') where
-  held : (w : Route) → r ≡ Routed w → Unrefused I ⊎ Unsearched (answer_of I) → TotalsHeld I path w path'
+  held : (w : Route) → r ≡ Ok w → Unrefused I ⊎ Unsearched (answer_of I) → TotalsHeld I path w path'
   held w z (inr n) = absurd (omega (arith, n.some, ap number_of (sym K.answer ∙ z)))
   held w z (inl U) = go (searched (task_of I)) refl (sym (said I U) ∙ sym K.answer ∙ z)
     where
-      go : (a : Answer) → searched (task_of I) ≡ a → answered (task_of I) a ≡ Routed w → TotalsHeld I path w path'
+      go : (a : Answer) → searched (task_of I) ≡ a → answered (task_of I) a ≡ Ok w → TotalsHeld I path w path'
       go (route cells cost x) e q =
           let T = task_of I in
           let L = route-lawful (ready I U) e in

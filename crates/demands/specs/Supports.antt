@@ -1,10 +1,9 @@
 -- What is claimed of a route's totals, at any costs: definitions only. The totals of a path are defined beside the promise of the search, in
 -- routing/specs/Totals; here they are said of ways, beside what a way costs (`way_cost`).
-use Rattle.std.specs.Prelude.{◌≡◌, List, ◌∷◌, ◌++◌, ℕ, ◌+◌, ◌-◌, ◌*◌, length, replicate}
+use Rattle.std.specs.Prelude.{◌≡◌, List, ◌∷◌, ◌++◌, ℕ, ◌+◌, ◌-◌, ◌*◌, length, replicate, Ok}
 use Rattle.room_search.specs.Routing.{Task}
 use Rattle.routing.specs.declared.Route.{Route}
-use Rattle.routing.specs.declared.Answer.{Answer}
-use Rattle.routing.specs.declared.Answer.TheVariants.{Routed}
+use Rattle.routing.specs.Answers.{Answer}
 use Rattle.routing.specs.Totals.{steps_from, laid_along}
 use Rattle.routing.specs.Answers.{Input, task_of}
 use Rattle.demands.specs.Lawful.{LawfulWay}
@@ -30,4 +29,4 @@ pub record TotalsHeld (I : Input) (path : List ℕ) (route : Route) (path' : Lis
 
 -- so does each route of an answer
 abbrev pub TotalsTold : Input → List ℕ → Answer → List ℕ → Type 0
-TotalsTold I path r path' = (route : Route) → r ≡ Routed route → TotalsHeld I path route path'
+TotalsTold I path r path' = (route : Route) → r ≡ Ok route → TotalsHeld I path route path'

@@ -1,6 +1,6 @@
 -- THE THIRD DEMAND, said of rooms: their kinds, costs and ends. Statements says what is claimed; the search over any graph has its own theorems,
 -- and Bridge shows that the moves of a room's graph are the lawful steps at their costs.
-use Rattle.std.specs.Prelude.{◌≡◌, ◌⊎◌, ◌≢◌, ◌↔◌, List, ℕ, suc, ◌+◌, ◌-◌, ◌*◌, ◌^◌, ◌≤◌, ◌<◌, max, eqb}
+use Rattle.std.specs.Prelude.{◌≡◌, ◌⊎◌, ◌≢◌, ◌↔◌, List, ℕ, suc, ◌+◌, ◌-◌, ◌*◌, ◌^◌, ◌≤◌, ◌<◌, max, eqb, Ok, Err}
 use Rattle.std.proofs.Math.Path.{refl, sym, subst}
 use Rattle.std.proofs.Common.{ap, ◌∙◌, zero-le, arith}
 use Rattle.std.proofs.Math.Logic.{inl, inr}
@@ -13,19 +13,17 @@ use Rattle.best_first.specs.Search.{State, Taken, on, one_more_expanded, Answer,
 use Rattle.best_first.specs.Ways.{GraphStep, Way, Sound, Consistent}
 use Rattle.best_first.specs.Statements.{Honest, Right, Decided, by-route, by_no_route, expanded_of, known_at, Taking, outcome, Reached, pushes, Slacks}
 use Rattle.best_first.proofs.Theorems as any-graph
-use Rattle.routing.specs.declared.Judgement.{Judgement}
-use Rattle.routing.specs.declared.Judgement.TheVariants.{Fit, Unfit}
 use Rattle.routing.specs.declared.Refusal.{Refusal}
 use Rattle.routing.specs.declared.Refusal.TheVariants.{Sides, Config, Buffer, Code, Position}
 use Rattle.routing.specs.declared.Route.{Route}
-use Rattle.routing.specs.declared.Answer as public
-use Rattle.routing.specs.declared.Answer.TheVariants.{Routed, Refused, NotRouteable, NoRoute, LimitPassed, QueueFull}
+use Rattle.routing.specs.Answers as public
+use Rattle.routing.specs.declared.Unrouted.TheVariants.{Refused, NotRouteable, NoRoute, LimitPassed, QueueFull}
 use Rattle.room_search.specs.Routing.{Task, routeable, entering, graph_of, graph, searched}
 use Rattle.room.specs.Units.{dearest, max_nodes, GoodConfig}
 use Rattle.room.specs.UnitLaws.{max_estimate, sums_fit}
 use Rattle.room_search.specs.GraphLaws.{sound, consistent}
 use Rattle.demands.specs.Lawful.{LawfulStep, step_cost, LawfulWay, way_cost}
-use Rattle.routing.specs.Answers.{Input, task_of, judged, answered, fit_answer, answer_of, number_of, route_cost, Promise}
+use Rattle.routing.specs.Answers.{Input, task_of, judged, answered, fit_answer, answer_of, number_of, route_cost, Promise, Judgement}
 use Rattle.routing.specs.PromiseLaws.{admitted}
 use Rattle.demands.specs.Statements.{Posed, Priced, Ample, Enough, Lawful, Cheapest, NoLawfulWay, expanded_for, Unrefused, RouteHeld, Meaning}
 use Rattle.demands.specs.Numbers.{number_no_route, number-full, number-settled, same-expanded}
@@ -168,24 +166,20 @@ pub record Unsearched (a : public.Answer) : Type 0 where
   pub small : number_of a ≤ 10
   pub none-expanded : expanded_for a ≡ 0
 
-unsearched_refused : (why : Refusal) → Unsearched (Refused why)
+unsearched_refused : (why : Refusal) → Unsearched (Err (Refused why))
 unsearched_refused Sides = record { some = omega arith; small = omega arith; none-expanded = refl }
 unsearched_refused Config = record { some = omega arith; small = omega arith; none-expanded = refl }
 unsearched_refused Buffer = record { some = omega arith; small = omega arith; none-expanded = refl }
 unsearched_refused Code = record { some = omega arith; small = omega arith; none-expanded = refl }
 unsearched_refused Position = record { some = omega arith; small = omega arith; none-expanded = refl }
 
-unsearched_end : (cell : ℕ) → Unsearched (NotRouteable cell)
+unsearched_end : (cell : ℕ) → Unsearched (Err (NotRouteable cell))
 unsearched_end cell = record { some = omega arith; small = omega arith; none-expanded = refl }
 
 -- a route's length, 0 where there is none
 abbrev length_told : public.Answer → ℕ
-length_told (Routed w) = w.length
-length_told (Refused why) = 0
-length_told (NotRouteable cell) = 0
-length_told (NoRoute x) = 0
-length_told (LimitPassed x) = 0
-length_told (QueueFull x) = 0
+length_told (Ok w) = w.length
+length_told (Err e) = 0
 
 module _ (I : Input) where
   module _ (U : Unrefused I) where
@@ -204,8 +198,8 @@ module _ (I : Input) where
   searched_or_not = go (judged I) refl
     where
       go : (j : Judgement) → judged I ≡ j → Unrefused I ⊎ Unsearched (answer_of I)
-      go (Unfit why) e = inr (rw e (unsearched_refused why))
-      go Fit e =
+      go (Err why) e = inr (rw e (unsearched_refused why))
+      go (Ok _) e =
           ask (routeable (task_of I) I.start)
           (λ s. ask (routeable (task_of I) I.goal)
           (λ g. inl (record { fit = e; start-free = s; goal-free = g }))
@@ -214,11 +208,11 @@ module _ (I : Input) where
 
   module _ {path known previous classes queue : List ℕ} {r : public.Answer} {path' known' previous' classes' queue' : List ℕ}
       (K : Promise I path known previous classes queue r path' known' previous' classes' queue') where
-    as_route : (w : Route) → r ≡ Routed w → Unrefused I ⊎ Unsearched (answer_of I) → RouteHeld I path w path'
+    as_route : (w : Route) → r ≡ Ok w → Unrefused I ⊎ Unsearched (answer_of I) → RouteHeld I path w path'
     as_route w z (inr n) = absurd (omega (arith, n.some, ap number_of (sym K.answer ∙ z)))
     as_route w z (inl U) = go (searched (task_of I)) refl (sym (said U) ∙ sym K.answer ∙ z)
       where
-        go : (a : Answer) → searched (task_of I) ≡ a → answered (task_of I) a ≡ Routed w → RouteHeld I path w path'
+        go : (a : Answer) → searched (task_of I) ≡ a → answered (task_of I) a ≡ Ok w → RouteHeld I path w path'
         go (route cells cost x) e q =
             let c : cost ≡ w.cost.0 = ap route_cost q in
             record {

@@ -1,9 +1,8 @@
 -- What the theorems claim of the searches made in a tree: definitions only. Each is the defined search over the room of kinds that it sees in its
 -- mode, so what is said of one search is said of it, in both modes at once. What its steps are by the room's own kinds is told in ModeStatements.
-use Rattle.std.specs.Prelude.{◌≡◌, ◌≢◌, true, List, [], ℕ, ◌+◌, ◌-◌, ◌*◌, ◌≤◌, ◌<◌, length, get_or}
+use Rattle.std.specs.Prelude.{◌≡◌, ◌≢◌, true, List, [], ℕ, ◌+◌, ◌-◌, ◌*◌, ◌≤◌, ◌<◌, length, get_or, Some}
 use Rattle.numbers.specs.Refusals.{queue_full_number, no_goal_number, branches_full_number}
 use Rattle.basics.specs.Lists.{joined}
-use Rattle.room.specs.declared.Neighbour.TheVariants.{Inside}
 use Rattle.room.specs.Room.{volume}
 use Rattle.room_search.specs.Routing.{Task}
 use Rattle.ground.specs.declared.Mode.{Mode}
@@ -15,8 +14,7 @@ use Rattle.branches.specs.Branches.{branch_of}
 use Rattle.multinet.specs.Tree.{Plot, Tree, grown, tap_at, site_at, planted, grow_from}
 use Rattle.multinet.specs.Growing.{turn_in}
 use Rattle.net_tree.specs.declared.Lengths.{Lengths}
-use Rattle.net_tree.specs.declared.Answer.{Answer}
-use Rattle.net_tree.specs.Answers.{Lent, lengths_of, plot_for, routed, answer_of, lent_after}
+use Rattle.net_tree.specs.Answers.{Answer, Lent, lengths_of, plot_for, routed, answer_of, lent_after}
 use Rattle.net_tree.specs.SheetTrees.{TreeOf, StopOf}
 use Rattle.demands.specs.Statements.{Priced, Enough, Lawful, Cheapest, NoLawfulWay}
 
@@ -39,7 +37,7 @@ pub data GoalEnds (S : Site) (start goal : ℕ) : ℕ → List ℕ → Type 0 wh
   no_way : {attempts : ℕ} {blocked : List ℕ} (n : ℕ) (later : List ℕ) → n < attempts → Conflicts S start goal n blocked later → NoLawfulWay (site_task S later start goal)
       → GoalEnds S start goal attempts blocked
   conflict_stays : {attempts : ℕ} {blocked : List ℕ} (n : ℕ) (later path : List ℕ) (cost v : ℕ) → n < attempts → Conflicts S start goal n blocked later
-      → searched_for (site_task S later start goal) ≡ found path cost → conflict_of S.room S.kinds S.joinable path ≡ Inside v
+      → searched_for (site_task S later start goal) ≡ found path cost → conflict_of S.room S.kinds S.joinable path ≡ Some v
       → ends_goal later start goal v ≡ true → GoalEnds S start goal attempts blocked
   attempts-over : {attempts : ℕ} {blocked : List ℕ} (later : List ℕ) → Conflicts S start goal attempts blocked later → GoalEnds S start goal attempts blocked
 

@@ -1,6 +1,6 @@
 -- THE THIRD DEMAND IN A TREE: what TreeStatements claims of each search made there, of a sink's route, of every branch, of a tree that stops growing, and
 -- of what the public tree gives out: its branches and marks, or a number from 13 on.
-use Rattle.std.specs.Prelude.{◌≡◌, ◌≢◌, false, eqb, ltb, length}
+use Rattle.std.specs.Prelude.{◌≡◌, Ok, Err, ◌≢◌, false, eqb, ltb, length, Option, Some, None}
 use Rattle.std.proofs.Math.Path.{refl, ap}
 use Rattle.std.proofs.Common.{sym, ◌∙◌, add-one, ltb-true, ltb-false, leb-false, get_or-set_other}
 use Rattle.std.proofs.Math.Bool.{true}
@@ -10,8 +10,6 @@ use native.Mathlib.Omega.{arith}
 use Rattle.std.proofs.Math.Seq.{get_or-set_same}
 use Rattle.numbers.specs.Refusals.{queue_full_number}
 use Rattle.basics.specs.Tests.{ask, ask_same, never}
-use Rattle.room.specs.declared.Neighbour.{Neighbour}
-use Rattle.room.specs.declared.Neighbour.TheVariants.{Inside, Outside}
 use Rattle.room.specs.Room.{Good, volume}
 use Rattle.best_first.specs.Search.{Answer, route, no_route, limit-passed, queue-full}
 use Rattle.best_first.specs.Statements.{Decided}
@@ -35,8 +33,9 @@ use Rattle.multinet.specs.Growing.{SoundPlot, turn_in, branch_in}
 use Rattle.multinet.specs.GrowthLaws.{same-tree, turn_more, turns_count, growth-count}
 use Rattle.multinet.proofs.GrowingLaws.{sink-now, other-turn}
 use Rattle.net_tree.specs.declared.Lengths.{Lengths}
-use Rattle.net_tree.specs.declared.Answer as trees
-use Rattle.net_tree.specs.declared.Ended.TheVariants.{Routed, Refused}
+use Rattle.net_tree.specs.declared.Tree as trees
+use Rattle.net_tree.specs.Answers as trees_told
+use Rattle.net_tree.specs.EntryLaws.{one-refusal}
 use Rattle.net_tree.specs.Answers.{Lent, lengths_of, plot_for, TreeOutcome, routed, no_tree, Comes, answer_of, lent_after, Promise}
 use Rattle.net_tree.specs.SheetTrees.{TreeOf, StopOf}
 use Rattle.net_tree.specs.SheetTreeLaws.{tree_of, stop-of}
@@ -99,7 +98,7 @@ module _ (S : Site) (G : Good S.room) (start : ℕ) (start_in : start < volume S
     means blocked goal h = search_means (site_task S blocked start goal) G start_in h
 
     prepend : {goal n : ℕ} {blocked path : List ℕ} {cost v : ℕ} → searched_for (site_task S blocked start goal) ≡ found path cost
-        → conflict_of S.room S.kinds S.joinable path ≡ Inside v → ends_goal blocked start goal v ≡ false
+        → conflict_of S.room S.kinds S.joinable path ≡ Some v → ends_goal blocked start goal v ≡ false
         → GoalEnds S start goal n (marked_by (eqb v) blocked) → GoalEnds S start goal (suc n) blocked
     prepend {n = n} w f g (no_way m later few r q) = no_way {attempts = suc n} (suc m) later (omega arith) (one_more w f g r) q
     prepend {n = n} w f g (conflict_stays m later path cost v few r s c e) = conflict_stays {attempts = suc n} (suc m) later path cost v (omega arith) (one_more w f g r) s c e
@@ -112,12 +111,12 @@ module _ (S : Site) (G : Good S.room) (start : ℕ) (start_in : start < volume S
       goal-ends (suc n) blocked e = after (searched_for (site_task S blocked start goal)) refl e (goal-ends n)
         where
           at : (p : List ℕ) (c : ℕ) → searched_for (site_task S blocked start goal) ≡ found p c
-              → (place : Neighbour) → conflict_of S.room S.kinds S.joinable p ≡ place
+              → (place : Option ℕ) → conflict_of S.room S.kinds S.joinable p ≡ place
               → at_conflict blocked start goal (attempts n S start goal) (found p c) place ≡ failed
               → ((blocked' : List ℕ) → attempts n S start goal blocked' ≡ failed → GoalEnds S start goal n blocked')
               → GoalEnds S start goal (suc n) blocked
-          at p c w Outside f q later = never (cc)
-          at p c w (Inside v) f q later =
+          at p c w None f q later = never (cc)
+          at p c w (Some v) f q later =
               ask (ends_goal blocked start goal v)
               (λ t. conflict_stays {attempts = suc n} 0 blocked p c v (omega arith) as_blocked w f t)
               (λ g. prepend w f g (later (marked_by (eqb v) blocked) (rw g at q)))
@@ -312,8 +311,8 @@ module _ {mode : Mode} {sheet : List ℕ} {L : Lengths} {branches : List (List �
   }
 
 -- where `route_net_tree` promises a tree, every branch that it gives out has its meaning
-pub answer-means : {mode : Mode} {sheet : List ℕ} {B : Lent} {r : trees.Answer} {B' : Lent} → Promise mode sheet B r B' → {cells marks : ℕ} → r.ended ≡ Routed cells marks → AnswerMeans mode sheet B r B'
-answer-means {mode} {sheet} {B} {r} {B'} K {cells} {marks} e = go K.outcome K.comes K.answer K.lent_is
+pub answer-means : {mode : Mode} {sheet : List ℕ} {B : Lent} {r : trees_told.Answer} {B' : Lent} → Promise mode sheet B r B' → {tree : trees.Tree} → r ≡ Ok tree → AnswerMeans mode sheet B r B'
+answer-means {mode} {sheet} {B} {r} {B'} K {tree} e = go K.outcome K.comes K.answer K.lent_is
   where
     go : (o : TreeOutcome) → Comes mode sheet (lengths_of B) o → r ≡ answer_of o → B' ≡ lent_after o B → AnswerMeans mode sheet B r B'
     go (routed branches occupied repeaters) c a l = record {
@@ -324,7 +323,7 @@ answer-means {mode} {sheet} {B} {r} {B'} K {cells} {marks} e = go K.outcome K.co
       lent_is = l;
       means = tree-branches (tree_of c);
     }
-    go (no_tree number detail) c a l = let z : Refused number detail ≡ Routed cells marks = sym (ap (λ x. x.ended) a) ∙ e in never (cc)
+    go (no_tree number detail) c a l = let z : answer_of (no_tree number detail) ≡ Ok tree = sym a ∙ e in never (cc)
 
 stop-means : {mode : Mode} {sheet : List ℕ} {L : Lengths} {number detail : ℕ} → StopOf mode sheet L number detail → StopMeans mode sheet L number detail
 stop-means {mode = mode} {L = L} {number} {detail} K = record {
@@ -333,16 +332,16 @@ stop-means {mode = mode} {L = L} {number} {detail} K = record {
 }
 
 -- where it promises a number from 10 on, a tree had grown so far, and the number has its reason
-pub stopped-means : {mode : Mode} {sheet : List ℕ} {B : Lent} {r : trees.Answer} {B' : Lent} → Promise mode sheet B r B' → {number detail : ℕ} → r.ended ≡ Refused number detail
+pub stopped-means : {mode : Mode} {sheet : List ℕ} {B : Lent} {r : trees_told.Answer} {B' : Lent} → Promise mode sheet B r B' → {number detail : ℕ} → r ≡ Err (record { number = number; detail = detail })
     → 9 < number → StopMeans mode sheet (lengths_of B) number detail
 stopped-means {mode} {sheet} {B} {r} K {number} {detail} e h = go K.outcome K.comes K.answer
   where
     go : (o : TreeOutcome) → Comes mode sheet (lengths_of B) o → r ≡ answer_of o → StopMeans mode sheet (lengths_of B) number detail
-    go (routed branches occupied repeaters) c a = let z : Routed _ _ ≡ Refused number detail = sym (ap (λ x. x.ended) a) ∙ e in never (cc)
+    go (routed branches occupied repeaters) c a = let z : answer_of (routed branches occupied repeaters) ≡ Err (record { number = number; detail = detail }) = sym a ∙ e in never (cc)
     go (no_tree m x) c a =
-        let z : Refused m x ≡ Refused number detail = sym (ap (λ y. y.ended) a) ∙ e in
-        let p : m ≡ number = cc in
-        let q : x ≡ detail = cc in
+        let z = one-refusal a e in
+        let p : m ≡ number = ap (λ y. y.number) z in
+        let q : x ≡ detail = ap (λ y. y.detail) z in
         stop-means (stop-of (rw (p, q) at c) h)
 
 full-few : {P : Plot} {k : ℕ} {T : Tree} {number detail : ℕ} → SinkEnds P k T number detail → number ≡ queue_full_number
@@ -351,8 +350,8 @@ full-few (queue-fills x below few) e = (below, few)
 full-few (no_goal_left each) e = absurd (omega arith)
 full-few (buffer-fills path cost means long) e = absurd (omega arith)
 
-module _ {mode : Mode} {sheet : List ℕ} {B : Lent} {r : trees.Answer} {B' : Lent} (K : Promise mode sheet B r B') (J : Contents) (m : Means sheet J) (detail : ℕ)
-    (e : r.ended ≡ Refused queue_full_number detail) where
+module _ {mode : Mode} {sheet : List ℕ} {B : Lent} {r : trees_told.Answer} {B' : Lent} (K : Promise mode sheet B r B') (J : Contents) (m : Means sheet J) (detail : ℕ)
+    (e : r ≡ Err (record { number = queue_full_number; detail = detail })) where
   full-stop : StopMeans mode sheet (lengths_of B) queue_full_number detail
   full-stop = stopped-means K e (omega arith)
 

@@ -1,5 +1,5 @@
 -- What `materialize_route` and `insert_repeaters` answer, and what every lent byte then holds. Each input determines all of it.
-use Rattle.std.specs.Prelude.{◌≡◌, Bool, true, ◌&&◌, List, ℕ, eqb, leb, ltb, length}
+use Rattle.std.specs.Prelude.{Result, Ok, Err, ◌≡◌, Bool, true, ◌&&◌, List, ℕ, eqb, leb, ltb, length}
 use Rattle.numbers.specs.Refusals.{done_number}
 use Rattle.basics.specs.Tests.{either}
 use Rattle.basics.specs.Lists.{every}
@@ -9,13 +9,7 @@ use Rattle.room.specs.Room.{sides_good, volume}
 use Rattle.room.specs.Units.{kind_known}
 use Rattle.routing.specs.declared.Refusal.{Refusal}
 use Rattle.routing.specs.declared.Refusal.TheVariants.{Sides, Buffer, Code, Position}
-use Rattle.routing.specs.declared.Judgement.{Judgement}
-use Rattle.routing.specs.declared.Judgement.TheVariants.{Fit, Unfit}
-use Rattle.routing.specs.Answers.{refusal_number}
-use Rattle.drawing.specs.declared.Drawn.{Drawn}
-use Rattle.drawing.specs.declared.Drawn.TheVariants.{Laid, NotLaid}
-use Rattle.drawing.specs.declared.Listed.{Listed}
-use Rattle.drawing.specs.declared.Listed.TheVariants.{Repeaters, NotListed}
+use Rattle.routing.specs.Answers.{refusal_number, Judgement}
 use Rattle.drawing.specs.Drawing.{materialized, repeater_places, repeater_cells, repeater_facings, repeatered}
 
 -- the cell is one of the room
@@ -35,8 +29,8 @@ unfoldable pub judged : Room → Bool → Bool → List ℕ → List ℕ → Jud
 judged R enough known kinds path =
     either (sides_good R)
     (either (buffers_good R enough kinds)
-    (either (codes_good known kinds) (either (every (cell_known R) path) Fit (Unfit Position)) (Unfit Code)) (Unfit Buffer))
-    (Unfit Sides)
+    (either (codes_good known kinds) (either (every (cell_known R) path) (Ok tt) (Err Position)) (Err Code)) (Err Buffer))
+    (Err Sides)
 
 -- a room that is changed in place, after a call that gave this number
 abbrev pub kinds_after : ℕ → List ℕ → List ℕ → List ℕ
@@ -44,35 +38,31 @@ kinds_after number drawn kinds = either (touches number) drawn kinds
 
 -- ---- materialize_route
 
-abbrev pub drawn_for : Judgement → Drawn
-drawn_for Fit = Laid
-drawn_for (Unfit why) = NotLaid why
-
-abbrev pub drawn_number : Drawn → ℕ
-drawn_number Laid = done_number
-drawn_number (NotLaid why) = refusal_number why
+abbrev pub drawn_number : Result (Unit {0}) Refusal → ℕ
+drawn_number (Ok u) = done_number
+drawn_number (Err why) = refusal_number why
 
 abbrev pub drawn_judged : Room → ℕ → List ℕ → List ℕ → Judgement
 drawn_judged R support kinds path = judged R true (kind_known support) kinds path
 
 -- the answer that each input determines
-unfoldable pub drawn_of : Room → ℕ → List ℕ → List ℕ → Drawn
-drawn_of R support kinds path = drawn_for (drawn_judged R support kinds path)
+unfoldable pub drawn_of : Room → ℕ → List ℕ → List ℕ → Result (Unit {0}) Refusal
+drawn_of R support kinds path = drawn_judged R support kinds path
 
 -- the promise of `materialize_route`
-pub record RoutePromise (R : Room) (support : ℕ) (kinds path : List ℕ) (r : Drawn) (kinds' : List ℕ) : Type 0 where
+pub record RoutePromise (R : Room) (support : ℕ) (kinds path : List ℕ) (r : Result (Unit {0}) Refusal) (kinds' : List ℕ) : Type 0 where
   pub answer : r ≡ drawn_of R support kinds path
   pub kinds-is : kinds' ≡ kinds_after (drawn_number (drawn_of R support kinds path)) (materialized R support path kinds) kinds
 
 -- ---- insert_repeaters
 
-abbrev pub listed_for : Judgement → ℕ → Listed
-listed_for Fit count = Repeaters count
-listed_for (Unfit why) count = NotListed why
+abbrev pub listed_for : Judgement → ℕ → Result ℕ Refusal
+listed_for (Ok u) count = Ok count
+listed_for (Err why) count = Err why
 
-abbrev pub listed_number : Listed → ℕ
-listed_number (Repeaters count) = done_number
-listed_number (NotListed why) = refusal_number why
+abbrev pub listed_number : Result ℕ Refusal → ℕ
+listed_number (Ok count) = done_number
+listed_number (Err why) = refusal_number why
 
 -- "6 also for a repeater list shorter than the path": it is two slices
 unfoldable pub list_enough : List ℕ → List ℕ → List ℕ → Bool
@@ -82,11 +72,11 @@ abbrev pub listed_judged : Room → List ℕ → List ℕ → List ℕ → List 
 listed_judged R kinds path cells facings = judged R (list_enough path cells facings) true kinds path
 
 -- the answer that each input determines: how many repeaters are listed
-unfoldable pub listed_of : Room → ℕ → List ℕ → List ℕ → List ℕ → List ℕ → Listed
+unfoldable pub listed_of : Room → ℕ → List ℕ → List ℕ → List ℕ → List ℕ → Result ℕ Refusal
 listed_of R limit kinds path cells facings = listed_for (listed_judged R kinds path cells facings) (length (repeater_places R limit path))
 
 -- the promise of `insert_repeaters`
-pub record ListPromise (R : Room) (limit : ℕ) (kinds path cells facings : List ℕ) (r : Listed) (kinds' cells' facings' : List ℕ) : Type 0 where
+pub record ListPromise (R : Room) (limit : ℕ) (kinds path cells facings : List ℕ) (r : Result ℕ Refusal) (kinds' cells' facings' : List ℕ) : Type 0 where
   pub answer : r ≡ listed_of R limit kinds path cells facings
   pub kinds-is : kinds' ≡ kinds_after (listed_number (listed_of R limit kinds path cells facings)) (repeatered R limit path kinds) kinds
   pub cells_is : cells' ≡ output_after (listed_number (listed_of R limit kinds path cells facings)) (repeater_cells R limit path) cells

@@ -1,16 +1,12 @@
 -- The promise of `insert_repeaters`, by its cases; and that it determines everything.
-use Rattle.std.specs.Prelude.{◌≡◌, List, ◌++◌, ℕ, ◌-◌, length}
+use Rattle.std.specs.Prelude.{Result, Ok, Err, ◌≡◌, List, ◌++◌, ℕ, ◌-◌, length}
 use Rattle.std.proofs.Math.Path.{sym, ap}
 use Rattle.std.proofs.Common.{◌∙◌}
 use Rattle.std.proofs.Math.ListN.{replicate}
 use Rattle.std.proofs.lemmas.List.{length-map}
-use Rattle.basics.specs.Lists.{every}
 use Rattle.basics.specs.Promises.{Determines}
 use Rattle.room.specs.declared.Room.{Room}
 use Rattle.routing.specs.declared.Refusal.{Refusal}
-use Rattle.routing.specs.declared.Judgement.TheVariants.{Fit, Unfit}
-use Rattle.drawing.specs.declared.Listed.{Listed}
-use Rattle.drawing.specs.declared.Listed.TheVariants.{Repeaters, NotListed}
 use Rattle.repeaters.specs.Repeaters.{path_cell}
 use Rattle.drawing.specs.Drawing.{repeater_places, repeater_cells, repeater_facings, passage_facing}
 use Rattle.drawing.specs.Answers.{listed_judged, listed_of, ListPromise}
@@ -18,14 +14,14 @@ use Rattle.drawing.specs.Listing.{AllListed}
 use Rattle.drawing.specs.PromiseLaws.{untouched}
 
 module _ (R : Room) (limit : ℕ) (kinds path cells facings : List ℕ) where
-  pub listed_unfit : (why : Refusal) → listed_judged R kinds path cells facings ≡ Unfit why
-      → ListPromise R limit kinds path cells facings (NotListed why) kinds cells facings
+  pub listed_unfit : (why : Refusal) → listed_judged R kinds path cells facings ≡ Err why
+      → ListPromise R limit kinds path cells facings (Err why) kinds cells facings
   unfolding listed_of
   listed_unfit why e = record { answer = rw e; kinds-is = rw (e, untouched why); cells_is = rw (e, untouched why); facings-is = rw (e, untouched why) }
 
-  pub listed-fit : listed_judged R kinds path cells facings ≡ Fit → {count : ℕ} {kinds' cells' facings' : List ℕ}
+  pub listed-fit : listed_judged R kinds path cells facings ≡ Ok tt → {count : ℕ} {kinds' cells' facings' : List ℕ}
       → AllListed R limit path kinds (length cells) (length facings) count kinds' cells' facings'
-      → ListPromise R limit kinds path cells facings (Repeaters count) kinds' cells' facings'
+      → ListPromise R limit kinds path cells facings (Ok count) kinds' cells' facings'
   unfolding listed_of
   listed-fit e {count} A = record {
     answer = rw (e, A.many);
@@ -41,7 +37,7 @@ module _ (R : Room) (limit : ℕ) (kinds path cells facings : List ℕ) where
 
 -- two results that keep the promise coincide: the answer, and every lent byte
 pub record ListedResult : Type 0 where
-  pub answer : Listed
+  pub answer : Result ℕ Refusal
   pub kinds : List ℕ
   pub cells : List ℕ
   pub facings : List ℕ

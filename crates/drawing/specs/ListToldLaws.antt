@@ -1,31 +1,23 @@
 -- `insert_repeaters` as it is told in numbers: its values as the code writes them, its promise by its cases, and that this determines everything.
-use Rattle.std.specs.Prelude.{◌≡◌, List, [], ◌∷◌, ◌++◌, ℕ, zero, suc, ◌-◌, ◌≤◌, ◌<◌, length, set, replicate}
-use Rattle.std.proofs.Common.{sym, ◌∙◌, arith}
+use Rattle.std.specs.Prelude.{Result, Ok, Err, ◌≡◌, List, [], ◌∷◌, ℕ, ◌≤◌, ◌<◌, length}
+use Rattle.std.proofs.Common.{sym, ◌∙◌}
 use borrow.Author.Tests.{le-leb, lt-leb}
 use Rattle.basics.specs.Promises.{Determines}
 use Rattle.numbers.specs.Refusals.{done_number}
-use Rattle.lent.specs.Lent.{Cleared, output_after}
+use Rattle.lent.specs.Lent.{filled, output_after}
 use Rattle.room.specs.declared.Room.{Room}
 use Rattle.routing.specs.declared.Refusal.{Refusal}
 use Rattle.routing.specs.Answers.{refusal_number}
-use Rattle.drawing.specs.declared.Listed.{Listed}
-use Rattle.drawing.specs.declared.Listed.TheVariants.{Repeaters, NotListed}
 use Rattle.drawing.specs.Answers.{listed_number, ListPromise}
 use Rattle.drawing.specs.PromiseLaws.{untouched}
 use Rattle.drawing.specs.Told.{short_refusal, list_value_count, list_values, listed_told, ListTold}
 
--- the second value written over cleared ones
-two-written : (count n : ℕ) → list_value_count ≤ n → set (replicate n 0) 1 count ≡ (0 ∷ count ∷ []) ++ replicate (n - list_value_count) 0
-two-written count zero h = absurd (omega arith)
-two-written count (suc zero) h = absurd (omega arith)
-two-written count (suc (suc n)) h = let e : suc (suc n) - list_value_count ≡ n = omega arith in rw e
+module _ {a : Result ℕ Refusal} (values : List ℕ) where
+  pub listed-told : {count : ℕ} → a ≡ Ok count → {values' : List ℕ} → values' ≡ filled (0 ∷ count ∷ []) values
+      → (done_number ≡ listed_number a) × (values' ≡ output_after (listed_number a) (list_values a) values)
+  listed-told e w = (rw e, rw e w)
 
-module _ {a : Listed} (values : List ℕ) where
-  pub listed-told : {count : ℕ} → a ≡ Repeaters count → list_value_count ≤ length values → {values' : List ℕ} → Cleared values values'
-      → (done_number ≡ listed_number a) × (set values' 1 count ≡ output_after (listed_number a) (list_values a) values)
-  listed-told {count} e h z = (rw e, rw (e, z) (two-written count (length values) h))
-
-  pub listed-untold : (why : Refusal) → a ≡ NotListed why → {r : ℕ} → r ≡ refusal_number why
+  pub listed-untold : (why : Refusal) → a ≡ Err why → {r : ℕ} → r ≡ refusal_number why
       → (r ≡ listed_number a) × (values ≡ output_after (listed_number a) (list_values a) values)
   listed-untold why e n = (rw e n, rw (e, untouched why))
 
@@ -39,7 +31,7 @@ module _ (R : Room) (limit : ℕ) (kinds path cells facings values : List ℕ) w
       let u = untouched (short_refusal R) in
       record { number = rw e n; kinds-is = rw (e, u); cells_is = rw (e, u); facings-is = rw (e, u); values-is = rw (e, u) }
 
-  pub list-told : list_value_count ≤ length values → {a : Listed} {r : ℕ} {kinds' cells' facings' values' : List ℕ}
+  pub list-told : list_value_count ≤ length values → {a : Result ℕ Refusal} {r : ℕ} {kinds' cells' facings' values' : List ℕ}
       → ListPromise R limit kinds path cells facings a kinds' cells' facings' → r ≡ listed_number a
       → values' ≡ output_after (listed_number a) (list_values a) values
       → ListTold R limit kinds path cells facings values r kinds' cells' facings' values'

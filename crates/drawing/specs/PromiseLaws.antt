@@ -1,5 +1,5 @@
 -- What an input has that neither of the two public functions refuses.
-use Rattle.std.specs.Prelude.{◌≡◌, Bool, List, ℕ, ◌-◌, eqb, leb, length, get_or, replicate}
+use Rattle.std.specs.Prelude.{◌≡◌, Bool, List, ℕ, eqb, leb, length, get_or, replicate, Ok, Err}
 use Rattle.std.proofs.Math.Path.{refl}
 use Rattle.std.proofs.Common.{sym, eqb-true, leb-true, ltb-true}
 use Rattle.std.proofs.Math.Bool.{true, false}
@@ -13,7 +13,6 @@ use Rattle.room.specs.RoomLaws.{good}
 use Rattle.routing_resources.specs.Marks.{AllCells}
 use Rattle.routing.specs.declared.Refusal.{Refusal}
 use Rattle.routing.specs.declared.Refusal.TheVariants.{Sides, Config, Buffer, Code, Position}
-use Rattle.routing.specs.declared.Judgement.TheVariants.{Fit, Unfit}
 use Rattle.routing.specs.Answers.{refusal_number}
 use Rattle.drawing.specs.Answers.{cell_known, buffers_good, codes_good, judged, list_enough, listed_judged}
 use Rattle.drawing.specs.Listing.{Drawable, Listable, AllListed}
@@ -39,24 +38,24 @@ pub record Passes (R : Room) (enough known : Bool) (kinds path : List ℕ) : Typ
   pub inside : every (cell_known R) path ≡ true
 
 module _ {R : Room} {enough known : Bool} {kinds path : List ℕ} where
-  pub passes : judged R enough known kinds path ≡ Fit → Passes R enough known kinds path
+  pub passes : judged R enough known kinds path ≡ Ok tt → Passes R enough known kinds path
   unfolding judged
   passes e = by (sides_good R) (buffers_good R enough kinds) (codes_good known kinds) (every (cell_known R) path) refl refl refl refl e
     where
       by : (a b c d : Bool) → sides_good R ≡ a → buffers_good R enough kinds ≡ b → codes_good known kinds ≡ c → every (cell_known R) path ≡ d
-          → either a (either b (either c (either d Fit (Unfit Position)) (Unfit Code)) (Unfit Buffer)) (Unfit Sides) ≡ Fit → Passes R enough known kinds path
+          → either a (either b (either c (either d (Ok (tt {0})) (Err Position)) (Err Code)) (Err Buffer)) (Err Sides) ≡ Ok (tt {0}) → Passes R enough known kinds path
       by true true true true p q r s f = record { sides = p; buffers = q; codes = r; inside = s }
       by true true true false p q r s f = never (cc)
       by true true false d p q r s f = never (cc)
       by true false c d p q r s f = never (cc)
       by false b c d p q r s f = never (cc)
 
-pub drawable : {R : Room} {kinds path : List ℕ} (enough known : Bool) → judged R enough known kinds path ≡ Fit → Drawable R kinds path
+pub drawable : {R : Room} {kinds path : List ℕ} (enough known : Bool) → judged R enough known kinds path ≡ Ok tt → Drawable R kinds path
 drawable {R} {kinds} {path} enough known e =
     let P : Passes R enough known kinds path = passes e in
     record { good = good R P.sides; kinds-long = eqb-true _ _ (and_left _ enough P.buffers); path_in = cells-known R path P.inside }
 
-pub listable : {R : Room} {kinds path cells facings : List ℕ} → listed_judged R kinds path cells facings ≡ Fit → Listable R kinds path cells facings
+pub listable : {R : Room} {kinds path cells facings : List ℕ} → listed_judged R kinds path cells facings ≡ Ok tt → Listable R kinds path cells facings
 unfolding list_enough
 listable {R} {kinds} {path} {cells} {facings} e =
     let enough : list_enough path cells facings ≡ true = and_right (eqb (length kinds) (volume R)) _ (passes e).buffers in

@@ -1,29 +1,25 @@
 -- The promise of `materialize_route`, by its cases; and that it determines everything.
-use Rattle.std.specs.Prelude.{◌≡◌, List, ℕ, ◌-◌}
+use Rattle.std.specs.Prelude.{Result, Ok, Err, ◌≡◌, List, ℕ}
 use Rattle.std.proofs.Common.{sym, ◌∙◌}
-use Rattle.basics.specs.Lists.{every}
 use Rattle.basics.specs.Promises.{Determines}
 use Rattle.room.specs.declared.Room.{Room}
 use Rattle.routing.specs.declared.Refusal.{Refusal}
-use Rattle.routing.specs.declared.Judgement.TheVariants.{Fit, Unfit}
-use Rattle.drawing.specs.declared.Drawn.{Drawn}
-use Rattle.drawing.specs.declared.Drawn.TheVariants.{Laid, NotLaid}
 use Rattle.drawing.specs.Drawing.{materialized}
 use Rattle.drawing.specs.Answers.{drawn_judged, drawn_of, RoutePromise}
 use Rattle.drawing.specs.PromiseLaws.{untouched}
 
 module _ (R : Room) (support : ℕ) (kinds path : List ℕ) where
-  pub drawn_unfit : (why : Refusal) → drawn_judged R support kinds path ≡ Unfit why → RoutePromise R support kinds path (NotLaid why) kinds
+  pub drawn_unfit : (why : Refusal) → drawn_judged R support kinds path ≡ Err why → RoutePromise R support kinds path (Err why) kinds
   unfolding drawn_of
   drawn_unfit why e = record { answer = rw e; kinds-is = rw (e, untouched why) }
 
-  pub drawn_fit : drawn_judged R support kinds path ≡ Fit → {kinds' : List ℕ} → kinds' ≡ materialized R support path kinds → RoutePromise R support kinds path Laid kinds'
+  pub drawn_fit : drawn_judged R support kinds path ≡ Ok tt → {kinds' : List ℕ} → kinds' ≡ materialized R support path kinds → RoutePromise R support kinds path (Ok tt) kinds'
   unfolding drawn_of
   drawn_fit e k = record { answer = rw e; kinds-is = rw e k }
 
 -- two results that keep the promise coincide: the answer, and every byte of the room
 pub record DrawnResult : Type 0 where
-  pub answer : Drawn
+  pub answer : Result (Unit {0}) Refusal
   pub kinds : List ℕ
 
 module _ (R : Room) (support : ℕ) (kinds path : List ℕ) where

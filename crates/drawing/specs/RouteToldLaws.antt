@@ -1,5 +1,5 @@
 -- `materialize_route` as it is told in numbers: its value as the code writes it, its promise by its cases, and that this determines everything.
-use Rattle.std.specs.Prelude.{◌≡◌, ℕ, zero, suc, ◌-◌, ◌≤◌, ◌<◌, ltb, length, replicate}
+use Rattle.std.specs.Prelude.{Result, Ok, Err, ◌≡◌, ℕ, zero, suc, ◌-◌, ◌≤◌, ◌<◌, ltb, length, replicate}
 use Rattle.std.proofs.Math.Path.{refl}
 use Rattle.std.proofs.Common.{sym, ◌∙◌, arith}
 use Rattle.std.proofs.Math.Bool.{true, false}
@@ -13,11 +13,7 @@ use Rattle.lent.specs.Lent.{Cleared, output_after}
 use Rattle.room.specs.declared.Room.{Room}
 use Rattle.room.specs.Units.{max_kind, kind_known}
 use Rattle.routing.specs.declared.Refusal.{Refusal}
-use Rattle.routing.specs.declared.Judgement.{Judgement}
-use Rattle.routing.specs.declared.Judgement.TheVariants.{Fit, Unfit}
-use Rattle.routing.specs.Answers.{refusal_number}
-use Rattle.drawing.specs.declared.Drawn.{Drawn}
-use Rattle.drawing.specs.declared.Drawn.TheVariants.{Laid, NotLaid}
+use Rattle.routing.specs.Answers.{refusal_number, Judgement}
 use Rattle.drawing.specs.Answers.{judged, drawn_number, drawn_of, RoutePromise}
 use Rattle.drawing.specs.PromiseLaws.{untouched, passes}
 use Rattle.drawing.specs.Told.{short_refusal, route_value_count, route_values, drawn_told, RouteTold}
@@ -27,12 +23,12 @@ one-cleared : (n : ℕ) → route_value_count ≤ n → replicate n 0 ≡ route_
 one-cleared zero h = absurd (omega arith)
 one-cleared (suc n) h = let e : suc n - route_value_count ≡ n = omega arith in rw e
 
-module _ {a : Drawn} (values : List ℕ) where
-  pub drawn_told_lem : a ≡ Laid → route_value_count ≤ length values → {values' : List ℕ} → Cleared values values'
+module _ {a : Result (Unit {0}) Refusal} (values : List ℕ) where
+  pub drawn_told_lem : a ≡ Ok tt → route_value_count ≤ length values → {values' : List ℕ} → Cleared values values'
       → (done_number ≡ drawn_number a) × (values' ≡ output_after (drawn_number a) route_values values)
   drawn_told_lem e h z = (rw e, rw e (z ∙ one-cleared (length values) h))
 
-  pub drawn_untold : (why : Refusal) → a ≡ NotLaid why → {r : ℕ} → r ≡ refusal_number why
+  pub drawn_untold : (why : Refusal) → a ≡ Err why → {r : ℕ} → r ≡ refusal_number why
       → (r ≡ drawn_number a) × (values ≡ output_after (drawn_number a) route_values values)
   drawn_untold why e n = (rw e n, rw (e, untouched why))
 
@@ -44,7 +40,7 @@ module _ (R : Room) (support : ℕ) (kinds path values : List ℕ) where
   route-short h n = let e = lt-leb route_value_count (length values) h in
       record { number = rw e n; kinds-is = rw (e, untouched (short_refusal R)); values-is = rw (e, untouched (short_refusal R)) }
 
-  pub route-told : route_value_count ≤ length values → {a : Drawn} {r : ℕ} {kinds' values' : List ℕ} → RoutePromise R support kinds path a kinds'
+  pub route-told : route_value_count ≤ length values → {a : Result (Unit {0}) Refusal} {r : ℕ} {kinds' values' : List ℕ} → RoutePromise R support kinds path a kinds'
       → r ≡ drawn_number a → values' ≡ output_after (drawn_number a) route_values values → RouteTold R support kinds path values r kinds' values'
   unfolding drawn_told
   route-told h P n v = let e = le-leb route_value_count (length values) h in
@@ -77,24 +73,24 @@ abbrev pub kind_handed_on : ℕ → ℕ
 kind_handed_on support = either (ltb support no_kind) support no_kind
 
 -- an unknown kind draws nothing
-unknown_unfit : (R : Room) (kinds path : List ℕ) → judged R true false kinds path ≡ Fit → ⊥
+unknown_unfit : (R : Room) (kinds path : List ℕ) → judged R true false kinds path ≡ Ok tt → ⊥
 unknown_unfit R kinds path e = let c : false ≡ true = and_right (every kind_known kinds) false (passes e).codes in never (cc)
 
 module _ (R : Room) (support other : ℕ) (kinds path : List ℕ) (s : kind_known support ≡ false) (o : kind_known other ≡ false) where
-  pub unknown_alike : {a : Drawn} {kinds' : List ℕ} → RoutePromise R other kinds path a kinds' → RoutePromise R support kinds path a kinds'
+  pub unknown_alike : {a : Result (Unit {0}) Refusal} {kinds' : List ℕ} → RoutePromise R other kinds path a kinds' → RoutePromise R support kinds path a kinds'
   unfolding drawn_of
   unknown_alike P = by (judged R true false kinds path) refl P
     where
-      by : (j : Judgement) → judged R true false kinds path ≡ j → {a : Drawn} {kinds' : List ℕ} → RoutePromise R other kinds path a kinds'
+      by : (j : Judgement) → judged R true false kinds path ≡ j → {a : Result (Unit {0}) Refusal} {kinds' : List ℕ} → RoutePromise R other kinds path a kinds'
           → RoutePromise R support kinds path a kinds'
-      by Fit e Q = absurd (unknown_unfit R kinds path e)
-      by (Unfit why) e Q = record {
+      by (Ok _) e Q = absurd (unknown_unfit R kinds path e)
+      by (Err why) e Q = record {
         answer = rw (s, e) (rw (o, e) at Q.answer);
         kinds-is = rw (s, e, untouched why) (rw (o, e, untouched why) at Q.kinds-is);
       }
 
 -- so that the promise holds of the number itself
-pub handed_on : (R : Room) (support : ℕ) (kinds path : List ℕ) {kind : ℕ} → kind ≡ kind_handed_on support → {a : Drawn} {kinds' : List ℕ}
+pub handed_on : (R : Room) (support : ℕ) (kinds path : List ℕ) {kind : ℕ} → kind ≡ kind_handed_on support → {a : Result (Unit {0}) Refusal} {kinds' : List ℕ}
     → RoutePromise R kind kinds path a kinds' → RoutePromise R support kinds path a kinds'
 handed_on R support kinds path {kind} k P =
     ask_less support no_kind

@@ -1,7 +1,6 @@
 -- What the theorems say of a drawn route. Definitions alone.
-use Rattle.std.specs.Prelude.{◌≡◌, List, ℕ, ◌+◌, ◌-◌, ◌≤◌, ◌<◌, length, get_or}
+use Rattle.std.specs.Prelude.{◌≡◌, List, ℕ, ◌+◌, ◌-◌, ◌≤◌, ◌<◌, length, get_or, Some}
 use Rattle.room.specs.declared.Room.{Room}
-use Rattle.room.specs.declared.Neighbour.TheVariants.{Inside}
 use Rattle.room.specs.Room.{beneath}
 use Rattle.room.specs.Units.{no_facing, air, redstone_wire, repeater}
 use Rattle.repeaters.specs.Repeaters.{path_cell, facing_of}
@@ -10,11 +9,11 @@ use Rattle.drawing.specs.Drawing.{passage_facing, repeater_places, repeater_cell
 -- the cell is none of the path's, and not right beneath one of them
 pub record Unnamed (R : Room) (path : List ℕ) (v : ℕ) : Type 0 where
   pub off-path : (k : ℕ) → k < length path → path_cell path k ≡ v → ⊥
-  pub not_beneath : (k : ℕ) → k < length path → beneath R (path_cell path k) ≡ Inside v → ⊥
+  pub not_beneath : (k : ℕ) → k < length path → beneath R (path_cell path k) ≡ Some v → ⊥
 
 -- the path holds no cell right beneath an earlier one
 pub record NoneBeneathEarlier (R : Room) (path : List ℕ) : Type 0 where
-  pub none : (j k : ℕ) → j < k → k < length path → beneath R (path_cell path j) ≡ Inside (path_cell path k) → ⊥
+  pub none : (j k : ℕ) → j < k → k < length path → beneath R (path_cell path j) ≡ Some (path_cell path k) → ⊥
 
 -- what a path cell may hold when the route is drawn and has its repeaters: wire, a repeater, or the block that stood there
 pub data WiredOrKept (before after : ℕ) : Type 0 where

@@ -1,7 +1,7 @@
 -- What is proved of a route drawn by `materialize_route` and of its repeaters by `insert_repeaters`, from their promises on.
-use Rattle.std.specs.Prelude.{◌≡◌, true, List, [], ◌∷◌, ℕ, ◌≤◌, ◌<◌, length, get_or}
+use Rattle.std.specs.Prelude.{Ok, Err, ◌≡◌, true, List, [], ◌∷◌, ℕ, ◌≤◌, ◌<◌, length, get_or}
 use Rattle.std.proofs.Math.Path.{refl}
-use Rattle.std.proofs.Common.{◌∙◌, inl, inr, arith}
+use Rattle.std.proofs.Common.{sym, ◌∙◌, inl, inr, arith}
 use Rattle.basics.specs.Tests.{never, ask_same}
 use Rattle.basics.specs.Lists.{In, in_at}
 use Rattle.lent.specs.Lent.{filled}
@@ -9,12 +9,9 @@ use Rattle.room.specs.declared.Room.{Room}
 use Rattle.room.specs.Units.{air, redstone_wire, repeater, kind_known}
 use Rattle.repeaters.specs.Repeaters.{path_cell}
 use Rattle.routing.specs.declared.Refusal.{Refusal}
-use Rattle.routing.specs.declared.Judgement.{Judgement}
-use Rattle.routing.specs.declared.Judgement.TheVariants.{Fit, Unfit}
-use Rattle.drawing.specs.declared.Drawn.TheVariants.{Laid, NotLaid}
-use Rattle.drawing.specs.declared.Listed.TheVariants.{Repeaters, NotListed}
+use Rattle.routing.specs.Answers.{Judgement}
 use Rattle.drawing.specs.Drawing.{materialized, passage_facing, repeater_places, repeater_cells, repeater_facings, repeatered}
-use Rattle.drawing.specs.Answers.{drawn_for, drawn_judged, drawn_of, RoutePromise, listed_for, listed_judged, listed_of, ListPromise}
+use Rattle.drawing.specs.Answers.{drawn_judged, drawn_of, RoutePromise, listed_for, listed_judged, listed_of, ListPromise}
 use Rattle.drawing.specs.Listing.{Drawable}
 use Rattle.drawing.specs.Statements.{Unnamed, NoneBeneathEarlier, WiredOrKept, wired, repeated, kept, NotInner, Spaced, EntryAt}
 use Rattle.drawing.specs.PromiseLaws.{drawable, listable, untouched}
@@ -34,20 +31,16 @@ ask_in v (x ∷ xs) there absent = ask_same v x (λ e. there (inl e)) (λ n. ask
 
 module _ {R : Room} {support : ℕ} {kinds path kinds' : List ℕ} where
   -- "touching nothing"
-  pub refused-route : {why : Refusal} → RoutePromise R support kinds path (NotLaid why) kinds' → kinds' ≡ kinds
+  pub refused-route : {why : Refusal} → RoutePromise R support kinds path (Err why) kinds' → kinds' ≡ kinds
   refused-route {why} P = rw (← P.answer, untouched why) at P.kinds-is
 
-  module _ (P : RoutePromise R support kinds path Laid kinds') where
+  module _ (P : RoutePromise R support kinds path (Ok tt) kinds') where
     route-is : kinds' ≡ materialized R support path kinds
     route-is = rw (← P.answer) at P.kinds-is
 
-    fit-route : drawn_judged R support kinds path ≡ Fit
+    fit-route : drawn_judged R support kinds path ≡ Ok tt
     unfolding drawn_of
-    fit-route = by (drawn_judged R support kinds path) P.answer
-      where
-        by : (j : Judgement) → Laid ≡ drawn_for j → j ≡ Fit
-        by Fit e = refl
-        by (Unfit why) e = never (cc)
+    fit-route = sym P.answer
 
     route-drawable : Drawable R kinds path
     route-drawable = drawable true (kind_known support) fit-route
@@ -69,12 +62,12 @@ module _ {R : Room} {support : ℕ} {kinds path kinds' : List ℕ} where
 -- ---- insert_repeaters
 
 module _ {R : Room} {limit : ℕ} {kinds path cells facings kinds' cells' facings' : List ℕ} where
-  pub refused-list : {why : Refusal} → ListPromise R limit kinds path cells facings (NotListed why) kinds' cells' facings'
+  pub refused-list : {why : Refusal} → ListPromise R limit kinds path cells facings (Err why) kinds' cells' facings'
       → (kinds' ≡ kinds) × (cells' ≡ cells) × (facings' ≡ facings)
   refused-list {why} P =
       (rw (← P.answer, untouched why) at P.kinds-is, rw (← P.answer, untouched why) at P.cells_is, rw (← P.answer, untouched why) at P.facings-is)
 
-  module _ {count : ℕ} (P : ListPromise R limit kinds path cells facings (Repeaters count) kinds' cells' facings') where
+  module _ {count : ℕ} (P : ListPromise R limit kinds path cells facings (Ok count) kinds' cells' facings') where
     list-is : kinds' ≡ repeatered R limit path kinds
     list-is = rw (← P.answer) at P.kinds-is
 
@@ -93,13 +86,13 @@ module _ {R : Room} {limit : ℕ} {kinds path cells facings kinds' cells' facing
         (not_mapped (path_cell path) (repeater_places R limit path) v
         (λ p i. let S = places-straight R limit path p i in N.off-inner p S.inner S.not_last)))
 
-    fit-list : listed_judged R kinds path cells facings ≡ Fit
+    fit-list : listed_judged R kinds path cells facings ≡ Ok tt
     unfolding listed_of
     fit-list = by (listed_judged R kinds path cells facings) P.answer
       where
-        by : (j : Judgement) → Repeaters count ≡ listed_for j (length (repeater_places R limit path)) → j ≡ Fit
-        by Fit e = refl
-        by (Unfit why) e = never (cc)
+        by : (j : Judgement) → Ok count ≡ listed_for j (length (repeater_places R limit path)) → j ≡ Ok tt
+        by (Ok _) e = refl
+        by (Err why) e = never (cc)
 
     listed_in : (v : ℕ) → In v (repeater_cells R limit path) → v < length kinds
     listed_in v i =
@@ -114,7 +107,7 @@ module _ {R : Room} {limit : ℕ} {kinds path cells facings kinds' cells' facing
     pub count-is : count ≡ length (repeater_places R limit path)
     unfolding listed_of
     count-is =
-        let e : Repeaters count ≡ Repeaters (length (repeater_places R limit path)) = rw fit-list at P.answer in
+        let e : Ok count ≡ Ok (length (repeater_places R limit path)) = rw fit-list at P.answer in
         cc
 
     -- a Repeater stands where a cell is listed, and every other cell keeps its kind
@@ -129,7 +122,7 @@ module _ {R : Room} {limit : ℕ} {kinds path cells facings kinds' cells' facing
 -- of a path on which no cell stands right beneath an earlier one: drawn, and then given its repeaters, each of its cells holds wire or a repeater, or the
 -- block that stood there before
 module _ {R : Room} {support limit : ℕ} {kinds path cells facings kinds₁ kinds₂ cells' facings' : List ℕ} {count : ℕ}
-    (P : RoutePromise R support kinds path Laid kinds₁) (Q : ListPromise R limit kinds₁ path cells facings (Repeaters count) kinds₂ cells' facings') where
+    (P : RoutePromise R support kinds path (Ok tt) kinds₁) (Q : ListPromise R limit kinds₁ path cells facings (Ok count) kinds₂ cells' facings') where
   pub path-holds : NoneBeneathEarlier R path → (k : ℕ) → k < length path → WiredOrKept (get_or kinds (path_cell path k) air) (get_or kinds₂ (path_cell path k) air)
   path-holds N k h =
       ask_in (path_cell path k) (repeater_cells R limit path)

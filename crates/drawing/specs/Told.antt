@@ -1,16 +1,12 @@
 -- What `dustroute_materialize_route` and `dustroute_insert_repeaters` return, and what every lent byte then holds: the answers of `materialize_route` and
 -- `insert_repeaters` as numbers. Each input determines all of it.
-use Rattle.std.specs.Prelude.{◌≡◌, List, [], ◌∷◌, ℕ, leb, length}
+use Rattle.std.specs.Prelude.{Result, Ok, Err, ◌≡◌, List, [], ◌∷◌, ℕ, leb, length}
 use Rattle.basics.specs.Tests.{either}
 use Rattle.lent.specs.Lent.{output_after}
 use Rattle.room.specs.declared.Room.{Room}
 use Rattle.room.specs.Room.{sides_good}
 use Rattle.routing.specs.declared.Refusal.{Refusal}
 use Rattle.routing.specs.declared.Refusal.TheVariants.{Sides, Buffer}
-use Rattle.drawing.specs.declared.Drawn.{Drawn}
-use Rattle.drawing.specs.declared.Drawn.TheVariants.{Laid, NotLaid}
-use Rattle.drawing.specs.declared.Listed.{Listed}
-use Rattle.drawing.specs.declared.Listed.TheVariants.{Repeaters, NotListed}
 use Rattle.drawing.specs.Drawing.{materialized, repeater_cells, repeater_facings, repeatered}
 use Rattle.drawing.specs.Answers.{kinds_after, drawn_number, drawn_of, listed_number, listed_of}
 
@@ -27,8 +23,8 @@ route_value_count = 1
 abbrev pub route_values : List ℕ
 route_values = 0 ∷ []
 
-unfoldable pub drawn_told : Room → ℕ → List ℕ → List ℕ → List ℕ → Drawn
-drawn_told R support kinds path values = either (leb route_value_count (length values)) (drawn_of R support kinds path) (NotLaid (short_refusal R))
+unfoldable pub drawn_told : Room → ℕ → List ℕ → List ℕ → List ℕ → Result (Unit {0}) Refusal
+drawn_told R support kinds path values = either (leb route_value_count (length values)) (drawn_of R support kinds path) (Err (short_refusal R))
 
 -- the promise of `dustroute_materialize_route`; the support's kind is any number, and one that names no kind is number 5
 pub record RouteTold (R : Room) (support : ℕ) (kinds path values : List ℕ) (r : ℕ) (kinds' values' : List ℕ) : Type 0 where
@@ -42,16 +38,16 @@ pub record RouteTold (R : Room) (support : ℕ) (kinds path values : List ℕ) (
 abbrev pub list_value_count : ℕ
 list_value_count = 2
 
-abbrev pub count_of : Listed → ℕ
-count_of (Repeaters count) = count
-count_of (NotListed why) = 0
+abbrev pub count_of : Result ℕ Refusal → ℕ
+count_of (Ok count) = count
+count_of (Err why) = 0
 
-abbrev pub list_values : Listed → List ℕ
+abbrev pub list_values : Result ℕ Refusal → List ℕ
 list_values a = 0 ∷ count_of a ∷ []
 
-unfoldable pub listed_told : Room → ℕ → List ℕ → List ℕ → List ℕ → List ℕ → List ℕ → Listed
+unfoldable pub listed_told : Room → ℕ → List ℕ → List ℕ → List ℕ → List ℕ → List ℕ → Result ℕ Refusal
 listed_told R limit kinds path cells facings values =
-    either (leb list_value_count (length values)) (listed_of R limit kinds path cells facings) (NotListed (short_refusal R))
+    either (leb list_value_count (length values)) (listed_of R limit kinds path cells facings) (Err (short_refusal R))
 
 -- the promise of `dustroute_insert_repeaters`
 pub record ListTold (R : Room) (limit : ℕ) (kinds path cells facings values : List ℕ) (r : ℕ) (kinds' cells' facings' values' : List ℕ) : Type 0 where

@@ -5,28 +5,22 @@ ghost use Rattle.room.specs.Room.{Good};
 ghost use Rattle.drawing.specs.Answers.{cell_known, buffers_good, codes_good, judged};
 
 use room::{Room, as_index};
+use routing::Refusal;
 use routing::judge::all_known;
-use routing::{Judgement, Refusal};
 
 // Whether the kinds are exactly V, and the list is long enough.
 fn buffers_good(room: Room, enough: bool, kinds: &[u8]) -> bool
     requires { Good room }
     ensures { result ≡ buffers_good room enough kinds.now }
 {
-    if kinds.len() != room.volume() {
-        return false;
-    }
-    enough
+    kinds.len() == room.volume() && enough
 }
 
 // Whether every kind is known, and the support's too.
 fn codes_good(known: bool, kinds: &[u8]) -> bool
     ensures { result ≡ codes_good known kinds.now }
 {
-    if !all_known(kinds) {
-        return false;
-    }
-    known
+    all_known(kinds) && known
 }
 
 // Whether every cell of the path is one of the room.
@@ -34,34 +28,32 @@ fn path_inside(room: Room, path: &[u32]) -> bool
     requires { Good room }
     ensures { result ≡ every (cell_known room) path.now }
 {
-    let v = room.volume();
-    let n = path.len();
-    let mut i: usize = 0;
-    while i < n {
-        if v <= as_index(path[i]) {
-            return false;
-        }
-        i += 1;
-    }
-    true
+    let cells = room.volume();
+    path.iter().all(|cell| as_index(*cell) < cells)
 }
 
 // Whether the input can be drawn, or the first number that refuses it. `enough` says that the list is long enough, `known`
 // that the support's kind is known.
-pub fn judge(room: Room, enough: bool, known: bool, kinds: &[u8], path: &[u32]) -> Judgement
+pub fn judge(
+    room: Room,
+    enough: bool,
+    known: bool,
+    kinds: &[u8],
+    path: &[u32],
+) -> Result<(), Refusal>
     ensures { result ≡ judged room enough known kinds.now path.now }
 {
     if !room.good() {
-        return Judgement::Unfit(Refusal::Sides);
+        return Err(Refusal::Sides);
     }
     if !buffers_good(room, enough, kinds) {
-        return Judgement::Unfit(Refusal::Buffer);
+        return Err(Refusal::Buffer);
     }
     if !codes_good(known, kinds) {
-        return Judgement::Unfit(Refusal::Code);
+        return Err(Refusal::Code);
     }
     if !path_inside(room, path) {
-        return Judgement::Unfit(Refusal::Position);
+        return Err(Refusal::Position);
     }
-    Judgement::Fit
+    Ok(())
 }

@@ -8,20 +8,5 @@ mod told; // told.rt: both, told as numbers
 mod wiring; // wiring.rt: materialize_route
 
 pub use repeating::insert_repeaters;
-use routing::Refusal;
 pub use told::{insert_repeaters_told, materialize_route_told};
 pub use wiring::materialize_route;
-
-// What `materialize_route` answers: the route is laid, or why it is refused.
-#[derive(Clone, Copy)]
-pub enum Drawn {
-    Laid,
-    NotLaid(Refusal),
-}
-
-// What `insert_repeaters` answers: how many repeaters are listed, or why it is refused.
-#[derive(Clone, Copy)]
-pub enum Listed {
-    Repeaters(usize),
-    NotListed(Refusal),
-}

@@ -6,8 +6,9 @@ ghost use Rattle.drawing.specs.Answers.{drawn_number, listed_number};
 ghost use Rattle.drawing.specs.Told.{short_refusal, route_value_count, route_values, RouteTold, list_value_count, list_values, ListTold};
 ghost use Rattle.drawing.specs.RouteToldLaws.{kind_handed_on};
 
-use crate::{Drawn, Listed, insert_repeaters, materialize_route};
+use crate::{insert_repeaters, materialize_route};
 use room::Room;
+use routing::Refusal;
 
 // How many values a drawn route comes to: its detail, which is 0.
 const ROUTE_VALUES: usize = 1;
@@ -22,50 +23,47 @@ const NO_KIND: u8 = 255;
 fn short_number(room: Room) -> u32
     ensures { result ≡ refusal_number (short_refusal room) }
 {
-    if !room.good() {
-        return numbers::SIDES_NUMBER;
+    if room.good() {
+        numbers::BUFFER_NUMBER
+    } else {
+        numbers::SIDES_NUMBER
     }
-    numbers::BUFFER_NUMBER
 }
 
 // The support's kind as a byte; what is too large for one names no kind.
 fn kind_handed_on(support: u32) -> u8
     ensures { result ≡ kind_handed_on support }
 {
-    if support < NO_KIND as u32 {
-        return support as u8;
-    }
-    NO_KIND
+    u8::try_from(support).unwrap_or(NO_KIND)
 }
 
 // Writes the value of a drawn route, zeros behind it, and returns its number. A refusal writes nothing.
-fn tell_drawn(drawn: Drawn, values: &mut [u64]) -> u32
+fn tell_drawn(drawn: Result<(), Refusal>, values: &mut [u64]) -> u32
     requires { route_value_count ≤ length values.old }
     ensures value { result ≡ drawn_number drawn }
     ensures values_after { values.new ≡ output_after (drawn_number drawn) route_values values.old }
 {
     match drawn {
-        Drawn::Laid => {
-            lent::clear_longs(values);
+        Ok(()) => {
+            lent::clear(values);
             numbers::DONE_NUMBER
         }
-        Drawn::NotLaid(why) => reply::refusal_number(why),
+        Err(why) => reply::refusal_number(why),
     }
 }
 
 // Writes the values of a list of repeaters, zeros behind them, and returns its number. A refusal writes nothing.
-fn tell_listed(listed: Listed, values: &mut [u64]) -> u32
+fn tell_listed(listed: Result<usize, Refusal>, values: &mut [u64]) -> u32
     requires { list_value_count ≤ length values.old }
     ensures value { result ≡ listed_number listed }
     ensures values_after { values.new ≡ output_after (listed_number listed) (list_values listed) values.old }
 {
     match listed {
-        Listed::Repeaters(count) => {
-            lent::clear_longs(values);
-            values[1] = count as u64;
+        Ok(count) => {
+            lent::write_two(values, 0, count as u64);
             numbers::DONE_NUMBER
         }
-        Listed::NotListed(why) => reply::refusal_number(why),
+        Err(why) => reply::refusal_number(why),
     }
 }
 

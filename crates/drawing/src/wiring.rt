@@ -5,10 +5,9 @@ ghost use Rattle.drawing.specs.Drawing.{laid, drawn_cell, materialized};
 ghost use Rattle.drawing.specs.Answers.{RoutePromise};
 ghost use Rattle.drawing.specs.Listing.{Drawable};
 
-use crate::Drawn;
 use crate::judge::judge;
-use room::{AIR, Neighbour, REDSTONE_WIRE, Room, as_index};
-use routing::Judgement;
+use room::{AIR, REDSTONE_WIRE, Room, as_index};
+use routing::Refusal;
 
 // Lays a block of this kind where the cell is Air.
 fn lay(kind: u8, cell: usize, kinds: &mut [u8])
@@ -27,10 +26,8 @@ fn draw_cell(room: Room, support: u8, cell: usize, kinds: &mut [u8])
     requires cell_bound { cell < volume room }
     ensures { kinds.new ≡ drawn_cell room support cell kinds.old }
 {
-    if let Neighbour::Inside(below) = room.beneath(cell) {
+    if let Some(below) = room.beneath(cell) {
         lay(support, below, kinds);
-        lay(REDSTONE_WIRE, cell, kinds);
-        return;
     }
     lay(REDSTONE_WIRE, cell, kinds);
 }
@@ -40,22 +37,23 @@ fn draw_path(room: Room, support: u8, kinds: &mut [u8], path: &[u32])
     requires { Drawable room kinds.old path.now }
     ensures { kinds.new ≡ materialized room support path.now kinds.old }
 {
-    let mut i: usize = 0;
-    while i < path.len() {
-        draw_cell(room, support, as_index(path[i]), kinds);
-        i += 1;
+    for cell in path {
+        draw_cell(room, support, as_index(*cell), kinds);
     }
 }
 
 // Draws a route: cell by cell along the path, a support where the cell beneath is Air, then wire where the cell is Air. See the
 // promise in specs/Answers.antt.
-pub fn materialize_route(room: Room, support: u8, kinds: &mut [u8], path: &[u32]) -> Drawn
+pub fn materialize_route(
+    room: Room,
+    support: u8,
+    kinds: &mut [u8],
+    path: &[u32],
+) -> Result<(), Refusal>
     ensures { RoutePromise room support kinds.old path.now result kinds.new }
 {
     let known = room::kind_known(support);
-    if let Judgement::Unfit(why) = judge(room, true, known, kinds, path) {
-        return Drawn::NotLaid(why);
-    }
+    judge(room, true, known, kinds, path)?;
     draw_path(room, support, kinds, path);
-    Drawn::Laid
+    Ok(())
 }

@@ -1,6 +1,6 @@
 -- A lawful route, drawn: such is each that a search answers (`RouteHeld`, the meaning of its answer). It isn't refused; and where no cell of it stands right
 -- beneath an earlier one, each of its cells then holds wire or a repeater.
-use Rattle.std.specs.Prelude.{◌≡◌, refl, ◌⊎◌, true, false, List, [], ◌∷◌, ℕ, zero, suc, ◌<◌, eqb, length, get_or}
+use Rattle.std.specs.Prelude.{Ok, ◌≡◌, refl, ◌⊎◌, true, false, List, [], ◌∷◌, ℕ, zero, suc, ◌<◌, eqb, length, get_or}
 use Rattle.std.proofs.Common.{sym, ◌∙◌, inl, inr, not-suc-le-zero, le_of_suc-le-suc, arith, eqb-true, lt-ltb, eq-eqb}
 use Rattle.basics.specs.Tests.{either, ask, never, and_both}
 use Rattle.basics.specs.Lists.{every}
@@ -12,8 +12,6 @@ use Rattle.routing.specs.PromiseLaws.{admitted}
 use Rattle.repeaters.specs.Repeaters.{path_cell}
 use Rattle.demands.specs.Lawful.{LawfulStep, LawfulSteps}
 use Rattle.demands.specs.Statements.{Lawful, Unrefused}
-use Rattle.drawing.specs.declared.Drawn.TheVariants.{Laid}
-use Rattle.drawing.specs.declared.Listed.TheVariants.{Repeaters}
 use Rattle.drawing.specs.Answers.{cell_known, judged, drawn_of, RoutePromise, ListPromise}
 use Rattle.drawing.specs.Statements.{NoneBeneathEarlier, WiredOrKept, wired, repeated, kept}
 use Rattle.drawing.specs.Theorems.{path-holds}
@@ -42,7 +40,7 @@ way-inside T u (v ∷ l) t h L = and_both (lt-ltb u (volume T.room) h) (way-insi
 
 -- a search's route can be drawn, with supports of any known kind
 pub route_is_drawn : (I : Input) → Unrefused I → {path : List ℕ} {cost : ℕ} → Lawful (task_of I) path cost → (support : ℕ) → kind_known support ≡ true
-    → drawn_of I.room support I.kinds path ≡ Laid
+    → drawn_of I.room support I.kinds path ≡ Ok tt
 unfolding drawn_of judged
 route_is_drawn I U {path} L support known =
     let p : RoomKnown I = fit-known I U.fit in
@@ -53,7 +51,7 @@ route_is_drawn I U {path} L support known =
 
 -- drawn, and then given its repeaters
 module _ {T : Task} {path : List ℕ} {cost support limit : ℕ} {cells facings kinds₁ kinds₂ cells' facings' : List ℕ} {count : ℕ} (L : Lawful T path cost)
-    (P : RoutePromise T.room support T.kinds path Laid kinds₁) (Q : ListPromise T.room limit kinds₁ path cells facings (Repeaters count) kinds₂ cells' facings') where
+    (P : RoutePromise T.room support T.kinds path (Ok tt) kinds₁) (Q : ListPromise T.room limit kinds₁ path cells facings (Ok count) kinds₂ cells' facings') where
   pub route-holds : NoneBeneathEarlier T.room path → (k : ℕ) → k < length path
       → (get_or kinds₂ (path_cell path k) air ≡ redstone_wire) ⊎ (get_or kinds₂ (path_cell path k) air ≡ repeater)
   route-holds N k h = by (path-holds P Q N k h) (routeable-holds T (path_cell path k) free)

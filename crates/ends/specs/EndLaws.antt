@@ -1,20 +1,18 @@
 -- Laws of the ends: how the loops over them go, and that a net's cells are in the room.
-use Rattle.std.specs.Prelude.{◌≡◌, refl, ◌≢◌, ℕ, zero, suc, ◌+◌, ◌-◌, ◌≤◌, ◌<◌, eqb, get_or, take, set, replicate}
-use Rattle.std.proofs.Common.{sym, ◌∙◌, suc-ne-zero, add-one, arith, get_or-take, take-suc, length-take-le}
+use Rattle.std.specs.Prelude.{◌≡◌, refl, ◌≢◌, true, false, ℕ, zero, suc, ◌+◌, ◌-◌, ◌≤◌, ◌<◌, eqb, get_or, take, set, replicate, Option, Some, None, Result, Ok, Err}
+use Rattle.std.proofs.Common.{sym, ◌∙◌, add-one, arith, get_or-take, take-suc, length-take-le}
 use Rattle.std.proofs.Math.Path.{ap}
 use mathlib.Core.List.{List, [], ◌∷◌, ◌++◌, map, map-append}
-use Rattle.std.proofs.Math.Numerals.{unary_clauses}
-use borrow.Author.Tests.{eq-eqb, ne_eqb, eqb-false}
 use Rattle.std.proofs.Math.ListN.{length, drop, get_or-append}
 use Rattle.std.proofs.lemmas.List.{length-map}
 use Rattle.std.proofs.Math.Seq.{slice-cons, slice_empty}
-use Rattle.numbers.specs.Refusals.{port_facing_number, end_outside_number}
+use Rattle.numbers.specs.Refusals.{buffer_number, end_outside_number}
 use Rattle.basics.specs.Tests.{ask, never}
 use Rattle.basics.specs.Padding.{padded_long, padded_next}
 use Rattle.room.specs.declared.Room.{Room}
 use Rattle.room.specs.Room.{Within, volume}
 use Rattle.room.specs.Units.{wire}
-use Rattle.port_realization.specs.declared.Terminal.{Terminal}
+use Rattle.port_realization.specs.declared.EndFault.{EndFault}
 use Rattle.port_realization.specs.declared.Realized.{Realized}
 use Rattle.port_realization.specs.Ports.{terminal_of}
 use Rattle.port_realization.specs.PortLaws.{terminal_in_lem, sink-inside}
@@ -26,9 +24,8 @@ use Rattle.job_sheet.specs.Accepted.{SinkList}
 use Rattle.ends.specs.declared.Tap.{Tap}
 use Rattle.ends.specs.declared.Taps.{Taps}
 use Rattle.ends.specs.declared.Fault.{Fault}
-use Rattle.ends.specs.declared.Fault.TheVariants.{Good, NoFacing, Outside}
 use Rattle.ends.specs.declared.Ends.{Ends}
-use Rattle.ends.specs.Ends.{sinks_in, source_end, sink_end, due_for, first_due, ends_at, no_tap, tap_of, taps_of, tap_from, without_approach, terminal_in, fault_by, fault_of, ends_of, taps_in, TapsInside, NetInside}
+use Rattle.ends.specs.Ends.{sinks_in, source_end, sink_end, due_for, is_due, first_due, ends_at, no_tap, tap_of, taps_of, tap_from, without_approach, terminal_in, fault_number, fault_by, fault_of, ends_of, unless, realized_ends, taps_in, TapsInside, NetInside}
 
 module _ {R : Room} {k : Sinks} (S : SinkList R k) where
   pub sinks-long : length (sinks_in k) ≡ k.count
@@ -40,39 +37,53 @@ module _ {R : Room} {k : Sinks} (S : SinkList R k) where
 
 -- ---- the first end for which a number is due
 
--- the number is due for none of the first i sinks
-pub record NoneDue (R : Room) (number : ℕ) (k : Sinks) (i : ℕ) : Type 0 where
-  pub same : first_due number (i + 1) (map (sink_end R) (drop i (sinks_in k))) ≡ first_due number 1 (map (sink_end R) (sinks_in k))
+pub is-due : (due : EndFault) (o : Option EndFault) → o ≡ Some due → is_due due o ≡ true
+is-due EndFault.NoFacing o e = rw e
+is-due EndFault.Outside o e = rw e
+
+pub not-due : (due : EndFault) (o : Option EndFault) → o ≢ Some due → is_due due o ≡ false
+not-due due None n = refl
+not-due EndFault.NoFacing (Some EndFault.NoFacing) n = absurd (n refl)
+not-due EndFault.NoFacing (Some EndFault.Outside) n = refl
+not-due EndFault.Outside (Some EndFault.NoFacing) n = refl
+not-due EndFault.Outside (Some EndFault.Outside) n = absurd (n refl)
+
+pub other-due : (due : EndFault) (o : Option EndFault) → is_due due o ≡ false → o ≢ Some due
+other-due due o f e = never (cc (is-due due o e))
+
+-- that is due for none of the first i sinks
+pub record NoneDue (R : Room) (due : EndFault) (k : Sinks) (i : ℕ) : Type 0 where
+  pub same : first_due due (i + 1) (map (sink_end R) (drop i (sinks_in k))) ≡ first_due due 1 (map (sink_end R) (sinks_in k))
   pub so_far : i ≤ k.count
 
-pub none_passed : (R : Room) (number : ℕ) (k : Sinks) → NoneDue R number k 0
-none_passed R number k = record { same = refl; so_far = omega arith }
+pub none_passed : (R : Room) (due : EndFault) (k : Sinks) → NoneDue R due k 0
+none_passed R due k = record { same = refl; so_far = omega arith }
 
-module _ (R : Room) (number : ℕ) (source : Endpoint) {k : Sinks} (S : SinkList R k) where
-  pub due-source : due_for (source_end R source) ≡ number → 1 ≡ first_due number 0 (ends_at R source (sinks_in k))
+module _ (R : Room) (due : EndFault) (source : Endpoint) {k : Sinks} (S : SinkList R k) where
+  pub due-source : due_for (source_end R source) ≡ Some due → Some 0 ≡ first_due due 0 (ends_at R source (sinks_in k))
   unfolding first_due
-  due-source e = rw (eq-eqb _ _ e)
+  due-source e = rw (is-due _ _ e)
 
   -- it is not due for the source
-  module _ (n : due_for (source_end R source) ≢ number) {i : ℕ} (P : NoneDue R number k i) where
-    pub due-sink : i < k.count → due_for (sink_end R (get_or k.ends i no_sink)) ≡ number → i + 2 ≡ first_due number 0 (ends_at R source (sinks_in k))
+  module _ (n : due_for (source_end R source) ≢ Some due) {i : ℕ} (P : NoneDue R due k i) where
+    pub due-sink : i < k.count → due_for (sink_end R (get_or k.ends i no_sink)) ≡ Some due → Some (i + 1) ≡ first_due due 0 (ends_at R source (sinks_in k))
     unfolding first_due
-    due-sink h e = let p = P.same in rw (ne_eqb _ _ n, ← p, from-sink S i h, eq-eqb _ _ e) (omega arith)
+    due-sink h e = let p = P.same in rw (not-due _ _ n, ← p, from-sink S i h, is-due _ _ e)
 
-    pub due-none : k.count ≤ i → 0 ≡ first_due number 0 (ends_at R source (sinks_in k))
+    pub due-none : k.count ≤ i → None ≡ first_due due 0 (ends_at R source (sinks_in k))
     unfolding first_due
     due-none h =
         let p = P.same in
         let none : drop i (sinks_in k) ≡ [] = let e : i ≡ k.count = omega (arith, P.so_far) in rw e (slice_empty k.count k.ends) in
-        rw (ne_eqb _ _ n, ← p, none)
+        rw (not-due _ _ n, ← p, none)
 
-pub sink-passed : {R : Room} {number : ℕ} {k : Sinks} → SinkList R k → {i : ℕ} → NoneDue R number k i → i < k.count
-    → (due_for (sink_end R (get_or k.ends i no_sink)) ≢ number) → NoneDue R number k (i + 1)
+pub sink-passed : {R : Room} {due : EndFault} {k : Sinks} → SinkList R k → {i : ℕ} → NoneDue R due k i → i < k.count
+    → (due_for (sink_end R (get_or k.ends i no_sink)) ≢ Some due) → NoneDue R due k (i + 1)
 unfolding first_due
-sink-passed {R = R} {number = number} {k = k} S {i = i} P h n = record { same = step ∙ P.same; so_far = omega arith }
+sink-passed {R = R} {due = due} {k = k} S {i = i} P h n = record { same = step ∙ P.same; so_far = omega arith }
   where
-    step : first_due number (i + 1 + 1) (map (sink_end R) (drop (i + 1) (sinks_in k))) ≡ first_due number (i + 1) (map (sink_end R) (drop i (sinks_in k)))
-    step = rw (from-sink S i h, ne_eqb _ _ n, add-one (i + 1))
+    step : first_due due (i + 1 + 1) (map (sink_end R) (drop (i + 1) (sinks_in k))) ≡ first_due due (i + 1) (map (sink_end R) (drop i (sinks_in k)))
+    step = rw (from-sink S i h, not-due _ _ n, add-one (i + 1))
 
 -- ---- the taps gathered so far
 
@@ -105,38 +116,56 @@ module _ {R : Room} {k : Sinks} (S : SinkList R k) {taps : List Tap} {i : ℕ} (
 
 -- ---- all of 8, all of 9
 
-by-facing : (n m : ℕ) → 0 < n → NoFacing (n - 1) ≡ fault_by n m
-by-facing zero m h = absurd (omega arith)
-by-facing (suc n) m h = simp unary_clauses refl
+-- each is above 6, and at most 9
+pub fault-late : (e : EndFault) → (buffer_number < fault_number e) × (fault_number e ≤ end_outside_number)
+fault-late EndFault.NoFacing = (omega arith, omega arith)
+fault-late EndFault.Outside = (omega arith, omega arith)
 
-by-outside : (n m : ℕ) → n ≤ 0 → 0 < m → Outside (m - 1) ≡ fault_by n m
-by-outside zero zero h g = absurd (omega arith)
-by-outside zero (suc m) h g = simp unary_clauses refl
-by-outside (suc n) m h g = absurd (omega arith)
-
-by-none : (n m : ℕ) → n ≤ 0 → m ≤ 0 → Good ≡ fault_by n m
-by-none zero zero h g = refl
-by-none zero (suc m) h g = absurd (omega arith)
-by-none (suc n) m h g = absurd (omega arith)
-
-module _ (R : Room) (source : Endpoint) (sinks : List Sink) {n : ℕ} (e : n ≡ first_due port_facing_number 0 (ends_at R source sinks)) where
-  pub fault_facing : 0 < n → NoFacing (n - 1) ≡ fault_of R source sinks
+module _ (R : Room) (source : Endpoint) (sinks : List Sink) where
+  pub fault_facing : {place : ℕ} → Some place ≡ first_due EndFault.NoFacing 0 (ends_at R source sinks) → Some (record { due = EndFault.NoFacing; place = place }) ≡ fault_of R source sinks
   unfolding fault_of
-  fault_facing h = by-facing n _ h ∙ ap (λ x. fault_by x (first_due end_outside_number 0 (ends_at R source sinks))) e
+  fault_facing e = ap (λ x. fault_by x (first_due EndFault.Outside 0 (ends_at R source sinks))) e
 
-  module _ (p : n ≤ 0) {m : ℕ} (f : m ≡ first_due end_outside_number 0 (ends_at R source sinks)) where
-    pub fault_outside : 0 < m → Outside (m - 1) ≡ fault_of R source sinks
+  module _ (e : None ≡ first_due EndFault.NoFacing 0 (ends_at R source sinks)) where
+    pub fault_outside : {place : ℕ} → Some place ≡ first_due EndFault.Outside 0 (ends_at R source sinks) → Some (record { due = EndFault.Outside; place = place }) ≡ fault_of R source sinks
     unfolding fault_of
-    fault_outside h = by-outside n m p h ∙ ap (fault_by n) f ∙ ap (λ x. fault_by x (first_due end_outside_number 0 (ends_at R source sinks))) e
+    fault_outside f = ap (fault_by None) f ∙ ap (λ x. fault_by x (first_due EndFault.Outside 0 (ends_at R source sinks))) e
 
-    pub fault_none : m ≤ 0 → Good ≡ fault_of R source sinks
+    pub fault_none : None ≡ first_due EndFault.Outside 0 (ends_at R source sinks) → None ≡ fault_of R source sinks
     unfolding fault_of
-    fault_none h = by-none n m p h ∙ ap (fault_by n) f ∙ ap (λ x. fault_by x (first_due end_outside_number 0 (ends_at R source sinks))) e
+    fault_none f = ap (fault_by None) f ∙ ap (λ x. fault_by x (first_due EndFault.Outside 0 (ends_at R source sinks))) e
 
-pub ends_is : (R : Room) (e : Endpoint) (es : List Sink) {f : Fault} {t : ℕ} {k : Taps}
-    → f ≡ fault_of R e es → t ≡ terminal_in (source_end R e) → k ≡ taps_of R es → ◌≡◌ {A = Ends} (record { fault = f; source = t; taps = k }) (ends_of R e es)
+pub ends_is : (R : Room) (e : Endpoint) (es : List Sink) {t : ℕ} {k : Taps}
+    → t ≡ terminal_in (source_end R e) → k ≡ taps_of R es → ◌≡◌ {A = Ends} (record { source = t; taps = k }) (ends_of R e es)
 unfolding ends_of
-ends_is R e es p q r = λ i. record { fault = p i; source = q i; taps = r i }
+ends_is R e es q r = λ i. record { source = q i; taps = r i }
+
+module _ (R : Room) (e : Endpoint) (es : List Sink) where
+  -- where no number is due, `realize_ends` gives the ends
+  pub ends_realized : fault_of R e es ≡ None → {r : Result Ends Fault} → r ≡ realized_ends R e es → r ≡ Ok (ends_of R e es)
+  ends_realized f is = is ∙ ap (λ x. unless x (ends_of R e es)) f
+
+  pub realized-good : {f : Option Fault} → f ≡ fault_of R e es → f ≡ None → {E : Ends} → E ≡ ends_of R e es → Ok E ≡ realized_ends R e es
+  realized-good p n q = ap Ok q ∙ ap (λ x. unless x (ends_of R e es)) (sym n ∙ p)
+
+  pub realized-fault : {f : Option Fault} → f ≡ fault_of R e es → {x : Fault} → f ≡ Some x → Err x ≡ realized_ends R e es
+  realized-fault p n = ap (λ x. unless x (ends_of R e es)) (sym n ∙ p)
+
+-- what its answer tells: the ends, and no number is due, or what is wrong
+told_ends : (f : Option Fault) (E : Ends) {e : Ends} → Ok e ≡ unless f E → (f ≡ None) × (e ≡ E)
+told_ends None E q = (refl, cc)
+told_ends (Some x) E q = never (cc)
+
+told_fault : (f : Option Fault) (E : Ends) {x : Fault} → Err x ≡ unless f E → f ≡ Some x
+told_fault None E q = never (cc)
+told_fault (Some y) E q = cc
+
+module _ (R : Room) (e : Endpoint) (es : List Sink) {r : Result Ends Fault} (is : r ≡ realized_ends R e es) where
+  pub ends-told : {E : Ends} → r ≡ Ok E → (fault_of R e es ≡ None) × (E ≡ ends_of R e es)
+  ends-told q = told_ends _ _ (sym q ∙ is)
+
+  pub fault-told : {x : Fault} → r ≡ Err x → fault_of R e es ≡ Some x
+  fault-told q = told_fault _ (ends_of R e es) (sym q ∙ is)
 
 -- ---- a net whose ends no number refuses
 
@@ -147,45 +176,53 @@ taps-long {k = k} T = length-take-le k.count k.taps (omega (arith, T.few, T.whol
 pub tap-is : (k : Taps) (i : ℕ) → i < k.count → get_or k.taps i no_tap ≡ get_or (taps_in k) i no_tap
 tap-is k i h = sym (get_or-take k.count k.taps i no_tap h)
 
--- where a number is due for none of the ends, it is not for any of them
-none-due : (number place : ℕ) (rs : List Realized) → first_due number place rs ≡ 0 → (i : ℕ) → i < length rs → (d : Realized) → due_for (get_or rs i d) ≢ number
+-- what is due for none of the ends is not due for any of them
+none-due : (due : EndFault) (place : ℕ) (rs : List (Result Realized EndFault)) → first_due due place rs ≡ None → (i : ℕ) → i < length rs → (d : Result Realized EndFault) → due_for (get_or rs i d) ≢ Some due
 unfolding first_due
-none-due number place [] e i h d = absurd (omega arith)
-none-due number place (r ∷ rs) e zero h d = ask (eqb (due_for r) number) (λ t. absurd (suc-ne-zero place (rw t at e))) (λ f. eqb-false _ _ f)
-none-due number place (r ∷ rs) e (suc i) h d =
-    ask (eqb (due_for r) number) (λ t. absurd (suc-ne-zero place (rw t at e))) (λ f. none-due number (suc place) rs (rw f at e) i (omega arith) d)
+none-due due place [] e i h d = absurd (omega arith)
+none-due due place (r ∷ rs) e zero h d = ask (is_due due (due_for r)) (λ t. never (cc (rw t at e))) (λ f. other-due _ _ f)
+none-due due place (r ∷ rs) e (suc i) h d =
+    ask (is_due due (due_for r)) (λ t. never (cc (rw t at e))) (λ f. none-due due (suc place) rs (rw f at e) i (omega arith) d)
 
-by-good : (n m : ℕ) → fault_by n m ≡ Good → (n ≡ 0) × (m ≡ 0)
-by-good zero zero e = (refl, refl)
-by-good zero (suc m) e = never (cc)
-by-good (suc n) m e = never (cc)
+pub by-good : (n m : Option ℕ) → fault_by n m ≡ None → (n ≡ None) × (m ≡ None)
+by-good None None e = (refl, refl)
+by-good None (Some place) e = never (cc)
+by-good (Some place) m e = never (cc)
 
-source-inside : (R : Room) (e : Endpoint) → Within R e.at → (due_for (source_end R e) ≢ port_facing_number) → (due_for (source_end R e) ≢ end_outside_number) → terminal_in (source_end R e) < volume R
+-- neither is due for an end
+abbrev pub NoneFor : Result Realized EndFault → Type 0
+NoneFor r = (due : EndFault) → due_for r ≢ Some due
+
+pub none_for : (r : Result Realized EndFault) → (due_for r ≢ Some EndFault.NoFacing) → (due_for r ≢ Some EndFault.Outside) → NoneFor r
+none_for r n m EndFault.NoFacing = n
+none_for r n m EndFault.Outside = m
+
+source-inside : (R : Room) (e : Endpoint) → Within R e.at → NoneFor (source_end R e) → terminal_in (source_end R e) < volume R
 unfolding source_end
-source-inside R e w n m = go (terminal_of R e.at e.port e.facing) refl n m
+source-inside R e w n = go (terminal_of R e.at e.port e.facing) refl n
   where
-    go : (t : Terminal) → terminal_of R e.at e.port e.facing ≡ t → (due_for (without_approach t) ≢ port_facing_number) → (due_for (without_approach t) ≢ end_outside_number) → terminal_in (without_approach t) < volume R
-    go (Terminal.At cell) q a b = terminal_in_lem R e.at w e.port e.facing cell q
-    go Terminal.NoFacing q a b = absurd (a refl)
-    go Terminal.Outside q a b = absurd (b refl)
+    go : (t : Result ℕ EndFault) → terminal_of R e.at e.port e.facing ≡ t → NoneFor (without_approach t) → terminal_in (without_approach t) < volume R
+    go (Ok cell) q a = terminal_in_lem R e.at w e.port e.facing cell q
+    go (Err fault) q a = absurd (a fault refl)
 
 -- where no number is due for any end, the source's terminal is in the room
-pub source_in_room : {R : Room} (source : Endpoint) → Within R source.at → (sinks : List Sink) → fault_of R source sinks ≡ Good → terminal_in (source_end R source) < volume R
+pub source_in_room : {R : Room} (source : Endpoint) → Within R source.at → (sinks : List Sink) → fault_of R source sinks ≡ None → terminal_in (source_end R source) < volume R
 unfolding fault_of
 source_in_room {R} source w sinks good =
     let z = by-good _ _ good in
-    source-inside R source w (none-due port_facing_number 0 (ends_at R source sinks) z.0 0 (omega arith) Realized.Outside) (none-due end_outside_number 0 (ends_at R source sinks) z.1 0 (omega arith) Realized.Outside)
+    let d : Result Realized EndFault = Err EndFault.Outside in
+    source-inside R source w
+    (none_for _ (none-due EndFault.NoFacing 0 (ends_at R source sinks) z.0 0 (omega arith) d) (none-due EndFault.Outside 0 (ends_at R source sinks) z.1 0 (omega arith) d))
 
-tap-inside : (R : Room) (k : Sink) → Within R k.end.at → (due_for (sink_end R k) ≢ port_facing_number) → (due_for (sink_end R k) ≢ end_outside_number)
+tap-inside : (R : Room) (k : Sink) → Within R k.end.at → NoneFor (sink_end R k)
     → ((tap_of R k).terminal < volume R) × ((tap_of R k).approach < volume R)
 unfolding tap_of sink_end
-tap-inside R k w n m = go (sink_end R k) refl n m
+tap-inside R k w n = go (sink_end R k) refl n
   where
-    go : (r : Realized) → sink_end R k ≡ r → (due_for r ≢ port_facing_number) → (due_for r ≢ end_outside_number)
+    go : (r : Result Realized EndFault) → sink_end R k ≡ r → NoneFor r
         → ((tap_from (eqb k.end.port wire) k.tail r).terminal < volume R) × ((tap_from (eqb k.end.port wire) k.tail r).approach < volume R)
-    go (Realized.At t a) q x y = let E = sink-inside R k.end.at w k.end.port k.end.facing t a q in (E.terminal_below, E.approach_below)
-    go Realized.NoFacing q x y = absurd (x refl)
-    go Realized.Outside q x y = absurd (y refl)
+    go (Ok r) q x = let E = sink-inside R k.end.at w k.end.port k.end.facing r.terminal r.approach q in (E.terminal_below, E.approach_below)
+    go (Err fault) q x = absurd (x fault refl)
 
 mapped_at : {X Y : Type 0} (f : X → Y) (xs : List X) (i : ℕ) (d : X) (e : Y) → i < length xs → get_or (map f xs) i e ≡ f (get_or xs i d)
 mapped_at f [] i d e h = absurd (omega arith)
@@ -203,15 +240,15 @@ module _ {R : Room} {k : Sinks} (S : SinkList R k) where
       ∙ mapped_at (tap_of R) l i no_sink no_tap b
       ∙ ap (tap_of R) (get_or-take k.count k.ends i no_sink h)
 
-module _ {R : Room} (source : Endpoint) {k : Sinks} (w : Within R source.at) (S : SinkList R k) (good : fault_of R source (sinks_in k) ≡ Good) where
-  none : (number : ℕ) → first_due number 0 (ends_at R source (sinks_in k)) ≡ 0 → (i : ℕ) → i < k.count → due_for (sink_end R (get_or k.ends i no_sink)) ≢ number
-  none number e i h q =
+module _ {R : Room} (source : Endpoint) {k : Sinks} (w : Within R source.at) (S : SinkList R k) (good : fault_of R source (sinks_in k) ≡ None) where
+  none : (due : EndFault) → first_due due 0 (ends_at R source (sinks_in k)) ≡ None → (i : ℕ) → i < k.count → due_for (sink_end R (get_or k.ends i no_sink)) ≢ Some due
+  none due e i h q =
       let l = sinks_in k in
       let b : i < length l = omega (arith, sinks-long S) in
       let a : get_or l i no_sink ≡ get_or k.ends i no_sink = get_or-take k.count k.ends i no_sink h in
       let m = length-map l (sink_end R) in
-      none-due number 0 (ends_at R source l) e (suc i) (omega (arith, m)) Realized.Outside
-      (ap due_for (mapped_at (sink_end R) l i no_sink Realized.Outside b ∙ ap (sink_end R) a) ∙ q)
+      none-due due 0 (ends_at R source l) e (suc i) (omega (arith, m)) (Err EndFault.Outside)
+      (ap due_for (mapped_at (sink_end R) l i no_sink (Err EndFault.Outside) b ∙ ap (sink_end R) a) ∙ q)
 
   pub net_in : NetInside R (terminal_in (source_end R source)) (taps_of R (sinks_in k))
   unfolding fault_of
@@ -220,7 +257,7 @@ module _ {R : Room} (source : Endpoint) {k : Sinks} (w : Within R source.at) (S 
       let n = sinks-long S in
       let z = by-good _ _ good in
       let inside : (i : ℕ) → i < length l → ((tap_of R (get_or k.ends i no_sink)).terminal < volume R) × ((tap_of R (get_or k.ends i no_sink)).approach < volume R) =
-      λ i h. tap-inside R _ (S.within i (omega (arith, n))) (none port_facing_number z.0 i (omega (arith, n))) (none end_outside_number z.1 i (omega (arith, n))) in
+      λ i h. tap-inside R _ (S.within i (omega (arith, n))) (none_for _ (none EndFault.NoFacing z.0 i (omega (arith, n))) (none EndFault.Outside z.1 i (omega (arith, n)))) in
       record {
         source_in = source_in_room source w l good;
         taps_in_lem = record {

@@ -1,12 +1,13 @@
 -- The ends of one net: which of numbers 8 and 9 is due for which of them, and else where its wire begins and ends. Definitions alone; their laws are
 -- in EndLaws.
-use Rattle.std.specs.Prelude.{◌≡◌, Bool, false, List, [], ◌∷◌, ◌++◌, map, ℕ, zero, suc, ◌-◌, ◌≤◌, ◌<◌, eqb, length, get_or, take, replicate}
-use Rattle.numbers.specs.Refusals.{done_number, port_facing_number, end_outside_number}
+use Rattle.std.specs.Prelude.{◌≡◌, Bool, true, false, List, [], ◌∷◌, ◌++◌, map, ℕ, suc, ◌-◌, ◌≤◌, ◌<◌, eqb, length, get_or, take, replicate, Option, Some, None, Result, Ok, Err}
+use Rattle.std.specs.Result.{result_err}
+use Rattle.numbers.specs.Refusals.{port_facing_number, end_outside_number}
 use Rattle.basics.specs.Tests.{either}
 use Rattle.room.specs.declared.Room.{Room}
 use Rattle.room.specs.Room.{volume}
 use Rattle.room.specs.Units.{wire}
-use Rattle.port_realization.specs.declared.Terminal.{Terminal}
+use Rattle.port_realization.specs.declared.EndFault.{EndFault}
 use Rattle.port_realization.specs.declared.Realized.{Realized}
 use Rattle.port_realization.specs.Ports.{terminal_of, realized_of}
 use Rattle.job_sheet.specs.declared.Endpoint.{Endpoint}
@@ -17,39 +18,43 @@ use Rattle.ends.specs.declared.Tap.{Tap}
 use Rattle.ends.specs.declared.Taps.{Taps}
 use Rattle.ends.specs.declared.Ends.{Ends}
 use Rattle.ends.specs.declared.Fault.{Fault}
-use Rattle.ends.specs.declared.Fault.TheVariants.{Good, NoFacing, Outside}
 
 -- the sinks in use, of those that travel as one value
 abbrev pub sinks_in : Sinks → List Sink
 sinks_in k = take k.count k.ends
 
 -- a source has no approach: its terminal stands for both
-abbrev pub without_approach : Terminal → Realized
-without_approach (Terminal.At cell) = Realized.At cell cell
-without_approach Terminal.NoFacing = Realized.NoFacing
-without_approach Terminal.Outside = Realized.Outside
+abbrev pub without_approach : Result ℕ EndFault → Result Realized EndFault
+without_approach (Ok cell) = Ok (record { terminal = cell; approach = cell })
+without_approach (Err fault) = Err fault
 
 -- the source as the wire meets it
-unfoldable pub source_end : Room → Endpoint → Realized
+unfoldable pub source_end : Room → Endpoint → Result Realized EndFault
 source_end R e = without_approach (terminal_of R e.at e.port e.facing)
 
 -- a sink as the wire meets it
-unfoldable pub sink_end : Room → Sink → Realized
+unfoldable pub sink_end : Room → Sink → Result Realized EndFault
 sink_end R k = let e = k.end in realized_of R e.at e.port e.facing
 
--- the number that is due for an end, 0 for none
-abbrev pub due_for : Realized → ℕ
-due_for (Realized.At terminal approach) = done_number
-due_for Realized.NoFacing = port_facing_number
-due_for Realized.Outside = end_outside_number
+-- what is due for an end: number 8, number 9 or neither
+abbrev pub due_for : Result Realized EndFault → Option EndFault
+due_for r = result_err r
 
--- "0 source, k-th sink k": one more than the place of the first end for which that number is due, counted on from `place`; 0 where there is none
-unfoldable pub first_due : ℕ → ℕ → List Realized → ℕ
-first_due number place [] = 0
-first_due number place (r ∷ rs) = either (eqb (due_for r) number) (suc place) (first_due number (suc place) rs)
+-- that, and no other, is due
+abbrev pub is_due : EndFault → Option EndFault → Bool
+is_due due None = false
+is_due EndFault.NoFacing (Some EndFault.NoFacing) = true
+is_due EndFault.NoFacing (Some EndFault.Outside) = false
+is_due EndFault.Outside (Some EndFault.NoFacing) = false
+is_due EndFault.Outside (Some EndFault.Outside) = true
+
+-- "0 source, k-th sink k": the place of the first end for which that is due, counted on from `place`
+unfoldable pub first_due : EndFault → ℕ → List (Result Realized EndFault) → Option ℕ
+first_due due place [] = None
+first_due due place (r ∷ rs) = either (is_due due (due_for r)) (Some place) (first_due due (suc place) rs)
 
 -- the source, then the sinks in sheet order
-abbrev pub ends_at : Room → Endpoint → List Sink → List Realized
+abbrev pub ends_at : Room → Endpoint → List Sink → List (Result Realized EndFault)
 ends_at R source sinks = source_end R source ∷ map (sink_end R) sinks
 
 -- what stands in a place of `Taps` that no sink takes
@@ -57,10 +62,9 @@ abbrev pub no_tap : Tap
 no_tap = record { terminal = 0; approach = 0; wire = false; tail = 0 }
 
 -- where an end meets the wire, what its port is, and its tail limit
-abbrev pub tap_from : Bool → ℕ → Realized → Tap
-tap_from isWire limit (Realized.At t a) = record { terminal = t; approach = a; wire = isWire; tail = limit }
-tap_from isWire limit Realized.NoFacing = no_tap
-tap_from isWire limit Realized.Outside = no_tap
+abbrev pub tap_from : Bool → ℕ → Result Realized EndFault → Tap
+tap_from isWire limit (Ok r) = record { terminal = r.terminal; approach = r.approach; wire = isWire; tail = limit }
+tap_from isWire limit (Err fault) = no_tap
 
 -- a sink's tap: its terminal and approach, whether its port is Wire, and its tail limit
 unfoldable pub tap_of : Room → Sink → Tap
@@ -75,24 +79,37 @@ abbrev pub taps_of : Room → List Sink → Taps
 taps_of R sinks = record { count = length sinks; taps = map (tap_of R) sinks ++ replicate (max_sinks - length sinks) no_tap }
 
 -- the terminal of a source, 0 where a number is due for it
-abbrev pub terminal_in : Realized → ℕ
-terminal_in (Realized.At cell approach) = cell
-terminal_in Realized.NoFacing = 0
-terminal_in Realized.Outside = 0
+abbrev pub terminal_in : Result Realized EndFault → ℕ
+terminal_in (Ok r) = r.terminal
+terminal_in (Err fault) = 0
+
+-- 8 or 9
+abbrev pub fault_number : EndFault → ℕ
+fault_number EndFault.NoFacing = port_facing_number
+fault_number EndFault.Outside = end_outside_number
 
 -- "all of 8, all of 9"
-abbrev pub fault_by : ℕ → ℕ → Fault
-fault_by (suc place) later = NoFacing place
-fault_by zero (suc place) = Outside place
-fault_by zero zero = Good
+abbrev pub fault_by : Option ℕ → Option ℕ → Option Fault
+fault_by (Some place) later = Some (record { due = EndFault.NoFacing; place = place })
+fault_by None (Some place) = Some (record { due = EndFault.Outside; place = place })
+fault_by None None = None
 
 -- number 8 or 9 with its detail, or neither
-unfoldable pub fault_of : Room → Endpoint → List Sink → Fault
-fault_of R source sinks = fault_by (first_due port_facing_number 0 (ends_at R source sinks)) (first_due end_outside_number 0 (ends_at R source sinks))
+unfoldable pub fault_of : Room → Endpoint → List Sink → Option Fault
+fault_of R source sinks = fault_by (first_due EndFault.NoFacing 0 (ends_at R source sinks)) (first_due EndFault.Outside 0 (ends_at R source sinks))
 
--- the ends of one net: what `realize_ends` promises
+-- the ends of one net, where no number is due for them
 unfoldable pub ends_of : Room → Endpoint → List Sink → Ends
-ends_of R source sinks = record { fault = fault_of R source sinks; source = terminal_in (source_end R source); taps = taps_of R sinks }
+ends_of R source sinks = record { source = terminal_in (source_end R source); taps = taps_of R sinks }
+
+-- these ends, unless there is a fault
+abbrev pub unless : Option Fault → Ends → Result Ends Fault
+unless (Some fault) ends = Err fault
+unless None ends = Ok ends
+
+-- the ends of one net, or number 8 or 9: what `realize_ends` promises
+abbrev pub realized_ends : Room → Endpoint → List Sink → Result Ends Fault
+realized_ends R source sinks = unless (fault_of R source sinks) (ends_of R source sinks)
 
 -- ---- what the functions ask
 

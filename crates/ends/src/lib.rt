@@ -4,10 +4,10 @@
 ghost use Rattle.std.specs.Prelude.{◌≡◌};
 ghost use Rattle.room.specs.Room.{Good, Within};
 ghost use Rattle.job_sheet.specs.Accepted.{SinkList};
-ghost use Rattle.ends.specs.Ends.{sinks_in, source_end, sink_end, due_for, first_due, ends_at, no_tap, tap_of, taps_of, terminal_in, fault_of, ends_of};
+ghost use Rattle.ends.specs.Ends.{sinks_in, source_end, sink_end, first_due, ends_at, no_tap, tap_of, taps_of, terminal_in, fault_number, fault_of, realized_ends};
 
 use job_sheet::{Endpoint, MAX_SINKS, Sink, Sinks};
-use port_realization::{Realized, Terminal};
+use port_realization::{EndFault, Realized};
 use room::Room;
 
 // A sink as the wire meets it: where its branch ends, where its searches start, whether its port is Wire, and its tail limit.
@@ -19,46 +19,58 @@ pub struct Tap {
     pub tail: usize,
 }
 
-// The sinks' taps with their count, as one value.
+// The sinks' taps with their count, as one value: no heap.
 #[derive(Clone, Copy)]
 pub struct Taps {
     pub count: usize,
     pub taps: [Tap; MAX_SINKS],
 }
 
-// Number 8 or 9 with its detail, 0 for the source and k for the k-th sink; or neither.
+// What is wrong with a net's ends: of one of them a number is due, of 0, the source, or k, the k-th sink.
 #[derive(Clone, Copy)]
-pub enum Fault {
-    Good,
-    NoFacing(usize),
-    Outside(usize),
+pub struct Fault {
+    pub due: EndFault,
+    pub place: usize,
 }
 
-// The source's terminal and the sinks' taps; where a number is due for one of them, it holds zeros.
+impl Fault {
+    // The number that is due: 8 or 9.
+    pub fn number(self) -> u32
+        ensures { result ≡ fault_number self.due }
+    {
+        match self.due {
+            EndFault::NoFacing => numbers::PORT_FACING_NUMBER,
+            EndFault::Outside => numbers::END_OUTSIDE_NUMBER,
+        }
+    }
+}
+
+// The source's terminal and the sinks' taps.
 #[derive(Clone, Copy)]
 pub struct Ends {
-    pub fault: Fault,
     pub source: usize,
     pub taps: Taps,
 }
 
 // A source has no approach.
-fn source_end(room: Room, source: Endpoint) -> Realized
+fn source_end(room: Room, source: Endpoint) -> Result<Realized, EndFault>
     requires good { Good room }
     requires within { Within room source.at }
     ensures { result ≡ source_end room source }
 {
-    match port_realization::terminal_for_endpoint(room, source.at, source.port, source.facing) {
-        Terminal::At(cell) => Realized::At {
-            terminal: cell,
-            approach: cell,
-        },
-        Terminal::NoFacing => Realized::NoFacing,
-        Terminal::Outside => Realized::Outside,
-    }
+    let terminal = port_realization::terminal_for_endpoint(
+        room,
+        source.at,
+        source.port,
+        source.facing,
+    )?;
+    Ok(Realized {
+        terminal,
+        approach: terminal,
+    })
 }
 
-fn sink_end(room: Room, sink: Sink) -> Realized
+fn sink_end(room: Room, sink: Sink) -> Result<Realized, EndFault>
     requires good { Good room }
     requires within { Within room sink.end.at }
     ensures { result ≡ sink_end room sink }
@@ -67,38 +79,22 @@ fn sink_end(room: Room, sink: Sink) -> Realized
     port_realization::realize_sink_endpoint(room, end.at, end.port, end.facing)
 }
 
-// The number that is due for an end, 0 for none.
-fn due_for(end: Realized) -> u32
-    ensures { result ≡ due_for end }
-{
-    match end {
-        Realized::At {
-            terminal: _,
-            approach: _,
-        } => numbers::DONE_NUMBER,
-        Realized::NoFacing => numbers::PORT_FACING_NUMBER,
-        Realized::Outside => numbers::END_OUTSIDE_NUMBER,
-    }
-}
-
-// One more than the place of the first end for which that number is due, 0 for none.
-fn first_due(room: Room, source: Endpoint, sinks: Sinks, number: u32) -> usize
+// The place of the first end for which that fault is due.
+fn first_due(room: Room, source: Endpoint, sinks: Sinks, due: EndFault) -> Option<usize>
     requires good { Good room }
     requires within { Within room source.at }
     requires sink_list { SinkList room sinks }
-    ensures { result ≡ first_due number 0 (ends_at room source (sinks_in sinks)) }
+    ensures { result ≡ first_due due 0 (ends_at room source (sinks_in sinks)) }
 {
-    if due_for(source_end(room, source)) == number {
-        return 1;
+    if source_end(room, source).err() == Some(due) {
+        return Some(0);
     }
-    let mut k: usize = 0;
-    while k < sinks.count {
-        if due_for(sink_end(room, sinks.ends[k])) == number {
-            return k + 2;
+    for (k, sink) in sinks.ends[..sinks.count].iter().enumerate() {
+        if sink_end(room, *sink).err() == Some(due) {
+            return Some(k + 1);
         }
-        k += 1;
     }
-    0
+    None
 }
 
 fn no_tap() -> Tap
@@ -118,14 +114,13 @@ fn tap_of(room: Room, sink: Sink) -> Tap
     ensures { result ≡ tap_of room sink }
 {
     match sink_end(room, sink) {
-        Realized::At { terminal, approach } => Tap {
-            terminal,
-            approach,
+        Ok(end) => Tap {
+            terminal: end.terminal,
+            approach: end.approach,
             wire: sink.end.port == room::WIRE,
             tail: sink.tail,
         },
-        Realized::NoFacing => no_tap(),
-        Realized::Outside => no_tap(),
+        Err(_) => no_tap(),
     }
 }
 
@@ -136,56 +131,54 @@ fn taps_of(room: Room, sinks: Sinks) -> Taps
 {
     let count = sinks.count;
     let mut taps = [no_tap(); MAX_SINKS];
-    let mut k: usize = 0;
-    while k < count {
+    for k in 0..count {
         taps[k] = tap_of(room, sinks.ends[k]);
-        k += 1;
     }
     Taps { count, taps }
 }
 
 // The terminal of a source, 0 where a number is due for it.
-fn terminal_in(end: Realized) -> usize
+fn terminal_in(end: Result<Realized, EndFault>) -> usize
     ensures { result ≡ terminal_in end }
 {
     match end {
-        Realized::At {
-            terminal,
-            approach: _,
-        } => terminal,
-        Realized::NoFacing => 0,
-        Realized::Outside => 0,
+        Ok(end) => end.terminal,
+        Err(_) => 0,
     }
 }
 
 // "All of 8, all of 9": 8 is judged of every end before 9 is of any.
-fn fault_of(room: Room, source: Endpoint, sinks: Sinks) -> Fault
+fn fault_of(room: Room, source: Endpoint, sinks: Sinks) -> Option<Fault>
     requires good { Good room }
     requires within { Within room source.at }
     requires sink_list { SinkList room sinks }
     ensures { result ≡ fault_of room source (sinks_in sinks) }
 {
-    let unfaced = first_due(room, source, sinks, numbers::PORT_FACING_NUMBER);
-    if 0 < unfaced {
-        return Fault::NoFacing(unfaced - 1);
+    if let Some(place) = first_due(room, source, sinks, EndFault::NoFacing) {
+        return Some(Fault {
+            due: EndFault::NoFacing,
+            place,
+        });
     }
-    let outside = first_due(room, source, sinks, numbers::END_OUTSIDE_NUMBER);
-    if 0 < outside {
-        return Fault::Outside(outside - 1);
-    }
-    Fault::Good
+    let place = first_due(room, source, sinks, EndFault::Outside)?;
+    Some(Fault {
+        due: EndFault::Outside,
+        place,
+    })
 }
 
-// The ends of one net, or the number that is due for one of them.
-pub fn realize_ends(room: Room, source: Endpoint, sinks: Sinks) -> Ends
+// The ends of one net, or what is wrong with one of them.
+pub fn realize_ends(room: Room, source: Endpoint, sinks: Sinks) -> Result<Ends, Fault>
     requires good { Good room }
     requires within { Within room source.at }
     requires sink_list { SinkList room sinks }
-    ensures { result ≡ ends_of room source (sinks_in sinks) }
+    ensures { result ≡ realized_ends room source (sinks_in sinks) }
 {
-    Ends {
-        fault: fault_of(room, source, sinks),
-        source: terminal_in(source_end(room, source)),
-        taps: taps_of(room, sinks),
+    match fault_of(room, source, sinks) {
+        Some(fault) => Err(fault),
+        None => Ok(Ends {
+            source: terminal_in(source_end(room, source)),
+            taps: taps_of(room, sinks),
+        }),
     }
 }

@@ -1,13 +1,13 @@
 -- What `dustroute_search` returns, and what every lent buffer then holds: the answer of `astar_route` as numbers. Each input determines all of it.
-use Rattle.std.specs.Prelude.{◌≡◌, List, [], ◌∷◌, ℕ, leb, length, take}
+use Rattle.std.specs.Prelude.{◌≡◌, List, [], ◌∷◌, ℕ, leb, length, take, Err}
 use Rattle.basics.specs.Tests.{either}
 use Rattle.lent.specs.Lent.{output_after, work_after}
 use Rattle.room.specs.declared.Room.{Room}
 use Rattle.room.specs.declared.RouterConfig.{RouterConfig}
 use Rattle.room.specs.Room.{sides_good}
 use Rattle.room.specs.Units.{config_good}
-use Rattle.routing.specs.declared.Answer.{Answer}
-use Rattle.routing.specs.declared.Answer.TheVariants.{Refused}
+use Rattle.routing.specs.Answers.{Answer}
+use Rattle.routing.specs.declared.Unrouted.TheVariants.{Refused}
 use Rattle.routing.specs.declared.Route.{Route}
 use Rattle.routing.specs.declared.Refusal.{Refusal}
 use Rattle.routing.specs.declared.Refusal.TheVariants.{Sides, Config, Buffer}
@@ -30,7 +30,7 @@ abbrev pub short_refusal : Room → RouterConfig → Refusal
 short_refusal R C = either (sides_good R) (either (config_good R C) Buffer Config) Sides
 
 unfoldable pub exported : Input → List ℕ → Answer
-exported I values = either (leb 4 (length values)) (answer_of I) (Refused (short_refusal I.room I.config))
+exported I values = either (leb 4 (length values)) (answer_of I) (Err (Refused (short_refusal I.room I.config)))
 
 -- the seven values: the detail, then a route's length, cost and expanded count, what its steps and its new supports come to, and how many supports are
 -- new; zero where there is no route

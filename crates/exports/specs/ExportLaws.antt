@@ -1,80 +1,23 @@
 -- The promise of the exported search, by its cases; and that it determines everything.
-use Rattle.std.specs.Prelude.{◌≡◌, refl, true, false, List, [], ◌∷◌, ◌++◌, ℕ, zero, suc, ◌-◌, ◌≤◌, ◌<◌, length, set, replicate, take}
-use Rattle.std.proofs.Common.{sym, ap, ◌∙◌, arith, take_at, take_all}
+use Rattle.std.specs.Prelude.{◌≡◌, true, false, List, ◌++◌, ℕ, ◌-◌, ◌≤◌, ◌<◌, min, length, replicate, take, drop}
+use Rattle.std.proofs.Common.{sym, ap, ◌∙◌, arith, length-take}
+use Rattle.std.proofs.lemmas.List.{take_min}
 use Rattle.std.proofs.Math.Nat.{sub-zero}
 use borrow.Author.Tests.{le-leb, lt-leb}
+use Rattle.basics.specs.Zeros.{drop_zeros}
 use Rattle.basics.specs.Promises.{Determines}
 use Rattle.lent.specs.Lent.{touches, filled}
-use Rattle.routing.specs.declared.Answer.{Answer}
+use Rattle.routing.specs.Answers.{Answer}
 use Rattle.routing.specs.declared.Route.{Route}
 use Rattle.routing.specs.Answers.{Input, number_of, detail_of, refusal_number, Promise}
 use Rattle.routing.specs.PromiseLaws.{untouched}
 use Rattle.exports.specs.Export.{short_refusal, exported, values_with, values_told, Exported}
 use Rattle.reply.specs.Replies.{route_of}
 
--- four values written to a cleared buffer
-pub four-written : (a b c d n : ℕ) → 4 ≤ n
-    → set (set (set (set (replicate n 0) 0 a) 1 b) 2 c) 3 d ≡ (a ∷ b ∷ c ∷ d ∷ []) ++ replicate (n - 4) 0
-four-written a b c d (suc (suc (suc (suc n)))) h = let e : suc (suc (suc (suc n))) - 4 ≡ n = omega arith in rw e
-four-written a b c d (suc (suc (suc zero))) h = absurd (omega arith)
-four-written a b c d (suc (suc zero)) h = absurd (omega arith)
-four-written a b c d (suc zero) h = absurd (omega arith)
-four-written a b c d zero h = absurd (omega arith)
-
--- one value more behind those that are written
-pub one-more-written : (front : List ℕ) (n v : ℕ) → length front < n
-    → set (front ++ replicate (n - length front) 0) (length front) v ≡ (front ++ (v ∷ [])) ++ replicate (n - suc (length front)) 0
-one-more-written front zero v h = absurd (omega arith)
-one-more-written [] (suc n) v h = rw (sub-zero, let e : suc n - 1 ≡ n = omega arith in e)
-one-more-written (x ∷ front) (suc n) v h =
-    let a : suc n - suc (length front) ≡ n - length front = omega arith in
-    let b : suc n - suc (suc (length front)) ≡ n - suc (length front) = omega arith in
-    rw (a, b) (ap (λ (l : List ℕ). x ∷ l) (one-more-written front n v (omega arith)))
-
--- as many values as are lent: some of them, or all
-pub lent-some : (front rest values : List ℕ) → length values ≡ length front
-    → front ++ replicate (length values - length front) 0 ≡ filled (take (length values) (front ++ rest)) values
-lent-some front rest values e = rw (take_at front rest (length values) (sym e))
-
-pub lent-all : (all values : List ℕ) → length all ≤ length values
-    → all ++ replicate (length values - length all) 0 ≡ filled (take (length values) all) values
-lent-all all values h = rw (take_all (length values) all h)
-
--- what stands in the buffer, by how many values are lent
-module _ (detail : ℕ) (r : Route) (values : List ℕ) where
-  abbrev four_of : List ℕ
-  four_of = detail ∷ r.length ∷ r.cost.0 ∷ r.expanded.0 ∷ []
-
-  abbrev five_of : List ℕ
-  five_of = four_of ++ (r.steps.0 ∷ [])
-
-  abbrev six_of : List ℕ
-  six_of = five_of ++ (r.supports.0 ∷ [])
-
-  abbrev first : List ℕ
-  first = four_of ++ replicate (length values - 4) 0
-
-  abbrev lent_values : List ℕ
-  lent_values = filled (take (length values) (values_with detail r)) values
-
-  pub four-lent : 4 ≤ length values → length values < 5 → first ≡ lent_values
-  four-lent h l = lent-some four_of (r.steps.0 ∷ r.supports.0 ∷ r.laid ∷ []) values (omega arith)
-
-  five-written : 5 ≤ length values → set first 4 r.steps.0 ≡ five_of ++ replicate (length values - 5) 0
-  five-written h = one-more-written four_of (length values) r.steps.0 h
-
-  pub five-lent : 5 ≤ length values → length values < 6 → set first 4 r.steps.0 ≡ lent_values
-  five-lent h l = five-written h ∙ lent-some five_of (r.supports.0 ∷ r.laid ∷ []) values (omega arith)
-
-  six-written : 6 ≤ length values → set (set first 4 r.steps.0) 5 r.supports.0 ≡ six_of ++ replicate (length values - 6) 0
-  six-written h = ap (λ (l : List ℕ). set l 5 r.supports.0) (five-written (omega arith)) ∙ one-more-written five_of (length values) r.supports.0 h
-
-  pub six-lent : 6 ≤ length values → length values < 7 → set (set first 4 r.steps.0) 5 r.supports.0 ≡ lent_values
-  six-lent h l = six-written h ∙ lent-some six_of (r.laid ∷ []) values (omega arith)
-
-  pub seven_lent : 7 ≤ length values → set (set (set first 4 r.steps.0) 5 r.supports.0) 6 r.laid ≡ lent_values
-  seven_lent h =
-      ap (λ (l : List ℕ). set l 6 r.laid) (six-written (omega arith)) ∙ one-more-written six_of (length values) r.laid h ∙ lent-all (values_with detail r) values h
+-- as many of the values as are lent, written to a cleared buffer
+pub front-written : (front : List ℕ) (n count : ℕ) → count ≡ min n (length front)
+    → take count front ++ drop count (replicate n 0) ≡ take n front ++ replicate (n - length (take n front)) 0
+front-written front n count e = rw (e, take_min n front, drop_zeros (min n (length front)) n, length-take n front)
 
 -- the values of an answer whose number touches memory; the others leave them as they are
 module _ (a : Answer) (values : List ℕ) {number : ℕ} (n : number ≡ number_of a) where

@@ -1,10 +1,10 @@
 -- What `dustroute_plain` returns, and what every lent buffer then holds: the answer of `plain_route` as numbers.
-use Rattle.std.specs.Prelude.{◌≡◌, List, [], ◌∷◌, ℕ, ◌≤◌, ◌<◌, length}
+use Rattle.std.specs.Prelude.{◌≡◌, List, [], ◌∷◌, ℕ, ◌≤◌, ◌<◌, length, Ok, Err}
 use Rattle.lent.specs.Lent.{output_after}
 use Rattle.room.specs.declared.Cost.{Cost}
 use Rattle.routing.specs.Answers.{Input, refusal_number}
-use Rattle.plain.specs.declared.PlainAnswer.{PlainAnswer}
-use Rattle.plain.specs.declared.PlainAnswer.TheVariants.{Routed, Refused, NotRouteable, NoRoute}
+use Rattle.plain.specs.Answers.{PlainAnswer}
+use Rattle.plain.specs.declared.PlainUnrouted.TheVariants.{Refused, NotRouteable, NoRoute}
 use Rattle.plain.specs.declared.PlainRoute.{PlainRoute}
 use Rattle.plain.specs.Answers.{number_of, detail_of, Promise}
 use Rattle.exports.specs.Export.{short_refusal}
@@ -17,10 +17,8 @@ abbrev pub no_plain_route : PlainRoute
 no_plain_route = record { length = 0; cost = record { 0 = 0 } }
 
 abbrev pub plain_route_of : PlainAnswer → PlainRoute
-plain_route_of (Routed r) = r
-plain_route_of (Refused why) = no_plain_route
-plain_route_of (NotRouteable cell) = no_plain_route
-plain_route_of (NoRoute n) = no_plain_route
+plain_route_of (Ok r) = r
+plain_route_of (Err e) = no_plain_route
 
 -- the three values: the detail, then a route's length and cost, zero where there is no route
 abbrev pub plain_value_count : ℕ

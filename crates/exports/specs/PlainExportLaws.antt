@@ -1,23 +1,16 @@
 -- The values of the plain engine's answer, written or kept; and what the promise of the exported plain engine determines: everything but which of the
 -- cheapest paths is answered, and so its length.
-use Rattle.std.specs.Prelude.{◌≡◌, refl, ◌≢◌, true, false, List, [], ◌∷◌, ◌++◌, ℕ, zero, suc, ◌-◌, ◌≤◌, set, replicate}
+use Rattle.std.specs.Prelude.{◌≡◌, refl, ◌≢◌, true, false, List, [], ◌∷◌, ◌++◌, ℕ, zero, suc, ◌-◌, ◌≤◌, set, replicate, Ok, Err}
 use Rattle.std.proofs.Common.{sym, ap, ◌∙◌, arith}
 use Rattle.basics.specs.Tests.{ask}
 use Rattle.lent.specs.Lent.{touches, filled, output_after}
 use Rattle.routing.specs.Answers.{Input}
-use Rattle.plain.specs.declared.PlainAnswer.{PlainAnswer}
-use Rattle.plain.specs.declared.PlainAnswer.TheVariants.{Routed, Refused, NotRouteable, NoRoute}
+use Rattle.plain.specs.Answers.{PlainAnswer}
+use Rattle.plain.specs.declared.PlainUnrouted.TheVariants.{Refused, NotRouteable, NoRoute}
 use Rattle.plain.specs.declared.PlainRoute.{PlainRoute}
 use Rattle.plain.specs.Answers.{number_of, detail_of, route_cost}
 use Rattle.plain.specs.PromiseLaws as engine
 use Rattle.exports.specs.PlainExport.{plain_value_count, plain_route_of, plain_values, PlainExported, plain-short, plain-told}
-
--- three values written to a cleared buffer
-pub three-written : (a b c n : ℕ) → plain_value_count ≤ n → set (set (set (replicate n 0) 0 a) 1 b) 2 c ≡ (a ∷ b ∷ c ∷ []) ++ replicate (n - plain_value_count) 0
-three-written a b c (suc (suc (suc n))) h = let e : suc (suc (suc n)) - plain_value_count ≡ n = omega arith in rw e
-three-written a b c (suc (suc zero)) h = absurd (omega arith)
-three-written a b c (suc zero) h = absurd (omega arith)
-three-written a b c zero h = absurd (omega arith)
 
 -- the values of an answer whose number touches memory; the others leave them as they are
 module _ (a : PlainAnswer) (values : List ℕ) {number : ℕ} (n : number ≡ number_of a) where
@@ -49,10 +42,8 @@ pub record PlainAgree (x y : PlainResult) : Type 0 where
   pub no_route : x.number ≢ 0 → (x.path ≡ y.path) × (x.values ≡ y.values)
 
 cost-told : (a : PlainAnswer) → (plain_route_of a).cost.0 ≡ route_cost a
-cost-told (Routed r) = refl
-cost-told (Refused why) = refl
-cost-told (NotRouteable cell) = refl
-cost-told (NoRoute n) = refl
+cost-told (Ok r) = refl
+cost-told (Err e) = refl
 
 values_agree : (a b : PlainAnswer) (values : List ℕ) → number_of a ≡ number_of b → detail_of a ≡ detail_of b → route_cost a ≡ route_cost b
     → set (output_after (number_of a) (plain_values a) values) 1 0 ≡ set (output_after (number_of b) (plain_values b) values) 1 0

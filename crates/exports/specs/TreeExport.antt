@@ -1,6 +1,6 @@
 -- What `dustroute_tree` and `dustroute_tree_mode` return, and what every lent buffer then holds: the answer of `route_net_tree` as numbers. The mode, the
 -- sheet and the lengths of the lent buffers determine all of it.
-use Rattle.std.specs.Prelude.{◌≡◌, List, ◌∷◌, ℕ, ◌+◌, ◌≤◌, ◌<◌, eqb, length}
+use Rattle.std.specs.Prelude.{◌≡◌, Ok, Err, List, [], ◌∷◌, ℕ, ◌+◌, ◌≤◌, ◌<◌, eqb, length}
 use Rattle.numbers.specs.Refusals.{done_number, buffer_number}
 use Rattle.basics.specs.Tests.{either}
 use Rattle.lent.specs.Lent.{output_after}
@@ -8,11 +8,9 @@ use Rattle.ground.specs.declared.Mode.{Mode}
 use Rattle.ground.specs.declared.Mode.TheVariants.{Published, Strict}
 use Rattle.job_sheet.specs.declared.Reading.{Reading}
 use Rattle.job_sheet.specs.Sheet.{Read, is_good, number_of, max_sinks}
-use Rattle.net_tree.specs.declared.Answer.{Answer}
-use Rattle.net_tree.specs.declared.Ended.{Ended}
-use Rattle.net_tree.specs.declared.Ended.TheVariants.{Routed, Refused}
+use Rattle.branches.specs.Branches.{branch_lengths}
 use Rattle.net_tree.specs.declared.Lengths.{Lengths}
-use Rattle.net_tree.specs.Answers.{Lent, lengths_of, TreeOutcome, no_tree, Comes, answer_of, lent_after}
+use Rattle.net_tree.specs.Answers.{Answer, Lent, lengths_of, TreeOutcome, no_tree, Comes, answer_of, lent_after}
 
 -- the values: the detail, how many branches, occupied cells and repeaters there are, then sixteen lengths
 abbrev pub value_count : ℕ
@@ -24,28 +22,14 @@ mode_of strict = either (eqb strict 0) Published Strict
 
 -- ---- an answer as numbers
 
-abbrev pub number_ended : Ended → ℕ
-number_ended (Routed occupied repeaters) = done_number
-number_ended (Refused number detail) = number
-
-abbrev pub detail_ended : Ended → ℕ
-detail_ended (Routed occupied repeaters) = 0
-detail_ended (Refused number detail) = detail
-
-abbrev pub occupied_ended : Ended → ℕ
-occupied_ended (Routed occupied repeaters) = occupied
-occupied_ended (Refused number detail) = 0
-
-abbrev pub repeaters_ended : Ended → ℕ
-repeaters_ended (Routed occupied repeaters) = repeaters
-repeaters_ended (Refused number detail) = 0
-
 abbrev pub number_told : Answer → ℕ
-number_told a = number_ended a.ended
+number_told (Ok tree) = done_number
+number_told (Err refused) = refused.number
 
 -- the branches' lengths stand in sheet order, zero behind their count; all are zero after a refusal
 abbrev pub tree_values : Answer → List ℕ
-tree_values a = detail_ended a.ended ∷ a.lengths.count ∷ occupied_ended a.ended ∷ repeaters_ended a.ended ∷ a.lengths.each
+tree_values (Ok tree) = 0 ∷ tree.lengths.count ∷ tree.occupied ∷ tree.repeaters ∷ tree.lengths.each
+tree_values (Err refused) = refused.detail ∷ 0 ∷ 0 ∷ 0 ∷ (branch_lengths []).each
 
 -- "Numbers 1 to 6 touch nothing", the values included; any other number writes the values and zeros behind them
 abbrev pub values_after : Answer → List ℕ → List ℕ

@@ -12,9 +12,8 @@ use Rattle.ground.specs.declared.Mode.{Mode}
 use Rattle.job_sheet.specs.declared.Judgement.{Judgement}
 use Rattle.job_sheet.specs.Sheet.{is_good, number_of}
 use Rattle.job_sheet.proofs.Theorems.{coincide as one-reading}
-use Rattle.net_tree.specs.declared.Answer.{Answer}
 use Rattle.net_tree.specs.declared.Lengths.{Lengths}
-use Rattle.net_tree.specs.Answers.{Lent, TreeOutcome, no_tree, answer_of, lent_after, Promise}
+use Rattle.net_tree.specs.Answers.{Answer, Lent, TreeOutcome, no_tree, answer_of, lent_after, Promise}
 use Rattle.net_tree.specs.PromiseLaws.{comes-one}
 use Rattle.net_tree.specs.LentLaws.{unread-touches-none}
 use Rattle.exports.specs.TreeExport.{value_count, number_told, values_after, ShortNumber, TreeComes, too-few-values, enough-values, TreeExported}

@@ -3,7 +3,7 @@ use Rattle.std.specs.Prelude.{◌≡◌, List, ℕ, ◌≤◌, ◌<◌, length}
 use Rattle.std.proofs.Common.{sym, ◌∙◌}
 use borrow.Author.Tests.{le-leb, lt-leb}
 use Rattle.basics.specs.Promises.{Determines}
-use Rattle.routing.specs.declared.Answer.{Answer}
+use Rattle.routing.specs.Answers.{Answer}
 use Rattle.routing.specs.Answers.{Input, number_of, refusal_number}
 use Rattle.routing.specs.PromiseLaws.{untouched}
 use Rattle.why.specs.Why.{Memory, Promise}

@@ -4,10 +4,10 @@ ghost use Rattle.lent.specs.Lent.{filled};
 ghost use Rattle.job_sheet.specs.Sheet.{max_sinks};
 ghost use Rattle.exports.specs.TreeExport.{mode_of, value_count, number_told, values_after, ShortNumber};
 
-use crate::search_values::write_four;
+use crate::search_values::write_front;
 use branches::BranchLengths;
 use ground::Mode;
-use net_tree::{Answer, Ended};
+use net_tree::{Refused, Tree};
 
 // How many values a tree comes to: its detail and three counts, then the lengths of sixteen branches.
 pub const TREE_VALUES: usize = 20;
@@ -25,14 +25,13 @@ pub fn short_number(sheet: &[u8]) -> u32
 }
 
 // Sixteen lengths, to the front of what is left of the values.
+// `other_nets` writes them in four bytes each: no trait of std makes a number of either width from a `usize` that is known to fit.
 fn write_lengths(lengths: BranchLengths, out: &mut [u64])
     requires { max_sinks ≤ length out.old }
     ensures { out.new ≡ lengths.each ++ drop (length lengths.each) out.old }
 {
-    let mut sink: usize = 0;
-    while sink < job_sheet::MAX_SINKS {
-        out[sink] = lengths.each[sink] as u64;
-        sink += 1;
+    for (sink, length) in lengths.each.iter().enumerate() {
+        out[sink] = *length as u64;
     }
 }
 
@@ -47,34 +46,30 @@ fn write_values(
     requires { value_count ≤ length values.old }
     ensures { values.new ≡ filled (detail ∷ lengths.count ∷ occupied ∷ repeaters ∷ lengths.each) values.old }
 {
-    write_four(
-        values,
+    let front = [
         detail as u64,
         lengths.count as u64,
         occupied as u64,
         repeaters as u64,
-    );
+    ];
+    write_front(values, &front);
     write_lengths(lengths, &mut values[4..]);
 }
 
 // Writes a tree's values and returns its number. A refusal by 1 to 6 writes nothing.
-pub fn tell_tree(answer: Answer, values: &mut [u64]) -> u32
+pub fn tell_tree(answer: Result<Tree, Refused>, values: &mut [u64]) -> u32
     requires { value_count ≤ length values.old }
     ensures value { result ≡ number_told answer }
     ensures values_after { values.new ≡ values_after answer values.old }
 {
-    let ended = answer.ended;
-    match ended {
-        Ended::Routed {
-            occupied,
-            repeaters,
-        } => {
-            write_values(values, 0, occupied, repeaters, answer.lengths);
+    match answer {
+        Ok(tree) => {
+            write_values(values, 0, tree.occupied, tree.repeaters, tree.lengths);
             numbers::DONE_NUMBER
         }
-        Ended::Refused { number, detail } => {
+        Err(Refused { number, detail }) => {
             if lent::touches(number) {
-                write_values(values, detail, 0, 0, answer.lengths);
+                write_values(values, detail, 0, 0, branches::no_lengths(0));
             }
             number
         }

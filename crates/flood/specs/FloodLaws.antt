@@ -1,5 +1,5 @@
 -- Laws of the flood: a cell is met, the moves of a cell, one visit after another; what it marks.
-use Rattle.std.specs.Prelude.{◌≡◌, refl, ◌⊎◌, ◌↔◌, true, false, List, [], ◌∷◌, ◌++◌, map, ℕ, zero, suc, ◌+◌, ◌≤◌, ◌<◌, eqb, ltb, length, get_or, set, replicate}
+use Rattle.std.specs.Prelude.{◌≡◌, refl, ◌⊎◌, ◌↔◌, true, false, List, [], ◌∷◌, ◌++◌, map, ℕ, zero, suc, ◌+◌, ◌≤◌, ◌<◌, eqb, ltb, length, get_or, set, replicate, Option, Some, None}
 use Rattle.std.proofs.Common.{sym, ap, ◌∙◌, inl, inr, ⊎_elim, le_of_suc-le-suc, not-suc-le-zero, add-one, arith, length-set, get_or-set_same, get_or-set_other, eqb-true, eq-eqb}
 use Rattle.std.proofs.lemmas.List.{length-replicate}
 use Rattle.basics.specs.Tests.{ask, ask_same, never}
@@ -8,8 +8,6 @@ use Rattle.basics.specs.Counts.{bit, times-most}
 use Rattle.basics.specs.Zeros.{zeros}
 use Rattle.room.specs.declared.Room.{Room}
 use Rattle.room.specs.declared.Move.{Move}
-use Rattle.room.specs.declared.Neighbour.{Neighbour}
-use Rattle.room.specs.declared.Neighbour.TheVariants.{Inside, Outside}
 use Rattle.room.specs.Room.{volume, moves, move_at, by, neighbour}
 use Rattle.room.specs.MoveLaws.{leads}
 use Rattle.best_first.specs.ListsAfterSet.{nonzeros-none, nonzeros-new, in_reach, AfterStore, hit, miss, after}
@@ -103,14 +101,14 @@ met-same {P} {Q} {marks} s M = record {
   only = λ v p. ⊎_elim {C = (0 < get_or marks v 0) ⊎ Q v} (λ q. inl q) (λ q. inr ((s v).0 q)) (M.only v p);
 }
 
-module _ {obstacle : ℕ → ℕ} {place : Neighbour} {marks line : List ℕ} {count : ℕ} where
-  pub place_none : Held marks line count → place ≡ Outside → Met (OpenAt obstacle place) marks line count marks line count
+module _ {obstacle : ℕ → ℕ} {place : Option ℕ} {marks line : List ℕ} {count : ℕ} where
+  pub place_none : Held marks line count → place ≡ None → Met (OpenAt obstacle place) marks line count marks line count
   place_none H e = met-nothing H (OpenAt obstacle place) (λ v O. never (cc (O.is, e)))
 
-  pub place-shut : Held marks line count → (cell : ℕ) → place ≡ Inside cell → (obstacle cell ≡ 0 → ⊥) → Met (OpenAt obstacle place) marks line count marks line count
+  pub place-shut : Held marks line count → (cell : ℕ) → place ≡ Some cell → (obstacle cell ≡ 0 → ⊥) → Met (OpenAt obstacle place) marks line count marks line count
   place-shut H cell e n = met-nothing H (OpenAt obstacle place) (λ v O. let q : cell ≡ v = cc (O.is, e) in absurd (n (rw q O.free)))
 
-  pub place-met : (cell : ℕ) → place ≡ Inside cell → obstacle cell ≡ 0 → {marks' line' : List ℕ} {count' : ℕ}
+  pub place-met : (cell : ℕ) → place ≡ Some cell → obstacle cell ≡ 0 → {marks' line' : List ℕ} {count' : ℕ}
       → Met (λ (w : ℕ). w ≡ cell) marks line count marks' line' count' → Met (OpenAt obstacle place) marks line count marks' line' count'
   place-met cell e z M = met-same (λ v. ((λ q. record { is = rw q e; free = rw q z }), (λ O. cc (O.is, e)))) M
 
@@ -160,15 +158,15 @@ in_append w (x ∷ l) m (inl e) = inl (inl e)
 in_append w (x ∷ l) m (inr i) = ⊎_elim {C = In w (x ∷ l) ⊎ In w m} (λ j. inl (inr j)) (λ j. inr j) (in_append w l m i)
 
 module _ (obstacle : ℕ → ℕ) (w : ℕ) where
-  free_open : (place : Neighbour) → In w (free_at obstacle place) → OpenAt obstacle place w
-  free_open Outside i = absurd i
-  free_open (Inside v) i = ask (eqb (obstacle v) 0) (λ t. yes_free t (rw t at i)) (λ f. absurd (rw f at i))
+  free_open : (place : Option ℕ) → In w (free_at obstacle place) → OpenAt obstacle place w
+  free_open None i = absurd i
+  free_open (Some v) i = ask (eqb (obstacle v) 0) (λ t. yes_free t (rw t at i)) (λ f. absurd (rw f at i))
     where
-      yes_free : eqb (obstacle v) 0 ≡ true → In w (v ∷ []) → OpenAt obstacle (Inside v) w
+      yes_free : eqb (obstacle v) 0 ≡ true → In w (v ∷ []) → OpenAt obstacle (Some v) w
       yes_free t (inl e) = record { is = rw e; free = rw e (eqb-true (obstacle v) 0 t) }
       yes_free t (inr i) = absurd i
 
-  open_free : (place : Neighbour) → OpenAt obstacle place w → In w (free_at obstacle place)
+  open_free : (place : Option ℕ) → OpenAt obstacle place w → In w (free_at obstacle place)
   open_free place O = rw (O.is, eq-eqb (obstacle w) 0 O.free) (inl refl)
 
 module _ (R : Room) (obstacle : ℕ → ℕ) (u w : ℕ) where

@@ -1,9 +1,8 @@
 -- A flood as the code holds it: a byte a cell that marks the cells reached, which stand in a line in the order in which they were reached; those from
 -- `head` on wait to be visited.
-use Rattle.std.specs.Prelude.{◌≡◌, ◌⊎◌, ◌↔◌, List, ℕ, ◌≤◌, ◌<◌, length, get_or}
+use Rattle.std.specs.Prelude.{◌≡◌, ◌⊎◌, ◌↔◌, List, ℕ, ◌≤◌, ◌<◌, length, get_or, Option, Some}
 use Rattle.basics.specs.Lists.{In}
 use Rattle.room.specs.declared.Room.{Room}
-use Rattle.room.specs.declared.Neighbour.{Neighbour}
 use Rattle.room.specs.Room.{move_at, neighbour}
 use Rattle.best_first.specs.ListsAfterSet.{nonzeros}
 use Rattle.walk.specs.Chains.{Chained}
@@ -34,8 +33,8 @@ pub record Met (P : ℕ → Type 0) (marks line : List ℕ) (count : ℕ) (marks
   pub only : (v : ℕ) → 0 < get_or marks' v 0 → (0 < get_or marks v 0) ⊎ P v
 
 -- w is the cell at a place, and nothing stands against it
-pub record OpenAt (obstacle : ℕ → ℕ) (place : Neighbour) (w : ℕ) : Type 0 where
-  pub is : place ≡ Neighbour.Inside w
+pub record OpenAt (obstacle : ℕ → ℕ) (place : Option ℕ) (w : ℕ) : Type 0 where
+  pub is : place ≡ Some w
   pub free : obstacle w ≡ allowed
 
 -- one of the first n moves leads from u to w, and nothing stands against it

@@ -1,5 +1,5 @@
 -- Laws of the walls: the twelve moves of a cell, the bytes that are written, and that obstacles count on the cells of the room alone.
-use Rattle.std.specs.Prelude.{◌≡◌, refl, Bool, true, false, List, [], ◌∷◌, ◌++◌, map, ℕ, ◌+◌, ◌*◌, ◌/◌, ◌%◌, ◌≤◌, ◌<◌, ltb, length, get_or, set, take, drop, replicate}
+use Rattle.std.specs.Prelude.{◌≡◌, refl, Bool, true, false, List, [], ◌∷◌, ◌++◌, map, ℕ, ◌+◌, ◌*◌, ◌/◌, ◌%◌, ◌≤◌, ◌<◌, ltb, length, get_or, set, take, drop, replicate, Option, Some, None}
 use Rattle.std.proofs.Common.{sym, ap, ◌∙◌, mul_comm, arith}
 use Rattle.std.proofs.Math.Path.{fun_ext}
 use Rattle.std.proofs.Math.Arith.{digits_div, digits_mod}
@@ -9,8 +9,6 @@ use Rattle.basics.specs.Zeros.{zeros-long, take_zeros, drop_zeros}
 use Rattle.room.specs.declared.Room.{Room}
 use Rattle.room.specs.declared.Pos.{Pos}
 use Rattle.room.specs.declared.Move.{Move}
-use Rattle.room.specs.declared.Neighbour.{Neighbour}
-use Rattle.room.specs.declared.Neighbour.TheVariants.{Inside, Outside}
 use Rattle.room.specs.Room.{volume, pos_of, moves, move_at, neighbour_at, neighbour}
 use Rattle.room.specs.MoveLaws.{leads}
 use Rattle.flood.specs.Walls.{reason_at, reason_by, free_at, free_by, reached_by, marks_by, wall_byte, wall_at, walls_over, walls_by, marked_in, WallsWritten, WallsTold}
@@ -19,12 +17,12 @@ use Rattle.flood.specs.TableLaws.{tabled-long, tabled-at, tabled-same, written_n
 
 -- ---- where a move leads, from the cell's position
 
-module _ (R : Room) (u : ℕ) {at : Pos} (here : at ≡ pos_of R u) (i : ℕ) {place : Neighbour} (e : place ≡ neighbour_at R at (move_at i)) where
+module _ (R : Room) (u : ℕ) {at : Pos} (here : at ≡ pos_of R u) (i : ℕ) {place : Option ℕ} (e : place ≡ neighbour_at R at (move_at i)) where
   pub place_is : place ≡ neighbour R u (move_at i)
   unfolding neighbour
   place_is = rw here at e
 
-  pub place_in : (v : ℕ) → place ≡ Inside v → v < volume R
+  pub place_in : (v : ℕ) → place ≡ Some v → v < volume R
   place_in v g = (leads R u (move_at i) v (sym place_is ∙ g)).inside
 
 -- ---- the bytes of a cell, one after another
@@ -62,9 +60,9 @@ wall_first u W = let e : 12 * u ≡ 12 * u + 0 = omega arith in rw e at W
 
 module _ (R : Room) (f g : ℕ → ℕ) (same : (v : ℕ) → v < volume R → f v ≡ g v) where
   module _ (u : ℕ) where
-    free-same : (m : Move) (place : Neighbour) → neighbour R u m ≡ place → free_at f place ≡ free_at g place
-    free-same m Outside e = refl
-    free-same m (Inside v) e = rw (same v (leads R u m v e).inside)
+    free-same : (m : Move) (place : Option ℕ) → neighbour R u m ≡ place → free_at f place ≡ free_at g place
+    free-same m None e = refl
+    free-same m (Some v) e = rw (same v (leads R u m v e).inside)
 
     joined_same : (ms : List Move) → joined (map (λ (m : Move). free_at f (neighbour R u m)) ms) ≡ joined (map (λ (m : Move). free_at g (neighbour R u m)) ms)
     joined_same [] = refl
@@ -77,9 +75,9 @@ module _ (R : Room) (f g : ℕ → ℕ) (same : (v : ℕ) → v < volume R → f
     reason-same : (i : ℕ) → reason_by R f u i ≡ reason_by R g u i
     reason-same i = go (neighbour R u (move_at i)) refl
       where
-        go : (place : Neighbour) → neighbour R u (move_at i) ≡ place → reason_at f place ≡ reason_at g place
-        go Outside e = refl
-        go (Inside v) e = same v (leads R u (move_at i) v e).inside
+        go : (place : Option ℕ) → neighbour R u (move_at i) ≡ place → reason_at f place ≡ reason_at g place
+        go None e = refl
+        go (Some v) e = same v (leads R u (move_at i) v e).inside
 
   all-free : free_by R f ≡ free_by R g
   all-free = fun_ext (λ u. free-by-same u)

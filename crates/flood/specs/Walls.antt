@@ -1,14 +1,12 @@
 -- The cells that free moves lead to from a start, and what stands against each move out of them. Which cells are free is told by any obstacles: 0 where
 -- nothing stands against entering a cell, else a number that says what does. Definitions alone.
-use Rattle.std.specs.Prelude.{◌≡◌, Bool, List, [], ◌∷◌, map, ℕ, zero, suc, ◌*◌, ◌/◌, ◌%◌, eqb, ltb, get_or}
+use Rattle.std.specs.Prelude.{◌≡◌, Bool, List, [], ◌∷◌, map, ℕ, zero, suc, ◌*◌, ◌/◌, ◌%◌, eqb, ltb, get_or, Option, Some, None}
 use Rattle.basics.specs.Tests.{either}
 use Rattle.basics.specs.Lists.{joined}
 use Rattle.basics.specs.Counts.{bit}
 use Rattle.lent.specs.Lent.{filled}
 use Rattle.room.specs.declared.Room.{Room}
 use Rattle.room.specs.declared.Move.{Move}
-use Rattle.room.specs.declared.Neighbour.{Neighbour}
-use Rattle.room.specs.declared.Neighbour.TheVariants.{Inside, Outside}
 use Rattle.room.specs.Room.{volume, moves, move_at, neighbour}
 use Rattle.walk.specs.Walks.{is_reached}
 
@@ -21,9 +19,9 @@ abbrev pub outside : ℕ
 outside = 1
 
 -- against entering a place
-abbrev pub reason_at : (ℕ → ℕ) → Neighbour → ℕ
-reason_at obstacle (Inside v) = obstacle v
-reason_at obstacle Outside = outside
+abbrev pub reason_at : (ℕ → ℕ) → Option ℕ → ℕ
+reason_at obstacle (Some v) = obstacle v
+reason_at obstacle None = outside
 
 -- against the move i out of cell u
 abbrev pub reason_by : Room → (ℕ → ℕ) → ℕ → ℕ → ℕ
@@ -32,9 +30,9 @@ reason_by R obstacle u i = reason_at obstacle (neighbour R u (move_at i))
 -- ---- which cells are reached
 
 -- the cell at a place, where nothing stands against it
-abbrev pub free_at : (ℕ → ℕ) → Neighbour → List ℕ
-free_at obstacle (Inside v) = either (eqb (obstacle v) allowed) (v ∷ []) []
-free_at obstacle Outside = []
+abbrev pub free_at : (ℕ → ℕ) → Option ℕ → List ℕ
+free_at obstacle (Some v) = either (eqb (obstacle v) allowed) (v ∷ []) []
+free_at obstacle None = []
 
 -- the cells that the free moves out of u lead to
 unfoldable pub free_by : Room → (ℕ → ℕ) → ℕ → List ℕ

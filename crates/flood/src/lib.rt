@@ -8,6 +8,8 @@ mod walls; // walls.rt: what stands against each move
 pub use marks::flood;
 pub use walls::{tell_walls, write_walls};
 
+// What stands against a move is a byte and no enum: C reads it.
+
 // Nothing stands against a move.
 pub const ALLOWED: u8 = 0;
 

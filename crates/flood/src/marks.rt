@@ -5,7 +5,7 @@ ghost use Rattle.room.specs.Room.{Good, max_volume, volume};
 ghost use Rattle.flood.specs.Walls.{byte_of, marks_by};
 ghost use Rattle.flood.specs.Flooding.{Held, Met, OpenAt, OpenBy};
 
-use room::{Neighbour, Room, as_index};
+use room::{Room, as_index};
 
 // A cell is reached, unless it was before, and waits at the line's end. Gives the line's new end.
 fn meet(reached: &mut [u8], line: &mut [u32], end: usize, cell: usize) -> usize
@@ -28,15 +28,15 @@ fn meet_place(
     reached: &mut [u8],
     line: &mut [u32],
     end: usize,
-    place: Neighbour,
+    place: Option<usize>,
 ) -> usize
     requires held { Held reached.old line.old end }
     requires reached_len_bound { length reached.old ≤ max_volume }
     requires obstacles_len { length obstacles.now ≡ length reached.old }
-    requires by_index { (v : ℕ) → place ≡ Neighbour.Inside v → v < length reached.old }
+    requires by_index { (v : ℕ) → place ≡ Some v → v < length reached.old }
     ensures { Met (OpenAt (byte_of obstacles.now) place) reached.old line.old end reached.new line.new result }
 {
-    let Neighbour::Inside(cell) = place else {
+    let Some(cell) = place else {
         return end;
     };
     if obstacles[cell] != 0 {
@@ -62,13 +62,10 @@ fn visit(
     ensures { Met (OpenBy room (byte_of obstacles.now) from 12) reached.old line.old end reached.new line.new result }
 {
     let at = room.pos(from);
-    let moves = Room::MOVES;
     let mut last = end;
-    let mut k: usize = 0;
-    while k < 12 {
-        let place = room.neighbour_at(at, moves[k]);
+    for m in Room::MOVES {
+        let place = room.neighbour_at(at, m);
         last = meet_place(obstacles, reached, line, last, place);
-        k += 1;
     }
     last
 }
@@ -86,6 +83,7 @@ pub fn flood(room: Room, obstacles: &[u8], start: usize, reached: &mut [u8], lin
     line[0] = start as u32;
     let mut head: usize = 0;
     let mut end: usize = 1;
+    // No `for`: the line grows while it is walked.
     while head < end {
         let cell = as_index(line[head]);
         head += 1;

@@ -6,17 +6,14 @@ ghost use Rattle.flood.specs.Flooding.{Written};
 
 use crate::OUTSIDE;
 use crate::marks::flood;
-use room::{Neighbour, Room};
+use room::Room;
 
 // What stands against entering a place.
-fn reason_at(obstacles: &[u8], place: Neighbour) -> u8
-    requires { (v : ℕ) → place ≡ Neighbour.Inside v → v < length obstacles.now }
+fn reason_at(obstacles: &[u8], place: Option<usize>) -> u8
+    requires { (v : ℕ) → place ≡ Some v → v < length obstacles.now }
     ensures { result ≡ reason_at (byte_of obstacles.now) place }
 {
-    match place {
-        Neighbour::Inside(cell) => obstacles[cell],
-        Neighbour::Outside => OUTSIDE,
-    }
+    place.map_or(OUTSIDE, |cell| obstacles[cell])
 }
 
 // Writes the twelve bytes of a cell that is reached; those of the cells before it are written. Its position and the table of
@@ -30,12 +27,9 @@ fn write_cell(room: Room, obstacles: &[u8], reached: &[u8], cell: usize, walls: 
     ensures { Written (wall_at room (byte_of obstacles.now) (marked_in reached.now)) (12 * volume room) walls.new (12 * (cell + 1)) }
 {
     let at = room.pos(cell);
-    let moves = Room::MOVES;
-    let mut i: usize = 0;
-    while i < 12 {
-        let place = room.neighbour_at(at, moves[i]);
+    for (i, m) in Room::MOVES.iter().enumerate() {
+        let place = room.neighbour_at(at, *m);
         walls[12 * cell + i] = reason_at(obstacles, place);
-        i += 1;
     }
 }
 
@@ -47,13 +41,10 @@ pub fn write_walls(room: Room, obstacles: &[u8], reached: &[u8], walls: &mut [u8
     requires walls_value { walls.old ≡ replicate (12 * volume room) 0 }
     ensures { walls.new ≡ walls_over room (byte_of obstacles.now) (marked_in reached.now) }
 {
-    let cells = reached.len();
-    let mut cell: usize = 0;
-    while cell < cells {
-        if 0 < reached[cell] {
+    for (cell, mark) in reached.iter().enumerate() {
+        if 0 < *mark {
             write_cell(room, obstacles, reached, cell, walls);
         }
-        cell += 1;
     }
 }
 
@@ -96,8 +87,8 @@ pub fn tell_walls(
     ensures { WallsTold room (byte_of obstacles.now) start reached.old walls.old reached.new walls.new }
 {
     let cells = room.volume();
-    lent::clear_bytes(reached);
-    lent::clear_bytes(walls);
+    lent::clear(reached);
+    lent::clear(walls);
     tell_cells(
         room,
         obstacles,

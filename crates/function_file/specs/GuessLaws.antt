@@ -1,48 +1,31 @@
 -- Laws of guessing: how the code comes by the bytes, and that the line of a block is taken for that block.
-use Rattle.std.specs.Prelude.{◌≡◌, ◌≢◌, Bool, false, ◌&&◌, not, List, [], ◌∷◌, ◌++◌, ℕ, zero, suc, ◌+◌, ◌-◌, ◌*◌, ◌/◌, ◌%◌, ◌≤◌, ◌<◌, eqb, leb, ltb, length}
+use Rattle.std.specs.Prelude.{◌≡◌, ◌≢◌, Bool, false, ◌&&◌, not, List, [], ◌∷◌, ◌++◌, ℕ, ◌+◌, ◌/◌, ◌%◌, ◌≤◌, ◌<◌, eqb, length, take}
 use Rattle.std.proofs.Math.Path.{refl, sym, ap}
-use Rattle.std.proofs.Common.{◌∙◌, append_assoc, length-append, drop-drop}
+use Rattle.std.proofs.Common.{◌∙◌, append_assoc, drop-drop}
 use Rattle.std.proofs.Math.Bool.{true}
 use native.Mathlib.Omega.{arith}
-use Rattle.std.proofs.Math.ListN.{get_or, drop, drop_of_length-le}
-use Rattle.std.proofs.Math.Seq.{drop-append_seam}
-use borrow.Author.Tests.{eq-eqb, ne_eqb, eqb-true, le-leb, lt-leb, leb-true, lt-ltb, le-ltb}
-use Rattle.basics.specs.Tests.{either, and_left, and_right, and_both, ask_less, ask_same}
-use Rattle.basics.specs.Lists.{drop_next, all_below, below_all}
-use Rattle.room.specs.declared.Room.{Room}
+use Rattle.std.proofs.Math.ListN.{drop}
+use Rattle.std.specs.Cmp.Lexicographic.{pointwise}
+use borrow.Author.Tests.{eq-eqb, ne_eqb, eqb-true, lt-ltb, le-ltb}
+use Rattle.basics.specs.Tests.{either, and_left, and_right, ask_less, ask_same}
+use Rattle.basics.specs.Lists.{all_below, below_all}
 use Rattle.room.specs.declared.Pos.{Pos}
-use Rattle.room.specs.Room.{at, within, cell_of}
+use Rattle.room.specs.Room.{at}
 use Rattle.function_file.specs.declared.Guess.{Guess}
-use Rattle.function_file.specs.Words.{words, word, four_words, no_word, hundreds, tens, ones, number_text, least_facing, most_facing, block_known, name_word, open_word, opposite, shown_facing, side_word, close_word, state_text}
+use Rattle.function_file.specs.Words.{words, word, hundreds, tens, ones, number_text, least_facing, most_facing, block_known, name_word, open_word, opposite, shown_facing, side_word, close_word, state_text}
 use Rattle.function_file.specs.Letters.{same_list, same-list}
 use Rattle.function_file.specs.Text.{place_text, line_at}
 use Rattle.function_file.specs.WriteLaws.{kind-low, facing-low}
-use Rattle.function_file.specs.Guessing.{byte_at, number_by, size_by, guessed_number, guessed_size, stone_by, redstone_by, name_by, guessed_name, kind_by, side_place, facing_by, guessed_kind, guessed_facing, behind_number, guessed, starts_with, guess_line, guess_lawful, accepted_size}
+use Rattle.function_file.specs.Guessing.{guessed_number, guessed_size, stone_by, redstone_by, name_by, guessed_name, kind_by, side_place, facing_by, guessed_kind, guessed_facing, behind_number, guessed, starts_with}
 
 -- ---- what starts with what
 
-module _ (l t : List ℕ) (at i : ℕ) where
-  module _ (h : i < length l) where
-    starts-next : at + i < length t → starts_with (drop i l) (drop (at + i) t) ≡ (eqb (get_or l i 0) (get_or t (at + i) 0) && starts_with (drop (i + 1) l) (drop (at + (i + 1)) t))
-    unfolding starts_with
-    starts-next k =
-        let q : at + i + 1 ≡ at + (i + 1) = omega arith in
-        let e : drop (at + i) t ≡ get_or t (at + i) 0 ∷ drop (at + (i + 1)) t = drop_next t (at + i) 0 k ∙ ap (λ j. get_or t (at + i) 0 ∷ drop j t) q in
-        rw (drop_next l i 0 h, e)
-
-    pub starts-on : at + i < length t → get_or l i 0 ≡ get_or t (at + i) 0 → starts_with (drop (i + 1) l) (drop (at + (i + 1)) t) ≡ starts_with (drop i l) (drop (at + i) t)
-    starts-on k e = rw (starts-next k, eq-eqb (get_or l i 0) (get_or t (at + i) 0) e)
-
-    pub starts_not : at + i < length t → (get_or l i 0 ≡ get_or t (at + i) 0 → ⊥) → false ≡ starts_with (drop i l) (drop (at + i) t)
-    starts_not k n = rw (starts-next k, ne_eqb (get_or l i 0) (get_or t (at + i) 0) n)
-
-    pub starts-over : length t ≤ at + i → false ≡ starts_with (drop i l) (drop (at + i) t)
-    unfolding starts_with
-    starts-over k = rw (drop_next l i 0 h, drop_of_length-le t k)
-
-  pub starts-all : length l ≤ i → true ≡ starts_with (drop i l) (drop (at + i) t)
-  unfolding starts_with
-  starts-all h = rw (drop_of_length-le l h)
+-- what the library's `starts_with` answers
+pub starts-library : (l s : List ℕ) → pointwise eqb l (take (length l) s) ≡ starts_with l s
+unfolding starts_with
+starts-library [] s = refl
+starts-library (a ∷ l) [] = refl
+starts-library (a ∷ l) (b ∷ s) = ap (λ t. eqb a b && t) (starts-library l s)
 
 pub starts_append : (l s : List ℕ) → starts_with l (l ++ s) ≡ true
 unfolding starts_with

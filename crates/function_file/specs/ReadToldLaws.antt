@@ -1,16 +1,16 @@
 -- The values of what was read, told or kept; and that the promise determines the number and every lent byte.
-use Rattle.std.specs.Prelude.{◌≡◌, refl, true, false, List, [], ◌∷◌, ℕ}
+use Rattle.std.specs.Prelude.{◌≡◌, Result, true, false, List, [], ◌∷◌, ℕ}
 use Rattle.std.proofs.Common.{sym, ap, ◌∙◌, arith}
 use Rattle.basics.specs.Promises.{Determines}
 use Rattle.lent.specs.Lent.{touches, filled, output_after}
 use Rattle.room.specs.declared.Room.{Room}
-use Rattle.function_file.specs.declared.Read.{Read}
-use Rattle.function_file.specs.Reading.{read_number, read_detail, Comes}
+use Rattle.function_file.specs.declared.ReadFault.{ReadFault}
+use Rattle.function_file.specs.Reading.{read_number, read_detail}
 use Rattle.function_file.specs.Theorems as reading
 use Rattle.function_file.specs.ReadTold.{lines_read, read_values, ReadTold, few-to-read, read_told}
 
 -- the values of an answer whose number touches memory; the others leave them as they are
-module _ (a : Read) (values : List ℕ) {number : ℕ} (n : number ≡ read_number a) where
+module _ (a : Result ℕ ReadFault) (values : List ℕ) {number : ℕ} (n : number ≡ read_number a) where
   pub lines_told : touches number ≡ true → {detail lines : ℕ} {values' : List ℕ} → detail ≡ read_detail a → lines ≡ lines_read a
       → values' ≡ filled (detail ∷ lines ∷ []) values → values' ≡ output_after (read_number a) (read_values a) values
   lines_told t d l w = let e = rw n at t in w ∙ rw (d, l, e)

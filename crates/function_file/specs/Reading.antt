@@ -1,10 +1,10 @@
 -- Which lines are good, what reading comes to, and what `read_function` leaves in lent memory. Definitions alone.
-use Rattle.std.specs.Prelude.{◌≡◌, ◌≢◌, Bool, true, false, ◌&&◌, List, [], ◌∷◌, ◌++◌, ℕ, ◌+◌, ◌≤◌, ◌<◌, leb, length, set, replicate}
+use Rattle.std.specs.Prelude.{◌≡◌, Result, Ok, Err, ◌≢◌, Bool, true, false, ◌&&◌, List, [], ◌++◌, ℕ, ◌+◌, ◌≤◌, ◌<◌, leb, length, set, replicate}
 use Rattle.numbers.specs.Refusals.{done_number, sides_number, buffer_number, bad_line_number}
 use Rattle.room.specs.declared.Room.{Room}
 use Rattle.room.specs.Room.{sides_good, volume}
-use Rattle.function_file.specs.declared.Read.{Read}
-use Rattle.function_file.specs.declared.Read.TheVariants.{Lines, Sides, Buffer, Bad}
+use Rattle.function_file.specs.declared.ReadFault.{ReadFault}
+use Rattle.function_file.specs.declared.ReadFault.TheVariants.{Sides, Buffer, Bad}
 use Rattle.function_file.specs.Words.{block_known}
 use Rattle.function_file.specs.Text.{line_of}
 
@@ -37,22 +37,22 @@ pub data Reads (R : Room) (o : Reading) : ℕ → ℕ → List ℕ → List ℕ 
 unfoldable pub enough : Room → ℕ → ℕ → Bool
 enough R kinds facings = leb (volume R) kinds && leb (volume R) facings
 
-abbrev pub read_answer : Reading → Read
-read_answer (whole lines kinds facings) = Lines lines
-read_answer (bad number) = Bad number
+abbrev pub read_answer : Reading → Result ℕ ReadFault
+read_answer (whole lines kinds facings) = Ok lines
+read_answer (bad number) = Err (Bad number)
 
 -- the number of each answer, and its detail: 19 comes "with the number of the first bad line", from 1
-abbrev pub read_number : Read → ℕ
-read_number (Lines lines) = done_number
-read_number Sides = sides_number
-read_number Buffer = buffer_number
-read_number (Bad number) = bad_line_number
+abbrev pub read_number : Result ℕ ReadFault → ℕ
+read_number (Ok lines) = done_number
+read_number (Err Sides) = sides_number
+read_number (Err Buffer) = buffer_number
+read_number (Err (Bad number)) = bad_line_number
 
-abbrev pub read_detail : Read → ℕ
-read_detail (Lines lines) = 0
-read_detail Sides = 0
-read_detail Buffer = 0
-read_detail (Bad number) = number
+abbrev pub read_detail : Result ℕ ReadFault → ℕ
+read_detail (Ok lines) = 0
+read_detail (Err Sides) = 0
+read_detail (Err Buffer) = 0
+read_detail (Err (Bad number)) = number
 
 -- the kinds afterwards, and the facings: all zero after a bad line
 abbrev pub kinds_after : Reading → List ℕ → List ℕ
@@ -67,9 +67,9 @@ abbrev pub zeros_for : List ℕ → List ℕ
 zeros_for buffer = replicate (length buffer) 0
 
 -- the promise of `read_function`: 2, then 6, which touch nothing; then the text
-pub data Comes (R : Room) (text kinds facings : List ℕ) (r : Read) (kinds' facings' : List ℕ) : Type 0 where
-  sides : sides_good R ≡ false → r ≡ Sides → kinds' ≡ kinds → facings' ≡ facings → Comes R text kinds facings r kinds' facings'
-  buffer : sides_good R ≡ true → enough R (length kinds) (length facings) ≡ false → r ≡ Buffer → kinds' ≡ kinds → facings' ≡ facings
+pub data Comes (R : Room) (text kinds facings : List ℕ) (r : Result ℕ ReadFault) (kinds' facings' : List ℕ) : Type 0 where
+  sides : sides_good R ≡ false → r ≡ Err Sides → kinds' ≡ kinds → facings' ≡ facings → Comes R text kinds facings r kinds' facings'
+  buffer : sides_good R ≡ true → enough R (length kinds) (length facings) ≡ false → r ≡ Err Buffer → kinds' ≡ kinds → facings' ≡ facings
       → Comes R text kinds facings r kinds' facings'
   read : sides_good R ≡ true → enough R (length kinds) (length facings) ≡ true
       → (o : Reading) → Reads R o 0 0 text (zeros_for kinds) (zeros_for facings)

@@ -1,7 +1,7 @@
 -- The text of a room is as long as was counted, and no line is longer than 77 bytes.
 use Rattle.std.specs.Prelude.{◌≡◌, ◌≢◌, Bool, ◌&&◌, not, ℕ, ◌+◌, ◌*◌, ◌≤◌, ◌<◌, eqb, leb, ltb}
 use Rattle.std.proofs.Math.Path.{refl, ap}
-use Rattle.std.proofs.Common.{sym, ◌∙◌, le_trans, mul-le-mul}
+use Rattle.std.proofs.Common.{◌∙◌, le_trans, mul-le-mul}
 use Rattle.std.proofs.Math.Bool.{true, false}
 use mathlib.Core.List.{List, [], ◌∷◌, ◌++◌}
 use native.Mathlib.Omega.{arith}
@@ -14,7 +14,7 @@ use Rattle.room.specs.declared.Pos.{Pos}
 use Rattle.room.specs.Room.{max_volume, Good, Within, volume, pos_of}
 use Rattle.room.specs.RoomLaws.{pos_in}
 use Rattle.function_file.specs.Words.{words, word, number_text, least_facing, most_facing, block_known, name_word, open_word, opposite, shown_facing, side_word, close_word, state_text}
-use Rattle.function_file.specs.Text.{place_text, line_at, line_of, block_text, text_from, text_of}
+use Rattle.function_file.specs.Text.{place_text, line_at, block_text, text_from, text_of}
 use Rattle.function_file.specs.Written.{known_from}
 use Rattle.function_file.specs.WriteLaws.{kind-low, facing-low, place-small}
 use Rattle.function_file.specs.GuessLaws.{text-none, text-one, text-two, text-three}

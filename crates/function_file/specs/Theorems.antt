@@ -1,7 +1,7 @@
 -- What is proved of a function file: a text has one reading; what is written reads back; two rooms of one text are one; every lent byte is determined.
-use Rattle.std.specs.Prelude.{◌≡◌, ◌≢◌, Bool, false, ◌&&◌, eqb, leb, set, take}
+use Rattle.std.specs.Prelude.{◌≡◌, Result, Ok, Err, ◌≢◌, eqb, leb, take}
 use Rattle.std.proofs.Math.Path.{refl, sym, ap}
-use Rattle.std.proofs.Common.{◌∙◌, add-one, take_at}
+use Rattle.std.proofs.Common.{◌∙◌, take_at}
 use Rattle.std.proofs.Math.Bool.{true}
 use mathlib.Core.List.{List, [], ◌∷◌, ◌++◌, append-nil}
 use Prim.Native.Nat.{ℕ, zero, suc, ◌+◌, ◌-◌, ◌*◌, ◌≤◌, ◌<◌}
@@ -9,20 +9,19 @@ use native.Mathlib.Omega.{arith}
 use Rattle.std.proofs.Math.ListN.{length, get_or, drop, replicate, length-append, length-set, drop_of_length-le}
 use Rattle.std.proofs.lemmas.List.{length-replicate, replicate-append-replicate, set_at}
 use Rattle.std.proofs.Math.Seq.{drop-append_seam, append_snoc, get_or-set_same, get_or-set_other}
-use borrow.Author.Tests.{eq-eqb, ne_eqb, eqb-true, eqb-false, leb-true, le-leb, lt-leb}
+use borrow.Author.Tests.{eq-eqb, eqb-true, eqb-false, leb-true, le-leb, lt-leb}
 use Rattle.basics.specs.Promises.{Determines}
-use Rattle.basics.specs.Tests.{either, ask, and_left, and_right, never}
+use Rattle.basics.specs.Tests.{ask, and_left, and_right, never}
 use Rattle.basics.specs.Lists.{drop_next}
 use Rattle.basics.specs.Zeros.{zeros}
 use Rattle.room.specs.declared.Room.{Room}
 use Rattle.room.specs.Room.{Good, volume, cell_of, pos_of, sides_good}
 use Rattle.room.specs.RoomLaws.{cell_pos, good}
 use Rattle.function_file.specs.declared.Guess.{Guess}
-use Rattle.function_file.specs.declared.Read.{Read}
-use Rattle.function_file.specs.declared.Read.TheVariants.{Lines, Sides, Buffer, Bad}
-use Rattle.function_file.specs.declared.Written.{Written}
-use Rattle.function_file.specs.declared.Written.TheVariants.{Text, Code, Short}
-use Rattle.function_file.specs.declared.Written.TheVariants as variants
+use Rattle.function_file.specs.declared.ReadFault.{ReadFault}
+use Rattle.function_file.specs.declared.WriteFault.{WriteFault}
+use Rattle.function_file.specs.declared.WriteFault.TheVariants.{Code, Short}
+use Rattle.function_file.specs.declared.WriteFault.TheVariants as variants
 use Rattle.function_file.specs.Words.{block_known, least_facing, most_facing}
 use Rattle.function_file.specs.Text.{line_of, block_text, text_from, text_of}
 use Rattle.function_file.specs.Size.{size_of, blocks, line_most}
@@ -31,7 +30,7 @@ use Rattle.function_file.specs.WriteLaws.{some-line, text-next, known-passed, ex
 use Rattle.function_file.specs.SizeLaws.{text-size, text-most}
 use Rattle.function_file.specs.Guessing.{guessed}
 use Rattle.function_file.specs.GuessLaws.{line-long}
-use Rattle.function_file.specs.Reading.{Lawful, Reading, whole, bad, Reads, ended, line, stopped, read_answer, kinds_after, facings_after, enough, zeros_for, Comes, sides, buffer, read}
+use Rattle.function_file.specs.Reading.{Lawful, Reading, whole, Reads, ended, line, stopped, read_answer, kinds_after, facings_after, enough, zeros_for, Comes, sides, buffer, read}
 use Rattle.function_file.specs.ReadLaws.{lawful-guessed}
 
 -- ---- a text has one reading
@@ -162,11 +161,11 @@ same-room R g kinds facings kinds' facings' K K' e =
 -- ---- the promise of `read_function` determines its answer and every lent byte; that of `write_function`: WriteLaws
 
 pub record ReadEnd : Type 0 where
-  pub answer : Read
+  pub answer : Result ℕ ReadFault
   pub kinds : List ℕ
   pub facings : List ℕ
 
-read-end : {r r' : Read} {k k' f f' : List ℕ} → r ≡ r' → k ≡ k' → f ≡ f' → ◌≡◌ {A = ReadEnd} (record { answer = r; kinds = k; facings = f }) (record { answer = r'; kinds = k'; facings = f' })
+read-end : {r r' : Result ℕ ReadFault} {k k' f f' : List ℕ} → r ≡ r' → k ≡ k' → f ≡ f' → ◌≡◌ {A = ReadEnd} (record { answer = r; kinds = k; facings = f }) (record { answer = r'; kinds = k'; facings = f' })
 read-end a b c = rw (a, b, c)
 
 pub coincide : (R : Room) (text kinds facings : List ℕ) → Determines {X = ReadEnd} (λ x. Comes R text kinds facings x.answer x.kinds x.facings)
@@ -189,11 +188,11 @@ unfolding enough
 enough-all R a b p q = rw (p, q, le-leb (volume R) (volume R) (omega arith))
 
 pub read-written : (R : Room) (kinds facings : List ℕ) → Exportable R kinds facings → (lent lent' : List ℕ) → length lent ≡ volume R → length lent' ≡ volume R → sides_good R ≡ true
-    → (r : Read) (k f : List ℕ) → Comes R (text_of R kinds facings) lent lent' r k f → (r ≡ Lines (blocks kinds)) × (k ≡ kinds) × (f ≡ facings)
+    → (r : Result ℕ ReadFault) (k f : List ℕ) → Comes R (text_of R kinds facings) lent lent' r k f → (r ≡ Ok (blocks kinds)) × (k ≡ kinds) × (f ≡ facings)
 read-written R kinds facings K lent lent' l l' s r k f c =
     let h : Reads R (whole (blocks kinds) kinds facings) 0 0 (text_of R kinds facings) (zeros_for lent) (zeros_for lent') = rw (l, l') (read_back R kinds facings K) in
     let b : enough R (length lent) (length lent') ≡ true = enough-all R (length lent) (length lent') l l' in
-    let e = coincide R (text_of R kinds facings) lent lent' (record { answer = r; kinds = k; facings = f }) (record { answer = Lines (blocks kinds); kinds = kinds; facings = facings }) c
+    let e = coincide R (text_of R kinds facings) lent lent' (record { answer = r; kinds = k; facings = f }) (record { answer = Ok (blocks kinds); kinds = kinds; facings = facings }) c
     (read s b (whole (blocks kinds) kinds facings) h refl refl refl) in
     (ap (λ (x : ReadEnd). x.answer) e, ap (λ (x : ReadEnd). x.kinds) e, ap (λ (x : ReadEnd). x.facings) e)
 
@@ -296,7 +295,7 @@ pub record WasWritten (R : Room) (kinds facings : List ℕ) (n : ℕ) : Type 0 w
   pub exportable : Exportable R kinds facings
   pub long : n ≡ length (text_of R kinds facings)
 
-was-written : (R : Room) (kinds facings : List ℕ) (m n : ℕ) → Text n ≡ written R kinds facings m → WasWritten R kinds facings n
+was-written : (R : Room) (kinds facings : List ℕ) (m n : ℕ) → Ok n ≡ written R kinds facings m → WasWritten R kinds facings n
 unfolding written
 was-written R kinds facings m n h =
     ask (sides_good R)
@@ -307,17 +306,17 @@ was-written R kinds facings m n h =
     (λ k.
     ask (leb (length (text_of R kinds facings)) m)
     (λ l.
-    let e : Text n ≡ Text (length (text_of R kinds facings)) = rw (s, b, k, l) at h in
+    let e : Ok n ≡ Ok (length (text_of R kinds facings)) = rw (s, b, k, l) at h in
     let x = exact R (length kinds) (length facings) b in
     record { sides-good = s; exportable = record { kinds-long = x.0; facings-long = x.1; known = k }; long = cc e })
-    (λ l. let e : Text n ≡ Short = rw (s, b, k, l) at h in never (cc e)))
-    (λ k. let e : Text n ≡ Code = rw (s, b, k) at h in never (cc e)))
-    (λ b. let e : Text n ≡ variants.Buffer = rw (s, b) at h in never (cc e)))
-    (λ s. let e : Text n ≡ variants.Sides = rw s at h in never (cc e))
+    (λ l. let e : Ok n ≡ Err Short = rw (s, b, k, l) at h in never (cc e)))
+    (λ k. let e : Ok n ≡ Err Code = rw (s, b, k) at h in never (cc e)))
+    (λ b. let e : Ok n ≡ Err variants.Buffer = rw (s, b) at h in never (cc e)))
+    (λ s. let e : Ok n ≡ Err variants.Sides = rw s at h in never (cc e))
 
-pub write_then_read : (R : Room) (kinds facings text : List ℕ) (n : ℕ) (text' : List ℕ) → Writes R kinds facings text (Text n) text'
+pub write_then_read : (R : Room) (kinds facings text : List ℕ) (n : ℕ) (text' : List ℕ) → Writes R kinds facings text (Ok n) text'
     → (lent lent' : List ℕ) → length lent ≡ volume R → length lent' ≡ volume R
-    → (r : Read) (k f : List ℕ) → Comes R (take n text') lent lent' r k f → (r ≡ Lines (blocks kinds)) × (k ≡ kinds) × (f ≡ facings)
+    → (r : Result ℕ ReadFault) (k f : List ℕ) → Comes R (take n text') lent lent' r k f → (r ≡ Ok (blocks kinds)) × (k ≡ kinds) × (f ≡ facings)
 write_then_read R kinds facings text n text' W lent lent' l l' r k f c =
     let w = was-written R kinds facings (length text) n W.answer in
     let t : text' ≡ text_of R kinds facings ++ replicate (length text - length (text_of R kinds facings)) 0 = rw (sym W.answer) at W.text-is in
@@ -326,7 +325,7 @@ write_then_read R kinds facings text n text' W lent lent' l l' r k f c =
 
 -- ---- "its length is known before it is written"
 
-module _ (R : Room) (kinds facings text : List ℕ) (n : ℕ) (text' : List ℕ) (W : Writes R kinds facings text (Text n) text') where
+module _ (R : Room) (kinds facings text : List ℕ) (n : ℕ) (text' : List ℕ) (W : Writes R kinds facings text (Ok n) text') where
   -- what is answered is what was counted, cell by cell
   pub size-told : n ≡ size_of R kinds facings
   size-told =
@@ -340,7 +339,7 @@ module _ (R : Room) (kinds facings text : List ℕ) (n : ℕ) (text' : List ℕ)
       omega (arith, size-told, text-most (good R w.sides-good) kinds facings w.exportable.kinds-long w.exportable.known)
 
 -- a room that can be exported is refused with 18 just where fewer bytes are lent than were counted
-module _ (R : Room) (s : sides_good R ≡ true) (kinds facings : List ℕ) (K : Exportable R kinds facings) (text : List ℕ) {r : Written} {text' : List ℕ} (W : Writes R kinds facings text r text') where
+module _ (R : Room) (s : sides_good R ≡ true) (kinds facings : List ℕ) (K : Exportable R kinds facings) (text : List ℕ) {r : Result ℕ WriteFault} {text' : List ℕ} (W : Writes R kinds facings text r text') where
   counted : length (text_of R kinds facings) ≡ size_of R kinds facings
   counted = text-size (good R s) kinds facings K.kinds-long K.known
 
@@ -348,10 +347,10 @@ module _ (R : Room) (s : sides_good R ≡ true) (kinds facings : List ℕ) (K : 
   unfolding exactly
   all-exact = rw (K.kinds-long, K.facings-long, eq-eqb (volume R) (volume R) refl)
 
-  pub long-enough : size_of R kinds facings ≤ length text → r ≡ Text (size_of R kinds facings)
+  pub long-enough : size_of R kinds facings ≤ length text → r ≡ Ok (size_of R kinds facings)
   unfolding written
   long-enough h = rw (s, all-exact, K.known, counted, le-leb (size_of R kinds facings) (length text) h) at W.answer
 
-  pub too_short : length text < size_of R kinds facings → r ≡ Short
+  pub too_short : length text < size_of R kinds facings → r ≡ Err Short
   unfolding written
   too_short h = rw (s, all-exact, K.known, counted, lt-leb (size_of R kinds facings) (length text) h) at W.answer

@@ -1,6 +1,6 @@
 -- The words of a function file, by their bytes, and which of them a block's state has: the game's Java Edition from 1.13 on. This is the one table of names
 -- and states; docs/MORE-RULES.md shows it line by line. Definitions alone.
-use Rattle.std.specs.Prelude.{Bool, ◌&&◌, not, List, [], ◌∷◌, ◌++◌, ℕ, ◌+◌, ◌-◌, ◌/◌, ◌%◌, eqb, ltb, leb, get_or}
+use Rattle.std.specs.Prelude.{Bool, ◌&&◌, List, [], ◌∷◌, ◌++◌, ℕ, ◌+◌, ◌-◌, ◌/◌, ◌%◌, eqb, ltb, leb, get_or}
 use Rattle.basics.specs.Tests.{either}
 
 -- ---- the table: ten digits, no word, what stands around the numbers and the state, the names by kind from 15 on, the sides by facing from 27 on, what

@@ -1,6 +1,6 @@
 -- Laws of writing: the loop over the cells, each answer, and that the promise determines all of it.
-use Rattle.std.specs.Prelude.{◌≡◌, refl, Bool, true, false, ◌&&◌, List, [], ◌∷◌, ◌++◌, ℕ, zero, suc, ◌+◌, ◌-◌, ◌*◌, ◌≤◌, ◌<◌, eqb, ltb, length, get_or, set, drop, take, replicate}
-use Rattle.std.proofs.Common.{sym, ◌∙◌, append-nil, arith, zero-add, length-append, drop_of_length-le}
+use Rattle.std.specs.Prelude.{◌≡◌, Result, Ok, Err, refl, Bool, true, false, ◌&&◌, List, [], ◌++◌, ℕ, ◌+◌, ◌*◌, ◌≤◌, ◌<◌, eqb, length, get_or, drop, replicate}
+use Rattle.std.proofs.Common.{sym, ◌∙◌, arith, zero-add, length-append, drop_of_length-le}
 use Rattle.std.proofs.Math.Path.{ap}
 use Rattle.std.proofs.Math.Nat.{sub-zero}
 use Rattle.std.proofs.Math.Dec.{leb}
@@ -14,14 +14,14 @@ use Rattle.basics.specs.Lists.{drop_next}
 use Rattle.basics.specs.Zeros.{drop_zeros}
 use Rattle.lent.specs.Lent.{filled}
 use Rattle.room.specs.declared.Room.{Room}
-use Rattle.room.specs.Room.{Good, Within, volume, pos_of, sides_good}
+use Rattle.room.specs.Room.{Good, volume, pos_of, sides_good}
 use Rattle.room.specs.RoomLaws.{pos_in}
-use Rattle.function_file.specs.declared.Written.{Written}
-use Rattle.function_file.specs.declared.Written.TheVariants.{Text, Sides, Buffer, Code, Short}
+use Rattle.function_file.specs.declared.WriteFault.{WriteFault}
+use Rattle.function_file.specs.declared.WriteFault.TheVariants.{Sides, Buffer, Code, Short}
 use Rattle.function_file.specs.Words.{block_known, least_facing, most_facing}
 use Rattle.function_file.specs.Text.{line_of, block_text, text_from, text_of}
 use Rattle.function_file.specs.Putting.{Put, sets_append}
-use Rattle.function_file.specs.Written.{exactly, known_from, written, text_after, Writes}
+use Rattle.function_file.specs.Written.{exactly, known_from, written, Writes}
 
 -- ---- a block that is known
 
@@ -142,28 +142,28 @@ place-small {R} g {cell} h =
 -- ---- each answer
 
 module _ (R : Room) (kinds facings text : List ℕ) where
-  pub write_sides : sides_good R ≡ false → Writes R kinds facings text Sides text
+  pub write_sides : sides_good R ≡ false → Writes R kinds facings text (Err Sides) text
   unfolding written
   write_sides s = record { answer = rw s; text-is = rw s }
 
   module _ (s : sides_good R ≡ true) where
-    pub write_buffer : exactly R (length kinds) (length facings) ≡ false → Writes R kinds facings text Buffer text
+    pub write_buffer : exactly R (length kinds) (length facings) ≡ false → Writes R kinds facings text (Err Buffer) text
     unfolding written
     write_buffer b = record { answer = rw (s, b); text-is = rw (s, b) }
 
     module _ (b : exactly R (length kinds) (length facings) ≡ true) where
-      pub write_code : known_from 0 kinds facings ≡ false → Writes R kinds facings text Code text
+      pub write_code : known_from 0 kinds facings ≡ false → Writes R kinds facings text (Err Code) text
       unfolding written
       write_code k = record { answer = rw (s, b, k); text-is = rw (s, b, k) }
 
       module _ (k : known_from 0 kinds facings ≡ true) where
-        pub write_short : length text < length (text_of R kinds facings) → {text' : List ℕ} → text' ≡ replicate (length text) 0 → Writes R kinds facings text Short text'
+        pub write_short : length text < length (text_of R kinds facings) → {text' : List ℕ} → text' ≡ replicate (length text) 0 → Writes R kinds facings text (Err Short) text'
         unfolding written
         write_short l e = record { answer = rw (s, b, k, lt-leb (length (text_of R kinds facings)) (length text) l); text-is = rw (s, b, k, lt-leb (length (text_of R kinds facings)) (length text) l, sub-zero) e }
 
-        pub write_text : length (text_of R kinds facings) ≤ length text → {n : ℕ} {text' : List ℕ} → n ≡ length (text_of R kinds facings) → text' ≡ filled (text_of R kinds facings) text → Writes R kinds facings text (Text n) text'
+        pub write_text : length (text_of R kinds facings) ≤ length text → {n : ℕ} {text' : List ℕ} → n ≡ length (text_of R kinds facings) → text' ≡ filled (text_of R kinds facings) text → Writes R kinds facings text (Ok n) text'
         unfolding written
-        write_text l q e = record { answer = rw (s, b, k, le-leb (length (text_of R kinds facings)) (length text) l) (ap Text q); text-is = rw (s, b, k, le-leb (length (text_of R kinds facings)) (length text) l) e }
+        write_text l q e = record { answer = rw (s, b, k, le-leb (length (text_of R kinds facings)) (length text) l) (ap Ok q); text-is = rw (s, b, k, le-leb (length (text_of R kinds facings)) (length text) l) e }
 
 -- what number 6 leaves
 pub exact : (R : Room) (kinds facings : ℕ) → exactly R kinds facings ≡ true → (kinds ≡ volume R) × (facings ≡ volume R)
@@ -177,10 +177,10 @@ module _ (R : Room) (kinds facings text : List ℕ) (s : sides_good R ≡ true) 
   out-long : length out ≡ length text
   out-long = ap length p.is ∙ length-sets cleared 0 (text_of R kinds facings) ∙ ap length z ∙ length-replicate {A = ℕ} (length text) 0
 
-  pub ends-short : length out < n → {out' : List ℕ} → out' ≡ replicate (length out) 0 → Writes R kinds facings text Short out'
+  pub ends-short : length out < n → {out' : List ℕ} → out' ≡ replicate (length out) 0 → Writes R kinds facings text (Err Short) out'
   ends-short l e = write_short R kinds facings text s b k (omega (arith, out-long, p.ends)) (e ∙ ap (λ j. replicate j 0) out-long)
 
-  pub ends-whole : n ≤ length out → Writes R kinds facings text (Text n) out
+  pub ends-whole : n ≤ length out → Writes R kinds facings text (Ok n) out
   ends-whole l =
       let fits : length (text_of R kinds facings) ≤ length text = omega (arith, out-long, p.ends) in
       write_text R kinds facings text s b k fits (omega (arith, p.ends)) (p.is ∙ ap (λ l. sets l 0 (text_of R kinds facings)) z ∙ text-filled (text_of R kinds facings) text fits)
@@ -188,7 +188,7 @@ module _ (R : Room) (kinds facings text : List ℕ) (s : sides_good R ≡ true) 
 -- ---- the promise of `write_function` determines its answer and every lent byte
 
 pub record WriteEnd : Type 0 where
-  pub answer : Written
+  pub answer : Result ℕ WriteFault
   pub text : List ℕ
 
 pub coincide : (R : Room) (kinds facings text : List ℕ) → Determines {X = WriteEnd} (λ x. Writes R kinds facings text x.answer x.text)
@@ -197,5 +197,5 @@ coincide R kinds facings text x y p q =
     let t : x.text ≡ y.text = p.text-is ∙ sym q.text-is in
     write_end x.answer y.answer x.text y.text a t
   where
-    write_end : (r r' : Written) (t t' : List ℕ) → r ≡ r' → t ≡ t' → ◌≡◌ {A = WriteEnd} (record { answer = r; text = t }) (record { answer = r'; text = t' })
+    write_end : (r r' : Result ℕ WriteFault) (t t' : List ℕ) → r ≡ r' → t ≡ t' → ◌≡◌ {A = WriteEnd} (record { answer = r; text = t }) (record { answer = r'; text = t' })
     write_end r r' t t' a b = rw (a, b)

@@ -1,21 +1,15 @@
 -- The values of what was written, told or kept; and that the promise determines the number and every lent byte.
-use Rattle.std.specs.Prelude.{◌≡◌, refl, true, false, List, [], ◌∷◌, ◌++◌, ℕ, zero, suc, ◌-◌, ◌≤◌, set, replicate}
+use Rattle.std.specs.Prelude.{◌≡◌, Result, true, false, List, [], ◌∷◌, ℕ}
 use Rattle.std.proofs.Common.{sym, ap, ◌∙◌, arith}
 use Rattle.numbers.specs.Refusals.{sides_number, buffer_number}
 use Rattle.basics.specs.Promises.{Determines}
 use Rattle.lent.specs.Lent.{touches, filled, output_after}
 use Rattle.room.specs.declared.Room.{Room}
 use Rattle.room.specs.Room.{sides_good}
-use Rattle.function_file.specs.declared.Written.{Written}
-use Rattle.function_file.specs.Written.{written_number, Writes}
+use Rattle.function_file.specs.declared.WriteFault.{WriteFault}
+use Rattle.function_file.specs.Written.{written_number}
 use Rattle.function_file.specs.WriteLaws as writing
-use Rattle.function_file.specs.WriteTold.{value_count, few_number, bytes_written, written_values, WriteTold, few_to_write, write_told}
-
--- two values written to a cleared buffer
-pub two-written : (a b n : ℕ) → value_count ≤ n → set (set (replicate n 0) 0 a) 1 b ≡ (a ∷ b ∷ []) ++ replicate (n - value_count) 0
-two-written a b (suc (suc n)) h = let e : suc (suc n) - value_count ≡ n = omega arith in rw e
-two-written a b (suc zero) h = absurd (omega arith)
-two-written a b zero h = absurd (omega arith)
+use Rattle.function_file.specs.WriteTold.{few_number, bytes_written, written_values, WriteTold, few_to_write, write_told}
 
 -- too few values are lent
 module _ (R : Room) where
@@ -28,7 +22,7 @@ module _ (R : Room) where
   few-sides s = rw s
 
 -- the values of an answer whose number touches memory; the others leave them as they are
-module _ (a : Written) (values : List ℕ) {number : ℕ} (n : number ≡ written_number a) where
+module _ (a : Result ℕ WriteFault) (values : List ℕ) {number : ℕ} (n : number ≡ written_number a) where
   pub written-told : touches number ≡ true → {bytes : ℕ} {values' : List ℕ} → bytes ≡ bytes_written a → values' ≡ filled (0 ∷ bytes ∷ []) values
       → values' ≡ output_after (written_number a) (written_values a) values
   written-told t b w = let e = rw n at t in w ∙ rw (b, e)

@@ -13,36 +13,27 @@ pub use reading::read_function;
 pub use told::{tell_read_function, tell_write_function};
 pub use writing::write_function;
 
-// What writing answers: the length of the text; or the refusals 2, 6, 5 and 18.
+// Why a room isn't written: the refusals 2, 6, 5 and 18.
 #[derive(Clone, Copy)]
-pub enum Written {
-    Text(usize),
+pub enum WriteFault {
     Sides,
     Buffer,
     Code,
     Short,
 }
 
-// What reading answers: how many lines the text has; or the refusals 2, 6 and 19, with the number of the first bad line.
+// Why a text isn't read: the refusals 2, 6 and 19, with the number of the first bad line.
 #[derive(Clone, Copy)]
-pub enum Read {
-    Lines(usize),
+pub enum ReadFault {
     Sides,
     Buffer,
     Bad(usize),
 }
 
-// The block that a line is taken for.
+// The block that a line is taken for. Kinds and facings stay bytes: C lends them so.
 #[derive(Clone, Copy)]
 pub struct Guess {
     pub place: room::Pos,
     pub kind: u8,
     pub facing: u8,
-}
-
-// How far the lines were read: how many are good, and the number of the first bad one, 0 where there is none.
-#[derive(Clone, Copy)]
-pub struct LinesRead {
-    pub lines: usize,
-    pub bad: usize,
 }

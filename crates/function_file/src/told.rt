@@ -1,6 +1,6 @@
 // Writing and reading, told as numbers: for other languages.
 ghost use Rattle.std.specs.Prelude.{◌≡◌, [], ◌∷◌, ◌≤◌, length};
-ghost use Rattle.lent.specs.Lent.{filled, output_after};
+ghost use Rattle.lent.specs.Lent.{output_after};
 ghost use Rattle.function_file.specs.Written.{written_number};
 ghost use Rattle.function_file.specs.Reading.{read_number, read_detail};
 ghost use Rattle.function_file.specs.WriteTold.{value_count, few_number, bytes_written, written_values, WriteTold};
@@ -8,91 +8,70 @@ ghost use Rattle.function_file.specs.ReadTold.{lines_read, read_values, ReadTold
 
 use crate::reading::read_function;
 use crate::writing::write_function;
-use crate::{Read, Written};
+use crate::{ReadFault, WriteFault};
 use room::Room;
 
 // How many values are asked: the detail, and a count.
 const VALUES: usize = 2;
 
 // Fewer values are lent: 6, unless 2 comes before it.
+#[tactic(auto, unfolding(crate::specs::WriteTold::few_number))]
 fn few_number(room: Room) -> u32
     ensures { result ≡ few_number room }
 {
     if room.good() {
-        return numbers::BUFFER_NUMBER;
+        numbers::BUFFER_NUMBER
+    } else {
+        numbers::SIDES_NUMBER
     }
-    numbers::SIDES_NUMBER
 }
 
-// Two values, and zeros behind them.
-fn write_two(values: &mut [u64], detail: u64, count: u64)
-    requires { value_count ≤ length values.old }
-    ensures { values.new ≡ filled (detail ∷ count ∷ []) values.old }
-{
-    lent::clear_longs(values);
-    values[0] = detail;
-    values[1] = count;
-}
-
-fn written_number(answer: Written) -> u32
+fn written_number(answer: Result<usize, WriteFault>) -> u32
     ensures { result ≡ written_number answer }
 {
     match answer {
-        Written::Text(_) => numbers::DONE_NUMBER,
-        Written::Sides => numbers::SIDES_NUMBER,
-        Written::Buffer => numbers::BUFFER_NUMBER,
-        Written::Code => numbers::CODE_NUMBER,
-        Written::Short => numbers::TEXT_SHORT_NUMBER,
+        Ok(_) => numbers::DONE_NUMBER,
+        Err(WriteFault::Sides) => numbers::SIDES_NUMBER,
+        Err(WriteFault::Buffer) => numbers::BUFFER_NUMBER,
+        Err(WriteFault::Code) => numbers::CODE_NUMBER,
+        Err(WriteFault::Short) => numbers::TEXT_SHORT_NUMBER,
     }
 }
 
-fn bytes_written(answer: Written) -> usize
+fn bytes_written(answer: Result<usize, WriteFault>) -> usize
     ensures { result ≡ bytes_written answer }
 {
-    match answer {
-        Written::Text(length) => length,
-        Written::Sides => 0,
-        Written::Buffer => 0,
-        Written::Code => 0,
-        Written::Short => 0,
-    }
+    answer.unwrap_or(0)
 }
 
-fn read_number(answer: Read) -> u32
+fn read_number(answer: Result<usize, ReadFault>) -> u32
     ensures { result ≡ read_number answer }
 {
     match answer {
-        Read::Lines(_) => numbers::DONE_NUMBER,
-        Read::Sides => numbers::SIDES_NUMBER,
-        Read::Buffer => numbers::BUFFER_NUMBER,
-        Read::Bad(_) => numbers::BAD_LINE_NUMBER,
+        Ok(_) => numbers::DONE_NUMBER,
+        Err(ReadFault::Sides) => numbers::SIDES_NUMBER,
+        Err(ReadFault::Buffer) => numbers::BUFFER_NUMBER,
+        Err(ReadFault::Bad(_)) => numbers::BAD_LINE_NUMBER,
     }
 }
 
-fn read_detail(answer: Read) -> usize
+fn read_detail(answer: Result<usize, ReadFault>) -> usize
     ensures { result ≡ read_detail answer }
 {
     match answer {
-        Read::Lines(_) => 0,
-        Read::Sides => 0,
-        Read::Buffer => 0,
-        Read::Bad(line) => line,
+        Err(ReadFault::Bad(line)) => line,
+        _ => 0,
     }
 }
 
-fn lines_read(answer: Read) -> usize
+fn lines_read(answer: Result<usize, ReadFault>) -> usize
     ensures { result ≡ lines_read answer }
 {
-    match answer {
-        Read::Lines(lines) => lines,
-        Read::Sides => 0,
-        Read::Buffer => 0,
-        Read::Bad(_) => 0,
-    }
+    answer.unwrap_or(0)
 }
 
 // Writes the values of what was written and returns its number. 2, 6 and 5 write none.
-fn tell_written(answer: Written, values: &mut [u64]) -> u32
+fn tell_written(answer: Result<usize, WriteFault>, values: &mut [u64]) -> u32
     requires { value_count ≤ length values.old }
     ensures value { result ≡ written_number answer }
     ensures values_after { values.new ≡ output_after (written_number answer) (written_values answer) values.old }
@@ -100,13 +79,13 @@ fn tell_written(answer: Written, values: &mut [u64]) -> u32
     let number = written_number(answer);
     if lent::touches(number) {
         let length = bytes_written(answer);
-        write_two(values, 0, length as u64);
+        lent::write_two(values, 0, length as u64);
     }
     number
 }
 
 // Writes the values of what was read and returns its number. 2 and 6 write none.
-fn tell_read(answer: Read, values: &mut [u64]) -> u32
+fn tell_read(answer: Result<usize, ReadFault>, values: &mut [u64]) -> u32
     requires { value_count ≤ length values.old }
     ensures value { result ≡ read_number answer }
     ensures values_after { values.new ≡ output_after (read_number answer) (read_values answer) values.old }
@@ -115,7 +94,7 @@ fn tell_read(answer: Read, values: &mut [u64]) -> u32
     if lent::touches(number) {
         let detail = read_detail(answer);
         let lines = lines_read(answer);
-        write_two(values, detail as u64, lines as u64);
+        lent::write_two(values, detail as u64, lines as u64);
     }
     number
 }

@@ -1,5 +1,5 @@
 -- The conflict by the rule as written is the conflict of Geometry.
-use Rattle.std.specs.Prelude.{◌≡◌, Bool, true, false, ℕ, eqb, get_or}
+use Rattle.std.specs.Prelude.{◌≡◌, Bool, true, false, ℕ, eqb, get_or, Option, Some, None}
 use Rattle.std.proofs.Math.Path.{refl}
 use Rattle.std.proofs.Common.{inl, inr}
 use Rattle.std.proofs.Math.Bool.{or-true}
@@ -7,8 +7,6 @@ use mathlib.Core.List.{List, [], ◌∷◌}
 use Rattle.basics.specs.Tests.{either, ask, never}
 use Rattle.basics.specs.Lists.{In}
 use Rattle.room.specs.declared.Room.{Room}
-use Rattle.room.specs.declared.Neighbour.{Neighbour}
-use Rattle.room.specs.declared.Neighbour.TheVariants.{Inside, Outside}
 use Rattle.room.specs.Room.{Good, or_else, above}
 use Rattle.room.specs.Units.{air}
 use Rattle.routing_resources.specs.Marks.{is_marked, AllCells}
@@ -35,7 +33,7 @@ pub conflict_as_written_lem : (R : Room) → Good R → (kinds joinable path : L
 unfolding conflict_as_written conflict_among
 conflict_as_written_lem R G kinds joinable path all = go (first_pair R (conductor joinable path)) refl
   where
-    go : (place : Neighbour) → first_pair R (conductor joinable path) ≡ place
+    go : (place : Option ℕ) → first_pair R (conductor joinable path) ≡ place
         → or_else place (stair_conflict_as_written R kinds (stands_in path) (conductor joinable path) path) ≡ or_else place (stair_conflict R kinds (conductor joinable path) path)
-    go (Inside v) e = refl
-    go Outside e = stairs_as_written R G joinable path all (no_first_pair R (conductor joinable path) e) kinds path (λ v i. i)
+    go (Some v) e = refl
+    go None e = stairs_as_written R G joinable path all (no_first_pair R (conductor joinable path) e) kinds path (λ v i. i)

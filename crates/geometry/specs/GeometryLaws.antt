@@ -1,13 +1,11 @@
 -- Which conductors make no pair, and what a path without conflict leaves: no two conductors, joinable cells and the path's together, of which one
 -- stands right above the other.
-use Rattle.std.specs.Prelude.{◌≡◌, refl, Bool, false, ◌&&◌, ◌||◌, List, ℕ, ◌<◌, length}
+use Rattle.std.specs.Prelude.{◌≡◌, refl, Bool, false, ◌&&◌, ◌||◌, List, ℕ, ◌<◌, length, Option, Some, None}
 use Rattle.std.proofs.Common.{sym, ◌∙◌, arith}
 use Rattle.std.proofs.Math.Bool.{true}
 use Rattle.std.proofs.Math.ListN.{get_or-eq_default}
 use Rattle.basics.specs.Tests.{ask, ask_less, and_left, and_right, or_left, never}
 use Rattle.room.specs.declared.Room.{Room}
-use Rattle.room.specs.declared.Neighbour.{Neighbour}
-use Rattle.room.specs.declared.Neighbour.TheVariants.{Inside, Outside}
 use Rattle.room.specs.Room.{Good, volume, holds_at, beneath}
 use Rattle.routing_resources.specs.Marks.{is_marked, marked_by}
 use Rattle.routing_resources.specs.MarkLaws.{marked-after, with_length_lem}
@@ -20,9 +18,9 @@ no_pair_fewer : (R : Room) (more fewer : ℕ → Bool) → ((v : ℕ) → fewer 
 unfolding upper_of_pair
 no_pair_fewer R more fewer part alone = record { none = λ v h. ask (upper_of_pair R fewer v) (λ t. absurd (pair v h t)) (λ f. f) }
   where
-    still : (place : Neighbour) → holds_at fewer place ≡ true → holds_at more place ≡ true
-    still (Inside u) e = part u e
-    still Outside e = e
+    still : (place : Option ℕ) → holds_at fewer place ≡ true → holds_at more place ≡ true
+    still (Some u) e = part u e
+    still None e = e
 
     pair : (v : ℕ) → v < volume R → fewer v && holds_at fewer (beneath R v) ≡ true → ⊥
     pair v h t =
@@ -36,28 +34,28 @@ pub no_pair_one : (R : Room) → Good R → (conducts : ℕ → Bool) (cell : �
 unfolding upper_of_pair
 no_pair_one R G conducts cell one = record { none = λ v h. ask (upper_of_pair R conducts v) (λ t. absurd (pair v h (beneath R v) refl t)) (λ f. f) }
   where
-    pair : (v : ℕ) → v < volume R → (place : Neighbour) → beneath R v ≡ place → conducts v && holds_at conducts place ≡ true → ⊥
-    pair v h (Inside u) b t =
+    pair : (v : ℕ) → v < volume R → (place : Option ℕ) → beneath R v ≡ place → conducts v && holds_at conducts place ≡ true → ⊥
+    pair v h (Some u) b t =
         let same : u ≡ v = one u (and_right (conducts v) (conducts u) t) ∙ sym (one v (and_left (conducts v) (conducts u) t)) in
         omega (arith, beneath_lt R G v u b)
-    pair v h Outside b t = let n = and_right (conducts v) false t in never (cc)
+    pair v h None b t = let n = and_right (conducts v) false t in never (cc)
 
 -- no first pair is no pair
-pub no_first_pair : (R : Room) (conducts : ℕ → Bool) → first_pair R conducts ≡ Outside → NoPair R conducts
+pub no_first_pair : (R : Room) (conducts : ℕ → Bool) → first_pair R conducts ≡ None → NoPair R conducts
 unfolding first_pair
 no_first_pair R conducts e = record { none = none_first (upper_of_pair R conducts) (volume R) e }
 
 -- pairs first, then stairs
 module _ (R : Room) (kinds : List ℕ) (conducts : ℕ → Bool) (path : List ℕ) where
-  pub pair-first : (v : ℕ) → first_pair R conducts ≡ Inside v → first_pair R conducts ≡ conflict_among R kinds conducts path
+  pub pair-first : (v : ℕ) → first_pair R conducts ≡ Some v → first_pair R conducts ≡ conflict_among R kinds conducts path
   unfolding conflict_among
   pair-first v e = rw e
 
-  pub then-stairs : first_pair R conducts ≡ Outside → stair_conflict R kinds conducts path ≡ conflict_among R kinds conducts path
+  pub then-stairs : first_pair R conducts ≡ None → stair_conflict R kinds conducts path ≡ conflict_among R kinds conducts path
   unfolding conflict_among
   then-stairs e = rw e
 
-module _ (R : Room) (kinds joinable path : List ℕ) (free : conflict_of R kinds joinable path ≡ Outside) where
+module _ (R : Room) (kinds joinable path : List ℕ) (free : conflict_of R kinds joinable path ≡ None) where
   no_pair_among : NoPair R (conductor joinable path)
   unfolding conflict_among
   no_pair_among =

@@ -1,5 +1,5 @@
 -- Laws of the bytes: the path's cells laid among the joinable ones make the conductors, and taken up again leave the bytes as they were.
-use Rattle.std.specs.Prelude.{◌≡◌, ◌⊎◌, Bool, true, false, not, ◌&&◌, ◌||◌, ℕ, zero, suc, ◌≤◌, ◌<◌, eqb, get_or, set, drop}
+use Rattle.std.specs.Prelude.{◌≡◌, ◌⊎◌, Bool, true, false, not, ◌&&◌, ◌||◌, ℕ, zero, suc, ◌≤◌, ◌<◌, eqb, get_or, set, drop, Some}
 use Rattle.std.proofs.Math.Path.{refl, ap, fun_ext}
 use Rattle.std.proofs.Common.{sym, ◌∙◌, inl, inr, arith, length-set, get_or-set_same, get_or-set_other, ext_get_or, eqb-true, eq-eqb, ne_eqb}
 use Rattle.std.proofs.Math.Bool.{and-false, or-true}
@@ -9,7 +9,6 @@ use Rattle.std.proofs.lemmas.Bool.{eqb-false}
 use Rattle.basics.specs.Tests.{either, either_same, ask, ask_less, or_left, never}
 use Rattle.basics.specs.Lists.{In}
 use Rattle.room.specs.declared.Room.{Room}
-use Rattle.room.specs.declared.Neighbour.TheVariants.{Inside}
 use Rattle.room.specs.Room.{volume, beneath}
 use Rattle.routing_resources.specs.Marks.{is_marked, Marks, CellsBelow, AllCells}
 use Rattle.routing_resources.specs.MarkLaws.{read_below}
@@ -140,10 +139,10 @@ on-path : (R : Room) (joinable path : List ℕ) → NoPair R (is_marked joinable
 unfolding conductor upper_of_pair
 on-path R joinable path alone = record { conducting = λ v i. rw (in_stands path v i) (or-true (is_marked joinable v)); touched = met }
   where
-    pair : (v u : ℕ) → v < volume R → beneath R v ≡ Inside u → is_marked joinable v ≡ true → is_marked joinable u ≡ true → ⊥
+    pair : (v u : ℕ) → v < volume R → beneath R v ≡ Some u → is_marked joinable v ≡ true → is_marked joinable u ≡ true → ⊥
     pair v u h b p q = let n : true ≡ false = rw (p, b, q) at (alone.none v h) in never (cc)
 
-    met : (v u : ℕ) → v < volume R → beneath R v ≡ Inside u → is_marked joinable v || stands_in path v ≡ true → is_marked joinable u || stands_in path u ≡ true → In v path ⊎ In u path
+    met : (v u : ℕ) → v < volume R → beneath R v ≡ Some u → is_marked joinable v || stands_in path v ≡ true → is_marked joinable u || stands_in path u ≡ true → In v path ⊎ In u path
     met v u h b p q =
         ask (stands_in path v) (λ t. inl (stands_in_lem path v t))
         (λ f. ask (stands_in path u) (λ t. inr (stands_in_lem path u t)) (λ g. absurd (pair v u h b (or_left (is_marked joinable v) (stands_in path v) p f) (or_left (is_marked joinable u) (stands_in path u) q g))))

@@ -1,5 +1,5 @@
 -- Laws of pairs: where each pair of conductors has a cell of the path, the first pair's upper cell is the least along the path.
-use Rattle.std.specs.Prelude.{◌≡◌, ◌⊎◌, Bool, false, ltb}
+use Rattle.std.specs.Prelude.{◌≡◌, ◌⊎◌, Bool, false, ltb, Option, Some, None}
 use Rattle.std.proofs.Math.Path.{refl}
 use Rattle.std.proofs.Common.{sym, ap, inl, inr, ⊎_elim}
 use Rattle.std.proofs.Math.Bool.{true}
@@ -11,8 +11,6 @@ use borrow.Author.Tests.{ltb-true, ltb-false, lt-ltb, le-ltb}
 use Rattle.basics.specs.Tests.{ask, ask_less, and_left, and_right, and_both, never}
 use Rattle.basics.specs.Lists.{In}
 use Rattle.room.specs.declared.Room.{Room}
-use Rattle.room.specs.declared.Neighbour.{Neighbour}
-use Rattle.room.specs.declared.Neighbour.TheVariants.{Inside, Outside}
 use Rattle.room.specs.Room.{Good, volume, in_or_out, holds_at, beneath, above}
 use Rattle.geometry.specs.Geometry.{upper_of_pair, first_pair, if_passed}
 use Rattle.geometry.specs.Along.{pair_with, lesser_place, least_upper, OnPath}
@@ -24,56 +22,56 @@ use Rattle.basics.specs.Folds.{along}
 -- ---- a conductor's pairs
 
 -- a conductor beneath is at a cell
-at-cell : (conducts : ℕ → Bool) (place : Neighbour) → holds_at conducts place ≡ true → (u : ℕ) × ((place ≡ Inside u) × (conducts u ≡ true))
-at-cell conducts (Inside u) e = (u, (refl, e))
-at-cell conducts Outside e = never (cc)
+at-cell : (conducts : ℕ → Bool) (place : Option ℕ) → holds_at conducts place ≡ true → (u : ℕ) × ((place ≡ Some u) × (conducts u ≡ true))
+at-cell conducts (Some u) e = (u, (refl, e))
+at-cell conducts None e = never (cc)
 
-passed-cell : (test : ℕ → Bool) (place : Neighbour) (w : ℕ) → if_passed test place ≡ Inside w → (place ≡ Inside w) × (test w ≡ true)
-passed-cell test (Inside v) w e = let q = inside-passed (test v) v w e in (ap Inside q.0, rw q.0 at q.1)
-passed-cell test Outside w e = never (cc)
+passed-cell : (test : ℕ → Bool) (place : Option ℕ) (w : ℕ) → if_passed test place ≡ Some w → (place ≡ Some w) × (test w ≡ true)
+passed-cell test (Some v) w e = let q = inside-passed (test v) v w e in (ap Some q.0, rw q.0 at q.1)
+passed-cell test None w e = never (cc)
 
-none-held : (test : ℕ → Bool) (place : Neighbour) → if_passed test place ≡ Outside → holds_at test place ≡ false
-none-held test (Inside v) e = out-failed (test v) v e
-none-held test Outside e = refl
+none-held : (test : ℕ → Bool) (place : Option ℕ) → if_passed test place ≡ None → holds_at test place ≡ false
+none-held test (Some v) e = out-failed (test v) v e
+none-held test None e = refl
 
 -- the conductor beneath a cell decides what the cell's pair is
 module _ (R : Room) (conducts : ℕ → Bool) (cell : ℕ) where
-  pub pair-here : (v : ℕ) → if_passed conducts (beneath R cell) ≡ Inside v → Inside cell ≡ pair_with R conducts cell
+  pub pair-here : (v : ℕ) → if_passed conducts (beneath R cell) ≡ Some v → Some cell ≡ pair_with R conducts cell
   unfolding pair_with
   pair-here v e = let b = passed-cell conducts (beneath R cell) v e in rw (b.0, b.1)
 
-  pub pair-over : if_passed conducts (beneath R cell) ≡ Outside → if_passed conducts (above R cell) ≡ pair_with R conducts cell
+  pub pair-over : if_passed conducts (beneath R cell) ≡ None → if_passed conducts (above R cell) ≡ pair_with R conducts cell
   unfolding pair_with
   pair-over e = rw (none-held conducts (beneath R cell) e)
 
 module _ (R : Room) (G : Good R) (conducts : ℕ → Bool) where
-  upper_is : (v u : ℕ) → beneath R v ≡ Inside u → conducts v ≡ true → conducts u ≡ true → upper_of_pair R conducts v ≡ true
+  upper_is : (v u : ℕ) → beneath R v ≡ Some u → conducts v ≡ true → conducts u ≡ true → upper_of_pair R conducts v ≡ true
   unfolding upper_of_pair
   upper_is v u b p q = and_both p (rw b q)
 
   module _ (cell : ℕ) (cell_in : cell < volume R) (c : conducts cell ≡ true) where
-    pair-upper : (w : ℕ) → pair_with R conducts cell ≡ Inside w → upper_of_pair R conducts w ≡ true
+    pair-upper : (w : ℕ) → pair_with R conducts cell ≡ Some w → upper_of_pair R conducts w ≡ true
     unfolding pair_with
     pair-upper w e = ask (holds_at conducts (beneath R cell)) (λ t. here t (rw t at e)) (λ f. over (rw f at e))
       where
-        here : holds_at conducts (beneath R cell) ≡ true → Inside cell ≡ Inside w → upper_of_pair R conducts w ≡ true
+        here : holds_at conducts (beneath R cell) ≡ true → Some cell ≡ Some w → upper_of_pair R conducts w ≡ true
         here t q = let s : cell ≡ w = cc in let b = at-cell conducts (beneath R cell) t in rw (← s) (upper_is cell b.0 b.1.0 c b.1.1)
 
-        over : if_passed conducts (above R cell) ≡ Inside w → upper_of_pair R conducts w ≡ true
+        over : if_passed conducts (above R cell) ≡ Some w → upper_of_pair R conducts w ≡ true
         over q =
             let a = passed-cell conducts (above R cell) w q in
             upper_is w cell (above-beneath R G cell w cell_in a.0) a.1 c
 
-    pair-least : (v : ℕ) → v < volume R → upper_of_pair R conducts v ≡ true → ((v ≡ cell) ⊎ (beneath R v ≡ Inside cell))
-        → (w : ℕ) × ((pair_with R conducts cell ≡ Inside w) × (w ≤ v))
+    pair-least : (v : ℕ) → v < volume R → upper_of_pair R conducts v ≡ true → ((v ≡ cell) ⊎ (beneath R v ≡ Some cell))
+        → (w : ℕ) × ((pair_with R conducts cell ≡ Some w) × (w ≤ v))
     unfolding pair_with upper_of_pair
     pair-least v h u s = ask (holds_at conducts (beneath R cell)) (λ t. (cell, (rw t refl, low s))) (λ f. over f s)
       where
-        low : (v ≡ cell) ⊎ (beneath R v ≡ Inside cell) → cell ≤ v
+        low : (v ≡ cell) ⊎ (beneath R v ≡ Some cell) → cell ≤ v
         low (inl e) = omega arith
         low (inr b) = le_of_lt (beneath_lt R G v cell b)
 
-        over : holds_at conducts (beneath R cell) ≡ false → (v ≡ cell) ⊎ (beneath R v ≡ Inside cell) → (w : ℕ) × ((pair_with R conducts cell ≡ Inside w) × (w ≤ v))
+        over : holds_at conducts (beneath R cell) ≡ false → (v ≡ cell) ⊎ (beneath R v ≡ Some cell) → (w : ℕ) × ((pair_with R conducts cell ≡ Some w) × (w ≤ v))
         over f (inl e) = let t : holds_at conducts (beneath R cell) ≡ true = rw e at (and_right (conducts v) (holds_at conducts (beneath R v)) u) in never (cc)
         over f (inr b) =
             let t : conducts v ≡ true = and_left _ _ u in
@@ -84,22 +82,22 @@ module _ (R : Room) (G : Good R) (conducts : ℕ → Bool) where
   -- n is the least upper cell of a pair with a cell of the path, or `start` where none is less
   record LeastUpper (path : List ℕ) (start n : ℕ) : Type 0 where
     most : n ≤ start
-    least : (cell w : ℕ) → In cell path → pair_with R conducts cell ≡ Inside w → n ≤ w
+    least : (cell w : ℕ) → In cell path → pair_with R conducts cell ≡ Some w → n ≤ w
     upper : n < start → upper_of_pair R conducts n ≡ true
 
-  lesser-most : (place : Neighbour) (n : ℕ) → lesser_place place n ≤ n
-  lesser-most (Inside v) n = ask (ltb v n) (λ t. rw t (omega (arith, ltb-true v n t))) (λ f. rw f (omega arith))
-  lesser-most Outside n = omega arith
+  lesser-most : (place : Option ℕ) (n : ℕ) → lesser_place place n ≤ n
+  lesser-most (Some v) n = ask (ltb v n) (λ t. rw t (omega (arith, ltb-true v n t))) (λ f. rw f (omega arith))
+  lesser-most None n = omega arith
 
-  lesser-least : (place : Neighbour) (n w : ℕ) → place ≡ Inside w → lesser_place place n ≤ w
-  lesser-least (Inside v) n w e =
+  lesser-least : (place : Option ℕ) (n w : ℕ) → place ≡ Some w → lesser_place place n ≤ w
+  lesser-least (Some v) n w e =
       let s : v ≡ w = cc in
       ask (ltb v n) (λ t. rw t (omega arith)) (λ f. rw f (omega (arith, ltb-false v n f)))
-  lesser-least Outside n w e = never (cc)
+  lesser-least None n w e = never (cc)
 
-  lesser-upper : (place : Neighbour) (n : ℕ) → ((w : ℕ) → place ≡ Inside w → upper_of_pair R conducts w ≡ true) → lesser_place place n < n → upper_of_pair R conducts (lesser_place place n) ≡ true
-  lesser-upper (Inside v) n f h = ask (ltb v n) (λ t. rw t (f v refl)) (λ g. absurd (omega (arith, rw g at h)))
-  lesser-upper Outside n f h = absurd (omega arith)
+  lesser-upper : (place : Option ℕ) (n : ℕ) → ((w : ℕ) → place ≡ Some w → upper_of_pair R conducts w ≡ true) → lesser_place place n < n → upper_of_pair R conducts (lesser_place place n) ≡ true
+  lesser-upper (Some v) n f h = ask (ltb v n) (λ t. rw t (f v refl)) (λ g. absurd (omega (arith, rw g at h)))
+  lesser-upper None n f h = absurd (omega arith)
 
   -- one cell more, at the path's front
   least_more : (x : ℕ) (xs : List ℕ) (start n : ℕ) → x < volume R → conducts x ≡ true → LeastUpper xs (lesser_place (pair_with R conducts x) start) n → LeastUpper (x ∷ xs) start n
@@ -108,7 +106,7 @@ module _ (R : Room) (G : Good R) (conducts : ℕ → Bool) where
       next : ℕ
       next = lesser_place (pair_with R conducts x) start
 
-      one : (cell w : ℕ) → In cell (x ∷ xs) → pair_with R conducts cell ≡ Inside w → n ≤ w
+      one : (cell w : ℕ) → In cell (x ∷ xs) → pair_with R conducts cell ≡ Some w → n ≤ w
       one cell w (inl e) q = omega (arith, rest.most, lesser-least (pair_with R conducts x) start w (rw e at q))
       one cell w (inr i) q = rest.least cell w i q
 
@@ -140,7 +138,7 @@ module _ (R : Room) (G : Good R) (conducts : ℕ → Bool) where
       l : LeastUpper path (volume R) n
       l = least-along path (volume R) cells on.conducting
 
-      reached : (v : ℕ) → v < volume R → upper_of_pair R conducts v ≡ true → (cell : ℕ) → In cell path → ((v ≡ cell) ⊎ (beneath R v ≡ Inside cell)) → n ≤ v
+      reached : (v : ℕ) → v < volume R → upper_of_pair R conducts v ≡ true → (cell : ℕ) → In cell path → ((v ≡ cell) ⊎ (beneath R v ≡ Some cell)) → n ≤ v
       reached v h u cell i s =
           let w = pair-least cell (cells cell i) (on.conducting cell i) v h u s in
           omega (arith, l.least cell w.0 i w.1.0, w.1.1)
@@ -158,8 +156,8 @@ module _ (R : Room) (G : Good R) (conducts : ℕ → Bool) where
     is-first : in_or_out (ltb least none) least ≡ first_pair R conducts
     is-first = rw (walked, all) (first-along path cells on)
 
-    pub first_found : least < none → Inside least ≡ first_pair R conducts
+    pub first_found : least < none → Some least ≡ first_pair R conducts
     first_found h = rw (lt-ltb least none h) at is-first
 
-    pub first_missing : none ≤ least → Outside ≡ first_pair R conducts
+    pub first_missing : none ≤ least → None ≡ first_pair R conducts
     first_missing h = rw (le-ltb least none h) at is-first

@@ -1,6 +1,6 @@
 -- Laws of attempts: what one comes to by cases, and that a conflict blocked for those after it, and not blocked any more behind them, leaves
 -- marks and class bytes as they were.
-use Rattle.std.specs.Prelude.{◌≡◌, refl, ◌≢◌, Bool, ◌||◌, List, eqb, length, get_or, take}
+use Rattle.std.specs.Prelude.{◌≡◌, refl, ◌≢◌, Bool, ◌||◌, List, eqb, length, get_or, take, Option, Some, None, Ok, Err}
 use Rattle.std.proofs.Common.{sym, ◌∙◌, ext_get_or, eqb-true}
 use Rattle.std.proofs.Math.Path.{ap}
 use Rattle.std.proofs.Math.Bool.{true, false}
@@ -9,9 +9,6 @@ use native.Mathlib.Omega.{arith}
 use Rattle.std.proofs.lemmas.Bool.{eqb-false}
 use Rattle.basics.specs.Tests.{ask, never}
 use Rattle.room.specs.declared.Room.{Room}
-use Rattle.room.specs.declared.Cost.{Cost}
-use Rattle.room.specs.declared.Neighbour.{Neighbour}
-use Rattle.room.specs.declared.Neighbour.TheVariants.{Inside, Outside}
 use Rattle.room.specs.Room.{Good, volume}
 use Rattle.room_search.specs.Routing.{an_end}
 use Rattle.room_search.specs.TriedMoves.{places_of}
@@ -23,38 +20,20 @@ use Rattle.ground.specs.declared.Ground.{Ground}
 use Rattle.blocked_world.specs.BlockedWorld.{Says, WorldFits, refreshed}
 use Rattle.blocked_world.specs.SeenLaws.{says-one}
 use Rattle.blocked_world.specs.RefreshLaws.{mark-put, refreshed-says}
-use Rattle.goals.specs.declared.Tried.{Tried}
-use Rattle.goals.specs.declared.Tried.TheVariants.{Found, Failed, Full}
-use Rattle.goals.specs.declared.Attempt.TheVariants.{Ended, Conflict}
+use Rattle.goals.specs.declared.Found.{Found}
+use Rattle.goals.specs.declared.QueueFull.{QueueFull}
+use Rattle.goals.specs.declared.Unended.TheVariants.{Conflict, Full}
 use Rattle.goals.specs.Goals.{Site, Trial, found, searched_for, at_conflict, after_search, attempt_then, attempts, ends_goal, site_task}
-use Rattle.goals.specs.Trials.{Tells, site_of, Attemptable, Repeats, Attempted}
+use Rattle.goals.specs.Trials.{Tried, Tells, site_of, Attemptable, Repeats, Attempted}
 use Rattle.goals.specs.PathLaws.{found-by, found-cells, conflict_in}
 use Rattle.room_search.specs.Takings.{Searchable}
 use Rattle.goals.specs.SearchForLaws.{tells-failed}
-
--- an answer that is no route
-abbrev pub Routeless : Tried → Type 0
-Routeless (Found n cost) = ⊥
-Routeless Failed = Unit {0}
-Routeless (Full x) = Unit {0}
 
 -- ---- what an attempt asks
 
 module _ {S : Site} {blocked classes known previous path : List ℕ} {start goal : ℕ} (A : Attemptable S blocked classes known previous path start goal) where
   pub able-fits : WorldFits S.room S.kinds blocked
   able-fits = record { good = A.grounds.good; kinds-long = A.grounds.kinds-long; blocked-long = A.grounds.blocked-long }
-
-  pub able-searchable : {queue : List ℕ} → S.places ≡ places_of queue → Searchable S.room S.config classes known previous queue start goal
-  able-searchable p = record {
-    good = A.grounds.good;
-    config-good = A.grounds.config-good;
-    classes-long = A.says.long;
-    known-long = A.memory.known-long;
-    previous-long = A.memory.previous-long;
-    start_in = A.grounds.start_in;
-    goal_in = A.goal_in;
-    places-some = rw p at A.grounds.places-some;
-  }
 
 -- ---- what one attempt comes to
 
@@ -63,28 +42,31 @@ module _ (S : Site) (blocked : List ℕ) (start goal : ℕ) where
   search_now = searched_for (site_task S blocked start goal)
 
   -- there is no route
-  pub ended_search : (r : Tried) (cells : List ℕ) → Routeless r → Tells search_now r cells → Attempted S blocked start goal cells (Ended r)
+  pub ended_search : {cells : List ℕ} → Tells search_now (Ok None) cells → Attempted S blocked start goal cells (Ok None)
   unfolding after_search
-  ended_search (Found n cost) cells none t = absurd none
-  ended_search Failed cells none t = record { comes = λ again. rw (← t.is) (tells-failed cells) }
-  ended_search (Full x) cells none t = record { comes = λ again. rw (← t.is) (record { is = refl; fits = omega arith }) }
+  ended_search {cells} t = record { comes = λ again. rw (← t.is) (tells-failed cells) }
 
-  module _ {n : ℕ} {cost : Cost} {cells : List ℕ} (t : Tells search_now (Found n cost) cells) (conflict : Neighbour)
-      (e : conflict ≡ conflict_of S.room S.kinds S.joinable (take n cells)) where
-    at_conflict_lem : (again : List ℕ → Trial) → attempt_then S blocked start goal again ≡ at_conflict blocked start goal again (found (take n cells) cost.0) conflict
+  -- the queue was full
+  pub ended_full : {cells : List ℕ} (x : QueueFull) → Tells search_now (Err x) cells → Attempted S blocked start goal cells (Err (Full x))
+  unfolding after_search
+  ended_full x t = record { comes = λ again. rw (← t.is) (record { is = refl; fits = omega arith }) }
+
+  module _ {f : Found} {cells : List ℕ} (t : Tells search_now (Ok (Some f)) cells) (conflict : Option ℕ)
+      (e : conflict ≡ conflict_of S.room S.kinds S.joinable (take f.length cells)) where
+    at_conflict_lem : (again : List ℕ → Trial) → attempt_then S blocked start goal again ≡ at_conflict blocked start goal again (found (take f.length cells) f.cost.0) conflict
     unfolding after_search
     at_conflict_lem again = rw (← t.is, e)
 
-    pub ended-kept : conflict ≡ Outside → Attempted S blocked start goal cells (Ended (Found n cost))
+    pub ended-kept : conflict ≡ None → Attempted S blocked start goal cells (Ok (Some f))
     unfolding at_conflict
     ended-kept o = record { comes = λ again. rw (at_conflict_lem again, o) (record { is = refl; fits = t.fits }) }
 
-    module _ (v : ℕ) (i : conflict ≡ Inside v) where
-      pub ended-blocked : ends_goal blocked start goal v ≡ true → Attempted S blocked start goal cells (Ended Failed)
+    module _ (v : ℕ) (i : conflict ≡ Some v) where
+      pub ended-blocked : ends_goal blocked start goal v ≡ true → Attempted S blocked start goal cells (Ok None)
       unfolding at_conflict
       ended-blocked b = record { comes = λ again. rw (at_conflict_lem again, i, b) (tells-failed cells) }
 
-      pub repeated : v < volume S.room → ends_goal blocked start goal v ≡ false → Attempted S blocked start goal cells (Conflict v)
+      pub repeated : v < volume S.room → ends_goal blocked start goal v ≡ false → Attempted S blocked start goal cells (Err (Conflict v))
       unfolding at_conflict
       repeated h b = record { comes = record { inside = h; free = free (an_end start goal v) (is_marked blocked v) b; is = λ again. rw (at_conflict_lem again, i, b) } }
         where
@@ -93,12 +75,12 @@ module _ (S : Site) (blocked : List ℕ) (start goal : ℕ) where
           free false y q = q
 
   -- the path's cells, and its conflict, are in the room
-  module _ (start_in : start < volume S.room) (goal_in : goal < volume S.room) {n : ℕ} {cost : Cost} {cells : List ℕ} (t : Tells search_now (Found n cost) cells) where
-    pub path_in : AllCells S.room (take n cells)
-    path_in = found-cells start_in goal_in (found-by _ (take n cells) cost.0 (sym t.is))
+  module _ (start_in : start < volume S.room) (goal_in : goal < volume S.room) {f : Found} {cells : List ℕ} (t : Tells search_now (Ok (Some f)) cells) where
+    pub path_in : AllCells S.room (take f.length cells)
+    path_in = found-cells start_in goal_in (found-by _ (take f.length cells) f.cost.0 (sym t.is))
 
-    pub conflict_inside : Good S.room → (v : ℕ) → conflict_of S.room S.kinds S.joinable (take n cells) ≡ Inside v → v < volume S.room
-    conflict_inside good v e = conflict_in S.room good S.kinds S.joinable (take n cells) path_in v e
+    pub conflict_inside : Good S.room → (v : ℕ) → conflict_of S.room S.kinds S.joinable (take f.length cells) ≡ Some v → v < volume S.room
+    conflict_inside good v e = conflict_in S.room good S.kinds S.joinable (take f.length cells) path_in v e
 
 -- ---- blocked marks
 
@@ -127,7 +109,7 @@ pub site-same : (ground : Ground) (kinds joinable joinable' queue queue' : List 
     → site_of ground kinds joinable' queue' ≡ site_of ground kinds joinable queue
 site-same ground kinds joinable joinable' queue queue' j q = rw (j, q)
 
-pub attempts-none : (S : Site) (start goal : ℕ) (blocked cells : List ℕ) (left : ℕ) → left ≡ 0 → Tells (attempts left S start goal blocked) Failed cells
+pub attempts-none : (S : Site) (start goal : ℕ) (blocked cells : List ℕ) (left : ℕ) → left ≡ 0 → Tells (attempts left S start goal blocked) (Ok None) cells
 unfolding attempts
 attempts-none S start goal blocked cells left e = rw e (tells-failed cells)
 
@@ -136,8 +118,11 @@ module _ (S : Site) (blocked : List ℕ) (start goal left : ℕ) (some : left �
   unfolding attempts
   attempts-one = let s : left ≡ suc (left - 1) = omega arith in ap (λ (n : ℕ). attempts n S start goal blocked) s
 
-  pub attempts-ended : {cells : List ℕ} {r : Tried} → Attempted S blocked start goal cells (Ended r) → Tells (attempts left S start goal blocked) r cells
+  pub attempts-ended : {cells : List ℕ} {r : Option Found} → Attempted S blocked start goal cells (Ok r) → Tells (attempts left S start goal blocked) (Ok r) cells
   attempts-ended once = rw attempts-one (once.comes (attempts (left - 1) S start goal))
+
+  pub attempts-full : {cells : List ℕ} {x : QueueFull} → Attempted S blocked start goal cells (Err (Full x)) → Tells (attempts left S start goal blocked) (Err x) cells
+  attempts-full once = rw attempts-one (once.comes (attempts (left - 1) S start goal))
 
   pub attempts-repeat : {v : ℕ} {cells : List ℕ} {r : Tried} {S' : Site} → Repeats S blocked start goal v → S' ≡ S
       → Tells (attempts (left - 1) S' start goal (marked_by (eqb v) blocked)) r cells → Tells (attempts left S start goal blocked) r cells

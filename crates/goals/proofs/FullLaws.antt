@@ -1,13 +1,11 @@
 -- NO QUEUE IS FULL, where a flat step costs at least 10 and a stair at least 20 and there are 5 places for each cell but the start, or for each cell that
 -- can be entered and two more: no goal of a sink comes to number 13.
-use Rattle.std.specs.Prelude.{◌≡◌, ◌≢◌, Bool, true, false, ◌||◌, eqb, ltb, leb, length}
+use Rattle.std.specs.Prelude.{◌≡◌, ◌≢◌, Bool, true, false, ◌||◌, eqb, ltb, leb, length, Option, Some, None}
 use Rattle.std.proofs.Math.Path.{refl}
 use mathlib.Core.List.{List}
 use Prim.Native.Nat.{ℕ, zero, suc, ◌+◌, ◌-◌, ◌*◌, ◌≤◌, ◌<◌}
 use Rattle.std.proofs.Common.{arith, mul-le-mul_left, leb-true}
 use Rattle.basics.specs.Tests.{ask, never, passed}
-use Rattle.room.specs.declared.Neighbour.{Neighbour}
-use Rattle.room.specs.declared.Neighbour.TheVariants.{Inside, Outside}
 use Rattle.room.specs.Room.{Good, volume}
 use Rattle.best_first.specs.Search.{Answer, route, no_route, limit-passed, queue-full}
 use Rattle.best_first.specs.Statements.{count_below, OnlyInto}
@@ -74,10 +72,10 @@ module _ (S : Site) (start : ℕ) (blocked : List ℕ)
   attempts_not_full goal h zero blocked' still x e = never (cc)
   attempts_not_full goal h (suc n) blocked' still x e = after (searched_for (site_task S blocked' start goal)) refl e (attempts_not_full goal h n)
     where
-      at : (p : List ℕ) (c : ℕ) (place : Neighbour) → at_conflict blocked' start goal (attempts n S start goal) (found p c) place ≡ full x
+      at : (p : List ℕ) (c : ℕ) (place : Option ℕ) → at_conflict blocked' start goal (attempts n S start goal) (found p c) place ≡ full x
           → ((more : List ℕ) → StillBlocked blocked more → (y : ℕ) → attempts n S start goal more ≢ full y) → ⊥
-      at p c Outside q later = never (cc)
-      at p c (Inside v) q later =
+      at p c None q later = never (cc)
+      at p c (Some v) q later =
           ask (ends_goal blocked' start goal v)
           (λ t. never (cc (rw t at q)))
           (λ no. later (marked_by (eqb v) blocked') (λ u m. still_marked (eqb v) blocked' u (still u m)) x (rw no at q))

@@ -1,20 +1,19 @@
 -- Laws of goals: how the class bytes get a goal and lose it again, which of two trials is kept, and that a full queue ends it all.
-use Rattle.std.specs.Prelude.{◌≡◌, refl, ◌≢◌, true, false, List, [], ◌++◌, ℕ, zero, suc, ◌+◌, ◌≤◌, ◌<◌, length, get_or, drop}
+use Rattle.std.specs.Prelude.{◌≡◌, refl, ◌≢◌, true, false, List, [], ◌++◌, ℕ, zero, suc, ◌+◌, ◌≤◌, ◌<◌, length, get_or, drop, Option, Some, None, Ok, Err}
 use Rattle.std.proofs.Common.{◌∙◌, add-one, length-append, take_at, length-take-le}
 use native.Mathlib.Omega.{arith}
 use Rattle.std.proofs.Math.ListN.{take}
 use borrow.Author.Tests.{eq-eqb, ne_eqb}
 use Rattle.basics.specs.Tests.{ask_same, never}
-use Rattle.room.specs.declared.Cost.{Cost}
 use Rattle.room.specs.Room.{volume}
 use Rattle.ground.specs.declared.Ground.{Ground}
 use Rattle.blocked_world.specs.BlockedWorld.{Says, refreshed}
 use Rattle.blocked_world.specs.SeenLaws.{says-one}
 use Rattle.blocked_world.specs.RefreshLaws.{same_back, goal-left, refreshed-says}
-use Rattle.goals.specs.declared.Tried.{Tried}
-use Rattle.goals.specs.declared.Tried.TheVariants.{Found, Failed, Full}
-use Rattle.goals.specs.Goals.{Site, full, max_attempts, attempts, beats, cheaper_route, tried_goal, best_below, route_to_tree}
-use Rattle.goals.specs.Trials.{told, Tells, site_of, Attemptable, GoesOn, KeepsCheaper}
+use Rattle.goals.specs.declared.Found.{Found}
+use Rattle.goals.specs.declared.QueueFull.{QueueFull}
+use Rattle.goals.specs.Goals.{Site, Trial, full, max_attempts, attempts, beats, cheaper_route, tried_goal, best_below, route_to_tree}
+use Rattle.goals.specs.Trials.{Tried, told, Tells, site_of, Attemptable, KeepsCheaper}
 use Rattle.goals.proofs.AttemptLaws.{site-same, able-kept}
 use Rattle.goals.specs.SearchForLaws.{tells-failed}
 
@@ -44,60 +43,60 @@ module _ {S : Site} {blocked classes known previous path : List ℕ} {start : �
 
 module _ {path best : List ℕ} where
   -- the later goal came to nothing
-  pub keeps-kept : (kept : Tried) → GoesOn kept → KeepsCheaper kept Failed path best kept best
+  pub keeps-kept : (kept : Option Found) → KeepsCheaper kept None path best kept best
   unfolding cheaper_route
-  keeps-kept (Found n cost) on = record { keeps = λ earlier later E L. rw (← E.is, ← L.is) (record { is = refl; fits = E.fits }) }
-  keeps-kept Failed on = record { keeps = λ earlier later E L. rw (← E.is, ← L.is) (record { is = refl; fits = E.fits }) }
-  keeps-kept (Full x) on = absurd on
+  keeps-kept (Some f) = record { keeps = λ earlier later E L. rw (← E.is, ← L.is) (record { is = refl; fits = E.fits }) }
+  keeps-kept None = record { keeps = λ earlier later E L. rw (← E.is, ← L.is) (record { is = refl; fits = E.fits }) }
 
-  -- it found the queue full
-  pub keeps-full : (kept : Tried) (x : _) → GoesOn kept → KeepsCheaper kept (Full x) path best (Full x) best
-  unfolding cheaper_route
-  keeps-full (Found n cost) x on = record { keeps = λ earlier later E L. rw (← E.is, ← L.is) (record { is = refl; fits = omega arith }) }
-  keeps-full Failed x on = record { keeps = λ earlier later E L. rw (← E.is, ← L.is) (record { is = refl; fits = omega arith }) }
-  keeps-full (Full y) x on = absurd on
-
-  module _ (n : ℕ) (cost : Cost) where
+  module _ (new : Found) where
     -- its route is not cheaper
-    pub keeps-old : (kept : Tried) → GoesOn kept → beats cost.0 (told kept []) ≡ false → KeepsCheaper kept (Found n cost) path best kept best
+    pub keeps-old : (kept : Option Found) → beats new.cost.0 (told (Ok kept) []) ≡ false → KeepsCheaper kept (Some new) path best kept best
     unfolding cheaper_route
-    keeps-old (Found m other) on b = record { keeps = λ earlier later E L. rw (← E.is, ← L.is, b) (record { is = refl; fits = E.fits }) }
-    keeps-old Failed on b = never (cc)
-    keeps-old (Full y) on b = absurd on
+    keeps-old (Some f) b = record { keeps = λ earlier later E L. rw (← E.is, ← L.is, b) (record { is = refl; fits = E.fits }) }
+    keeps-old None b = never (cc)
 
     -- its route is cheaper, and is copied
-    pub keeps-new : (kept : Tried) → GoesOn kept → beats cost.0 (told kept []) ≡ true → n ≤ length path → {best' : List ℕ} → best' ≡ take n path ++ drop n best
-        → KeepsCheaper kept (Found n cost) path best (Found n cost) best'
+    pub keeps-new : (kept : Option Found) → beats new.cost.0 (told (Ok kept) []) ≡ true → new.length ≤ length path → {best' : List ℕ} → best' ≡ take new.length path ++ drop new.length best
+        → KeepsCheaper kept (Some new) path best (Some new) best'
     unfolding cheaper_route
-    keeps-new kept on b h {best'} e = go kept on b
+    keeps-new kept b h {best'} e = go kept b
       where
-        front : take n best' ≡ take n path
-        front = rw e (take_at (take n path) (drop n best) n (length-take-le n path h))
+        front : take new.length best' ≡ take new.length path
+        front = rw e (take_at (take new.length path) (drop new.length best) new.length (length-take-le new.length path h))
 
-        long-enough : n ≤ length best'
-        long-enough = rw (e, length-append (take n path) (drop n best), length-take-le n path h) (omega arith)
+        long-enough : new.length ≤ length best'
+        long-enough = rw (e, length-append (take new.length path) (drop new.length best), length-take-le new.length path h) (omega arith)
 
-        go : (kept : Tried) → GoesOn kept → beats cost.0 (told kept []) ≡ true → KeepsCheaper kept (Found n cost) path best (Found n cost) best'
-        go (Found m other) on b = record { keeps = λ earlier later E L. rw (← E.is, ← L.is, b) (record { is = rw front; fits = long-enough }) }
-        go Failed on b = record { keeps = λ earlier later E L. rw (← E.is, ← L.is) (record { is = rw front; fits = long-enough }) }
-        go (Full y) on b = absurd on
+        go : (kept : Option Found) → beats new.cost.0 (told (Ok kept) []) ≡ true → KeepsCheaper kept (Some new) path best (Some new) best'
+        go (Some f) b = record { keeps = λ earlier later E L. rw (← E.is, ← L.is, b) (record { is = rw front; fits = long-enough }) }
+        go None b = record { keeps = λ earlier later E L. rw (← E.is, ← L.is) (record { is = rw front; fits = long-enough }) }
 
 -- ---- one goal after another
 
-best_none : (S : Site) (start : ℕ) (blocked best : List ℕ) → Tells (best_below 0 S start blocked) Failed best
+best_none : (S : Site) (start : ℕ) (blocked best : List ℕ) → Tells (best_below 0 S start blocked) (Ok None) best
 unfolding best_below
 best_none S start blocked best = tells-failed best
 
-module _ (S : Site) (start goal : ℕ) (blocked : List ℕ) {best : List ℕ} {kept : Tried} (E : Tells (best_below goal S start blocked) kept best) where
+module _ (S : Site) (start goal : ℕ) (blocked : List ℕ) {best : List ℕ} {kept : Option Found} (E : Tells (best_below goal S start blocked) (Ok kept) best) where
   -- the cell is not joinable
-  pub best-kept : GoesOn kept → get_or S.joinable goal 0 ≢ 1 → Tells (best_below (goal + 1) S start blocked) kept best
+  pub best-kept : get_or S.joinable goal 0 ≢ 1 → Tells (best_below (goal + 1) S start blocked) (Ok kept) best
   unfolding best_below tried_goal
-  best-kept on n = rw (add-one, ne_eqb (get_or S.joinable goal 0) 1 n) ((keeps-kept {path = []} kept on).keeps _ _ E (tells-failed []))
+  best-kept n = rw (add-one, ne_eqb (get_or S.joinable goal 0) 1 n) ((keeps-kept {path = []} kept).keeps _ _ E (tells-failed []))
 
-  pub best-next : get_or S.joinable goal 0 ≡ 1 → {tried r : Tried} {path best' : List ℕ} → Tells (attempts max_attempts S start goal blocked) tried path
-      → KeepsCheaper kept tried path best r best' → Tells (best_below (goal + 1) S start blocked) r best'
+  pub best-next : get_or S.joinable goal 0 ≡ 1 → {tried r : Option Found} {path best' : List ℕ} → Tells (attempts max_attempts S start goal blocked) (Ok tried) path
+      → KeepsCheaper kept tried path best r best' → Tells (best_below (goal + 1) S start blocked) (Ok r) best'
   unfolding best_below tried_goal
   best-next m L keep = rw (add-one, eq-eqb (get_or S.joinable goal 0) 1 m) (keep.keeps _ _ E L)
+
+  -- its searches found the queue full
+  pub best-full : get_or S.joinable goal 0 ≡ 1 → {x : QueueFull} {path best' : List ℕ} → Tells (attempts max_attempts S start goal blocked) (Err x) path
+      → Tells (best_below (goal + 1) S start blocked) (Err x) best'
+  unfolding best_below tried_goal cheaper_route
+  best-full m {x} {best' = best'} L = rw (add-one, eq-eqb (get_or S.joinable goal 0) 1 m, ← L.is) (go kept E)
+    where
+      go : (kept : Option Found) → {earlier : Trial} → Tells earlier (Ok kept) best → Tells (cheaper_route earlier (full x.0.0)) (Err x) best'
+      go (Some f) B = rw (← B.is) (record { is = refl; fits = omega arith })
+      go None B = rw (← B.is) (record { is = refl; fits = omega arith })
 
 -- a full queue ends it all
 full-stays : (S : Site) (start : ℕ) (blocked : List ℕ) (x n m : ℕ) → n ≤ m → full x ≡ best_below n S start blocked → full x ≡ best_below m S start blocked
@@ -106,9 +105,9 @@ full-stays S start blocked x n zero h e = let z : n ≡ 0 = omega arith in rw z 
 full-stays S start blocked x n (suc m) h e = ask_same n (suc m) (λ q. rw q at e) (λ d. rw (← full-stays S start blocked x n m (omega (arith, d)) e))
 
 module _ (S : Site) (start n : ℕ) (blocked : List ℕ) {best : List ℕ} where
-  pub tree-full : {x : _} → Tells (best_below n S start blocked) (Full x) best → n ≤ volume S.room → Tells (route_to_tree S start blocked) (Full x) best
+  pub tree-full : {x : QueueFull} → Tells (best_below n S start blocked) (Err x) best → n ≤ volume S.room → Tells (route_to_tree S start blocked) (Err x) best
   unfolding route_to_tree
-  tree-full {x} E h = record { is = full-stays S start blocked x.0 n (volume S.room) h E.is; fits = omega arith }
+  tree-full {x} E h = record { is = full-stays S start blocked x.0.0 n (volume S.room) h E.is; fits = omega arith }
 
   pub tree_all : {r : Tried} → Tells (best_below n S start blocked) r best → n ≤ volume S.room → volume S.room ≤ n → Tells (route_to_tree S start blocked) r best
   unfolding route_to_tree
@@ -168,25 +167,23 @@ memory-next M kept k p q b u = record {
 -- ---- the loop over all goals
 
 -- those below `goal` are done
-pub record GoalsTried (S : Site) (start goal : ℕ) (kept : Tried) (joinable₀ joinable blocked₀ blocked classes₀ classes known₀ known previous₀ previous path₀ path best₀ best queue₀ queue : List ℕ) : Type 0 where
+pub record GoalsTried (S : Site) (start goal : ℕ) (kept : Option Found) (joinable₀ joinable blocked₀ blocked classes₀ classes known₀ known previous₀ previous path₀ path best₀ best queue₀ queue : List ℕ) : Type 0 where
   pub within : goal ≤ volume S.room
-  pub on : GoesOn kept
-  pub tells : Tells (best_below goal S start blocked₀) kept best
+  pub tells : Tells (best_below goal S start blocked₀) (Ok kept) best
   pub same : SameMemory joinable₀ joinable blocked₀ blocked classes₀ classes known₀ known previous₀ previous path₀ path best₀ best queue₀ queue
 
 pub goals-first : (S : Site) (start : ℕ) (joinable blocked classes known previous path best queue : List ℕ)
-    → GoalsTried S start 0 Failed joinable joinable blocked blocked classes classes known known previous previous path path best best queue queue
+    → GoalsTried S start 0 None joinable joinable blocked blocked classes classes known known previous previous path path best best queue queue
 goals-first S start joinable blocked classes known previous path best queue = record {
   within = omega arith;
-  on = tt;
   tells = best_none S start blocked best;
   same = memory-first joinable blocked classes known previous path best queue;
 }
 
-module _ (ground : Ground) (kinds : List ℕ) {start goal : ℕ} {kept : Tried}
+module _ (ground : Ground) (kinds : List ℕ) {start goal : ℕ} {kept : Option Found}
     {joinable₀ joinable blocked₀ blocked classes₀ classes known₀ known previous₀ previous path₀ path best₀ best queue₀ queue : List ℕ}
     (G : GoalsTried (site_of ground kinds joinable₀ queue₀) start goal kept joinable₀ joinable blocked₀ blocked classes₀ classes known₀ known previous₀ previous path₀ path best₀ best queue₀ queue) where
-  pub goals-tells : Tells (best_below goal (site_of ground kinds joinable queue) start blocked) kept best
+  pub goals-tells : Tells (best_below goal (site_of ground kinds joinable queue) start blocked) (Ok kept) best
   goals-tells = rw (memory-site ground kinds G.same, G.same.blocked-is) G.tells
 
   -- what is said of the marks as they are is said of them as they were
@@ -194,14 +191,13 @@ module _ (ground : Ground) (kinds : List ℕ) {start goal : ℕ} {kept : Tried}
       → Tells (best_below n (site_of ground kinds joinable₀ queue₀) start blocked₀) r best'
   goals-told n t = rw (memory-site ground kinds G.same, G.same.blocked-is) at t
 
-  pub goals-next : goal < volume ground.room → {kept' : Tried} {joinable' blocked' classes' known' previous' path' best' queue' : List ℕ} → GoesOn kept'
-      → Tells (best_below (goal + 1) (site_of ground kinds joinable queue) start blocked) kept' best'
+  pub goals-next : goal < volume ground.room → {kept' : Option Found} {joinable' blocked' classes' known' previous' path' best' queue' : List ℕ}
+      → Tells (best_below (goal + 1) (site_of ground kinds joinable queue) start blocked) (Ok kept') best'
       → (joinable' ≡ joinable) × (blocked' ≡ blocked) × (classes' ≡ classes)
       → length known' ≡ length known → length previous' ≡ length previous → length path' ≡ length path → length best' ≡ length best → length queue' ≡ length queue
       → GoalsTried (site_of ground kinds joinable₀ queue₀) start (goal + 1) kept' joinable₀ joinable' blocked₀ blocked' classes₀ classes' known₀ known' previous₀ previous' path₀ path' best₀ best' queue₀ queue'
-  goals-next h on t kept k p q b u = record {
+  goals-next h t kept k p q b u = record {
     within = omega arith;
-    on = on;
     tells = goals-told (goal + 1) t;
     same = memory-next G.same kept k p q b u;
   }

@@ -1,18 +1,14 @@
 -- Laws of labels: the turn's labels bound every goal's route, and once no goal is left whose label comes before what is kept, what is kept is the first
 -- strictly cheapest route.
-use Rattle.std.specs.Prelude.{◌≡◌, refl, ◌≢◌, Bool, true, false, ◌||◌, List, ◌++◌, ℕ, ◌+◌, ◌≤◌, ◌<◌, eqb, ltb, length, get_or, set, take, drop}
+use Rattle.std.specs.Prelude.{◌≡◌, refl, ◌≢◌, Bool, true, false, ◌||◌, List, ◌++◌, ℕ, ◌+◌, ◌≤◌, ◌<◌, eqb, ltb, length, get_or, set, take, drop, Option, Some, None, Ok, Err, IfSome}
 use Rattle.std.proofs.Common.{sym, ◌∙◌, length-set, length-append, get_or-set_same, get_or-set_other, take_at, length-take-le, eqb-true, eq-eqb, ne_eqb, ltb-true, ltb-false}
 use native.Mathlib.Omega.{arith}
-use Rattle.std.proofs.Math.ListN.{get_or-eq_default}
 use Rattle.std.proofs.lemmas.Bool.{eqb-false, not-true}
 use Rattle.basics.specs.Tests.{ask, ask_same, ask_less, never}
 use Rattle.basics.specs.Sums.{sum_below, sum_less}
 use Rattle.room.specs.declared.Room.{Room}
 use Rattle.room.specs.declared.RouterConfig.{RouterConfig}
 use Rattle.room.specs.declared.Pos.{Pos}
-use Rattle.room.specs.declared.Cost.{Cost}
-use Rattle.room.specs.declared.Neighbour.{Neighbour}
-use Rattle.room.specs.declared.Neighbour.TheVariants.{Inside, Outside}
 use Rattle.room.specs.Room.{Good, volume, pos_of, above}
 use Rattle.room_search.specs.Routing.{can_enter, entering, graph_of}
 use Rattle.routing_resources.specs.Marks.{is_marked}
@@ -20,21 +16,21 @@ use Rattle.blocked_world.specs.BlockedWorld.{Says}
 use Rattle.relaxed.specs.Labels.{Opened, Labelable, TurnLabels}
 use Rattle.relaxed.specs.LabelLaws.{way_labelled}
 use Rattle.ground.specs.declared.Ground.{Ground}
-use Rattle.goals.specs.declared.Tried.{Tried}
-use Rattle.goals.specs.declared.Tried.TheVariants.{Found, Failed, Full}
+use Rattle.goals.specs.declared.Found.{Found}
+use Rattle.goals.specs.declared.QueueFull.{QueueFull}
 use Rattle.goals.specs.declared.Kept.{Kept}
 use Rattle.goals.specs.Goals.{Site, found, max_attempts, attempts, tried_goal, route_to_tree, site_task}
-use Rattle.goals.specs.Trials.{told, length_of, Tells, site_of, Attemptable}
+use Rattle.goals.specs.Trials.{Tried, told, length_of, Tells, site_of, Attemptable}
 use Rattle.goals.specs.Routes.{Conflicts, as_blocked, one_more, Reaches}
 use Rattle.goals.specs.NeverFull.{NeverFull}
-use Rattle.goals.specs.Passing.{least_at, least_cost, precedes, bid_of, HoldsRoute, Holds, NotBefore, Passes}
+use Rattle.goals.specs.Passing.{least_at, least_cost, precedes, route_of, bid_of, HoldsRoute, Holds, NotBefore, Passes}
 use Rattle.goals.specs.PathLaws.{found-by, found-lawful}
 use Rattle.goals.proofs.RouteLaws.{attempts_reach}
 use Rattle.goals.specs.EnterLaws.{StillBlocked, still_marked, is_at, enters_for, enters_for_lem}
 use Rattle.goals.proofs.LeastLaws.{tried-least}
 use Rattle.goals.proofs.GoalLaws.{SameMemory, memory-first, memory-site, memory-next}
 use Rattle.goals.specs.declared.Bid.{Bid}
-use Rattle.goals.proofs.PassingLaws.{GoalsPassed, not_before, holds_on, unmarked-yields, first-failed, first-full, first-old, first-new, kept-is}
+use Rattle.goals.proofs.PassingLaws.{GoalsPassed, not_before, unmarked-yields, passes-on, passes-never, first-failed, first-old, first-new, kept-is}
 use Rattle.goals.specs.Labelled.{KeptInside, LabelOf, LabelsOf, bound_at, bound_of, GoalLabels, PassedBelow, Left, HoldsGoal, Passing, AllPassed, KeepsGoal, Tryable, PassesGoal, LeastLabel, LowerLabel, Copies}
 
 -- ---- the turn's labels bound every goal's route
@@ -50,9 +46,9 @@ opened_for {R} {joinable} {classes} {bytes} O goal h m v e =
     classed : can_enter (get_or classes v 0) ≡ true → get_or bytes v 0 ≢ 0
     classed c = O.as_before v (eqb-false (get_or classes v 0) 0 (not-true (eqb (get_or classes v 0) 0) c))
 
-    above-it : (place : Neighbour) → above R goal ≡ place → is_at place v || can_enter (get_or classes v 0) ≡ true → get_or bytes v 0 ≢ 0
-    above-it Outside a q = classed q
-    above-it (Inside u) a q =
+    above-it : (place : Option ℕ) → above R goal ≡ place → is_at place v || can_enter (get_or classes v 0) ≡ true → get_or bytes v 0 ≢ 0
+    above-it None a q = classed q
+    above-it (Some u) a q =
         ask_same v u
         (λ s. rw s (O.over-goals goal u h m a))
         (λ d. classed (rw (ne_eqb v u d) at q))
@@ -88,41 +84,6 @@ module _ (S : Site) (start : ℕ) (blocked : List ℕ) {classes labels : List �
       (λ t. reached_labelled goal h t (attempts_reach S start goal max_attempts blocked path cost (rw t at e)))
       (λ f. never (cc (rw f at e)))
 
--- ---- one label after another
-
-module _ (C : RouterConfig) (R : Room) (from : Pos) (low cell : ℕ) {mark : ℕ} where
-  pub label_unmarked : mark ≢ 1 → (bound : ℕ) → LabelOf C R from low cell mark bound 0
-  label_unmarked n bound = record { none = λ z m l. absurd (n m); some = λ d. absurd (d refl) }
-
-  pub label_passed : {bid : ℕ} → bid ≡ bid_of C R from cell → bid < low → (bound : ℕ) → LabelOf C R from low cell mark bound 0
-  label_passed e h bound = record { none = λ z m l. absurd (omega (arith, e, h, l)); some = λ d. absurd (d refl) }
-
-  pub label_left : mark ≡ 1 → {r bound : ℕ} → r ≡ bound → LabelOf C R from low cell mark bound r
-  label_left m e = record { none = λ z q l. sym e ∙ z; some = λ d. (e, m) }
-
-module _ (C : RouterConfig) (R : Room) (from : Pos) (cell : ℕ) {least : ℕ} (e : least ≡ least_at C from (pos_of R cell)) where
-  pub bound-one : least ≡ 0 → 1 ≡ bound_at C R from cell
-  unfolding bound_at
-  bound-one z = rw (← e, z)
-
-  pub bound-least : least ≢ 0 → least ≡ bound_at C R from cell
-  unfolding bound_at
-  bound-least n = rw (← e) (omega (arith, n))
-
-pub labels_none : (C : RouterConfig) (R : Room) (from : Pos) (low : ℕ) (joinable : List ℕ) (bound : ℕ → ℕ) (labels : List ℕ) → LabelsOf C R from low joinable bound labels 0
-labels_none C R from low joinable bound labels = record { each = λ v h. absurd (omega arith) }
-
-module _ {C : RouterConfig} {R : Room} {from : Pos} {low : ℕ} {joinable : List ℕ} {bound : ℕ → ℕ} {labels : List ℕ} {n : ℕ} (L : LabelsOf C R from low joinable bound labels n) where
-  pub labels_next : n < length labels → {r : ℕ} → LabelOf C R from low n (get_or joinable n 0) (bound n) r → LabelsOf C R from low joinable bound (set labels n r) (n + 1)
-  labels_next h {r} one = record {
-    each = λ v l. ask_same v n
-        (λ s. rw s (rw (get_or-set_same labels n r 0 h) one))
-        (λ d. rw (get_or-set_other labels n v r 0 (λ s. d s)) (L.each v (omega (arith, d, l))));
-  }
-
-  pub labels_all : {m : ℕ} → m ≤ n → LabelsOf C R from low joinable bound labels m
-  labels_all h = record { each = λ v l. L.each v (omega (arith, l, h)) }
-
 -- ---- the goals that are left
 
 module _ (S : Site) (start : ℕ) (blocked : List ℕ) {classes known : List ℕ} (good : Good S.room) (start_in : start < volume S.room)
@@ -149,7 +110,7 @@ module _ (S : Site) (start : ℕ) (blocked : List ℕ) {classes known : List ℕ
     joinable = λ goal h d. eq-eqb _ _ ((L.each goal h).some d).1;
   }
 
-pub left-first : {S : Site} {start : ℕ} {blocked best : List ℕ} {K : Kept} {low : ℕ} → PassedBelow S start blocked best K low → {labels : List ℕ} → GoalLabels S start blocked low labels
+pub left-first : {S : Site} {start : ℕ} {blocked best : List ℕ} {K : Option Kept} {low : ℕ} → PassedBelow S start blocked best K low → {labels : List ℕ} → GoalLabels S start blocked low labels
     → length labels ≡ length best → Passing S start blocked labels K
 left-first {S} {start} {blocked} {best} {K} {low} P {labels} G long = record {
   labels_long = long ∙ P.best-long;
@@ -168,82 +129,66 @@ left-first {S} {start} {blocked} {best} {K} {low} P {labels} G long = record {
 
 -- ---- what is kept of a goal that was tried
 
-module _ (K : Kept) (goal : ℕ) where
-  pub goal-failed : KeepsGoal K goal Failed K
+module _ (K : Option Kept) (goal : ℕ) where
+  pub goal-failed : KeepsGoal K goal None K
   goal-failed = record { keeps = λ path best fits. (best, first-failed K goal) }
 
-  pub goal-full : (x : _) → KeepsGoal K goal (Full x) K
-  goal-full x = record { keeps = λ path best fits. (best, first-full K goal x) }
+  module _ (new : Found) where
+    pub goal-old : precedes new.cost.0 goal K ≡ false → KeepsGoal K goal (Some new) K
+    goal-old e = record { keeps = λ path best fits. (best, first-old K goal new e) }
 
-  module _ (n : ℕ) (cost : Cost) where
-    pub goal-old : precedes cost.0 goal K.tried K.goal ≡ false → KeepsGoal K goal (Found n cost) K
-    goal-old e = record { keeps = λ path best fits. (best, first-old K goal n cost e) }
+    pub goal-new : precedes new.cost.0 goal K ≡ true → {K' : Option Kept} → K' ≡ Some (record { found = new; goal = goal }) → KeepsGoal K goal (Some new) K'
+    goal-new e k = record { keeps = λ path best fits. (take new.length path ++ drop new.length best, first-new K goal new e fits refl k) }
 
-    pub goal-new : precedes cost.0 goal K.tried K.goal ≡ true → {K' : Kept} → K' ≡ record { tried = Found n cost; goal = goal } → KeepsGoal K goal (Found n cost) K'
-    goal-new e k = record { keeps = λ path best fits. (take n path ++ drop n best, first-new K goal n cost e fits refl k) }
+module _ {S : Site} {start : ℕ} {blocked : List ℕ} {goal : ℕ} (P : Tryable S start blocked goal) where
+  pub goal-passes : {tried : Option Found} {path : List ℕ} → Tells (attempts max_attempts S start goal blocked) (Ok tried) path
+      → {K K' : Option Kept} → KeepsGoal K goal tried K' → PassesGoal S start blocked goal K (Ok K')
+  unfolding tried_goal
+  goal-passes {tried} {path} t {K' = K'} keep = record {
+    passes = λ best H.
+        let k = keep.keeps path best t.fits in
+        (k.0, record { kept = K'; is = refl; passes = k.1.keeps S start blocked P.goal_in H (rw P.marked t) (P.never-full.never goal P.goal_in) });
+  }
 
-pub goal-passes : {S : Site} {start : ℕ} {blocked : List ℕ} {goal : ℕ} → Tryable S start blocked goal → {tried : Tried} {path : List ℕ} → Tells (attempts max_attempts S start goal blocked) tried path
-    → {K K' : Kept} → KeepsGoal K goal tried K' → PassesGoal S start blocked goal K K'
-unfolding tried_goal
-goal-passes {S} {start} {blocked} {goal} P {tried} {path} t keep = record {
-  passes = λ best H.
-      let k = keep.keeps path best t.fits in
-      (k.0, k.1.keeps S start blocked P.goal_in H (rw P.marked t) (P.never-full.never goal P.goal_in));
-}
+  -- no queue is full
+  pub goal-never : {x : QueueFull} {path : List ℕ} → Tells (attempts max_attempts S start goal blocked) (Err x) path → ⊥
+  unfolding tried_goal
+  goal-never {x} t = P.never-full.never goal P.goal_in x.0.0 (rw P.marked (sym t.is))
 
 -- ---- the lowest label
 
-module _ {labels : List ℕ} {lowest cell : ℕ} where
-  pub lower-none : get_or labels cell 0 ≡ 0 → LowerLabel labels lowest cell false
-  lower-none z = record { lower = λ t. never (cc); other = λ t d. absurd (d z) }
+pub least-none : (labels : List ℕ) → LeastLabel labels 0 None
+least-none labels = record { its_label = λ cell q. never (cc); lowest = λ v l. absurd (omega arith) }
 
-  pub lower-first : get_or labels cell 0 ≢ 0 → length labels ≤ lowest → LowerLabel labels lowest cell true
-  lower-first d h = record { lower = λ t. (d, λ l. absurd (omega arith)); other = λ t. never (cc) }
+pub least-inside : {labels : List ℕ} {n : ℕ} (r : Option ℕ) → LeastLabel labels n r → n ≤ length labels → IfSome r (λ v. v < length labels)
+least-inside (Some cell) L h = omega (arith, (L.its_label cell refl).1)
+least-inside None L h = tt
 
-  pub lower_than : get_or labels cell 0 ≢ 0 → lowest < length labels → LowerLabel labels lowest cell (ltb (get_or labels cell 0) (get_or labels lowest 0))
-  lower_than d h = record {
-    lower = λ t. (d, λ l. ltb-true (get_or labels cell 0) (get_or labels lowest 0) t);
-    other = λ t n. (h, ltb-false (get_or labels cell 0) (get_or labels lowest 0) t);
-  }
-
-pub least-none : (labels : List ℕ) (cell : ℕ) → length labels ≤ cell → LeastLabel labels 0 cell
-least-none labels cell h = record { its_label = λ l. absurd (omega arith); lowest = λ v l. absurd (omega arith) }
-
-module _ {labels : List ℕ} {n lowest : ℕ} (L : LeastLabel labels n lowest) where
-  pub least-lower : {r : Bool} → LowerLabel labels lowest n r → r ≡ true → LeastLabel labels (n + 1) n
+module _ {labels : List ℕ} {n : ℕ} {lowest : Option ℕ} (L : LeastLabel labels n lowest) where
+  pub least-lower : {r : Bool} → LowerLabel labels lowest n r → r ≡ true → LeastLabel labels (n + 1) (Some n)
   least-lower W e = record {
-    its_label = λ h. ((W.lower e).0, omega arith);
+    its_label = λ cell q. let s : n ≡ cell = cc in rw (← s) ((W.lower e).0, omega arith);
     lowest = λ v h d. ask_same v n
-        (λ s. rw s (inside s d, omega arith, λ l. absurd (omega arith)))
+        (λ s. (n, refl, rw s (omega arith), λ l. absurd (omega arith)))
         (λ q. let old = L.lowest v (omega (arith, q, h)) d in
-        let less = (W.lower e).1 old.0 in
-        (within_length (W.lower e).0, omega (arith, less, old.1), λ l. omega (arith, less, old.1)));
+        let less = (W.lower e).1 old.0 old.1 in
+        (n, refl, omega (arith, less, old.2), λ l. omega (arith, less, old.2)));
   }
-    where
-      within_length : get_or labels n 0 ≢ 0 → n < length labels
-      within_length d = ask_less n (length labels) (λ h. h) (λ h. absurd (d (get_or-eq_default labels 0 h)))
-
-      inside : {v : ℕ} → v ≡ n → get_or labels v 0 ≢ 0 → n < length labels
-      inside s d = within_length (rw s at d)
 
   pub least_other : {r : Bool} → LowerLabel labels lowest n r → r ≡ false → LeastLabel labels (n + 1) lowest
   least_other W e = record {
-    its_label = λ h. ((L.its_label h).0, omega (arith, (L.its_label h).1));
+    its_label = λ cell q. ((L.its_label cell q).0, omega (arith, (L.its_label cell q).1));
     lowest = λ v h d. ask_same v n
-        (λ s. let same = W.other e (rw s at d) in rw s (same.0, same.1, λ l. absurd (omega (arith, l, (L.its_label same.0).1))))
+        (λ s. let same = W.other e (rw s at d) in (same.0, same.1, rw s same.2, λ l. absurd (omega (arith, s, l, (L.its_label same.0 same.1).1))))
         (λ q. L.lowest v (omega (arith, q, h)) d);
   }
 
-  pub least-all : length labels ≤ n → n ≤ length labels → LeastLabel labels (length labels) lowest
-  least-all h k = let e : n ≡ length labels = omega arith in rw e at L
-
 -- ---- goal after goal, the lowest label first
 
--- what is left while labels are taken: the next goal has the lowest
-pub record LabelsPassed (S : Site) (start next : ℕ) (K : Kept) (joinable₀ joinable blocked₀ blocked classes₀ classes known₀ known previous₀ previous path₀ path labels₀ labels queue₀ queue : List ℕ) : Type 0 where
+-- what is left while labels are taken
+pub record LabelsPassed (S : Site) (start : ℕ) (K : Option Kept) (joinable₀ joinable blocked₀ blocked classes₀ classes known₀ known previous₀ previous path₀ path labels₀ labels queue₀ queue : List ℕ) : Type 0 where
   pub held : HoldsGoal S start blocked₀ K
   pub left : Left S start blocked₀ labels K
-  pub next-least : LeastLabel labels (length labels) next
   pub same : SameMemory joinable₀ joinable blocked₀ blocked classes₀ classes known₀ known previous₀ previous path₀ path labels₀ labels queue₀ queue
 
 -- the sum of the labels falls
@@ -261,138 +206,137 @@ module _ (ground : Ground) (kinds : List ℕ) (start : ℕ) where
   abbrev R : Room
   R = ground.room
 
-  pub labels_first : (joinable blocked classes known previous path labels queue : List ℕ) {K : Kept} {next : ℕ}
-      → Passing (site_of ground kinds joinable queue) start blocked labels K → LeastLabel labels (length labels) next
-      → LabelsPassed (site_of ground kinds joinable queue) start next K joinable joinable blocked blocked classes classes known known previous previous path path labels labels queue queue
-  labels_first joinable blocked classes known previous path labels queue P L = record {
+  pub labels_first : (joinable blocked classes known previous path labels queue : List ℕ) {K : Option Kept}
+      → Passing (site_of ground kinds joinable queue) start blocked labels K
+      → LabelsPassed (site_of ground kinds joinable queue) start K joinable joinable blocked blocked classes classes known known previous previous path path labels labels queue queue
+  labels_first joinable blocked classes known previous path labels queue P = record {
     held = P.held;
     left = P.left;
-    next-least = L;
     same = memory-first joinable blocked classes known previous path labels queue;
   }
 
-  module _ {K : Kept} {next : ℕ}
+  module _ {K : Option Kept} {least : Option ℕ}
       {joinable₀ joinable blocked₀ blocked classes₀ classes known₀ known previous₀ previous path₀ path labels₀ labels queue₀ queue : List ℕ}
-      (G : LabelsPassed (site_of ground kinds joinable₀ queue₀) start next K joinable₀ joinable blocked₀ blocked classes₀ classes known₀ known previous₀ previous path₀ path labels₀ labels queue₀ queue)
-      (long : length labels₀ ≡ volume R) where
+      (G : LabelsPassed (site_of ground kinds joinable₀ queue₀) start K joinable₀ joinable blocked₀ blocked classes₀ classes known₀ known previous₀ previous path₀ path labels₀ labels queue₀ queue)
+      (N : LeastLabel labels (length labels) least) (long : length labels₀ ≡ volume R) where
     now-long : length labels ≡ volume R
     now-long = G.same.best-long ∙ long
 
-    pub next_label : next < volume R → get_or labels next 0 ≢ 0
-    next_label h = (G.next-least.its_label (omega (arith, h, now-long))).0
-
-    pub next_tryable : NeverFull (site_of ground kinds joinable₀ queue₀) start blocked₀ → next < volume R → Tryable (site_of ground kinds joinable queue) start blocked next
-    next_tryable F h = rw (memory-site ground kinds G.same, G.same.blocked-is) (record {
-      goal_in = h;
-      marked = G.left.joinable next h (next_label h);
-      never-full = F;
-    })
-
-    pub labels_passed : next < volume R → {K' : Kept} {joinable' blocked' classes' known' previous' path' queue' : List ℕ} {next' : ℕ}
-        → PassesGoal (site_of ground kinds joinable queue) start blocked next K K'
-        → (joinable' ≡ joinable) × (blocked' ≡ blocked) × (classes' ≡ classes)
-        → length known' ≡ length known → length previous' ≡ length previous → length path' ≡ length path → length queue' ≡ length queue
-        → LeastLabel (set labels next 0) (length (set labels next 0)) next'
-        → LabelsPassed (site_of ground kinds joinable₀ queue₀) start next' K' joinable₀ joinable' blocked₀ blocked' classes₀ classes' known₀ known' previous₀ previous' path₀ path' labels₀ (set labels next 0) queue₀ queue'
-    labels_passed h {K'} passes kept k p q u L = record {
-      held = record { its-path = came.0; held = came.1.held };
-      left = record {
-        yields = λ goal i z. ask_same goal next
-            (λ s. rw s came.1.yields)
-            (λ d. came.1.still goal (G.left.yields goal i (sym (other goal d) ∙ z)));
-        least = λ goal i z path' cost e. rw (other goal (differs goal z)) (G.left.least goal i (λ n. z (other goal (differs goal z) ∙ n)) path' cost e);
-        joinable = λ goal i z. G.left.joinable goal i (λ n. z (other goal (differs goal z) ∙ n));
-      };
-      next-least = L;
-      same = memory-next G.same kept k p q (length-set labels next 0) u;
-    }
-      where
-        came : (best' : List ℕ) × Passes (site_of ground kinds joinable₀ queue₀) start blocked₀ next K K' best'
-        came = (rw (memory-site ground kinds G.same, G.same.blocked-is) at passes).passes G.held.its-path G.held.held
-
-        other : (goal : ℕ) → goal ≢ next → get_or (set labels next 0) goal 0 ≡ get_or labels goal 0
-        other goal d = get_or-set_other labels next goal 0 0 (λ s. d s)
-
-        differs : (goal : ℕ) → get_or (set labels next 0) goal 0 ≢ 0 → goal ≢ next
-        differs goal z s = z (rw s (get_or-set_same labels next 0 0 (omega (arith, h, now-long))))
-
     -- no goal is left
-    pub labels_done : volume R ≤ next → AllPassed (site_of ground kinds joinable₀ queue₀) start blocked₀ K
-    labels_done h = record {
+    pub labels_done : least ≡ None → AllPassed (site_of ground kinds joinable₀ queue₀) start blocked₀ K
+    labels_done e = record {
       held = G.held;
       all = λ other i. ask_same (get_or labels other 0) 0
           (λ z. G.left.yields other i z)
-          (λ d. absurd (omega (arith, h, now-long, (G.next-least.lowest other (omega (arith, i, now-long)) d).0)));
+          (λ d. never (cc (sym e ∙ (N.lowest other (omega (arith, i, now-long)) d).1)));
     }
 
-    -- the lowest label does not come before what is kept
-    pub labels_beaten : (label : ℕ) → label + 1 ≡ get_or labels next 0 → precedes label next K.tried K.goal ≡ false
-        → AllPassed (site_of ground kinds joinable₀ queue₀) start blocked₀ K
-    labels_beaten label e f = record {
-      held = G.held;
-      all = λ other i. ask_same (get_or labels other 0) 0
-          (λ z. G.left.yields other i z)
-          (λ d. let low = G.next-least.lowest other (omega (arith, i, now-long)) d in
-          record {
-            yields = λ path' cost r.
-                let most = G.left.least other i d path' cost r in
-                later K.tried K.goal label cost next other
-                (not_before K.tried K.goal label next (holds_on (site_of ground kinds joinable₀ queue₀) start blocked₀ K.tried K.goal G.held.its-path G.held.held.holds) f)
-                (omega (arith, e, most, low.1))
-                (λ l. omega (arith, e, most, low.2 l));
-          });
-    }
-      where
-        later : (t : Tried) (kept label cost next other : ℕ) → NotBefore t kept label next → label ≤ cost → (other < next → label < cost) → NotBefore t kept cost other
-        later (Found n c) kept label cost next other N h l =
-            (omega (arith, N.0), λ o. ask_less next kept (λ b. omega (arith, N.1 b)) (λ b. omega (arith, N.0, l (omega arith))))
-        later Failed kept label cost next other N h l = N
-        later (Full x) kept label cost next other N h l = N
+    module _ {next : ℕ} (is-next : least ≡ Some next) where
+      pub next_label : get_or labels next 0 ≢ 0
+      next_label = (N.its_label next is-next).0
+
+      pub next_in : next < length labels
+      next_in = (N.its_label next is-next).1
+
+      lowest-next : (v : ℕ) → v < volume R → get_or labels v 0 ≢ 0 → (get_or labels next 0 ≤ get_or labels v 0) × (v < next → get_or labels next 0 < get_or labels v 0)
+      lowest-next v i d =
+          let l = N.lowest v (omega (arith, i, now-long)) d in
+          let same : l.0 ≡ next = cc (sym l.1 ∙ is-next) in
+          rw (← same) (l.2, l.3)
+
+      pub next_tryable : NeverFull (site_of ground kinds joinable₀ queue₀) start blocked₀ → Tryable (site_of ground kinds joinable queue) start blocked next
+      next_tryable F = rw (memory-site ground kinds G.same, G.same.blocked-is) (record {
+        goal_in = omega (arith, next_in, now-long);
+        marked = G.left.joinable next (omega (arith, next_in, now-long)) next_label;
+        never-full = F;
+      })
+
+      pub labels_passed : {K' : Option Kept} {joinable' blocked' classes' known' previous' path' queue' : List ℕ}
+          → PassesGoal (site_of ground kinds joinable queue) start blocked next K (Ok K')
+          → (joinable' ≡ joinable) × (blocked' ≡ blocked) × (classes' ≡ classes)
+          → length known' ≡ length known → length previous' ≡ length previous → length path' ≡ length path → length queue' ≡ length queue
+          → LabelsPassed (site_of ground kinds joinable₀ queue₀) start K' joinable₀ joinable' blocked₀ blocked' classes₀ classes' known₀ known' previous₀ previous' path₀ path' labels₀ (set labels next 0) queue₀ queue'
+      labels_passed {K'} passes kept k p q u = record {
+        held = record { its-path = came.0; held = came.1.held };
+        left = record {
+          yields = λ goal i z. ask_same goal next
+              (λ s. rw s came.1.yields)
+              (λ d. came.1.still goal (G.left.yields goal i (sym (other goal d) ∙ z)));
+          least = λ goal i z path' cost e. rw (other goal (differs goal z)) (G.left.least goal i (λ n. z (other goal (differs goal z) ∙ n)) path' cost e);
+          joinable = λ goal i z. G.left.joinable goal i (λ n. z (other goal (differs goal z) ∙ n));
+        };
+        same = memory-next G.same kept k p q (length-set labels next 0) u;
+      }
+        where
+          came : (best' : List ℕ) × Passes (site_of ground kinds joinable₀ queue₀) start blocked₀ next K K' best'
+          came =
+              let c = (rw (memory-site ground kinds G.same, G.same.blocked-is) at passes).passes G.held.its-path G.held.held in
+              (c.0, passes-on c.1 refl)
+
+          other : (goal : ℕ) → goal ≢ next → get_or (set labels next 0) goal 0 ≡ get_or labels goal 0
+          other goal d = get_or-set_other labels next goal 0 0 (λ s. d s)
+
+          differs : (goal : ℕ) → get_or (set labels next 0) goal 0 ≢ 0 → goal ≢ next
+          differs goal z s = z (rw s (get_or-set_same labels next 0 0 next_in))
+
+      -- no queue is full
+      pub labels_never : {x : QueueFull} → PassesGoal (site_of ground kinds joinable queue) start blocked next K (Err x) → ⊥
+      labels_never passes = passes-never ((rw (memory-site ground kinds G.same, G.same.blocked-is) at passes).passes G.held.its-path G.held.held).1 refl
+
+      -- the lowest label does not come before what is kept
+      pub labels_beaten : (label : ℕ) → label + 1 ≡ get_or labels next 0 → precedes label next K ≡ false
+          → AllPassed (site_of ground kinds joinable₀ queue₀) start blocked₀ K
+      labels_beaten label e f = record {
+        held = G.held;
+        all = λ other i. ask_same (get_or labels other 0) 0
+            (λ z. G.left.yields other i z)
+            (λ d. let low = lowest-next other i d in
+            record {
+              yields = λ path' cost r.
+                  let most = G.left.least other i d path' cost r in
+                  later K label cost next other
+                  (not_before K label next f)
+                  (omega (arith, e, most, low.0))
+                  (λ l. omega (arith, e, most, low.1 l));
+            });
+      }
+        where
+          later : (K : Option Kept) (label cost next other : ℕ) → NotBefore K label next → label ≤ cost → (other < next → label < cost) → NotBefore K cost other
+          later (Some k) label cost next other N h l =
+              (omega (arith, N.0), λ o. ask_less next k.goal (λ b. omega (arith, N.1 b)) (λ b. omega (arith, N.0, l (omega arith))))
+          later None label cost next other N h l = N
 
 -- ---- the path of what is kept
 
-module _ (tried : Tried) (path best : List ℕ) where
-  pub copies_none : length_of tried ≡ 0 → ((cells : List ℕ) → told tried cells ≡ told tried path) → Copies tried path best
-  copies_none z e = record { tells = λ trial t. record { is = e best ∙ t.is; fits = omega (arith, z) } }
-
-pub copies_path : (n : ℕ) (cost : Cost) (path best : List ℕ) → n ≤ length path → {best' : List ℕ} → best' ≡ take n path ++ drop n best → Copies (Found n cost) path best'
-copies_path n cost path best h {best'} b = record { tells = λ trial t. record { is = rw front t.is; fits = long-enough } }
-  where
-    front : take n best' ≡ take n path
-    front = rw b (take_at (take n path) (drop n best) n (length-take-le n path h))
-
-    long-enough : n ≤ length best'
-    long-enough = rw (b, length-append (take n path) (drop n best), length-take-le n path h) (omega arith)
-
-module _ {S : Site} {start : ℕ} {blocked : List ℕ} {K : Kept} (F : NeverFull S start blocked) (A : AllPassed S start blocked K) where
-  kept-tells : Tells (route_to_tree S start blocked) K.tried A.held.its-path
+module _ {S : Site} {start : ℕ} {blocked : List ℕ} {K : Option Kept} (F : NeverFull S start blocked) (A : AllPassed S start blocked K) where
+  kept-tells : Tells (route_to_tree S start blocked) (Ok (route_of K)) A.held.its-path
   kept-tells = kept-is S start blocked A.held.its-path F K A.held.held A.all
 
   -- no route is kept
-  pub fetched_none : K.tried ≡ Failed → (best : List ℕ) → Tells (route_to_tree S start blocked) Failed best
+  pub fetched_none : K ≡ None → (best : List ℕ) → Tells (route_to_tree S start blocked) (Ok None) best
   fetched_none e best = let t = rw e at kept-tells in record { is = t.is; fits = omega arith }
 
-  pub never-kept-full : (x : _) → K.tried ≡ Full x → ⊥
-  never-kept-full x e = go K.tried e A.held.held.holds
-    where
-      go : (t : Tried) → t ≡ Full x → HoldsRoute S start blocked A.held.its-path t K.goal → ⊥
-      go (Found n c) q H = never (cc)
-      go Failed q H = never (cc)
-      go (Full y) q H = H
-
-  module _ {n : ℕ} {cost : Cost} (e : K.tried ≡ Found n cost) where
-    route-held : HoldsRoute S start blocked A.held.its-path (Found n cost) K.goal
+  module _ {k : Kept} (e : K ≡ Some k) where
+    route-held : HoldsRoute S start blocked A.held.its-path (Some k)
     route-held = rw e at A.held.held.holds
 
-    pub fetched_goal : K.goal < volume S.room
+    pub fetched_goal : k.goal < volume S.room
     fetched_goal = route-held.0
 
     -- the kept route's goal comes to it again
-    pub fetched_route : {tried : Tried} {path best' : List ℕ} → Tells (attempts max_attempts S start K.goal blocked) tried path → Copies tried path best'
+    -- and no queue is full then
+    pub fetched_never : {x : QueueFull} {path : List ℕ} → Tells (attempts max_attempts S start k.goal blocked) (Err x) path → ⊥
+    unfolding tried_goal
+    fetched_never t =
+        ask (is_marked S.joinable k.goal)
+        (λ m. never (cc (t.is ∙ rw m at route-held.1)))
+        (λ f. never (cc (rw f at route-held.1)))
+
+    pub fetched_route : {tried : Tried} {path best' : List ℕ} → Tells (attempts max_attempts S start k.goal blocked) tried path → Copies tried path best'
         → Tells (route_to_tree S start blocked) tried best'
     unfolding tried_goal
     fetched_route {tried} {path} {best'} t copy =
-        ask (is_marked S.joinable K.goal)
+        ask (is_marked S.joinable k.goal)
         (λ m. copy.tells _ (record { is = t.is ∙ (rw m at route-held.1) ∙ (rw e at kept-tells).is; fits = t.fits }))
         (λ f. never (cc (rw f at route-held.1)))
 
@@ -403,13 +347,13 @@ module _ (ground : Ground) (kinds : List ℕ) {joinable₀ joinable blocked₀ b
   pub memory-never : NeverFull (site_of ground kinds joinable₀ queue₀) start blocked₀ → NeverFull (site_of ground kinds joinable queue) start blocked
   memory-never F = rw (memory-site ground kinds M, M.blocked-is) F
 
-  pub memory-all : {K : Kept} → AllPassed (site_of ground kinds joinable₀ queue₀) start blocked₀ K → AllPassed (site_of ground kinds joinable queue) start blocked K
+  pub memory-all : {K : Option Kept} → AllPassed (site_of ground kinds joinable₀ queue₀) start blocked₀ K → AllPassed (site_of ground kinds joinable queue) start blocked K
   memory-all A = rw (memory-site ground kinds M, M.blocked-is) A
 
-  pub memory_passing : {labels : List ℕ} {K : Kept} → Passing (site_of ground kinds joinable₀ queue₀) start blocked₀ labels K → Passing (site_of ground kinds joinable queue) start blocked labels K
+  pub memory_passing : {labels : List ℕ} {K : Option Kept} → Passing (site_of ground kinds joinable₀ queue₀) start blocked₀ labels K → Passing (site_of ground kinds joinable queue) start blocked labels K
   memory_passing P = rw (memory-site ground kinds M, M.blocked-is) P
 
-  pub memory-below : {cells : List ℕ} {K : Kept} {low : ℕ} → PassedBelow (site_of ground kinds joinable₀ queue₀) start blocked₀ cells K low → PassedBelow (site_of ground kinds joinable queue) start blocked cells K low
+  pub memory-below : {cells : List ℕ} {K : Option Kept} {low : ℕ} → PassedBelow (site_of ground kinds joinable₀ queue₀) start blocked₀ cells K low → PassedBelow (site_of ground kinds joinable queue) start blocked cells K low
   memory-below P = rw (memory-site ground kinds M, M.blocked-is) P
 
   pub memory-told : {r : Tried} {cells : List ℕ} → Tells (route_to_tree (site_of ground kinds joinable queue) start blocked) r cells
@@ -434,22 +378,18 @@ able_labels ground kinds joinable blocked classes known previous path queue star
   says = A.says;
 }
 
-pub kept-inside : {S : Site} {start : ℕ} {blocked best : List ℕ} {K : Kept} → Holds S start blocked best K → KeptInside S.room K.tried K.goal
-kept-inside {S} {start} {blocked} {best} {K} H = go K.tried H.holds
-  where
-    go : (t : Tried) → HoldsRoute S start blocked best t K.goal → KeptInside S.room t K.goal
-    go (Found n cost) h = h.0
-    go Failed h = tt
-    go (Full x) h = tt
+pub kept-inside : {S : Site} {start : ℕ} {blocked best : List ℕ} {K : Option Kept} → Holds S start blocked best K → KeptInside S.room K
+kept-inside {K = Some k} H = H.holds.0
+kept-inside {K = None} H = tt
 
-module _ (ground : Ground) (kinds : List ℕ) {start : ℕ} {t : Bid} {K : Kept}
+module _ (ground : Ground) (kinds : List ℕ) {start : ℕ} {t : Option Bid} {b : Bid} (q : t ≡ Some b) {K : Option Kept}
     {joinable₀ joinable blocked₀ blocked classes₀ classes known₀ known previous₀ previous path₀ path best₀ best queue₀ queue : List ℕ}
     (G : GoalsPassed (site_of ground kinds joinable₀ queue₀) start t K joinable₀ joinable blocked₀ blocked classes₀ classes known₀ known previous₀ previous path₀ path best₀ best queue₀ queue) where
   pub bids_passed : length best₀ ≡ volume ground.room → NeverFull (site_of ground kinds joinable₀ queue₀) start blocked₀
-      → PassedBelow (site_of ground kinds joinable queue) start blocked best K t.bid
+      → PassedBelow (site_of ground kinds joinable queue) start blocked best K b.bid
   bids_passed long F = memory-below ground kinds G.same start (record {
     best-long = G.same.best-long ∙ long;
     never-full = F;
     held = G.held;
-    lower = G.lower;
+    lower = λ other i m l. G.lower other i m (rw q l);
   })

@@ -1,5 +1,5 @@
 -- A route to the tree is what Routes says: the route of the last attempt for the first goal with a cheapest one. Then its cells, one by one.
-use Rattle.std.specs.Prelude.{◌≡◌, eqb, get_or}
+use Rattle.std.specs.Prelude.{◌≡◌, eqb, get_or, Option, Some, None}
 use Rattle.std.proofs.Math.Path.{refl, ap}
 use Rattle.std.proofs.Common.{sym, ◌∙◌, add-one, arith}
 use Rattle.std.proofs.Math.Bool.{true, false}
@@ -9,8 +9,6 @@ use Rattle.std.proofs.Math.Dec.{ltb}
 use Rattle.std.proofs.Math.ListN.{length}
 use borrow.Author.Tests.{ltb-true, ltb-false}
 use Rattle.basics.specs.Tests.{ask, ask_same, never}
-use Rattle.room.specs.declared.Neighbour.{Neighbour}
-use Rattle.room.specs.declared.Neighbour.TheVariants.{Inside, Outside}
 use Rattle.room.specs.Room.{volume, Step}
 use Rattle.best_first.specs.Search.{Graph}
 use Rattle.best_first.specs.Ways as Ways
@@ -36,14 +34,14 @@ module _ (S : Site) (start goal : ℕ) where
   attempts_reach (suc n) blocked path cost e = after (searched_for (site_task S blocked start goal)) refl e (attempts_reach n)
     where
       at : (p : List ℕ) (c : ℕ) → searched_for (site_task S blocked start goal) ≡ found p c
-          → (place : Neighbour) → conflict_of S.room S.kinds S.joinable p ≡ place
+          → (place : Option ℕ) → conflict_of S.room S.kinds S.joinable p ≡ place
           → at_conflict blocked start goal (attempts n S start goal) (found p c) place ≡ found path cost
           → ((blocked' path' : List ℕ) (cost' : ℕ) → attempts n S start goal blocked' ≡ found path' cost' → Reaches S n blocked' start goal path' cost')
           → Reaches S (suc n) blocked start goal path cost
-      at p c w Outside f q later =
+      at p c w None f q later =
           let same = same-path p path c cost q in
           record { conflicts = 0; few = omega arith; blocked-last = blocked; after = as_blocked; found-so = rw (← same.0, ← same.1) w; free = rw (← same.0) f }
-      at p c w (Inside v) f q later =
+      at p c w (Some v) f q later =
           ask (ends_goal blocked start goal v)
           (λ t. never (cc (rw t at q)))
           (λ goes_on. one-before goes_on (later (marked_by (eqb v) blocked) path cost (rw goes_on at q)))

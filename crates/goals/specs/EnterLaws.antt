@@ -1,6 +1,8 @@
 -- What can be entered in a sink's searches: its goal, the cell right above it, and else only what can be entered at its turn, before any cell is blocked
 -- for one goal.
-use Rattle.std.specs.Prelude.{◌≡◌, refl, ◌≢◌, Bool, true, false, ◌||◌, List, [], ◌∷◌, eqb, get_or}
+use Rattle.std.specs.List.{filter, count_by}
+use Rattle.std.proofs.lemmas.List.Sums.{length-filter, sum_by-cons}
+use Rattle.std.specs.Prelude.{◌≡◌, refl, ◌≢◌, Bool, true, false, cond, ◌||◌, List, [], ◌∷◌, eqb, get_or, Option, Some, None}
 use Rattle.std.proofs.Common.{sym, ◌∙◌, mul-one, eq-eqb, ne_eqb}
 use Rattle.std.proofs.Math.Path.{ap}
 use Rattle.std.proofs.Math.Bool.{or-false, or_self}
@@ -13,8 +15,6 @@ use Rattle.basics.specs.Counts.{bit, bit-small}
 use Rattle.basics.specs.Sums.{sum_below, sum_le, sum_same}
 use Rattle.room.specs.declared.Room.{Room}
 use Rattle.room.specs.declared.RouterConfig.{RouterConfig}
-use Rattle.room.specs.declared.Neighbour.{Neighbour}
-use Rattle.room.specs.declared.Neighbour.TheVariants.{Inside, Outside}
 use Rattle.room.specs.Room.{Good, volume, beneath, above}
 use Rattle.room.specs.RoomLaws.{beneath_in}
 use Rattle.room.specs.AboveLaws.{beneath-above}
@@ -89,21 +89,21 @@ module _ (mode : Mode) (R : Room) (kinds blocked blocked' : List ℕ) (start goa
       (λ g. rw g at b)))
 
   module _ (long : length kinds ≡ volume R) where
-    still-borne : (place : Neighbour) → ((u : ℕ) → place ≡ Inside u → (u < volume R) × (u ≢ goal))
+    still-borne : (place : Option ℕ) → ((u : ℕ) → place ≡ Some u → (u < volume R) × (u ≢ goal))
         → bearing (kind_at (seen_kinds mode kinds blocked' start goal) place) ≢ 0 → bearing (kind_at (seen_kinds mode kinds blocked start start) place) ≢ 0
-    still-borne Outside inside n = n
-    still-borne (Inside u) inside n =
+    still-borne None inside n = n
+    still-borne (Some u) inside n =
         let l : u < length kinds = rw long (inside u refl).0 in
         rw (seen_at mode kinds blocked start start u l) (still-bears u (inside u refl).1 (rw (seen_at mode kinds blocked' start goal u l) at n))
 
     -- a cell other than the goal, and not right above it, that can be entered in the search can be entered at the turn
-    still-enterable : (v : ℕ) → v < volume R → v ≢ goal → beneath R v ≢ Inside goal
+    still-enterable : (v : ℕ) → v < volume R → v ≢ goal → beneath R v ≢ Some goal
         → class_seen mode R kinds blocked' start goal v ≢ 0 → class_seen mode R kinds blocked start start v ≢ 0
     unfolding class_seen class_for
     still-enterable v h n o c =
         let l : v < length kinds = rw long h in
         let kind = still-routeable v n (an_end start goal v) (rw (seen_at mode kinds blocked' start goal v l) at (is-routeable _ _ _ c)) in
-        let below = still-borne (beneath R v) (λ u e. (beneath_in R v u h e, λ q. o (e ∙ ap Inside q))) (is-borne _ _ _ c) in
+        let below = still-borne (beneath R v) (λ u e. (beneath_in R v u h e, λ q. o (e ∙ ap Some q))) (is-borne _ _ _ c) in
         rw (seen_at mode kinds blocked start start v l, ← same_end v n, kind) below
 
 -- ---- all cells
@@ -118,9 +118,9 @@ sum-one-more (suc n) v f g h one =
     (λ d. omega (arith, sum-one-more n v f g h one, h n d))
 
 -- that cell, if there is one
-abbrev pub is_at : Neighbour → ℕ → Bool
-is_at (Inside u) v = eqb v u
-is_at Outside v = false
+abbrev pub is_at : Option ℕ → ℕ → Bool
+is_at (Some u) v = eqb v u
+is_at None v = false
 
 -- by the class bytes of the turn, a search for that goal may enter a cell. In strict mode the goal, which is exempt, may bear the cell above it, where at the
 -- turn it is blocked Air and bears nothing
@@ -134,9 +134,9 @@ with_one n u test =
     (λ v d. rw (ne_eqb v u d) (omega arith))
     (omega (arith, bit-small (eqb u u || test u)))
 
-with_place : (n : ℕ) (place : Neighbour) (test : ℕ → Bool) → count_below n (λ v. is_at place v || test v) ≤ count_below n test + 1
-with_place n (Inside u) test = with_one n u test
-with_place n Outside test = omega arith
+with_place : (n : ℕ) (place : Option ℕ) (test : ℕ → Bool) → count_below n (λ v. is_at place v || test v) ≤ count_below n test + 1
+with_place n (Some u) test = with_one n u test
+with_place n None test = omega arith
 
 pub enters-few : (R : Room) (n : ℕ) (classes : List ℕ) (goal : ℕ) → count_below n (enters_for R classes goal) ≤ enterable_count n classes + 2
 enters-few R n classes goal = omega (
@@ -159,7 +159,7 @@ enters_for_lem mode R G C kinds blocked blocked' start goal places {classes} lon
     (λ b. never (cc (sym f ∙ over (beneath-above R G v goal h b)))) e)))))
   where
     -- right above the goal
-    over : above R goal ≡ Inside v → is_at (above R goal) v ≡ true
+    over : above R goal ≡ Some v → is_at (above R goal) v ≡ true
     over q = rw (q, eq-eqb v v refl)
 
 pub enters-only : (mode : Mode) (R : Room) → Good R → (C : RouterConfig) (kinds blocked blocked' : List ℕ) (start goal places : ℕ) {classes : List ℕ} → start < volume R → goal < volume R
@@ -175,38 +175,23 @@ enters-only mode R G C kinds blocked blocked' start goal places {classes} start_
           (eqb-false _ 0 (not-true _ ((into-enterable R C class start goal places).passes u m i n)));
     }
 
--- ---- the loop that counts
+-- ---- how many can be entered
 
-pub record EnterableCounted (classes : List ℕ) (count v : ℕ) : Type 0 where
-  pub counted : count ≡ enterable_count v classes
-  pub few : count ≤ v
-  pub within : v ≤ length classes
-
-pub enterable-none : (classes : List ℕ) → EnterableCounted classes 0 0
+-- the first apart
+first-apart : (n : ℕ) (f : ℕ → ℕ) → sum_below (suc n) f ≡ f 0 + sum_below n (λ i. f (suc i))
 unfolding sum_below
-enterable-none classes = record { counted = refl; few = omega arith; within = omega arith }
+first-apart zero f = omega arith
+first-apart (suc n) f = omega (arith, first-apart n f)
 
-module _ {classes : List ℕ} {count v : ℕ} (E : EnterableCounted classes count v) where
-  one_more : v < length classes → (n : ℕ) → bit (can_enter (get_or classes v 0)) ≡ n → n ≤ 1 → EnterableCounted classes (count + n) (v + 1)
-  unfolding sum_below
-  one_more h n e l = record {
-    counted =
-        let s : v + 1 ≡ suc v = omega arith in
-        let c : count + n ≡ enterable_count v classes + bit (can_enter (get_or classes v 0)) = omega (arith, E.counted) in
-        c ∙ ap (λ (u : ℕ). enterable_count u classes) (sym s);
-    few = omega (arith, E.few);
-    within = omega arith;
-  }
-
-  pub enterable-one : v < length classes → get_or classes v 0 ≢ 0 → EnterableCounted classes (count + 1) (v + 1)
-  enterable-one h n = one_more h 1 (rw (ne_eqb (get_or classes v 0) 0 n)) (omega arith)
-
-  pub enterable-other : v < length classes → get_or classes v 0 ≡ 0 → EnterableCounted classes count (v + 1)
-  enterable-other h z =
-      let m : count + 0 ≡ count = omega arith in rw m at (one_more h 0 (rw (eq-eqb (get_or classes v 0) 0 z)) (omega arith))
-
-  pub enterable-all : length classes ≤ v → count ≡ enterable_count (length classes) classes
-  enterable-all h = let e : v ≡ length classes = omega (arith, E.within) in E.counted ∙ ap (λ (u : ℕ). enterable_count u classes) e
+-- those that a walk through the list counts
+pub enterable-filtered : (classes : List ℕ) → length (filter can_enter classes) ≡ enterable_count (length classes) classes
+unfolding sum_below
+enterable-filtered [] = refl
+enterable-filtered (x ∷ xs) = rw (length-filter can_enter (x ∷ xs), sum_by-cons (λ v. cond (can_enter v) 1 0) x xs, first-apart (length xs) (λ v. bit (can_enter (get_or (x ∷ xs) v 0))), ← enterable-filtered xs, length-filter can_enter xs) (go (can_enter x) (count_by can_enter xs))
+  where
+    go : (b : Bool) (n : ℕ) → cond b 1 0 + n ≡ bit b + n
+    go true n = refl
+    go false n = refl
 
 pub enterable-most : (n : ℕ) (classes : List ℕ) → enterable_count n classes ≤ n
 enterable-most n classes = omega (

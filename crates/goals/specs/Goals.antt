@@ -1,11 +1,9 @@
 -- One sink's goals, as docs/RULES.md, The tree of one net, has them: the search for one goal, its attempts, and the cheapest of all goals.
 -- Definitions alone; their laws are in the files named Laws.
-use Rattle.std.specs.Prelude.{◌||◌, Bool, true, false, List, ℕ, zero, suc, ltb, eqb}
+use Rattle.std.specs.Prelude.{◌||◌, Bool, true, false, List, ℕ, zero, suc, ltb, eqb, Option, Some, None}
 use Rattle.basics.specs.Tests.{either}
 use Rattle.room.specs.declared.Room.{Room}
 use Rattle.room.specs.declared.RouterConfig.{RouterConfig}
-use Rattle.room.specs.declared.Neighbour.{Neighbour}
-use Rattle.room.specs.declared.Neighbour.TheVariants.{Inside, Outside}
 use Rattle.room.specs.Room.{volume}
 use Rattle.best_first.specs.Search.{Answer, route, no_route, limit-passed, queue-full}
 use Rattle.room_search.specs.Routing.{Task, an_end, routeable, searched}
@@ -49,9 +47,9 @@ abbrev pub ends_goal : List ℕ → ℕ → ℕ → ℕ → Bool
 ends_goal blocked start goal v = an_end start goal v || is_marked blocked v
 
 -- "any other is blocked for this goal and the search repeats"
-unfoldable pub at_conflict : List ℕ → ℕ → ℕ → (List ℕ → Trial) → Trial → Neighbour → Trial
-at_conflict blocked start goal again kept Outside = kept
-at_conflict blocked start goal again kept (Inside v) =
+unfoldable pub at_conflict : List ℕ → ℕ → ℕ → (List ℕ → Trial) → Trial → Option ℕ → Trial
+at_conflict blocked start goal again kept None = kept
+at_conflict blocked start goal again kept (Some v) =
     either (ends_goal blocked start goal v) failed (again (marked_by (eqb v) blocked))
 
 -- what comes of a search: its route's conflict is looked for in the unblocked room; without a route the goal is ended

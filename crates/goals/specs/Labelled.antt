@@ -1,26 +1,25 @@
 -- What the contracts of the functions cite that try goals by their labels (crate `relaxed`): what a label says of a goal, which goals are left, and what is
 -- kept while their labels stand where its path would. A label is stored one above the cost; 0 says that the goal need not be tried. Definitions alone;
 -- that the answer is `route_to_tree` is shown in LabelledLaws.
-use Rattle.std.specs.Prelude.{◌≡◌, ◌≢◌, Bool, true, false, List, ℕ, ◌+◌, ◌≤◌, ◌<◌, max, length, get_or}
+use Rattle.std.specs.Prelude.{◌≡◌, ◌≢◌, Bool, true, false, List, ℕ, ◌+◌, ◌≤◌, ◌<◌, max, length, get_or, Option, Some, None, Result, Ok}
 use Rattle.basics.specs.Tests.{either}
 use Rattle.room.specs.declared.Room.{Room}
 use Rattle.room.specs.declared.Pos.{Pos}
 use Rattle.room.specs.declared.RouterConfig.{RouterConfig}
 use Rattle.room.specs.Room.{volume, pos_of}
 use Rattle.routing_resources.specs.Marks.{is_marked}
-use Rattle.goals.specs.declared.Tried.{Tried}
-use Rattle.goals.specs.declared.Tried.TheVariants.{Found, Failed, Full}
+use Rattle.goals.specs.declared.Found.{Found}
+use Rattle.goals.specs.declared.QueueFull.{QueueFull}
 use Rattle.goals.specs.declared.Kept.{Kept}
 use Rattle.goals.specs.Goals.{Site, Trial, found, tried_goal}
-use Rattle.goals.specs.Trials.{length_of, Tells}
+use Rattle.goals.specs.Trials.{Tried, length_of, Tells}
 use Rattle.goals.specs.NeverFull.{NeverFull}
-use Rattle.goals.specs.Passing.{least_at, bid_of, Holds, Yields, Passes, KeepsFirst}
+use Rattle.goals.specs.Passing.{least_at, bid_of, Holds, Yields, PassesOn, KeepsFirst}
 
 -- its goal is a cell of the room
-abbrev pub KeptInside : Room → Tried → ℕ → Type 0
-KeptInside R (Found n cost) goal = goal < volume R
-KeptInside R Failed goal = Unit {0}
-KeptInside R (Full x) goal = Unit {0}
+abbrev pub KeptInside : Room → Option Kept → Type 0
+KeptInside R (Some k) = k.goal < volume R
+KeptInside R None = Unit {0}
 
 -- ---- the goals that are left
 
@@ -50,7 +49,7 @@ pub record GoalLabels (S : Site) (start : ℕ) (blocked : List ℕ) (low : ℕ) 
   pub joinable : (goal : ℕ) → goal < volume S.room → get_or labels goal 0 ≢ 0 → is_marked S.joinable goal ≡ true
 
 -- the goals of bids below `low` are passed
-pub record PassedBelow (S : Site) (start : ℕ) (blocked best : List ℕ) (K : Kept) (low : ℕ) : Type 0 where
+pub record PassedBelow (S : Site) (start : ℕ) (blocked best : List ℕ) (K : Option Kept) (low : ℕ) : Type 0 where
   pub best-long : length best ≡ volume S.room
   pub never-full : NeverFull S start blocked
   pub held : Holds S start blocked best K
@@ -58,7 +57,7 @@ pub record PassedBelow (S : Site) (start : ℕ) (blocked best : List ℕ) (K : K
       → Yields S start blocked other K
 
 -- a goal without a label is passed, any other is left
-pub record Left (S : Site) (start : ℕ) (blocked labels : List ℕ) (K : Kept) : Type 0 where
+pub record Left (S : Site) (start : ℕ) (blocked labels : List ℕ) (K : Option Kept) : Type 0 where
   pub yields : (goal : ℕ) → goal < volume S.room → get_or labels goal 0 ≡ 0 → Yields S start blocked goal K
   pub least : (goal : ℕ) → goal < volume S.room → get_or labels goal 0 ≢ 0 → (path : List ℕ) (cost : ℕ) → tried_goal S start blocked goal ≡ found path cost
       → get_or labels goal 0 ≤ cost + 1
@@ -67,25 +66,31 @@ pub record Left (S : Site) (start : ℕ) (blocked labels : List ℕ) (K : Kept) 
 -- ---- what is kept of them
 
 -- what is kept is what its goal came to, though its path stands nowhere
-pub record HoldsGoal (S : Site) (start : ℕ) (blocked : List ℕ) (K : Kept) : Type 0 where
+pub record HoldsGoal (S : Site) (start : ℕ) (blocked : List ℕ) (K : Option Kept) : Type 0 where
   pub its-path : List ℕ
   pub held : Holds S start blocked its-path K
 
 -- what passing the goals that are left asks
-pub record Passing (S : Site) (start : ℕ) (blocked labels : List ℕ) (K : Kept) : Type 0 where
+pub record Passing (S : Site) (start : ℕ) (blocked labels : List ℕ) (K : Option Kept) : Type 0 where
   pub labels_long : length labels ≡ volume S.room
   pub never-full : NeverFull S start blocked
   pub held : HoldsGoal S start blocked K
   pub left : Left S start blocked labels K
 
 -- every goal is passed
-pub record AllPassed (S : Site) (start : ℕ) (blocked : List ℕ) (K : Kept) : Type 0 where
+pub record AllPassed (S : Site) (start : ℕ) (blocked : List ℕ) (K : Option Kept) : Type 0 where
   pub held : HoldsGoal S start blocked K
   pub all : (other : ℕ) → other < volume S.room → Yields S start blocked other K
 
+-- so it is with what passing them all gives, which is never that a queue was full
+pub record PassesAll (S : Site) (start : ℕ) (blocked : List ℕ) (r : Result (Option Kept) QueueFull) : Type 0 where
+  pub kept : Option Kept
+  pub is : r ≡ Ok kept
+  pub passed : AllPassed S start blocked kept
+
 -- of what is kept and what this goal came to, the one that comes first
-pub record KeepsGoal (K : Kept) (goal : ℕ) (tried : Tried) (K' : Kept) : Type 0 where
-  pub keeps : (path best : List ℕ) → length_of tried ≤ length path → (best' : List ℕ) × KeepsFirst K goal tried path best K' best'
+pub record KeepsGoal (K : Option Kept) (goal : ℕ) (tried : Option Found) (K' : Option Kept) : Type 0 where
+  pub keeps : (path best : List ℕ) → length_of (Ok tried) ≤ length path → (best' : List ℕ) × KeepsFirst K goal (Ok tried) path best K' best'
 
 -- what trying a goal asks
 pub record Tryable (S : Site) (start : ℕ) (blocked : List ℕ) (goal : ℕ) : Type 0 where
@@ -94,20 +99,20 @@ pub record Tryable (S : Site) (start : ℕ) (blocked : List ℕ) (goal : ℕ) : 
   pub never-full : NeverFull S start blocked
 
 -- the goal is passed, wherever the path stands of what is kept
-pub record PassesGoal (S : Site) (start : ℕ) (blocked : List ℕ) (goal : ℕ) (K K' : Kept) : Type 0 where
-  pub passes : (best : List ℕ) → Holds S start blocked best K → (best' : List ℕ) × Passes S start blocked goal K K' best'
+pub record PassesGoal (S : Site) (start : ℕ) (blocked : List ℕ) (goal : ℕ) (K : Option Kept) (r : Result (Option Kept) QueueFull) : Type 0 where
+  pub passes : (best : List ℕ) → Holds S start blocked best K → (best' : List ℕ) × PassesOn S start blocked goal K r best'
 
 -- ---- the lowest label
 
--- of the labels below n this cell's is the lowest, the first of equal ones; where there is none it is no cell
-pub record LeastLabel (labels : List ℕ) (n cell : ℕ) : Type 0 where
-  pub its_label : cell < length labels → (get_or labels cell 0 ≢ 0) × (cell < n)
-  pub lowest : (v : ℕ) → v < n → get_or labels v 0 ≢ 0 → (cell < length labels) × (get_or labels cell 0 ≤ get_or labels v 0) × (v < cell → get_or labels cell 0 < get_or labels v 0)
+-- of the labels below n this cell's is the lowest, the first of equal ones, if there is one
+pub record LeastLabel (labels : List ℕ) (n : ℕ) (least : Option ℕ) : Type 0 where
+  pub its_label : (cell : ℕ) → least ≡ Some cell → (get_or labels cell 0 ≢ 0) × (cell < n)
+  pub lowest : (v : ℕ) → v < n → get_or labels v 0 ≢ 0 → (cell : ℕ) × (least ≡ Some cell) × (get_or labels cell 0 ≤ get_or labels v 0) × (v < cell → get_or labels cell 0 < get_or labels v 0)
 
 -- whether a cell's label is lower than that of the lowest so far
-pub record LowerLabel (labels : List ℕ) (lowest cell : ℕ) (r : Bool) : Type 0 where
-  pub lower : r ≡ true → (get_or labels cell 0 ≢ 0) × (lowest < length labels → get_or labels cell 0 < get_or labels lowest 0)
-  pub other : r ≡ false → get_or labels cell 0 ≢ 0 → (lowest < length labels) × (get_or labels lowest 0 ≤ get_or labels cell 0)
+pub record LowerLabel (labels : List ℕ) (lowest : Option ℕ) (cell : ℕ) (r : Bool) : Type 0 where
+  pub lower : r ≡ true → (get_or labels cell 0 ≢ 0) × ((other : ℕ) → lowest ≡ Some other → get_or labels cell 0 < get_or labels other 0)
+  pub other : r ≡ false → get_or labels cell 0 ≢ 0 → (other : ℕ) × (lowest ≡ Some other) × (get_or labels other 0 ≤ get_or labels cell 0)
 
 -- ---- the path fetched
 

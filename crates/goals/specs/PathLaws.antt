@@ -1,13 +1,11 @@
 -- What is known of a path that a search finds, and of its conflict with the joinable cells: they are cells of the room.
-use Rattle.std.specs.Prelude.{◌≡◌, Bool, true, false, eqb, length, get_or}
+use Rattle.std.specs.Prelude.{◌≡◌, Bool, true, false, eqb, length, get_or, Option, Some, None}
 use Rattle.std.proofs.Math.Path.{refl}
 use Rattle.std.proofs.Common.{ap, subst, ◌∙◌, arith}
 use mathlib.Core.List.{List, [], ◌∷◌}
 use Prim.Native.Nat.{ℕ, zero, suc, ◌≤◌, ◌<◌}
 use Rattle.basics.specs.Tests.{either, ask, never}
 use Rattle.room.specs.declared.Room.{Room}
-use Rattle.room.specs.declared.Neighbour.{Neighbour}
-use Rattle.room.specs.declared.Neighbour.TheVariants.{Inside, Outside}
 use Rattle.room.specs.Room.{Good, volume, or_else, above}
 use Rattle.room.specs.RoomLaws.{above_in, same-cell, inside-passed}
 use Rattle.room.specs.Units.{air}
@@ -96,38 +94,38 @@ found-short {T} F = subst AtMost F.is (short (ending (graph T) T.config.limit.0)
 -- ---- its conflict
 
 module _ (R : Room) (G : Good R) (kinds : List ℕ) (conducts : ℕ → Bool) where
-  passed_in : (place : Neighbour) (u v : ℕ) → u < volume R → above R u ≡ place → if_passed conducts place ≡ Inside v → v < volume R
-  passed_in (Inside w) u v h e q = above_in R G u v h (e ∙ ap Inside (inside-passed (conducts w) w v q).0)
-  passed_in Outside u v h e q = never (cc)
+  passed_in : (place : Option ℕ) (u v : ℕ) → u < volume R → above R u ≡ place → if_passed conducts place ≡ Some v → v < volume R
+  passed_in (Some w) u v h e q = above_in R G u v h (e ∙ ap Some (inside-passed (conducts w) w v q).0)
+  passed_in None u v h e q = never (cc)
 
-  clearance_conflict : (a b v : ℕ) → a < volume R → b < volume R → at_clearance R kinds conducts b (clearance_of R a b) ≡ Inside v → v < volume R
+  clearance_conflict : (a b v : ℕ) → a < volume R → b < volume R → at_clearance R kinds conducts b (clearance_of R a b) ≡ Some v → v < volume R
   unfolding at_clearance
   clearance_conflict a b v a_in b-in e = go (clearance_of R a b) refl e
     where
-      go : (place : Neighbour) → clearance_of R a b ≡ place → at_clearance R kinds conducts b place ≡ Inside v → v < volume R
-      go Outside w q = never (cc)
-      go (Inside u) w q =
+      go : (place : Option ℕ) → clearance_of R a b ≡ place → at_clearance R kinds conducts b place ≡ Some v → v < volume R
+      go None w q = never (cc)
+      go (Some u) w q =
           let u-in = clearance_in R G a b a_in b-in u w in
           ask (eqb (get_or kinds u air) air)
           (λ t. passed_in (above R u) u v u-in refl (rw t at q))
           (λ f. rw (same-cell b v (rw f at q)) at b-in)
 
-  stairs_in : (path : List ℕ) → ((i : ℕ) → i < length path → get_or path i 0 < volume R) → (v : ℕ) → stair_conflict R kinds conducts path ≡ Inside v → v < volume R
+  stairs_in : (path : List ℕ) → ((i : ℕ) → i < length path → get_or path i 0 < volume R) → (v : ℕ) → stair_conflict R kinds conducts path ≡ Some v → v < volume R
   unfolding stair_conflict
   stairs_in [] all v e = never (cc)
   stairs_in (a ∷ []) all v e = never (cc)
   stairs_in (a ∷ (b ∷ rest)) all v e = go (at_clearance R kinds conducts b (clearance_of R a b)) refl e (stairs_in (b ∷ rest) (λ i h. all (suc i) (omega arith)) v)
     where
-      go : (place : Neighbour) → at_clearance R kinds conducts b (clearance_of R a b) ≡ place
-          → or_else place (stair_conflict R kinds conducts (b ∷ rest)) ≡ Inside v
-          → (stair_conflict R kinds conducts (b ∷ rest) ≡ Inside v → v < volume R) → v < volume R
-      go (Inside u) w q later = clearance_conflict a b v (all 0 (omega arith)) (all 1 (omega arith)) (w ∙ q)
-      go Outside w q later = later q
+      go : (place : Option ℕ) → at_clearance R kinds conducts b (clearance_of R a b) ≡ place
+          → or_else place (stair_conflict R kinds conducts (b ∷ rest)) ≡ Some v
+          → (stair_conflict R kinds conducts (b ∷ rest) ≡ Some v → v < volume R) → v < volume R
+      go (Some u) w q later = clearance_conflict a b v (all 0 (omega arith)) (all 1 (omega arith)) (w ∙ q)
+      go None w q later = later q
 
-pub conflict_in : (R : Room) → Good R → (kinds joinable path : List ℕ) → AllCells R path → (v : ℕ) → conflict_of R kinds joinable path ≡ Inside v → v < volume R
+pub conflict_in : (R : Room) → Good R → (kinds joinable path : List ℕ) → AllCells R path → (v : ℕ) → conflict_of R kinds joinable path ≡ Some v → v < volume R
 unfolding conflict_among first_pair
 conflict_in R G kinds joinable path cells v e = go (conductor joinable path) (first_pair R (conductor joinable path)) refl e
   where
-    go : (conducts : ℕ → Bool) (place : Neighbour) → first_pair R conducts ≡ place → or_else place (stair_conflict R kinds conducts path) ≡ Inside v → v < volume R
-    go conducts (Inside u) w q = (first-passed (upper_of_pair R conducts) (volume R) v (w ∙ q)).0
-    go conducts Outside w q = stairs_in R G kinds conducts path cells.below v q
+    go : (conducts : ℕ → Bool) (place : Option ℕ) → first_pair R conducts ≡ place → or_else place (stair_conflict R kinds conducts path) ≡ Some v → v < volume R
+    go conducts (Some u) w q = (first-passed (upper_of_pair R conducts) (volume R) v (w ∙ q)).0
+    go conducts None w q = stairs_in R G kinds conducts path cells.below v q

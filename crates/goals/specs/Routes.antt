@@ -1,7 +1,6 @@
 -- What one sink's route is, apart from the attempts that find it: the searches before it for its goal, the search that found it, and that no goal has a
 -- cheaper one. Definitions alone; that `route_to_tree` finds such a route is shown in RouteLaws.
-use Rattle.std.specs.Prelude.{◌≡◌, true, false, List, ℕ, suc, ◌≤◌, ◌<◌, eqb}
-use Rattle.room.specs.declared.Neighbour.TheVariants.{Inside, Outside}
+use Rattle.std.specs.Prelude.{◌≡◌, true, false, List, ℕ, suc, ◌≤◌, ◌<◌, eqb, Some, None}
 use Rattle.room.specs.Room.{volume}
 use Rattle.routing_resources.specs.Marks.{is_marked, marked_by}
 use Rattle.geometry.specs.Geometry.{conflict_of}
@@ -11,7 +10,7 @@ use Rattle.goals.specs.Goals.{Site, found, searched_for, site_task, ends_goal, m
 pub data Conflicts (S : Site) (start goal : ℕ) : ℕ → List ℕ → List ℕ → Type 0 where
   as_blocked : {blocked : List ℕ} → Conflicts S start goal 0 blocked blocked
   one_more : {n : ℕ} {blocked later path : List ℕ} {cost v : ℕ} → searched_for (site_task S blocked start goal) ≡ found path cost
-      → conflict_of S.room S.kinds S.joinable path ≡ Inside v
+      → conflict_of S.room S.kinds S.joinable path ≡ Some v
       → ends_goal blocked start goal v ≡ false
       → Conflicts S start goal n (marked_by (eqb v) blocked) later
       → Conflicts S start goal (suc n) blocked later
@@ -23,7 +22,7 @@ pub record Reaches (S : Site) (attempts : ℕ) (blocked : List ℕ) (start goal 
   pub blocked-last : List ℕ
   pub after : Conflicts S start goal conflicts blocked blocked-last
   pub found-so : searched_for (site_task S blocked-last start goal) ≡ found path cost
-  pub free : conflict_of S.room S.kinds S.joinable path ≡ Outside
+  pub free : conflict_of S.room S.kinds S.joinable path ≡ None
 
 -- one sink's route: its goal is a joinable cell, no goal has a cheaper route, and none before it in number order one as cheap
 pub record RouteJoins (S : Site) (blocked : List ℕ) (start : ℕ) (path : List ℕ) (cost : ℕ) : Type 0 where

@@ -1,12 +1,11 @@
 -- Laws of one search: over class bytes that say what is seen, its answer is the defined one.
-use Rattle.std.specs.Prelude.{◌≡◌, Bool, ◌&&◌, List, [], ◌++◌, ℕ, ◌+◌, ◌≤◌, ◌<◌, pred, length, get_or, drop}
+use Rattle.std.specs.Prelude.{◌≡◌, Bool, ◌&&◌, List, [], ◌++◌, ℕ, ◌+◌, ◌≤◌, ◌<◌, pred, length, get_or, drop, Some, None, Ok, Err}
 use Rattle.std.proofs.Math.Path.{refl}
 use Rattle.std.proofs.Common.{sym, arith, length-append, take_at}
 use Rattle.std.proofs.Math.Bool.{true, false}
 use Rattle.basics.specs.Tests.{either, never, and_left, and_right}
 use Rattle.room.specs.declared.Room.{Room}
 use Rattle.room.specs.declared.RouterConfig.{RouterConfig}
-use Rattle.room.specs.declared.Cost.{Cost}
 use Rattle.room.specs.Room.{volume}
 use Rattle.room.specs.Units.{air}
 use Rattle.best_first.specs.Search.{trace}
@@ -19,22 +18,22 @@ use Rattle.room_search.specs.Takings.{SearchRan, graph_in, spot_of}
 use Rattle.ground.specs.declared.Mode.{Mode}
 use Rattle.blocked_world.specs.BlockedWorld.{seen_task}
 use Rattle.blocked_world.specs.SeenLaws.{end_open, seen_open, says-graph}
-use Rattle.goals.specs.declared.Tried.{Tried}
-use Rattle.goals.specs.declared.Tried.TheVariants.{Found, Failed, Full}
+use Rattle.goals.specs.declared.Found.{Found}
+use Rattle.goals.specs.declared.QueueFull as full-queue
 use Rattle.goals.specs.Goals.{found, failed, trial_of, searched_for}
-use Rattle.goals.specs.Trials.{Tells, both_routeable, TriedOf, SearchTold}
+use Rattle.goals.specs.Trials.{Tried, Tells, both_routeable, TriedOf, SearchTold}
 
 -- ---- the answer
 
-pub tells-failed : (cells : List ℕ) → Tells failed Failed cells
+pub tells-failed : (cells : List ℕ) → Tells failed (Ok None) cells
 tells-failed cells = record { is = refl; fits = omega arith }
 
 -- a route of which so many cells are written to the front
-pub tells-route : (cells : List ℕ) (n : ℕ) (cost : Cost) (path : List ℕ) (price : ℕ) (path' : List ℕ) → n ≡ length cells → n ≤ length path → cost.0 ≡ price
-    → path' ≡ cells ++ drop n path → Tells (found cells price) (Found n cost) path'
-tells-route cells n cost path price path' e h p w = record {
-  is = rw (w, p, take_at cells (drop n path) n (sym e));
-  fits = let l : length (cells ++ drop n path) ≡ length cells + length (drop n path) = length-append cells (drop n path) in rw w (omega arith);
+pub tells-route : (cells : List ℕ) (f : Found) (path : List ℕ) (price : ℕ) (path' : List ℕ) → f.length ≡ length cells → f.length ≤ length path → f.cost.0 ≡ price
+    → path' ≡ cells ++ drop f.length path → Tells (found cells price) (Ok (Some f)) path'
+tells-route cells f path price path' e h p w = record {
+  is = rw (w, p, take_at cells (drop f.length path) f.length (sym e));
+  fits = let l : length (cells ++ drop f.length path) ≡ length cells + length (drop f.length path) = length-append cells (drop f.length path) in rw w (omega arith);
 }
 
 -- by cases of the outcome
@@ -44,13 +43,13 @@ module _ {goal : ℕ} {known previous : List ℕ} where
   outcome-route x t = record { shows = λ G answer s g A. rw (A.is, s, g) t }
 
   module _ (cells : List ℕ) where
-    pub outcome-none : (x : _) → TriedOf (NoRoute x) goal known previous Failed cells
+    pub outcome-none : (x : _) → TriedOf (NoRoute x) goal known previous (Ok None) cells
     outcome-none x = record { shows = λ G answer s g e. rw e (tells-failed cells) }
 
-    pub outcome-limit : (x : _) → TriedOf (LimitPassed x) goal known previous Failed cells
+    pub outcome-limit : (x : _) → TriedOf (LimitPassed x) goal known previous (Ok None) cells
     outcome-limit x = record { shows = λ G answer s g e. rw e (tells-failed cells) }
 
-    pub outcome-full : (x : _) → TriedOf (QueueFull x) goal known previous (Full x) cells
+    pub outcome-full : (x : full-queue.QueueFull) → TriedOf (QueueFull x.0) goal known previous (Err x) cells
     outcome-full x = record { shows = λ G answer s g e. rw e (record { is = refl; fits = omega arith }) }
 
 -- ---- the ends
@@ -89,7 +88,7 @@ module _ (mode : Mode) (R : Room) (C : RouterConfig) (kinds blocked : List ℕ) 
 
 module _ {R : Room} {C : RouterConfig} {classes queue : List ℕ} {start goal : ℕ} where
   module _ (kinds : List ℕ) (long : length kinds ≡ volume R) (start_in : start < volume R) (goal_in : goal < volume R) where
-    pub told-failed : both_routeable kinds start goal ≡ false → (cells : List ℕ) → SearchTold R C kinds classes queue start goal Failed cells
+    pub told-failed : both_routeable kinds start goal ≡ false → (cells : List ℕ) → SearchTold R C kinds classes queue start goal (Ok None) cells
     told-failed e cells = record {
       tells = λ mode blocked says. rw (not_routeable mode R C kinds blocked start goal (places_of queue) long start_in goal_in e) (tells-failed cells);
     }

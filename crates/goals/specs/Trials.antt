@@ -1,5 +1,5 @@
 -- What the contracts of the goals' functions cite.
-use Rattle.std.specs.Prelude.{◌≡◌, Bool, true, false, ◌&&◌, List, ℕ, ◌≤◌, ◌<◌, eqb, length, get_or, take}
+use Rattle.std.specs.Prelude.{◌≡◌, Bool, true, false, ◌&&◌, List, ℕ, ◌≤◌, ◌<◌, eqb, length, get_or, take, Option, Some, None, Result, Ok, Err}
 use Rattle.room.specs.declared.Room.{Room}
 use Rattle.room.specs.declared.RouterConfig.{RouterConfig}
 use Rattle.room.specs.Room.{Good, volume}
@@ -14,23 +14,28 @@ use Rattle.geometry.specs.Geometry.{NoPair}
 use Rattle.ground.specs.declared.Mode.{Mode}
 use Rattle.ground.specs.declared.Ground.{Ground}
 use Rattle.blocked_world.specs.BlockedWorld.{seen_task, Says}
-use Rattle.goals.specs.declared.Tried.{Tried}
-use Rattle.goals.specs.declared.Tried.TheVariants.{Found, Failed, Full}
-use Rattle.goals.specs.declared.Attempt.{Attempt}
-use Rattle.goals.specs.declared.Attempt.TheVariants.{Ended, Conflict}
+use Rattle.goals.specs.declared.Turn.{Turn}
+use Rattle.goals.specs.declared.Found.{Found}
+use Rattle.goals.specs.declared.QueueFull.{QueueFull}
+use Rattle.goals.specs.declared.Unended.{Unended}
+use Rattle.goals.specs.declared.Unended.TheVariants.{Conflict, Full}
 use Rattle.goals.specs.Goals.{Site, Trial, found, failed, full, trial_of, searched_for, attempt_then, cheaper_route}
+
+-- what a goal comes to, as the code has it: a route, none, or a full queue
+abbrev pub Tried : Type 0
+Tried = Result (Option Found) QueueFull
 
 -- what an answer says, with the buffer that has the path's cells at its front
 abbrev pub told : Tried → List ℕ → Trial
-told (Found n cost) cells = found (take n cells) cost.0
-told Failed cells = failed
-told (Full x) cells = full x.0
+told (Ok (Some f)) cells = found (take f.length cells) f.cost.0
+told (Ok None) cells = failed
+told (Err x) cells = full x.0.0
 
 -- how many cells the path has
 abbrev pub length_of : Tried → ℕ
-length_of (Found n cost) = n
-length_of Failed = 0
-length_of (Full x) = 0
+length_of (Ok (Some f)) = f.length
+length_of (Ok None) = 0
+length_of (Err x) = 0
 
 pub record Tells (trial : Trial) (r : Tried) (cells : List ℕ) : Type 0 where
   pub is : told r cells ≡ trial
@@ -62,6 +67,10 @@ site_of under kinds joinable queue = record {
   joinable = joinable;
   places = places_of queue;
 }
+
+-- the same at a turn
+abbrev pub site_in : Turn → List ℕ → List ℕ → Site
+site_in turn joinable queue = site_of turn.ground turn.kinds.now joinable queue
 
 -- what a sink's goals ask of the room and the marks. Joinable cells among themselves make no pair
 pub record Grounds (S : Site) (blocked : List ℕ) (start : ℕ) : Type 0 where
@@ -95,22 +104,17 @@ pub record Repeats (S : Site) (blocked : List ℕ) (start goal v : ℕ) : Type 0
   pub free : is_marked blocked v ≡ false
   pub is : (again : List ℕ → Trial) → attempt_then S blocked start goal again ≡ again (marked_by (eqb v) blocked)
 
-abbrev pub AttemptComes : Site → List ℕ → ℕ → ℕ → List ℕ → Attempt → Type 0
-AttemptComes S blocked start goal cells (Ended r) = (again : List ℕ → Trial) → Tells (attempt_then S blocked start goal again) r cells
-AttemptComes S blocked start goal cells (Conflict v) = Repeats S blocked start goal v
+abbrev pub AttemptComes : Site → List ℕ → ℕ → ℕ → List ℕ → Result (Option Found) Unended → Type 0
+AttemptComes S blocked start goal cells (Ok r) = (again : List ℕ → Trial) → Tells (attempt_then S blocked start goal again) (Ok r) cells
+AttemptComes S blocked start goal cells (Err (Full x)) = (again : List ℕ → Trial) → Tells (attempt_then S blocked start goal again) (Err x) cells
+AttemptComes S blocked start goal cells (Err (Conflict v)) = Repeats S blocked start goal v
 
 -- what an attempt comes to, whatever the attempts after it would
-pub record Attempted (S : Site) (blocked : List ℕ) (start goal : ℕ) (cells : List ℕ) (r : Attempt) : Type 0 where
+pub record Attempted (S : Site) (blocked : List ℕ) (start goal : ℕ) (cells : List ℕ) (r : Result (Option Found) Unended) : Type 0 where
   pub comes : AttemptComes S blocked start goal cells r
 
 -- ---- the cheapest of all goals
 
--- the queue was not full: the goals go on
-abbrev pub GoesOn : Tried → Type 0
-GoesOn (Found n cost) = Unit {0}
-GoesOn Failed = Unit {0}
-GoesOn (Full x) = ⊥
-
 -- of what is kept, with its path in `best`, and what a later goal came to, with its path in `path`, the cheaper one, with its path in `best`
-pub record KeepsCheaper (kept tried : Tried) (path best : List ℕ) (r : Tried) (best' : List ℕ) : Type 0 where
-  pub keeps : (earlier later : Trial) → Tells earlier kept best → Tells later tried path → Tells (cheaper_route earlier later) r best'
+pub record KeepsCheaper (kept tried : Option Found) (path best : List ℕ) (r : Option Found) (best' : List ℕ) : Type 0 where
+  pub keeps : (earlier later : Trial) → Tells earlier (Ok kept) best → Tells later (Ok tried) path → Tells (cheaper_route earlier later) (Ok r) best'

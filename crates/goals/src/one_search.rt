@@ -1,5 +1,5 @@
 // The search for one goal, over the class bytes.
-ghost use Rattle.std.specs.Prelude.{◌≡◌, [], ◌≤◌, ◌<◌, pred, length, get_or};
+ghost use Rattle.std.specs.Prelude.{◌≡◌, [], ◌≤◌, ◌<◌, pred, length, get_or, Some, Ok};
 ghost use Rattle.room.specs.Room.{max_volume, volume};
 ghost use Rattle.best_first.specs.Search.{trace};
 ghost use Rattle.trace.specs.Traces.{PreviousInside};
@@ -7,7 +7,7 @@ ghost use Rattle.room_search.specs.Takings.{Searchable, Showable};
 ghost use Rattle.goals.specs.Goals.{found};
 ghost use Rattle.goals.specs.Trials.{Tells, both_routeable, TriedOf, SearchTold};
 
-use crate::Tried;
+use crate::{Found, QueueFull, Tried};
 use room::{Cost, Room, RouterConfig};
 use room_search::Outcome;
 
@@ -16,21 +16,19 @@ fn both_routeable(kinds: &[u8], start: usize, goal: usize) -> bool
     requires { (start < length kinds.now) × (goal < length kinds.now) }
     ensures { result ≡ both_routeable kinds.now start goal }
 {
-    if !room_search::routeable_kind(true, kinds[start]) {
-        return false;
-    }
-    room_search::routeable_kind(true, kinds[goal])
+    room_search::routeable_kind(true, kinds[start])
+        && room_search::routeable_kind(true, kinds[goal])
 }
 
 // The path by predecessors goes to the front of the buffer.
-fn write_route(goal: usize, known: &[u32], previous: &[u32], path: &mut [u32]) -> Tried
+fn write_route(goal: usize, known: &[u32], previous: &[u32], path: &mut [u32]) -> Found
     requires goal_in_bounds { (goal < length previous.now) × (length previous.now ≤ max_volume) × (length known.now ≡ length previous.now) × (length path.old ≡ length previous.now) }
     requires previous_inside { PreviousInside previous.now }
     requires nonzero { 0 < get_or known.now goal 0 }
-    ensures { Tells (found (trace (length previous.now) previous.now goal []) (pred (get_or known.now goal 0))) result path.new }
+    ensures { Tells (found (trace (length previous.now) previous.now goal []) (pred (get_or known.now goal 0))) (Ok (Some result)) path.new }
 {
     let length = trace::path_to(previous, goal, path);
-    Tried::Found {
+    Found {
         length: length,
         cost: Cost(known[goal] - 1),
     }
@@ -50,11 +48,11 @@ fn tried_of(
 {
     let Outcome::Arrived(_) = outcome else {
         let Outcome::QueueFull(expanded) = outcome else {
-            return Tried::Failed;
+            return Ok(None);
         };
-        return Tried::Full(expanded);
+        return Err(QueueFull(expanded));
     };
-    write_route(goal, known, previous, path)
+    Ok(Some(write_route(goal, known, previous, path)))
 }
 
 // The search from the start to one goal. The path goes to the front of `path`.
@@ -75,7 +73,7 @@ pub fn search_for(
     ensures { SearchTold room config kinds.now classes.now queue.old start goal result path.new }
 {
     if !both_routeable(kinds, start, goal) {
-        return Tried::Failed;
+        return Ok(None);
     }
     let outcome = room_search::search_classes(
         room, config, classes, known, previous, queue, start, goal,

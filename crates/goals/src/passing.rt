@@ -1,19 +1,19 @@
 // Goals that can't win are not searched. Where no queue is ever full, the first strictly cheapest route is the one that
 // comes first by cost and goal number, in whatever order the goals are tried. A goal's bid is the least that its route can
 // cost, with its number; goals are tried from the lowest bid on, until none is left that may come before what is kept.
-ghost use Rattle.std.specs.Prelude.{◌≡◌, true, ◌+◌, ◌-◌, ◌≤◌, ◌<◌, min, length};
-ghost use Rattle.room.specs.Room.{Good, SmallPos, volume};
+ghost use Rattle.std.specs.Prelude.{◌≡◌, true, ◌+◌, ◌-◌, ◌≤◌, ◌<◌, min, length, Ok};
+ghost use Rattle.room.specs.Room.{Good, SmallPos, volume, pos_of};
 ghost use Rattle.room.specs.Units.{max_cost, GoodRanges};
 ghost use Rattle.goals.specs.Goals.{route_to_tree};
-ghost use Rattle.goals.specs.Trials.{Tells, length_of, site_of, Attemptable};
+ghost use Rattle.goals.specs.Trials.{Tells, length_of, site_in, Attemptable};
 ghost use Rattle.goals.specs.NeverFull.{NeverFull};
 ghost use Rattle.goals.specs.Labelled.{KeptInside};
-ghost use Rattle.goals.specs.Passing.{least_at, precedes, bid_of, no_bid, bid_to_beat, SmallKept, Passes, KeepsFirst, Passable, NextMarked, LowerBid, NextBid};
+ghost use Rattle.goals.specs.Passing.{least_at, precedes, route_of, bid_of, bid_to_beat, SmallKept, PassesOn, KeepsFirst, Passable, LowerBid, NextBid};
 
 use crate::cheapest::copy_cells;
 use crate::goal_by_goal::try_goal;
 use crate::labelled::by_labels;
-use crate::{Bid, Kept, Tried};
+use crate::{Bid, Found, Kept, QueueFull, Tried, Turn};
 use ground::Ground;
 use room::{Pos, Room, RouterConfig};
 
@@ -31,18 +31,7 @@ fn cheaper_step(config: RouterConfig) -> u32
     requires { GoodRanges config }
     ensures { (result ≡ min config.horizontal.0 config.stair.0) × (result ≤ max_cost) }
 {
-    if config.horizontal.0 < config.stair.0 {
-        config.horizontal.0
-    } else {
-        config.stair.0
-    }
-}
-
-// How much a is above b.
-fn beyond(a: usize, b: usize) -> usize
-    ensures { result ≡ a - b }
-{
-    if b < a { a - b } else { 0 }
+    config.horizontal.0.min(config.stair.0)
 }
 
 // What any route between two positions costs at least: a stair for each cell up or down, and the cheaper step for each cell
@@ -55,192 +44,181 @@ pub fn least_at(config: RouterConfig, p: Pos, q: Pos) -> u32
 {
     let up = room::apart(p.y, q.y);
     let aside = room::apart(p.x, q.x) + room::apart(p.z, q.z);
-    let rest = beyond(aside, up);
+    let rest = aside.saturating_sub(up);
     let cheaper = cheaper_step(config);
     up as u32 * config.stair.0 + rest as u32 * cheaper
 }
 
 // Whether a route of this cost to this goal comes before what is kept: it is cheaper, or as cheap and its goal has the
 // lower number.
-pub fn precedes(kept: Kept, cost: u32, goal: usize) -> bool
-    ensures { result ≡ precedes cost goal kept.tried kept.goal }
+pub fn precedes(kept: Option<Kept>, cost: u32, goal: usize) -> bool
+    ensures { result ≡ precedes cost goal kept }
 {
-    let tried = kept.tried;
-    match tried {
-        Tried::Found {
-            length: _,
-            cost: other,
-        } => {
-            if cost == other.0 {
-                goal < kept.goal
-            } else {
-                cost < other.0
-            }
-        }
-        Tried::Failed => true,
-        Tried::Full(_) => false,
+    let Some(kept) = kept else {
+        return true;
+    };
+    let other = kept.found.cost.0;
+    if cost == other {
+        goal < kept.goal
+    } else {
+        cost < other
     }
+}
+
+// The route that is kept, if there is one.
+fn route_of(kept: Option<Kept>) -> Option<Found>
+    ensures { result ≡ route_of kept }
+{
+    kept.map(|kept| kept.found)
 }
 
 // Of what is kept and what this goal came to, the one that comes first.
-fn keep_first(kept: Kept, goal: usize, tried: Tried, path: &[u32], best: &mut [u32]) -> Kept
-    requires { (length path.now ≡ length best.old) × (length_of tried ≤ length path.now) }
-    ensures { KeepsFirst kept goal tried path.now best.old result best.new }
+fn keep_first(
+    kept: Option<Kept>,
+    goal: usize,
+    tried: Option<Found>,
+    path: &[u32],
+    best: &mut [u32],
+) -> Option<Kept>
+    requires { (length path.now ≡ length best.old) × (length_of (Ok tried) ≤ length path.now) }
+    ensures { KeepsFirst kept goal (Ok tried) path.now best.old result best.new }
 {
-    match tried {
-        Tried::Found { length, cost } => {
-            if !precedes(kept, cost.0, goal) {
-                return kept;
-            }
-            copy_cells(path, best, length);
-            Kept {
-                tried: tried,
-                goal: goal,
-            }
-        }
-        Tried::Failed => kept,
-        Tried::Full(_) => kept,
+    let Some(found) = tried else {
+        return kept;
+    };
+    if !precedes(kept, found.cost.0, goal) {
+        return kept;
     }
+    copy_cells(path, best, found.length);
+    Some(Kept { found, goal })
 }
 
-// A goal's bid.
-pub fn bid_of(room: Room, config: RouterConfig, from: Pos, goal: usize) -> u64
-    requires good { Good room }
-    requires good_ranges { GoodRanges config }
-    requires goal_bound { goal < volume room }
-    requires small_pos { SmallPos from }
-    ensures { result ≡ bid_of config room from goal }
-{
-    let least = room::as_long(least_at(config, from, room.pos(goal)));
-    least * PER_COST + goal as u64
+// Where a turn's routes begin, and what steps cost there.
+#[derive(Clone, Copy)]
+pub struct Viewpoint {
+    pub room: Room,
+    pub config: RouterConfig,
+    pub from: Pos,
+    ghost good: { Good room },
+    ghost good_ranges: { GoodRanges config },
+    ghost small: { SmallPos from },
+}
+
+impl Viewpoint {
+    // A sink's approach.
+    pub fn new(ground: Ground, start: usize) -> Viewpoint
+        requires good { Good ground.room }
+        requires good_ranges { GoodRanges ground.config }
+        requires start_in { start < volume ground.room }
+        ensures { (result.room ≡ ground.room) × (result.config ≡ ground.config) × (result.from ≡ pos_of ground.room start) }
+    {
+        Viewpoint {
+            room: ground.room,
+            config: ground.config,
+            from: ground.room.pos(start),
+        }
+    }
+
+    // What a route to a cell costs at least.
+    pub fn least_to(self, cell: usize) -> u32
+        requires { cell < volume self.room }
+        ensures { result ≡ least_at self.config self.from (pos_of self.room cell) }
+    {
+        least_at(self.config, self.from, self.room.pos(cell))
+    }
+
+    // A goal's bid.
+    pub fn bid_of(self, goal: usize) -> u64
+        requires { goal < volume self.room }
+        ensures { result ≡ bid_of self.config self.room self.from goal }
+    {
+        room::as_long(self.least_to(goal)) * PER_COST + goal as u64
+    }
+
+    // One goal more: where its bid is `low` or higher and below `end`, it may be the lowest or the second.
+    fn lower_bid(self, low: u64, end: u64, next: Option<Bid>, goal: usize) -> Option<Bid>
+        requires { goal < volume self.room }
+        ensures { LowerBid self.config self.room self.from low end goal next result }
+    {
+        let bid = self.bid_of(goal);
+        if bid < low || end <= bid {
+            return next;
+        }
+        let Some(lowest) = next else {
+            return Some(Bid {
+                bid,
+                goal,
+                second: end,
+            });
+        };
+        if bid < lowest.bid {
+            return Some(Bid {
+                bid,
+                goal,
+                second: lowest.bid,
+            });
+        }
+        if lowest.second <= bid {
+            return next;
+        }
+        Some(Bid {
+            bid: lowest.bid,
+            goal: lowest.goal,
+            second: bid,
+        })
+    }
+
+    // The joinable cell of the lowest bid from `low` on and before `end`, if there is one.
+    fn next_bid(self, joinable: &[u8], low: u64, end: u64) -> Option<Bid>
+        requires { length joinable.now ≡ volume self.room }
+        ensures { NextBid self.config self.room joinable.now self.from low end (volume self.room) result }
+    {
+        if end <= low {
+            return None;
+        }
+        let mut next = None;
+        for goal in 0..joinable.len() {
+            if joinable[goal] == routing_resources::MARKED {
+                next = self.lower_bid(low, end, next, goal);
+            }
+        }
+        next
+    }
+
+    // The joinable cell of the lowest bid from `low` on that may come before what is kept.
+    fn bid_to_try(self, joinable: &[u8], low: u64, kept: Option<Kept>) -> Option<Bid>
+        requires joinable_len { length joinable.now ≡ volume self.room }
+        requires small_kept { SmallKept kept }
+        ensures { NextBid self.config self.room joinable.now self.from low (bid_to_beat kept) (volume self.room) result }
+    {
+        self.next_bid(joinable, low, bid_to_beat(kept))
+    }
+
+    // Whether the kept route, if there is one, makes no detour.
+    fn goes_on(self, kept: Option<Kept>) -> bool
+        requires { KeptInside self.room kept }
+    {
+        match kept {
+            Some(kept) => !makes_detour(self.from, self.room.pos(kept.goal), kept.found.length),
+            None => true,
+        }
+    }
 }
 
 // The bid from which on no goal comes before what is kept.
-fn bid_to_beat(kept: Kept) -> u64
-    requires { SmallKept kept.tried kept.goal }
-    ensures { result ≡ bid_to_beat kept.tried kept.goal }
+fn bid_to_beat(kept: Option<Kept>) -> u64
+    requires { SmallKept kept }
+    ensures { result ≡ bid_to_beat kept }
 {
-    let tried = kept.tried;
-    match tried {
-        Tried::Found { length: _, cost } => room::as_long(cost.0) * PER_COST + kept.goal as u64,
-        Tried::Failed => NO_BID,
-        Tried::Full(_) => NO_BID,
-    }
-}
-
-// The first marked cell from here on, or the number of cells where none is left. A loop of its own, since most cells are
-// unmarked.
-fn next_marked(marks: &[u8], from: usize) -> usize
-    requires { from ≤ length marks.now }
-    ensures { NextMarked marks.now from result }
-{
-    let cells = marks.len();
-    let mut cell = from;
-    while cell < cells {
-        if marks[cell] == routing_resources::MARKED {
-            return cell;
-        }
-        cell += 1;
-    }
-    cells
-}
-
-// One goal more: where its bid is `low` or higher, it may be the lowest or the second.
-fn lower_bid(room: Room, config: RouterConfig, from: Pos, low: u64, next: Bid, goal: usize) -> Bid
-    requires good { Good room }
-    requires good_ranges { GoodRanges config }
-    requires goal_bound { goal < volume room }
-    requires small_pos { SmallPos from }
-    ensures { LowerBid config room from low goal next result }
-{
-    let bid = bid_of(room, config, from, goal);
-    if bid < low {
-        return next;
-    }
-    if bid < next.bid {
-        return Bid {
-            bid: bid,
-            goal: goal,
-            second: next.bid,
-        };
-    }
-    if next.second <= bid {
-        return next;
-    }
-    Bid {
-        bid: next.bid,
-        goal: next.goal,
-        second: bid,
-    }
-}
-
-// No goal bids any more.
-fn none_bids(cells: usize) -> Bid
-    ensures { (result.goal ≡ cells) × (result.bid ≡ no_bid) }
-{
-    Bid {
-        bid: NO_BID,
-        goal: cells,
-        second: NO_BID,
-    }
-}
-
-// The joinable cell of the lowest bid from `low` on and before `end`.
-fn next_bid(room: Room, config: RouterConfig, joinable: &[u8], from: Pos, low: u64, end: u64) -> Bid
-    requires good { Good room }
-    requires good_ranges { GoodRanges config }
-    requires joinable_len { length joinable.now ≡ volume room }
-    requires small_pos { SmallPos from }
-    ensures { NextBid config room joinable.now from low end result }
-{
-    let cells = joinable.len();
-    if end <= low {
-        return none_bids(cells);
-    }
-    let mut next = Bid {
-        bid: end,
-        goal: cells,
-        second: end,
-    };
-    let mut goal = next_marked(joinable, 0);
-    while goal < cells {
-        next = lower_bid(room, config, from, low, next, goal);
-        goal = next_marked(joinable, goal + 1);
-    }
-    if next.goal < cells {
-        return next;
-    }
-    none_bids(cells)
-}
-
-// The joinable cell of the lowest bid from `low` on that may come before what is kept.
-fn bid_to_try(ground: Ground, joinable: &[u8], from: Pos, low: u64, kept: Kept) -> Bid
-    requires good { Good ground.room }
-    requires good_ranges { GoodRanges ground.config }
-    requires joinable_len { length joinable.now ≡ volume ground.room }
-    requires small_pos { SmallPos from }
-    requires small_kept { SmallKept kept.tried kept.goal }
-    ensures { NextBid ground.config ground.room joinable.now from low (bid_to_beat kept.tried kept.goal) result }
-{
-    let room = ground.room;
-    let config = ground.config;
-    next_bid(room, config, joinable, from, low, bid_to_beat(kept))
-}
-
-// No route is kept.
-fn none_kept() -> Kept
-    ensures { (result.tried ≡ Tried.Failed) × (result.goal ≡ 0) }
-{
-    Kept {
-        tried: Tried::Failed,
-        goal: 0,
+    match kept {
+        Some(kept) => room::as_long(kept.found.cost.0) * PER_COST + kept.goal as u64,
+        None => NO_BID,
     }
 }
 
 // One goal is tried, and the route that comes first is kept.
 fn pass_goal(
-    ground: Ground,
-    kinds: &[u8],
+    turn: Turn,
     joinable: &mut [u8],
     blocked: &mut [u8],
     classes: &mut [u8],
@@ -249,19 +227,18 @@ fn pass_goal(
     path: &mut [u32],
     best: &mut [u32],
     queue: &mut [u64],
-    start: usize,
     goal: usize,
-    kept: Kept,
-) -> Kept
-    requires attemptable { Attemptable (site_of ground kinds.now joinable.old queue.old) blocked.old classes.old known.old previous.old path.old start start }
-    requires passable { Passable (site_of ground kinds.now joinable.old queue.old) start blocked.old best.old goal kept }
-    ensures passes { Passes (site_of ground kinds.now joinable.old queue.old) start blocked.old goal kept result best.new }
+    kept: Option<Kept>,
+) -> Result<Option<Kept>, QueueFull>
+    requires attemptable { Attemptable (site_in turn joinable.old queue.old) blocked.old classes.old known.old previous.old path.old turn.start turn.start }
+    requires passable { Passable (site_in turn joinable.old queue.old) turn.start blocked.old best.old goal kept }
+    ensures passes { PassesOn (site_in turn.entry joinable.old queue.old) turn.entry.start blocked.old goal kept result best.new }
     ensures joinable_unchanged { (joinable.new ≡ joinable.old) × (blocked.new ≡ blocked.old) × (classes.new ≡ classes.old) }
 {
     let tried = try_goal(
-        ground, kinds, joinable, blocked, classes, known, previous, path, queue, start, goal,
-    );
-    keep_first(kept, goal, tried, path, best)
+        turn, joinable, blocked, classes, known, previous, path, queue, goal,
+    )?;
+    Ok(keep_first(kept, goal, tried, path, best))
 }
 
 // Whether a route of so many cells between two positions makes a detour: it has more than twice as many steps as the
@@ -272,33 +249,14 @@ fn makes_detour(p: Pos, q: Pos, length: usize) -> bool
 {
     let up = room::apart(p.y, q.y);
     let aside = room::apart(p.x, q.x) + room::apart(p.z, q.z);
-    let straight = up + beyond(aside, up);
+    let straight = up + aside.saturating_sub(up);
     2 * straight + DETOUR < length
-}
-
-// Whether a goal is left, and the kept route, if there is one, makes no detour.
-fn goes_on(room: Room, from: Pos, kept: Kept, goal: usize, cells: usize) -> bool
-    requires good { Good room }
-    requires small_pos { SmallPos from }
-    requires kept_inside { KeptInside room kept.tried kept.goal }
-    ensures { result ≡ true → goal < cells }
-{
-    if cells <= goal {
-        return false;
-    }
-    let tried = kept.tried;
-    match tried {
-        Tried::Found { length, cost: _ } => !makes_detour(from, room.pos(kept.goal), length),
-        Tried::Failed => true,
-        Tried::Full(_) => true,
-    }
 }
 
 // Goals are tried from the lowest bid on, until none is left whose route may come before what is kept. Where the kept route
 // makes a detour, labels tell more than distances, and the goals that are left are tried by these.
 pub fn by_bids(
-    ground: Ground,
-    kinds: &[u8],
+    turn: Turn,
     joinable: &mut [u8],
     blocked: &mut [u8],
     classes: &mut [u8],
@@ -307,29 +265,26 @@ pub fn by_bids(
     path: &mut [u32],
     best: &mut [u32],
     queue: &mut [u64],
-    start: usize,
 ) -> Tried
-    requires attemptable { Attemptable (site_of ground kinds.now joinable.old queue.old) blocked.old classes.old known.old previous.old path.old start start }
-    requires best_len { length best.old ≡ volume ground.room }
-    requires never_full { NeverFull (site_of ground kinds.now joinable.old queue.old) start blocked.old }
-    ensures tells { Tells (route_to_tree (site_of ground kinds.now joinable.old queue.old) start blocked.old) result best.new }
+    requires attemptable { Attemptable (site_in turn joinable.old queue.old) blocked.old classes.old known.old previous.old path.old turn.start turn.start }
+    requires best_len { length best.old ≡ volume turn.ground.room }
+    requires never_full { NeverFull (site_in turn joinable.old queue.old) turn.start blocked.old }
+    ensures tells { Tells (route_to_tree (site_in turn.entry joinable.old queue.old) turn.entry.start blocked.old) result best.new }
     ensures joinable_unchanged { (joinable.new ≡ joinable.old) × (blocked.new ≡ blocked.old) × (classes.new ≡ classes.old) }
 {
-    let from = ground.room.pos(start);
-    let mut kept = none_kept();
-    let mut next = next_bid(ground.room, ground.config, joinable, from, 0, NO_BID);
-    while goes_on(ground.room, from, kept, next.goal, kinds.len()) {
+    let view = Viewpoint::new(turn.ground, turn.start);
+    let mut kept = None;
+    let mut next = view.next_bid(joinable, 0, NO_BID);
+    while let Some(bid) = next {
+        if !view.goes_on(kept) {
+            return by_labels(
+                turn, joinable, blocked, classes, known, previous, path, best, queue, kept, bid.bid,
+            );
+        }
         kept = pass_goal(
-            ground, kinds, joinable, blocked, classes, known, previous, path, best, queue, start,
-            next.goal, kept,
-        );
-        next = bid_to_try(ground, joinable, from, next.second, kept);
+            turn, joinable, blocked, classes, known, previous, path, best, queue, bid.goal, kept,
+        )?;
+        next = view.bid_to_try(joinable, bid.second, kept);
     }
-    if kinds.len() <= next.goal {
-        return kept.tried;
-    }
-    by_labels(
-        ground, kinds, joinable, blocked, classes, known, previous, path, best, queue, start, kept,
-        next.bid,
-    )
+    Ok(route_of(kept))
 }

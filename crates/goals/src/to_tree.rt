@@ -5,9 +5,9 @@ ghost use Rattle.goals.specs.Goals.{route_to_tree};
 ghost use Rattle.goals.specs.Trials.{Tells, site_of, Attemptable};
 ghost use Rattle.goals.specs.NeverFull.{enterable_count, never_full};
 
-use crate::Tried;
 use crate::goal_by_goal::every_goal;
 use crate::passing::by_bids;
+use crate::{Tried, Turn};
 use ground::Ground;
 use room::RouterConfig;
 
@@ -15,15 +15,7 @@ use room::RouterConfig;
 fn count_enterable(classes: &[u8]) -> usize
     ensures { result ≡ enterable_count (length classes.now) classes.now }
 {
-    let mut count: usize = 0;
-    let mut v: usize = 0;
-    while v < classes.len() {
-        if classes[v] != 0 {
-            count += 1;
-        }
-        v += 1;
-    }
-    count
+    classes.iter().filter(|class| **class != 0).count()
 }
 
 // Whether no search of this turn can find a queue of so many numbers full: a flat step costs at least 10 and a stair at
@@ -33,16 +25,9 @@ fn never_full(config: RouterConfig, classes: &[u8], longs: usize) -> bool
     requires { length classes.now ≤ max_volume }
     ensures { result ≡ never_full config classes.now (longs / 2) }
 {
-    if config.horizontal.0 < 10 {
-        return false;
-    }
-    if config.stair.0 < 20 {
-        return false;
-    }
-    if 5 * classes.len() <= longs / 2 + 5 {
-        return true;
-    }
-    5 * (count_enterable(classes) + 2) <= longs / 2
+    10 <= config.horizontal.0
+        && 20 <= config.stair.0
+        && (5 * classes.len() <= longs / 2 + 5 || 5 * (count_enterable(classes) + 2) <= longs / 2)
 }
 
 // "Each searches from its approach to every joinable cell in number order", and the first strictly cheapest route is kept.
@@ -66,12 +51,17 @@ pub fn route_to_tree(
     ensures tells { Tells (route_to_tree (site_of ground kinds.now joinable.old queue.old) start blocked.old) result best.new }
     ensures joinable_unchanged { (joinable.new ≡ joinable.old) × (blocked.new ≡ blocked.old) × (classes.new ≡ classes.old) }
 {
+    let turn = Turn {
+        ground,
+        kinds,
+        start,
+    };
     if never_full(ground.config, classes, queue.len()) {
         return by_bids(
-            ground, kinds, joinable, blocked, classes, known, previous, path, best, queue, start,
+            turn, joinable, blocked, classes, known, previous, path, best, queue,
         );
     }
     every_goal(
-        ground, kinds, joinable, blocked, classes, known, previous, path, best, queue, start,
+        turn, joinable, blocked, classes, known, previous, path, best, queue,
     )
 }

@@ -1,41 +1,41 @@
 -- What is known of a list for which no number is due: each of its sheets is accepted, has the first one's room, blocks with cells of their own, and good ends.
 use Rattle.std.proofs.Math.Path.{◌≡◌, refl, sym, ap}
 use Rattle.std.proofs.Common.{◌∙◌, arith}
-use Rattle.std.specs.Prelude.{Bool, false, ℕ, ◌+◌, ◌*◌, ◌≤◌, ◌<◌, leb, length}
+use Rattle.std.specs.Prelude.{Bool, false, ℕ, ◌+◌, ◌*◌, ◌≤◌, leb, Option, Some, None, Result, Ok}
 use Rattle.std.proofs.Math.Bool.{true}
 use mathlib.Core.List.{List, [], ◌∷◌}
 use Rattle.std.proofs.Math.Dec.{eqb}
 use borrow.Author.Tests.{eqb-true, leb-true}
 use Rattle.numbers.specs.Refusals.{done_number}
-use Rattle.basics.specs.Tests.{either, ask, never, and_left, and_right}
-use Rattle.room.specs.declared.Room.{Room}
+use Rattle.basics.specs.Tests.{ask, never, and_left, and_right}
 use Rattle.room.specs.Room.{volume}
 use Rattle.job_sheet.specs.declared.Judgement.{Judgement}
 use Rattle.job_sheet.specs.declared.Judgement.TheVariants.{Good, Sheet, Sides, Config, Position, Code}
 use Rattle.job_sheet.specs.declared.Reading.{Reading}
 use Rattle.job_sheet.specs.Version.{version_in}
-use Rattle.job_sheet.specs.Sheet.{Contents, max_sinks, is_good, number_of, judged, Read}
+use Rattle.job_sheet.specs.Sheet.{Contents, max_sinks, is_good, number_of, Read}
 use Rattle.job_sheet.specs.Places.{shaped}
 use Rattle.job_sheet.specs.Accepted.{Accepted}
 use Rattle.job_sheet.specs.RecordLaws.{Bytes}
 use Rattle.job_sheet.proofs.Theorems.{accepted-by}
-use Rattle.blocks.specs.declared.Placement.{Placement}
 use Rattle.ends.specs.declared.Fault.{Fault}
-use Rattle.ends.specs.Ends.{fault_of}
-use Rattle.outset.specs.SetOut.{number_by, detail_by}
+use Rattle.ends.specs.Ends.{sinks_in, fault_of, ends_of, realized_ends}
+use Rattle.outset.specs.SetOut.{number_by}
+use Rattle.ends.specs.declared.Ends.{Ends}
+use Rattle.ends.specs.EndLaws.{fault-late, ends_realized, ends-told}
+use Rattle.job_sheet.specs.declared.Job.{Job}
 use Rattle.job_list.specs.declared.Memory.{Memory}
-use Rattle.job_list.specs.declared.Verdict.{Verdict}
-use Rattle.job_list.specs.Split.{first_sheet, behind_first, sheets_in, sheets_of}
-use Rattle.job_list.specs.Judged.{same_sides, same_blocks, same_ground, contents_at, net_judgement, memory_good, repeats_in, placed_or_not, ends_due, net_due, judged_from, judged_list}
+use Rattle.job_list.specs.Split.{first_sheet, sheets_of}
+use Rattle.job_list.specs.Judged.{same_sides, same_ground, contents_at, net_judgement, memory_good, repeats_in, placed_or_not, ends_due, net_due, judged_from, judged_list}
 use Rattle.job_list.specs.Grounds.{sides-same, blocks-same}
-use Rattle.job_list.specs.JudgeLaws.{judgement-is, accepted-room}
+use Rattle.job_list.specs.JudgeLaws.{accepted-fault, judgement-is}
 
 -- net k, for which no number is due
 pub record GoodNet (M : Memory) (F : Contents) (k : ℕ) (sheet : List ℕ) : Type 0 where
   pub judgement : net_judgement F sheet ≡ Good
   pub memory : memory_good M (contents_at sheet).room k ≡ true
   pub apart : repeats_in (contents_at sheet).room (contents_at sheet).blocks ≡ false
-  pub ends : fault_of (contents_at sheet).room (contents_at sheet).source (contents_at sheet).sinks ≡ Fault.Good
+  pub ends : fault_of (contents_at sheet).room (contents_at sheet).source (contents_at sheet).sinks ≡ None
 
 -- the nets from the k-th on
 abbrev pub GoodFrom : Memory → Contents → ℕ → List (List ℕ) → Type 0
@@ -50,11 +50,10 @@ number-good Config e = absurd (omega arith)
 number-good Position e = absurd (omega arith)
 number-good Code e = absurd (omega arith)
 
-ends-good : (repeats : Bool) (f : Fault) → number_by (placed_or_not repeats) f ≡ done_number → (repeats ≡ false) × (f ≡ Fault.Good)
+ends-good : (repeats : Bool) (f : Option Fault) → number_by (placed_or_not repeats) f ≡ done_number → (repeats ≡ false) × (f ≡ None)
 ends-good true f e = absurd (omega arith)
-ends-good false Fault.Good e = (refl, refl)
-ends-good false (Fault.NoFacing place) e = absurd (omega arith)
-ends-good false (Fault.Outside place) e = absurd (omega arith)
+ends-good false None e = (refl, refl)
+ends-good false (Some fault) e = absurd (omega (arith, (fault-late fault.due).0, e))
 
 module _ (M : Memory) (F : Contents) where
   pub good-net : (k : ℕ) (sheet : List ℕ) → (net_due M F k sheet).number ≡ done_number → GoodNet M F k sheet
@@ -119,3 +118,14 @@ module _ {M : Memory} {F : Contents} {k : ℕ} {sheet : List ℕ} (G : GoodNet M
   pub memory-lengths-enough : max_sinks * (k + 1) ≤ M.lengths
   unfolding memory_good
   memory-lengths-enough = leb-true _ _ (and_right (leb 1 M.places) _ (and_right (leb (volume (contents_at sheet).room) M.cells) _ G.memory))
+
+  -- the ends of its job are good, so they are what `realize_ends` gives
+  module _ {job : Job} (A : Accepted sheet job) where
+    pub good-fault : fault_of job.room job.source (sinks_in job.sinks) ≡ None
+    good-fault = accepted-fault A ∙ G.ends
+
+    pub good-ends-told : {r : Result Ends Fault} → r ≡ realized_ends job.room job.source (sinks_in job.sinks) → r ≡ Ok (ends_of job.room job.source (sinks_in job.sinks))
+    good-ends-told is = ends_realized job.room job.source (sinks_in job.sinks) good-fault is
+
+    pub good-ends-are : {r : Result Ends Fault} → r ≡ realized_ends job.room job.source (sinks_in job.sinks) → {e : Ends} → r ≡ Ok e → e ≡ ends_of job.room job.source (sinks_in job.sinks)
+    good-ends-are is q = (ends-told job.room job.source (sinks_in job.sinks) is q).1

@@ -1,10 +1,10 @@
 -- Laws of the judging: what a reading comes to, a net's number test by test, and the walk along the list.
-use Rattle.std.specs.Prelude.{◌≡◌, refl, Bool, false, ◌&&◌, List, [], ◌∷◌, ℕ, ◌+◌, ◌-◌, ◌*◌, ◌/◌, ◌≤◌, ◌<◌, eqb, leb, ltb, length, drop, take}
+use Rattle.std.specs.Prelude.{◌≡◌, ◌≢◌, refl, Bool, false, List, ◌∷◌, ℕ, ◌+◌, ◌-◌, ◌*◌, ◌/◌, ◌≤◌, ◌<◌, eqb, ltb, length, drop, take, Option, Some, None, Result, Ok, Err}
 use Rattle.std.proofs.Math.Path.{sym, ap}
-use Rattle.std.proofs.Common.{◌∙◌, arith, length-drop, drop_of_length-le, drop-drop, take_all, length-take-le}
+use Rattle.std.proofs.Common.{◌∙◌, arith, length-drop, drop-drop, take_all, length-take-le}
 use Rattle.std.proofs.Math.Bool.{true}
-use borrow.Author.Tests.{le-leb, lt-leb, lt-ltb, le-ltb, eq-eqb, ne_eqb}
-use Rattle.basics.specs.Tests.{either, either_same, ask, ask_less}
+use borrow.Author.Tests.{eqb-true, eqb-false, le-leb, lt-leb, lt-ltb, le-ltb, eq-eqb, ne_eqb}
+use Rattle.basics.specs.Tests.{either, either_same, ask, ask_less, never}
 use Rattle.room.specs.declared.Room.{Room}
 use Rattle.room.specs.Room.{volume}
 use Rattle.numbers.specs.Refusals.{done_number, sheet_number, buffer_number}
@@ -13,7 +13,7 @@ use Rattle.job_sheet.specs.declared.Job.{Job}
 use Rattle.job_sheet.specs.declared.Reading.{Reading}
 use Rattle.job_sheet.specs.declared.Judgement.TheVariants.{Sheet}
 use Rattle.job_sheet.specs.Version.{version_in}
-use Rattle.job_sheet.specs.Sheet.{Contents, is_good, number_of, judged, job_of, accepted, refused, answer, Read}
+use Rattle.job_sheet.specs.Sheet.{Contents, is_good, number_of, judged, job_of, refused, answer, Read}
 use Rattle.job_sheet.specs.Places.{contents_in, shaped, blocks_in}
 use Rattle.job_sheet.specs.Accepted.{Accepted}
 use Rattle.job_sheet.specs.RecordLaws.{Bytes}
@@ -21,17 +21,21 @@ use Rattle.job_sheet.specs.LayoutLaws.{contents-back}
 use Rattle.job_sheet.proofs.FaultLaws.{good-is}
 use Rattle.job_sheet.proofs.ReadLaws.{shaped-is, read-refused, read-accepted, read-nothing}
 use Rattle.job_sheet.proofs.Theorems.{coincide}
-use Rattle.blocks.specs.declared.Placement.{Placement}
 use Rattle.ends.specs.declared.Ends.{Ends}
-use Rattle.ends.specs.Ends.{sinks_in, ends_of}
-use Rattle.outset.specs.SetOut.{number_by, detail_by}
-use Rattle.outset.specs.SetOutLaws.{same_ends, use_of, sinks_in_lem}
+use Rattle.ends.specs.declared.Fault.{Fault}
+use Rattle.ends.specs.Ends.{sinks_in, fault_of, ends_of, realized_ends}
+use Rattle.job_sheet.specs.declared.Judgement.{Judgement}
+use Rattle.job_sheet.specs.declared.Judgement.TheVariants as judgement
+use Rattle.ends.specs.EndLaws.{fault-late, ends-told, fault-told}
+use Rattle.outset.specs.declared.Refusal.{Refusal}
+use Rattle.outset.specs.SetOut.{number_by, detail_by, refusal_number, refusal_detail, told_by}
+use Rattle.outset.specs.SetOutLaws.{told-refused, use_of, sinks_in_lem}
 use Rattle.job_list.specs.declared.Memory.{Memory}
 use Rattle.job_list.specs.declared.Due.{Due}
 use Rattle.job_list.specs.declared.Verdict.{Verdict}
 use Rattle.job_list.specs.Split.{sheet_long, first_sheet, behind_first, sheets_in, sheets_of}
 use Rattle.job_list.specs.SplitLaws.{long-most, long-some, sheets_some, sheets_none}
-use Rattle.job_list.specs.Judged.{same_ground, contents_at, net_judgement, memory_good, repeats_in, placed_or_not, due, ends_due, net_due, all_good, refused_at, judged_from, judged_list}
+use Rattle.job_list.specs.Judged.{same_ground, contents_at, net_judgement, memory_good, repeats_in, placed_or_not, due, told_due, ends_told, ends_due, net_due, all_good, refused_at, judged_from, judged_list}
 
 -- ---- number 6
 
@@ -91,41 +95,111 @@ accepted-room A = (use_of A).room-is ∙ ap (λ J. J.room) (accepted-contents A)
 
 -- ---- a net
 
+-- what is told of a number
+pub told-of : {d D : Due} → d ≡ D → d.number ≢ done_number → Err d ≡ told_due D
+told-of e n = rw (← e, ne_eqb _ _ n)
+
+pub told-by : (d : Due) {x : Due} → Err x ≡ told_due d → (x ≡ d) × (x.number ≢ done_number)
+told-by d {x} q =
+    ask (eqb d.number done_number)
+    (λ t. never (cc (rw t at q)))
+    (λ f. let same : x ≡ d = cc (rw f at q) in (same, rw same (eqb-false _ _ f)))
+
+told-none : (d : Due) → Ok tt ≡ told_due d → d.number ≡ done_number
+told-none d q = ask (eqb d.number done_number) (λ t. eqb-true _ _ t) (λ f. never (cc (rw f at q)))
+
+number-some : (j : Judgement) → is_good j ≡ false → number_of j ≢ done_number
+number-some judgement.Good f e = never (cc)
+number-some judgement.Sheet f e = absurd (omega arith)
+number-some judgement.Sides f e = absurd (omega arith)
+number-some judgement.Config f e = absurd (omega arith)
+number-some judgement.Position f e = absurd (omega arith)
+number-some judgement.Code f e = absurd (omega arith)
+
 module _ (M : Memory) (F : Contents) (k : ℕ) (s : List ℕ) where
-  pub net-elsewhere : same_ground F (contents_at s) ≡ false → due sheet_number 0 ≡ net_due M F k s
+  pub net-elsewhere : same_ground F (contents_at s) ≡ false → {d : Due} → d ≡ due sheet_number 0 → Err d ≡ told_due (net_due M F k s)
   unfolding net_due net_judgement
-  net-elsewhere e = rw (e, either_same (shaped (version_in s) s) Sheet)
+  net-elsewhere e {d} q = told-of (q ∙ here) (λ z. omega (arith, z, ap (λ x. x.number) q))
+    where
+      here : due sheet_number 0 ≡ net_due M F k s
+      here = rw (e, either_same (shaped (version_in s) s) Sheet)
 
   module _ (b : Bytes s) (same : same_ground F (contents_at s) ≡ true) {r : Reading} (R : Read s r) where
-    pub net-refused : is_good r.judgement ≡ false → (n : ℕ) → n ≡ number_of r.judgement → due n 0 ≡ net_due M F k s
+    pub net-refused : is_good r.judgement ≡ false → (n : ℕ) → n ≡ number_of r.judgement → {d : Due} → d ≡ due n 0 → Err d ≡ told_due (net_due M F k s)
     unfolding net_due
-    net-refused g n e = let j = judgement-is s b F same R in rw (← j, g, e)
+    net-refused g n e {d} q = told-of (q ∙ here) (λ z. number-some r.judgement g (sym e ∙ sym (ap (λ x. x.number) q) ∙ z))
+      where
+        here : due n 0 ≡ net_due M F k s
+        here = let j = judgement-is s b F same R in rw (← j, g, e)
 
     module _ (g : is_good r.judgement ≡ true) (A : Accepted s r.job) where
-      pub net-unlent : memory_good M r.job.room k ≡ false → due buffer_number 0 ≡ net_due M F k s
+      pub net-unlent : memory_good M r.job.room k ≡ false → {d : Due} → d ≡ due buffer_number 0 → Err d ≡ told_due (net_due M F k s)
       unfolding net_due
-      net-unlent m = let j = judgement-is s b F same R in rw (← j, g, ← accepted-room A, m)
+      net-unlent m {d} q = told-of (q ∙ here) (λ z. omega (arith, z, ap (λ x. x.number) q))
+        where
+          here : due buffer_number 0 ≡ net_due M F k s
+          here = let j = judgement-is s b F same R in rw (← j, g, ← accepted-room A, m)
 
-      pub net-ends : memory_good M r.job.room k ≡ true → {d : Due} → d ≡ ends_due (contents_at s) → d ≡ net_due M F k s
+      pub net-ends : memory_good M r.job.room k ≡ true → {d : Result Unit Due} → d ≡ told_due (ends_due (contents_at s)) → d ≡ told_due (net_due M F k s)
       unfolding net_due
       net-ends m {d} e =
           let j = judgement-is s b F same R in
           let n : memory_good M (contents_at s).room k ≡ true = ap (λ Q. memory_good M Q k) (sym (accepted-room A)) ∙ m in
           rw (← j, g, n) e
 
-pub ends-due : {s : List ℕ} {job : Job} (A : Accepted s job) {repeats : Bool} {p : Placement} {e : Ends} {n d : ℕ} → repeats ≡ repeats_in job.room (blocks_in s job.blocks)
-    → p ≡ placed_or_not repeats
-    → e ≡ ends_of job.room job.source (sinks_in job.sinks)
-    → n ≡ number_by p e.fault
-    → d ≡ detail_by p e.fault
-    → due n d ≡ ends_due (contents_at s)
-unfolding ends_due ends_of
-ends-due {s} {job} A {repeats} {p} {e} a b c f g =
-    let C = contents_at s in
-    let J : A.contents ≡ C = accepted-contents A in
-    let same : repeats ≡ repeats_in C.room C.blocks = a ∙ (λ i. repeats_in ((use_of A).room-is i) ((use_of A).blocks.are i)) ∙ ap (λ K. repeats_in K.room K.blocks) J in
-    let ends : e ≡ ends_of C.room C.source C.sinks = c ∙ same_ends (use_of A).room-is (use_of A).source_is (sinks_in_lem A) ∙ ap (λ K. ends_of K.room K.source K.sinks) J in
-    rw (f, g, b, same, ends)
+-- the ends, as they are told, tell the number
+due-none : (J : Contents) {e : Ends} → ends_told J ≡ Ok e → due done_number 0 ≡ ends_due J
+unfolding ends_told ends_due
+due-none K q = go (repeats_in K.room K.blocks) (fault_of K.room K.source K.sinks) (ends_of K.room K.source K.sinks) q
+  where
+    go : (repeats : Bool) (f : Option Fault) (E : Ends) {e : Ends} → told_by (placed_or_not repeats) f E ≡ Ok e → due done_number 0 ≡ due (number_by (placed_or_not repeats) f) (detail_by (placed_or_not repeats) f)
+    go true f E q = never (cc)
+    go false None E q = refl
+    go false (Some fault) E q = never (cc)
+
+pub due-good : (J : Contents) {e : Ends} → ends_told J ≡ Ok e → Ok tt ≡ told_due (ends_due J)
+due-good J q = ap told_due (due-none J q)
+
+refusal-some : (x : Refusal) → refusal_number x ≢ done_number
+refusal-some (Refusal.Blocks overlap) e = absurd (omega arith)
+refusal-some (Refusal.End fault) e = absurd (omega (arith, (fault-late fault.due).0, e))
+
+pub due-refused : (J : Contents) {x : Refusal} → ends_told J ≡ Err x → {n d : ℕ} → n ≡ refusal_number x → d ≡ refusal_detail x → Err (due n d) ≡ told_due (ends_due J)
+unfolding ends_told ends_due
+due-refused J {x} q {n} {d} a b = told-of here (λ z. refusal-some x (sym a ∙ z))
+  where
+    here : due n d ≡ ends_due J
+    here = let t = told-refused _ _ _ (sym q) in rw (a, b, t.number-is, t.detail-is)
+
+module _ {s : List ℕ} {job : Job} (A : Accepted s job) where
+  here : A.contents ≡ contents_at s
+  here = accepted-contents A
+
+  same_repeats : {repeats : Bool} → repeats ≡ repeats_in job.room (blocks_in s job.blocks) → repeats ≡ repeats_in (contents_at s).room (contents_at s).blocks
+  same_repeats a = a ∙ (λ i. repeats_in ((use_of A).room-is i) ((use_of A).blocks.are i)) ∙ ap (λ K. repeats_in K.room K.blocks) here
+
+  same_realized : realized_ends job.room job.source (sinks_in job.sinks) ≡ realized_ends (contents_at s).room (contents_at s).source (contents_at s).sinks
+  same_realized = (λ i. realized_ends ((use_of A).room-is i) ((use_of A).source_is i) (sinks_in_lem A i)) ∙ ap (λ K. realized_ends K.room K.source K.sinks) here
+
+  pub accepted-fault : fault_of job.room job.source (sinks_in job.sinks) ≡ fault_of (contents_at s).room (contents_at s).source (contents_at s).sinks
+  accepted-fault = (λ i. fault_of ((use_of A).room-is i) ((use_of A).source_is i) (sinks_in_lem A i)) ∙ ap (λ K. fault_of K.room K.source K.sinks) here
+
+  pub told-repeats : {repeats : Bool} → repeats ≡ repeats_in job.room (blocks_in s job.blocks) → repeats ≡ true → Err (Refusal.Blocks (record { cell = 0 })) ≡ ends_told (contents_at s)
+  unfolding ends_told
+  told-repeats a t = let r : repeats_in (contents_at s).room (contents_at s).blocks ≡ true = sym (same_repeats a) ∙ t in rw r
+
+  module _ {repeats : Bool} (a : repeats ≡ repeats_in job.room (blocks_in s job.blocks)) (t : repeats ≡ false)
+      {r : Result Ends Fault} (is : r ≡ realized_ends job.room job.source (sinks_in job.sinks)) where
+    apart_here : repeats_in (contents_at s).room (contents_at s).blocks ≡ false
+    apart_here = sym (same_repeats a) ∙ t
+
+    pub told-good : {e : Ends} → r ≡ Ok e → Ok e ≡ ends_told (contents_at s)
+    unfolding ends_told
+    told-good q = let z = ends-told _ _ _ (is ∙ same_realized) q in rw (apart_here, z.0, z.1)
+
+    pub told-end : {x : Fault} → r ≡ Err x → Err (Refusal.End x) ≡ ends_told (contents_at s)
+    unfolding ends_told
+    told-end q = rw (apart_here, fault-told _ _ _ (is ∙ same_realized) q)
 
 -- ---- the walk along the list
 
@@ -178,34 +252,47 @@ module _ (M : Memory) (list : List ℕ) where
       behind-here : behind_first (drop place list) ≡ drop end list
       behind-here = drop-drop (sheet_long (drop place list)) place list ∙ ap (λ n. drop n list) (sym e)
 
-      module _ {first : ℕ} (f : first ≡ sheet_long list) {d : Due} (is : d ≡ net_due M (contents_at (take first list)) net (take (end - place) (drop place list))) where
+      module _ {first : ℕ} (f : first ≡ sheet_long list) {a : Result Unit Due}
+          (is : a ≡ told_due (net_due M (contents_at (take first list)) net (take (end - place) (drop place list)))) where
+        abbrev due_here : Due
+        due_here = net_due M (contents_at (take first list)) net (take (end - place) (drop place list))
+
         step : judged_from M (contents_at (first_sheet list)) net (sheets_in (drop place list))
-            ≡ either (eqb d.number done_number) (judged_from M (contents_at (first_sheet list)) (net + 1) (sheets_in (drop end list))) (refused_at net d)
+            ≡ either (eqb due_here.number done_number) (judged_from M (contents_at (first_sheet list)) (net + 1) (sheets_in (drop end list))) (refused_at net due_here)
         unfolding judged_from
         step =
-            let g : d ≡ net_due M (contents_at (first_sheet list)) net (first_sheet (drop place list)) = is ∙ (λ i. net_due M (contents_at (take (f i) list)) net (sheet-here i)) in
+            let g : due_here ≡ net_due M (contents_at (first_sheet list)) net (first_sheet (drop place list)) = λ i. net_due M (contents_at (take (f i) list)) net (sheet-here i) in
             ap (judged_from M (contents_at (first_sheet list)) net) (sheets_some (drop place list) left-some ∙ ap (λ l. first_sheet (drop place list) ∷ sheets_in l) behind-here)
             ∙ rw (← g)
 
-        pub judging_refused : (d.number ≡ done_number → ⊥) → {r : Verdict} → r ≡ refused_at net d → r ≡ judged_from M (contents_at (first_sheet list)) 1 (sheets_in (behind_first list))
-        judging_refused n q = q ∙ sym (step ∙ rw (ne_eqb _ _ n)) ∙ S.left
+        pub judging_refused : {d : Due} → a ≡ Err d → {r : Verdict} → r ≡ refused_at net d → r ≡ judged_from M (contents_at (first_sheet list)) 1 (sheets_in (behind_first list))
+        judging_refused {d} p q =
+            let t = told-by due_here (sym p ∙ is) in
+            let n : due_here.number ≢ done_number = λ z. t.1 (ap (λ x. x.number) t.0 ∙ z) in
+            q ∙ ap (refused_at net) t.0 ∙ sym (step ∙ rw (ne_eqb _ _ n)) ∙ S.left
 
-        pub judging_next : d.number ≡ done_number → JudgedSoFar M list (net + 1) end
-        judging_next n = record {
+        pub judging_next : a ≡ Ok tt → JudgedSoFar M list (net + 1) end
+        judging_next p = record {
           within = end-within;
           few = λ some. omega (arith, S.few some, end-behind);
-          left = sym (step ∙ rw (eq-eqb _ _ n)) ∙ S.left;
+          left = let n = told-none due_here (sym p ∙ is) in sym (step ∙ rw (eq-eqb _ _ n)) ∙ S.left;
         }
 
-  module _ {first : ℕ} (f : first ≡ sheet_long list) {d : Due} (is : d ≡ net_due M (contents_at (take first list)) 0 (take first list)) where
-    first_step : judged_list M list ≡ either (eqb d.number done_number) (judged_from M (contents_at (first_sheet list)) 1 (sheets_in (behind_first list))) (refused_at 0 d)
+  module _ {first : ℕ} (f : first ≡ sheet_long list) {a : Result Unit Due} (is : a ≡ told_due (net_due M (contents_at (take first list)) 0 (take first list))) where
+    abbrev first_due : Due
+    first_due = net_due M (contents_at (take first list)) 0 (take first list)
+
+    first_step : judged_list M list ≡ either (eqb first_due.number done_number) (judged_from M (contents_at (first_sheet list)) 1 (sheets_in (behind_first list))) (refused_at 0 first_due)
     unfolding judged_list judged_from sheets_of
     first_step =
-        let g : d ≡ net_due M (contents_at (first_sheet list)) 0 (first_sheet list) = is ∙ (λ i. net_due M (contents_at (take (f i) list)) 0 (take (f i) list)) in
+        let g : first_due ≡ net_due M (contents_at (first_sheet list)) 0 (first_sheet list) = λ i. net_due M (contents_at (take (f i) list)) 0 (take (f i) list) in
         rw (← g)
 
-    pub first-refused : (d.number ≡ done_number → ⊥) → {r : Verdict} → r ≡ refused_at 0 d → r ≡ judged_list M list
-    first-refused n q = q ∙ sym (first_step ∙ rw (ne_eqb _ _ n))
+    pub first-refused : {d : Due} → a ≡ Err d → {r : Verdict} → r ≡ refused_at 0 d → r ≡ judged_list M list
+    first-refused {d} p q =
+        let t = told-by first_due (sym p ∙ is) in
+        let n : first_due.number ≢ done_number = λ z. t.1 (ap (λ x. x.number) t.0 ∙ z) in
+        q ∙ ap (refused_at 0) t.0 ∙ sym (first_step ∙ rw (ne_eqb _ _ n))
 
-    pub first-passed : d.number ≡ done_number → {r : Verdict} → r ≡ judged_from M (contents_at (first_sheet list)) 1 (sheets_in (behind_first list)) → r ≡ judged_list M list
-    first-passed n q = q ∙ sym (first_step ∙ rw (eq-eqb _ _ n))
+    pub first-passed : a ≡ Ok tt → {r : Verdict} → r ≡ judged_from M (contents_at (first_sheet list)) 1 (sheets_in (behind_first list)) → r ≡ judged_list M list
+    first-passed p q = let n = told-none first_due (sym p ∙ is) in q ∙ sym (first_step ∙ rw (eq-eqb _ _ n))

@@ -1,6 +1,6 @@
 -- Numbers 1 to 9 of a job list: "judged for all jobs in list order before any is routed", all of them of net 0, then of net 1. Definitions alone; their laws
 -- are in the files named Laws.
-use Rattle.std.specs.Prelude.{Bool, true, false, ◌&&◌, ◌||◌, List, [], ◌∷◌, ℕ, suc, ◌+◌, ◌*◌, eqb, leb}
+use Rattle.std.specs.Prelude.{Bool, true, false, ◌&&◌, ◌||◌, List, [], ◌∷◌, ℕ, ◌+◌, ◌*◌, eqb, leb, Result, Ok, Err}
 use Rattle.numbers.specs.Refusals.{done_number, buffer_number}
 use Rattle.basics.specs.Tests.{either}
 use Rattle.basics.specs.Lists.{any}
@@ -13,10 +13,11 @@ use Rattle.job_sheet.specs.declared.Judgement.TheVariants.{Sheet}
 use Rattle.job_sheet.specs.Version.{version_in}
 use Rattle.job_sheet.specs.Sheet.{Contents, max_sinks, is_good, judged, number_of}
 use Rattle.job_sheet.specs.Places.{contents_in, shaped}
-use Rattle.blocks.specs.declared.Placement.{Placement}
-use Rattle.blocks.specs.Blocks.{block_cell}
-use Rattle.ends.specs.Ends.{fault_of}
-use Rattle.outset.specs.SetOut.{number_by, detail_by}
+use Rattle.blocks.specs.Blocks.{Placement, Placed, RepeatAt, block_cell}
+use Rattle.ends.specs.declared.Ends.{Ends}
+use Rattle.ends.specs.Ends.{fault_of, ends_of}
+use Rattle.outset.specs.declared.Refusal.{Refusal}
+use Rattle.outset.specs.SetOut.{number_by, detail_by, told_by}
 use Rattle.job_list.specs.declared.Memory.{Memory}
 use Rattle.job_list.specs.declared.Due.{Due}
 use Rattle.job_list.specs.declared.Verdict.{Verdict}
@@ -65,15 +66,23 @@ repeats_in R (b ∷ bs) = any (λ c. eqb (block_cell R c) (block_cell R b)) bs |
 
 -- what is known of the blocks before lent memory is touched: the cell of the repeat is told later, see `cellOfRepeat`
 abbrev pub placed_or_not : Bool → Placement
-placed_or_not true = Placement.RepeatAt 0
-placed_or_not false = Placement.Placed
+placed_or_not true = RepeatAt 0
+placed_or_not false = Placed
 
 -- ---- a net
 
 abbrev pub due : ℕ → ℕ → Due
 due number detail = record { number = number; detail = detail }
 
--- "7, all of 8, all of 9"
+-- it is due, unless its number is 0
+abbrev pub told_due : Due → Result Unit Due
+told_due d = either (eqb d.number done_number) (Ok tt) (Err d)
+
+-- "7, all of 8, all of 9": the ends of a net, or the first of these
+unfoldable pub ends_told : Contents → Result Ends Refusal
+ends_told J = told_by (placed_or_not (repeats_in J.room J.blocks)) (fault_of J.room J.source J.sinks) (ends_of J.room J.source J.sinks)
+
+-- that number and its detail
 unfoldable pub ends_due : Contents → Due
 ends_due J =
     let p = placed_or_not (repeats_in J.room J.blocks) in

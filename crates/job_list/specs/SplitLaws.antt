@@ -1,8 +1,8 @@
 -- Laws of a list's sheets: each takes a byte at least and no more than there are, and the sheets from one on are its first and those behind it.
-use Rattle.std.specs.Prelude.{◌≡◌, refl, true, false, List, [], ◌∷◌, ℕ, zero, suc, ◌+◌, ◌-◌, ◌≤◌, ◌<◌, ltb, length, take, drop}
-use Rattle.std.proofs.Common.{sym, ap, ◌∙◌, arith, length-drop, ltb-true, ltb-false, lt-ltb, le-ltb}
-use Rattle.basics.specs.Tests.{either, ask}
-use Rattle.job_list.specs.Split.{told_long, sheet_long, first_sheet, behind_first, sheets_within, sheets_in, sheets_of}
+use Rattle.std.specs.Prelude.{◌≡◌, refl, List, [], ◌∷◌, ℕ, zero, suc, ◌≤◌, ◌<◌, ltb, length}
+use Rattle.std.proofs.Common.{sym, ap, arith, length-drop, ltb-true, ltb-false, lt-ltb, le-ltb}
+use Rattle.basics.specs.Tests.{ask}
+use Rattle.job_list.specs.Split.{told_long, sheet_long, first_sheet, behind_first, sheets_within, sheets_in}
 
 module _ (l : List ℕ) where
   pub long-most : sheet_long l ≤ length l

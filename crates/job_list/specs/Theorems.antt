@@ -1,5 +1,5 @@
 -- What the judging of a list comes to in the sheet's own words, and that a repeat found before lent memory is touched is the one that number 7 names.
-use Rattle.std.specs.Prelude.{◌≡◌, refl, ◌⊎◌, Bool, true, false, ◌||◌, List, [], ◌∷◌, ℕ, zero, suc, ◌≤◌, ◌<◌, eqb, length, get_or}
+use Rattle.std.specs.Prelude.{◌≡◌, refl, ◌⊎◌, Bool, true, false, ◌||◌, List, [], ◌∷◌, ℕ, zero, suc, ◌≤◌, ◌<◌, eqb, length}
 use Rattle.std.proofs.Common.{sym, ap, ◌∙◌, inl, inr, not-suc-le-zero, le_of_suc-le-suc, arith, eqb-true, eq-eqb}
 use Rattle.basics.specs.Tests.{either, ask, ask_less, never}
 use Rattle.basics.specs.Lists.{any}
@@ -8,15 +8,15 @@ use Rattle.job_sheet.specs.declared.Block.{Block}
 use Rattle.job_sheet.specs.declared.Judgement.TheVariants.{Sheet}
 use Rattle.job_sheet.specs.Version.{version_in}
 use Rattle.job_sheet.specs.Sheet.{Contents, Means, judged, answer, refused}
-use Rattle.job_sheet.specs.Places.{contents_in, shaped, no_block}
+use Rattle.job_sheet.specs.Places.{contents_in, shaped}
 use Rattle.job_sheet.specs.RecordLaws.{Bytes}
 use Rattle.job_sheet.specs.LayoutLaws.{contents-back}
 use Rattle.job_sheet.proofs.FaultLaws.{judged_not}
 use Rattle.job_sheet.proofs.ReadLaws.{read-nothing}
 use Rattle.job_sheet.proofs.Theorems.{number-one}
-use Rattle.blocks.specs.declared.Placement.{Placement}
-use Rattle.blocks.specs.declared.Placement.TheVariants.{Placed, RepeatAt}
-use Rattle.blocks.specs.Blocks.{block_cell, record_cell, record_node, Repeat, Placing, each-its-own, one-repeated}
+use Rattle.blocks.specs.Blocks.{Placement}
+use Rattle.std.specs.Prelude.{Ok, Err}
+use Rattle.blocks.specs.Blocks.{block_cell, record_cell, record_node, Placing, each-its-own, one-repeated}
 use Rattle.job_list.specs.Judged.{same_ground, contents_at, net_judgement, repeats_in}
 use Rattle.job_list.specs.JudgeLaws.{answer-judgement, shaped-read}
 
@@ -90,8 +90,8 @@ pair_repeats R (b ∷ bs) (suc i) (suc j) h k e = rw (pair_repeats R bs i j (ome
 
 -- two blocks take one cell exactly where number 7 is due: laying them out then names the cell
 abbrev pub is_repeat : Placement → Bool
-is_repeat Placed = false
-is_repeat (RepeatAt v) = true
+is_repeat (Ok placed) = false
+is_repeat (Err overlap) = true
 
 pub repeats_placing : (R : Room) (bs : List Block) {p : Placement} → Placing R bs (length bs) p → repeats_in R bs ≡ is_repeat p
 repeats_placing R bs (each-its-own none e) =

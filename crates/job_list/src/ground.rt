@@ -9,43 +9,25 @@ ghost use Rattle.job_list.specs.Grounds.{BlocksListed};
 use job_sheet::{Block, Part, places, versions};
 use room::{Pos, Room};
 
+#[tactic(auto, unfolding(crate::specs::Judged::same_sides))]
 fn same_sides(a: Room, b: Room) -> bool
     ensures { result ≡ same_sides a b }
 {
-    if a.wide != b.wide {
-        return false;
-    }
-    if a.high != b.high {
-        return false;
-    }
-    a.deep == b.deep
+    a.wide == b.wide && a.high == b.high && a.deep == b.deep
 }
 
+#[tactic(auto, unfolding(crate::specs::Judged::same_place))]
 fn same_place(a: Pos, b: Pos) -> bool
     ensures { result ≡ same_place a b }
 {
-    if a.x != b.x {
-        return false;
-    }
-    if a.y != b.y {
-        return false;
-    }
-    a.z == b.z
+    a.x == b.x && a.y == b.y && a.z == b.z
 }
 
+#[tactic(auto, unfolding(crate::specs::Judged::same_block))]
 fn same_block(a: Block, b: Block) -> bool
     ensures { result ≡ same_block a b }
 {
-    if a.node != b.node {
-        return false;
-    }
-    if !same_place(a.at, b.at) {
-        return false;
-    }
-    if a.kind != b.kind {
-        return false;
-    }
-    a.facing == b.facing
+    a.node == b.node && same_place(a.at, b.at) && a.kind == b.kind && a.facing == b.facing
 }
 
 // The blocks of a sheet, whatever its other bytes are.
@@ -73,12 +55,10 @@ fn same_blocks(first: &[u8], sheet: &[u8]) -> bool
     if a.count != b.count {
         return false;
     }
-    let mut i: usize = 0;
-    while i < a.count {
+    for i in 0..a.count {
         if !same_block(block_in(first, a, i), block_in(sheet, b, i)) {
             return false;
         }
-        i += 1;
     }
     true
 }
@@ -92,13 +72,11 @@ fn room_of(sheet: &[u8]) -> Room
 }
 
 // Whether a sheet has the first one's room and blocks, by value.
+#[tactic(auto, unfolding(crate::specs::Judged::same_ground))]
 pub fn same_ground(first: &[u8], sheet: &[u8]) -> bool
     ensures { result ≡ same_ground (contents_at first.now) (contents_at sheet.now) }
 {
-    if !same_sides(room_of(first), room_of(sheet)) {
-        return false;
-    }
-    same_blocks(first, sheet)
+    same_sides(room_of(first), room_of(sheet)) && same_blocks(first, sheet)
 }
 
 // Marks the cell of each block, and whether one was marked already.
@@ -109,15 +87,13 @@ fn marked_twice(sheet: &[u8], part: Part, room: Room, seen: &mut [u8]) -> bool
     requires seen_value { seen.old ≡ replicate (length seen.old) 0 }
     ensures { result ≡ repeats_in room (blocks_in sheet.now part) }
 {
-    let mut i: usize = 0;
-    while i < part.count {
+    for i in 0..part.count {
         let block = job_sheet::block_at(sheet, part, i);
         let cell = room.cell(block.at);
         if seen[cell] != 0 {
             return true;
         }
         seen[cell] = 1;
-        i += 1;
     }
     false
 }

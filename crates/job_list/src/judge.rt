@@ -3,77 +3,75 @@ ghost use Rattle.std.specs.Prelude.{◌≡◌};
 ghost use Rattle.room.specs.Room.{Good};
 ghost use Rattle.job_sheet.specs.Accepted.{Accepted};
 ghost use Rattle.job_list.specs.Split.{sheet_long, first_sheet, behind_first, sheets_in};
-ghost use Rattle.job_list.specs.Judged.{contents_at, memory_good, placed_or_not, ends_due, net_due, refused_at, judged_from, judged_list};
+ghost use Rattle.job_list.specs.Judged.{contents_at, memory_good, due, told_due, ends_told, ends_due, net_due, refused_at, judged_from, judged_list};
+ghost use Rattle.job_list.specs.Told.{told_list};
 
 use crate::{Due, Memory, Verdict, ground, sheet_size};
-use blocks::Placement;
+use blocks::Overlap;
+use ends::Ends;
 use job_sheet::Job;
+use outset::Refusal;
 use room::Room;
 
 // Number 6 is due where this is false: sixteen lengths for each net up to this one.
+#[tactic(auto, unfolding(crate::specs::Judged::memory_good))]
 fn memory_good(memory: Memory, room: Room, net: usize) -> bool
     requires { Good room }
     ensures { result ≡ memory_good memory room net }
 {
-    if memory.cells < room.volume() {
-        return false;
-    }
-    if memory.places < 1 {
-        return false;
-    }
-    net < memory.lengths / job_sheet::MAX_SINKS
+    room.volume() <= memory.cells
+        && 1 <= memory.places
+        && net < memory.lengths / job_sheet::MAX_SINKS
 }
 
-// What is known of the blocks of an accepted sheet before lent memory is touched.
-fn placed_or_not(repeats: bool) -> Placement
-    ensures { result ≡ placed_or_not repeats }
-{
-    if repeats {
-        Placement::RepeatAt(0)
-    } else {
-        Placement::Placed
-    }
-}
-
-// Numbers 7, 8 and 9 of an accepted sheet.
-fn ends_due(sheet: &[u8], job: Job) -> Due
+// Number 7, 8 or 9 of an accepted sheet. Lent memory is not touched: the cell of a repeat is told later.
+fn ends_refused(sheet: &[u8], job: Job) -> Result<Ends, Refusal>
     requires { Accepted sheet.now job }
-    ensures { result ≡ ends_due (contents_at sheet.now) }
+    ensures { result ≡ ends_told (contents_at sheet.now) }
 {
-    let placement = placed_or_not(ground::cell_repeats(sheet, job.blocks, job.room));
-    let ends = ends::realize_ends(job.room, job.source, job.sinks);
-    let fault = ends.fault;
-    Due {
-        number: outset::number_by(placement, fault),
-        detail: outset::detail_by(placement, fault),
+    if ground::cell_repeats(sheet, job.blocks, job.room) {
+        return Err(Refusal::Blocks(Overlap { cell: 0 }));
     }
+    Ok(ends::realize_ends(job.room, job.source, job.sinks)?)
+}
+
+// The number of that, and its detail.
+fn ends_due(sheet: &[u8], job: Job) -> Result<(), Due>
+    requires { Accepted sheet.now job }
+    ensures { result ≡ told_due (ends_due (contents_at sheet.now)) }
+{
+    match ends_refused(sheet, job) {
+        Ok(_) => Ok(()),
+        Err(refusal) => Err(Due {
+            number: refusal.number(),
+            detail: refusal.detail(),
+        }),
+    }
+}
+
+// A number without a detail.
+fn due_alone(number: u32) -> Due
+    ensures { result ≡ due number 0 }
+{
+    Due { number, detail: 0 }
 }
 
 // The first of numbers 1 to 9 that is due for a net, whose sheet this is, in a list with that first sheet.
-fn judge_net(memory: Memory, first: &[u8], net: usize, sheet: &[u8]) -> Due
-    ensures { result ≡ net_due memory (contents_at first.now) net sheet.now }
+fn judge_net(memory: Memory, first: &[u8], net: usize, sheet: &[u8]) -> Result<(), Due>
+    ensures { result ≡ told_due (net_due memory (contents_at first.now) net sheet.now) }
 {
     // Another room than the first one's is number 1, with the other reasons for it, so before 2 to 5.
     if !ground::same_ground(first, sheet) {
-        return Due {
-            number: numbers::SHEET_NUMBER,
-            detail: 0,
-        };
+        return Err(due_alone(numbers::SHEET_NUMBER));
     }
     let reading = sheet_reader::read_sheet(sheet);
     let judgement = reading.judgement;
     if !judgement.is_good() {
-        return Due {
-            number: judgement.number(),
-            detail: 0,
-        };
+        return Err(due_alone(judgement.number()));
     }
     let job = reading.job;
     if !memory_good(memory, job.room, net) {
-        return Due {
-            number: numbers::BUFFER_NUMBER,
-            detail: 0,
-        };
+        return Err(due_alone(numbers::BUFFER_NUMBER));
     }
     ends_due(sheet, job)
 }
@@ -90,36 +88,31 @@ fn refused_at(net: usize, due: Due) -> Verdict
 }
 
 // The nets behind the first, which ends there.
-fn judge_others(memory: Memory, list: &[u8], first: usize) -> Verdict
+fn judge_others(memory: Memory, list: &[u8], first: usize) -> Result<(), Verdict>
     requires { first ≡ sheet_long list.now }
-    ensures { result ≡ judged_from memory (contents_at (first_sheet list.now)) 1 (sheets_in (behind_first list.now)) }
+    ensures { result ≡ told_list (judged_from memory (contents_at (first_sheet list.now)) 1 (sheets_in (behind_first list.now))) }
 {
     let mut place = first;
     let mut net: usize = 1;
+    // no counting loop: each sheet says itself where it ends
     while place < list.len() {
         let end = place + sheet_size(&list[place..]);
-        let due = judge_net(memory, &list[..first], net, &list[place..end]);
-        if due.number != numbers::DONE_NUMBER {
-            return refused_at(net, due);
+        if let Err(due) = judge_net(memory, &list[..first], net, &list[place..end]) {
+            return Err(refused_at(net, due));
         }
         place = end;
         net += 1;
     }
-    Verdict {
-        number: numbers::DONE_NUMBER,
-        net: 0,
-        detail: 0,
-    }
+    Ok(())
 }
 
 // Numbers 1 to 9 of a whole list; no lent memory is touched.
-pub fn judge_list(memory: Memory, list: &[u8]) -> Verdict
-    ensures { result ≡ judged_list memory list.now }
+pub fn judge_list(memory: Memory, list: &[u8]) -> Result<(), Verdict>
+    ensures { result ≡ told_list (judged_list memory list.now) }
 {
     let first = sheet_size(list);
-    let due = judge_net(memory, &list[..first], 0, &list[..first]);
-    if due.number != numbers::DONE_NUMBER {
-        return refused_at(0, due);
+    if let Err(due) = judge_net(memory, &list[..first], 0, &list[..first]) {
+        return Err(refused_at(0, due));
     }
     judge_others(memory, list, first)
 }

@@ -20,14 +20,14 @@ pub struct Memory {
     pub lengths: usize,
 }
 
-// The number that is due for a net, 0 for none, and its detail. Of number 7 the detail is told later, by `place_blocks`.
+// The number that is due for a net, and its detail. Of number 7 the detail is told later, by `place_blocks`.
 #[derive(Clone, Copy)]
 pub struct Due {
     pub number: u32,
     pub detail: usize,
 }
 
-// The number that is due for a list, 0 for none, the net that it is due for, from 0, and its detail.
+// The number that is due for a list, the net that it is due for, from 0, and its detail.
 #[derive(Clone, Copy)]
 pub struct Verdict {
     pub number: u32,

@@ -1,6 +1,6 @@
 -- The two loops: the first fault of a part's records, and the sinks gathered one by one.
-use Rattle.std.specs.Prelude.{◌≡◌, true, false, List, [], ◌∷◌, ◌++◌, ℕ, suc, ◌+◌, ◌-◌, ◌*◌, ◌≤◌, ◌<◌, length, drop, set, replicate}
-use Rattle.std.proofs.Common.{sym, ap, ◌∙◌, le_of_lt, mul-le-mul_left, mul-suc, add-one, arith, drop-drop}
+use Rattle.std.specs.Prelude.{◌≡◌, refl, true, false, List, [], ◌∷◌, ◌++◌, ℕ, suc, ◌+◌, ◌-◌, ◌*◌, ◌≤◌, ◌<◌, length, drop, set, replicate}
+use Rattle.std.proofs.Common.{sym, ap, ◌∙◌, le_of_lt, mul-le-mul_left, mul-suc, mul-zero, add-one, arith, drop-drop}
 use Rattle.basics.specs.Padding.{padded_next}
 use Rattle.room.specs.declared.Room.{Room}
 use Rattle.job_sheet.specs.declared.Part.{Part}
@@ -9,7 +9,7 @@ use Rattle.job_sheet.specs.declared.Sinks.{Sinks}
 use Rattle.job_sheet.specs.declared.Version.{Version}
 use Rattle.job_sheet.specs.declared.faults.Records.{Records}
 use Rattle.job_sheet.specs.declared.Judgement.{Judgement}
-use Rattle.job_sheet.specs.Sheet.{max_sinks, is_good, first_fault, no_sink, sinks_of}
+use Rattle.job_sheet.specs.Sheet.{max_sinks, is_good, first_fault, no_sink, sinks_of, behind}
 use Rattle.job_sheet.specs.Places.{many, sink_in, sinks_in, fault_in}
 use Rattle.job_sheet.specs.RecordLaws.{many-long, many_snoc}
 use Rattle.job_sheet.proofs.FaultLaws.{fault_first, good-first, only-first}
@@ -49,6 +49,22 @@ module _ {v : Version} {s : List ℕ} {R : Room} {k : Records} {size : ℕ} {fou
         same = rw (n, ← drop-drop size place s) (sym (good-first fault _ g) ∙ rw e at I.same);
         inside = next_in h;
       }
+
+-- at the first record
+pub scan_begins : (v : Version) (s : List ℕ) (R : Room) (k : Records) (found : Judgement) (p : Part) → behind p ≤ length s
+    → Scanned v s R k p.size found p.from p.count found (p.from + p.size * 0) (p.count - 0)
+scan_begins v s R k found p h =
+    let a : p.from + p.size * 0 ≡ p.from = omega (arith, mul-zero p.size) in
+    let b : p.count - 0 ≡ p.count = omega arith in
+    rw (a, b) record { same = refl; inside = h }
+
+-- at the record behind record i
+pub scan_next : {v : Version} {s : List ℕ} {R : Room} {k : Records} {size : ℕ} {found : Judgement} {from count : ℕ} {fault : Judgement} (i : ℕ)
+    → Scanned v s R k size found from count fault (from + size * i + size) (count - i - 1) → Scanned v s R k size found from count fault (from + size * (i + 1)) (count - (i + 1))
+scan_next {size = size} {from = from} {count = count} i I =
+    let a : from + size * (i + 1) ≡ from + size * i + size = omega (arith, ap (λ n. size * n) (add-one i) ∙ mul-suc size i) in
+    let b : count - (i + 1) ≡ count - i - 1 = omega arith in
+    rw (a, b) I
 
 -- ---- the sinks
 

@@ -1,6 +1,6 @@
 -- The parts of a sheet stand where the definitions say: a sheet of J's bytes is read back as J, and what is read of a sheet that passes the tests of
 -- number 1 has the sheet's bytes.
-use Rattle.std.specs.Prelude.{◌≡◌, false, ◌||◌}
+use Rattle.std.specs.Prelude.{◌≡◌, ◌||◌}
 use Rattle.std.proofs.Math.Path.{refl, sym, ap}
 use Rattle.std.proofs.Common.{◌∙◌, add-zero, mul-one, length-append, drop_at, drop-cons, get_or-drop}
 use Rattle.std.proofs.Math.Bool.{Bool, true}
@@ -19,7 +19,7 @@ use Rattle.job_sheet.specs.declared.Version.{Version}
 use Rattle.job_sheet.specs.declared.places.Layout.{Layout}
 use Rattle.job_sheet.specs.UsualLimits.{usual_run, usual_tail}
 use Rattle.job_sheet.specs.Version.{position_size, block_size, endpoint_size, limit_size, sink_size, sides_place, config_place, config_size, run_place, lists_place}
-use Rattle.job_sheet.specs.Sheet.{Contents, max_bytes, max_sinks, two, four, sides, costs, position, block, endpoint, limit, sink, counted, sink_bytes, rest, bytes_by, usual, tells_limits, listed, source_at, sinks_listed, behind, layout_of}
+use Rattle.job_sheet.specs.Sheet.{Contents, max_bytes, max_sinks, two, four, sides, costs, position, block, endpoint, limit, sink, counted, sink_bytes, rest, bytes_by, usual, tells_limits, listed, source_at, behind, layout_of}
 use Rattle.job_sheet.specs.Places.{room_in, config_in, two_in, four_in, endpoint_in, limit_in, sink_in, many, blocks_in, positions_in, sinks_in, list_at, sinks_at, layout_in, contents_in, Shaped}
 use Rattle.job_sheet.specs.RecordLaws.{Bytes, CodingOf, Coding, four-back, positions, blocks, endpoints, limits, sinks, many-back, joined-long, many-long, many-forth, bytes_drop, two-forth, fours, configs, rooms, span_drop}
 

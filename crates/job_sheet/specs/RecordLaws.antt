@@ -4,7 +4,7 @@ use Rattle.std.proofs.Common.{sym, ap, ◌∙◌, append_assoc, div-add-mod', le
 use Rattle.std.proofs.Math.Arith.{digits_div, digits_mod}
 use Rattle.std.proofs.Math.Seq.{drop-drop}
 use Rattle.basics.specs.Tests.{and_left, and_right}
-use Rattle.basics.specs.Lists.{every, every-all, joined}
+use Rattle.basics.specs.Lists.{every, joined}
 use Rattle.room.specs.declared.Pos.{Pos}
 use Rattle.room.specs.Room.{at}
 use Rattle.job_sheet.specs.declared.Block.{Block}

@@ -120,32 +120,26 @@ fn first_fault(
     requires { behind part ≤ length sheet.now }
     ensures { result ≡ first_fault (found ∷ faults_in version room records sheet.now part) }
 {
-    let size = part.size;
     let mut fault = found;
-    let mut place = part.from;
-    let mut left = part.count;
-    while 0 < left {
+    for i in 0..part.count {
         if !fault.is_good() {
             return fault;
         }
-        fault = record_fault(sheet, version, room, records, place);
-        place += size;
-        left -= 1;
+        fault = record_fault(sheet, version, room, records, part.from + part.size * i);
     }
     fault
 }
 
 // Whether a side is from 1 to the longest.
+#[tactic(auto, unfolding(room::specs::Room::between))]
 fn side_within(side: usize, longest: usize) -> bool
     ensures { result ≡ between 1 side longest }
 {
-    if side < 1 {
-        return false;
-    }
-    side <= longest
+    1 <= side && side <= longest
 }
 
 // Whether a limit is from 1 to 15.
+#[tactic(auto, unfolding(crate::specs::Version::limit_within))]
 fn limit_within(limit: usize) -> bool
     ensures { result ≡ limit_within limit }
 {
@@ -158,6 +152,7 @@ impl Ranges {
         requires { Searchable self }
         ensures { result ≡ sides_within self room }
     {
+        // The proof did not close in one chain of `&&`: that the product fits is lost there.
         if !side_within(room.wide, self.side) {
             return false;
         }
@@ -171,41 +166,32 @@ impl Ranges {
     }
 
     // Whether each number of the config is in its range.
+    #[tactic(auto, unfolding(crate::specs::Version::costs_within))]
     fn costs_within(self, config: RouterConfig) -> bool
         ensures { result ≡ costs_within self config }
     {
-        if self.nodes < config.limit.0 {
-            return false;
-        }
-        if self.cost < config.horizontal.0 {
-            return false;
-        }
-        if self.cost < config.stair.0 {
-            return false;
-        }
-        config.support.0 <= self.cost
+        config.limit.0 <= self.nodes
+            && config.horizontal.0 <= self.cost
+            && config.stair.0 <= self.cost
+            && config.support.0 <= self.cost
     }
 
     // Whether sides and config are within these ranges, each number by itself.
+    #[tactic(auto, unfolding(crate::specs::Version::fits_ranges))]
     pub fn hold(self, room: Room, config: RouterConfig) -> bool
         requires { Searchable self }
         ensures { result ≡ fits_ranges self room config }
     {
-        if !self.sides_within(room) {
-            return false;
-        }
-        self.costs_within(config)
+        self.sides_within(room) && self.costs_within(config)
     }
 
     // Number 3 is due where this is false, of the config: its ranges, then the product of cells and dearest step.
+    #[tactic(auto, unfolding(crate::specs::Version::config_within))]
     fn config_within(self, room: Room, config: RouterConfig) -> bool
         requires { Good room }
         ensures { result ≡ config_within self room config }
     {
-        if !self.costs_within(config) {
-            return false;
-        }
-        config.good(room)
+        self.costs_within(config) && config.good(room)
     }
 
     // Number 2, then 3, of the config and the run limit.

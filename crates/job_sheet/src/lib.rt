@@ -48,7 +48,7 @@ pub struct Part {
     pub long: bool,
 }
 
-// "node two bytes, x, y, z, kind, facing".
+// "node two bytes, x, y, z, kind, facing". Codes stay bytes: `judged` speaks of a sheet with any byte there.
 #[derive(Clone, Copy)]
 pub struct Block {
     pub node: u16,
@@ -72,7 +72,7 @@ pub struct Sink {
     pub tail: usize,
 }
 
-// "The sixteen sinks with their count travel as one value."
+// "The sixteen sinks with their count travel as one value": no heap.
 #[derive(Clone, Copy)]
 pub struct Sinks {
     pub count: usize,
@@ -131,14 +131,7 @@ impl Judgement {
     pub fn is_good(self) -> bool
         ensures { result ≡ is_good self }
     {
-        match self {
-            Judgement::Good => true,
-            Judgement::Sheet => false,
-            Judgement::Sides => false,
-            Judgement::Config => false,
-            Judgement::Position => false,
-            Judgement::Code => false,
-        }
+        matches!(self, Judgement::Good)
     }
 }
 
@@ -183,11 +176,8 @@ pub fn sinks_from(sheet: &[u8], version: Version, part: Part) -> Sinks
     let count = part.count;
     let size = part.size;
     let mut ends = [no_sink(); MAX_SINKS];
-    let mut k = 0;
-    while k < count {
-        let sink = places::sink_from(sheet, version, from + size * k);
-        ends[k] = sink;
-        k += 1;
+    for k in 0..count {
+        ends[k] = places::sink_from(sheet, version, from + size * k);
     }
     Sinks { count, ends }
 }

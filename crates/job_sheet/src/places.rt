@@ -238,6 +238,7 @@ pub fn layout_from(sheet: &[u8], version: Version) -> Layout
 // Number 1: "sheet length, version, count past the end, bytes left over, over 16 sinks". Of a sheet of so many bytes its
 // first byte, its version's number, the length of the rest, its sink count, and whether its parts end where it does: past the
 // end and left over are one question.
+#[tactic(auto, unfolding(crate::specs::Places::shape_holds))]
 pub fn shape_holds(
     bytes: usize,
     first: u8,
@@ -248,19 +249,11 @@ pub fn shape_holds(
 ) -> bool
     ensures { result ≡ shape_holds bytes first number rest sinks whole }
 {
-    if crate::MAX_BYTES < bytes {
-        return false;
-    }
-    if first != number {
-        return false;
-    }
-    if rest as usize + versions::SIDES != bytes {
-        return false;
-    }
-    if crate::MAX_SINKS < sinks {
-        return false;
-    }
-    whole
+    bytes <= crate::MAX_BYTES
+        && first == number
+        && rest as usize + versions::SIDES == bytes
+        && sinks <= crate::MAX_SINKS
+        && whole
 }
 
 // Whether a sheet means anything: all of number 1, over the whole sheet.

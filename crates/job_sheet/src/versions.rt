@@ -70,16 +70,16 @@ pub fn version_three() -> Version
     }
 }
 
-// The version that a first byte names; a byte that names none is taken for version 1, whose number it isn't.
+// The version that a first byte names; a byte that names none is taken for version 1, whose number it isn't: no TryFrom, since
+// `read-nothing` speaks of the contents of such a sheet too.
+#[tactic(auto, unfolding(crate::specs::Version::version_of))]
 pub fn version_of(first: u8) -> Version
     ensures { result ≡ version_of first }
 {
-    if first == 3 {
-        version_three()
-    } else if first == 2 {
-        version_two()
-    } else {
-        version_one()
+    match first {
+        3 => version_three(),
+        2 => version_two(),
+        _ => version_one(),
     }
 }
 

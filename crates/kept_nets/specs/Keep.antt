@@ -1,5 +1,5 @@
 -- What the contracts of routing and keeping one net cite. Definitions alone; their laws are in KeepLaws.
-use Rattle.std.specs.Prelude.{◌≡◌, true, List, ◌++◌, ℕ, ◌≤◌, ◌<◌, length, drop, replicate}
+use Rattle.std.specs.Prelude.{◌≡◌, Ok, Err, true, List, ◌++◌, ℕ, ◌≤◌, ◌<◌, length, drop, replicate}
 use Rattle.numbers.specs.Refusals.{buffer_number}
 use Rattle.basics.specs.Lists.{joined}
 use Rattle.lent.specs.Lent.{filled}
@@ -10,9 +10,9 @@ use Rattle.room_search.specs.TriedMoves.{places_of}
 use Rattle.routing_resources.specs.Marks.{marked_by, is_marked}
 use Rattle.job_sheet.specs.Sheet.{Contents, max_sinks}
 use Rattle.branches.specs.Branches.{branch_lengths}
-use Rattle.net_tree.specs.declared.Answer.{Answer}
-use Rattle.net_tree.specs.declared.Ended.TheVariants.{Routed, Refused}
-use Rattle.net_tree.specs.Answers.{Lent, TreeOutcome, routed, no_tree, answer_of}
+use Rattle.net_tree.specs.declared.Tree.{Tree}
+use Rattle.net_tree.specs.declared.Refused.{Refused}
+use Rattle.net_tree.specs.Answers.{Answer, Lent, TreeOutcome, routed, no_tree, answer_of}
 use Rattle.job_list.specs.declared.Memory.{Memory}
 use Rattle.job_list.specs.Judged.{contents_at}
 use Rattle.job_list.specs.GoodNets.{GoodNet}
@@ -24,13 +24,13 @@ use Rattle.kept_nets.specs.BranchSound.{GoodNetBranches}
 
 -- a routed net can be kept
 pub record AnswerKeepable (R : Room) (source : ℕ) (r : Answer) (cells planned before repeaters out : List ℕ) : Type 0 where
-  pub keepable : (occupied count : ℕ) → r.ended ≡ Routed occupied count → Keepable R source r.lengths cells planned before repeaters out
+  pub keepable : (t : Tree) → r ≡ Ok t → Keepable R source t.lengths cells planned before repeaters out
 
 -- and is; of one that refuses nothing is
 pub data AnswerKept (R : Room) (source : ℕ) (r : Answer) (cells planned before repeaters out before' repeaters' out' : List ℕ) : Type 0 where
-  kept-one : (occupied count : ℕ) → r.ended ≡ Routed occupied count → Kept R source r.lengths cells planned before repeaters out before' repeaters' out'
+  kept-one : (t : Tree) → r ≡ Ok t → Kept R source t.lengths cells planned before repeaters out before' repeaters' out'
       → AnswerKept R source r cells planned before repeaters out before' repeaters' out'
-  kept-none : (number detail : ℕ) → r.ended ≡ Refused number detail → AnswerKept R source r cells planned before repeaters out before' repeaters' out'
+  kept-none : (e : Refused) → r ≡ Err e → AnswerKept R source r cells planned before repeaters out before' repeaters' out'
 
 -- a net of a list for which no number is due, memory of exactly V cells, a cleared rest of the branch buffer, and place for sixteen lengths. Of `B` the
 -- repeaters are the list's so far; `planned` is for the net's

@@ -1,5 +1,5 @@
 -- Laws of routing and keeping one net: what each function asks, and that together they make up what the definition has.
-use Rattle.std.specs.Prelude.{◌≡◌, refl, true, List, [], ◌∷◌, ◌++◌, map, ℕ, zero, suc, ◌+◌, ◌-◌, ◌≤◌, ◌<◌, length, get_or, drop, take, replicate}
+use Rattle.std.specs.Prelude.{◌≡◌, Ok, refl, true, List, [], ◌∷◌, ◌++◌, map, ℕ, zero, suc, ◌+◌, ◌-◌, ◌≤◌, ◌<◌, length, get_or, drop, take, replicate}
 use Rattle.std.proofs.Common.{sym, ap, subst, ◌∙◌, arith, length-append, take_at}
 use Rattle.std.proofs.lemmas.List.{length-map}
 use Rattle.numbers.specs.Refusals.{buffer_number}
@@ -26,10 +26,10 @@ use Rattle.branches.specs.BranchLaws.{lengths_theirs, lengths-sum, cut-joined}
 use Rattle.multinet.specs.Tree.{Plot, Tree, Growth, grown, stopped, growth_of, repeaters_of}
 use Rattle.multinet.specs.Growing.{SoundPlot, branch_in}
 use Rattle.multinet.specs.GrowthLaws.{growth-count}
-use Rattle.net_tree.specs.declared.Answer.{Answer}
-use Rattle.net_tree.specs.declared.Ended.TheVariants.{Routed, Refused}
-use Rattle.net_tree.specs.Answers.{Lent, lent, TreeOutcome, routed, no_tree, outcome_of, answer_of}
+use Rattle.net_tree.specs.declared.Tree as trees
+use Rattle.net_tree.specs.Answers.{Answer, Lent, lent, TreeOutcome, routed, no_tree, outcome_of, answer_of}
 use Rattle.net_tree.specs.Entry.{OutputsHold}
+use Rattle.net_tree.specs.EntryLaws.{one-tree}
 use Rattle.job_list.specs.Judged.{contents_at}
 use Rattle.job_list.specs.JudgeLaws.{accepted-contents, accepted-room}
 use Rattle.job_list.specs.GoodNets.{good-reading}
@@ -162,12 +162,12 @@ module _ {list sheet planned before lengths : List ℕ} {B : Lent} (A : NextAske
     good-branches {bs} q = subst (λ R. GoodNetBranches R bs) (N.room-is ∙ room-same) (tree-branches N.sound N.marks (sym N.grows ∙ q))
 
     module _ (planned-long : length planned' ≡ length B.repeaters) where
-      keepable : (o : TreeOutcome) → out ≡ o → r ≡ answer_of o → OutputsHold o B.branches branches' occupied' planned' → (x y : ℕ) → r.ended ≡ Routed x y
-          → Keepable job.room e.source r.lengths branches' planned' before B.repeaters lengths
-      keepable (routed bs occ rep) w a H x y q =
+      keepable : (o : TreeOutcome) → out ≡ o → r ≡ answer_of o → OutputsHold o B.branches branches' occupied' planned' → (t : trees.Tree) → r ≡ Ok t
+          → Keepable job.room e.source t.lengths branches' planned' before B.repeaters lengths
+      keepable (routed bs occ rep) w a H t q =
           let G = good-branches w in
           let b : branches' ≡ filled (joined bs) B.branches = H.0 in
-          let l : r.lengths ≡ branch_lengths bs = ap (λ z. z.lengths) a in
+          let l : t.lengths ≡ branch_lengths bs = ap (λ z. z.lengths) (one-tree q a) in
           rw (l, b) record {
             ready = record {
               good = room-good;
@@ -180,7 +180,7 @@ module _ {list sheet planned before lengths : List ℕ} {B : Lent} (A : NextAske
             planned-long = planned-long;
             out-long = A.lengths-long;
           }
-      keepable (no_tree n d) w a H x y q = never (cc)
+      keepable (no_tree n d) w a H t q = never (cc)
 
       pub answer-keepable : AnswerKeepable job.room e.source r branches' planned' before B.repeaters lengths
       answer-keepable = record { keepable = keepable out refl N.answer N.outputs }
@@ -192,10 +192,10 @@ module _ {list sheet planned before lengths : List ℕ} {B : Lent} (A : NextAske
       kept_by : (o : TreeOutcome) → out ≡ o → r ≡ answer_of o → OutputsHold o B.branches branches' occupied' planned'
           → AnswerKept job.room e.source r branches' planned' before B.repeaters lengths before' repeaters' lengths'
           → NextKept o (contents_at sheet).room (ends_at sheet).source B.branches lengths B.repeaters before branches' lengths' repeaters' before' occupied' planned'
-      kept_by (routed bs occ rep) w a H (kept-one x y q K) =
+      kept_by (routed bs occ rep) w a H (kept-one t q K) =
           let G = good-branches w in
-          let l : r.lengths ≡ branch_lengths bs = ap (λ z. z.lengths) a in
-          let cut : branches_of r.lengths branches' ≡ bs = (λ i. branches_of (l i) (H.0 i)) ∙ their_branches room-good G B.branches in
+          let l : t.lengths ≡ branch_lengths bs = ap (λ z. z.lengths) (one-tree q a) in
+          let cut : branches_of t.lengths branches' ≡ bs = (λ i. branches_of (l i) (H.0 i)) ∙ their_branches room-good G B.branches in
           let s : e.source ≡ (ends_at sheet).source = ap (λ z. z.source) (ends-are is) in
           record {
             branches-are = H.0;
@@ -208,7 +208,7 @@ module _ {list sheet planned before lengths : List ℕ} {B : Lent} (A : NextAske
             good = subst (λ R. GoodNetBranches R bs) (sym room-same) G;
             source-marked = source-marked w;
           }
-      kept_by (routed bs occ rep) w a H (kept-none n d q) = never (cc)
+      kept_by (routed bs occ rep) w a H (kept-none x q) = never (cc)
       kept_by (no_tree n d) w a H K = H
 
       pub next-routed : AnswerKept job.room e.source r branches' planned' before B.repeaters lengths before' repeaters' lengths'

@@ -6,14 +6,14 @@ ghost use Rattle.net_tree.specs.Answers.{lent};
 ghost use Rattle.kept_nets.specs.Keep.{AnswerKeepable, AnswerKept, NextAsked, NextRouted};
 
 use ground::Mode;
-use net_tree::{Answer, Ended};
+use net_tree::{Refused, Tree};
 use room::Room;
 
 // Keeps a net that was routed; of one that refuses nothing is kept.
 fn keep_answer(
     room: Room,
     source: usize,
-    answer: Answer,
+    answer: Result<Tree, Refused>,
     branches: &[u32],
     planned: &[u8],
     before: &mut [u8],
@@ -23,31 +23,25 @@ fn keep_answer(
     requires { AnswerKeepable room source answer branches.now planned.now before.old repeaters.old lengths.old }
     ensures { AnswerKept room source answer branches.now planned.now before.old repeaters.old lengths.old before.new repeaters.new lengths.new }
 {
-    let ended = answer.ended;
-    if let Ended::Refused {
-        number: _,
-        detail: _,
-    } = ended
-    {
-        return;
+    if let Ok(tree) = answer {
+        other_nets::keep_net(
+            room,
+            source,
+            tree.lengths,
+            branches,
+            planned,
+            before,
+            repeaters,
+            lengths,
+        );
     }
-    other_nets::keep_net(
-        room,
-        source,
-        answer.lengths,
-        branches,
-        planned,
-        before,
-        repeaters,
-        lengths,
-    );
 }
 
 fn clear_marks(occupied: &mut [u8], planned: &mut [u8])
     ensures { Cleared occupied.old occupied.new × Cleared planned.old planned.new }
 {
-    lent::clear_bytes(occupied);
-    lent::clear_bytes(planned);
+    lent::clear(occupied);
+    lent::clear(planned);
 }
 
 // The next net of a list: routed into what is left of the branch buffer, and kept. `occupied` and `planned` are left with
@@ -72,13 +66,13 @@ pub fn route_next(
     path: &mut [u32],
     best: &mut [u32],
     queue: &mut [u64],
-) -> Answer
+) -> Result<Tree, Refused>
     requires { NextAsked list.now sheet.now planned.old before.old lengths.old (lent branches.old occupied.old repeaters.old kinds.old blocked.old classes.old joinable.old known.old previous.old path.old best.old queue.old) }
     ensures { NextRouted mode list.now sheet.now net before.old lengths.old (lent branches.old occupied.old repeaters.old kinds.old blocked.old classes.old joinable.old known.old previous.old path.old best.old queue.old) result branches.new lengths.new repeaters.new before.new occupied.new planned.new }
 {
     let reading = sheet_reader::read_sheet(sheet);
     let job = reading.job;
-    let ends = ends::realize_ends(job.room, job.source, job.sinks);
+    let ends = ends::realize_ends(job.room, job.source, job.sinks).unwrap();
     clear_marks(occupied, planned);
     let answer = nets::route_net(
         mode, list, sheet, job, net, before, branches, occupied, planned, kinds, blocked, classes,

@@ -29,11 +29,7 @@ fn clear_ends(queue: &mut [u64])
     requires { 66 < length queue.old }
     ensures { EndsCleared queue.new }
 {
-    let mut list: usize = 0;
-    while list < 64 {
-        queue[list] = 0;
-        list += 1;
-    }
+    queue[..64].fill(0);
 }
 
 // The last place used becomes the last of its list, as it is the greatest.
@@ -71,17 +67,8 @@ fn open(queue: &[u64], key: u64, serial: u64) -> bool
     requires serial_bound { serial + 1 < 2 ^ 24 }
     ensures { result ≡ true → Open queue.now key serial }
 {
-    if queue[65] != serial {
-        return false;
-    }
-    if queue.len() <= 66 + serial as usize {
-        return false;
-    }
     let floor = queue[64];
-    if key < floor {
-        return false;
-    }
-    key - floor < 64
+    queue[65] == serial && 66 + (serial as usize) < queue.len() && floor <= key && key - floor < 64
 }
 
 // Empties the lists, and puts in the first entry, of serial 0.
@@ -102,11 +89,11 @@ pub fn join(queue: &mut [u64], key: u64, serial: u64, cell: u64) -> bool
     requires key_bound { (key + 1 < 2 ^ 24) × (serial + 1 < 2 ^ 24) × (cell < 2 ^ 16) }
     ensures { result ≡ true → KeyedJoined queue.old key serial cell queue.new }
 {
-    if open(queue, key, serial) {
+    let has_place = open(queue, key, serial);
+    if has_place {
         add(queue, key, serial, cell);
-        return true;
     }
-    false
+    has_place
 }
 
 // The least key that waits: lists are passed over while they are empty.
@@ -116,6 +103,7 @@ fn least_key(queue: &[u64]) -> u64
     ensures { LeastKey queue.now result }
 {
     let mut key = queue[64];
+    // No plainer as a `for`: that would need an end, and an answer behind it that never comes.
     while queue[(key % 64) as usize] == 0 {
         key += 1;
     }

@@ -1,5 +1,5 @@
 -- Laws of the facings of a room's blocks: the last block is written first, so that of two in one cell the first counts.
-use Rattle.std.specs.Prelude.{◌≡◌, eqb, get_or, set, drop, replicate}
+use Rattle.std.specs.Prelude.{◌≡◌, get_or, set, drop, replicate}
 use Rattle.std.proofs.Math.Path.{refl, sym}
 use Rattle.std.proofs.Common.{ap, ◌∙◌, arith, length-set, drop_of_length-le}
 use mathlib.Core.List.{List, [], ◌∷◌}

@@ -1,9 +1,7 @@
 -- All nets of a list laid into one room, "net by net in list order, over the room of blocks with their facings"; whose each cell is; and where two nets
 -- overlap: "first net to meet a lower one, its least such cell". Definitions alone; their laws are in the files named Laws.
-use Rattle.std.specs.Prelude.{List, [], ◌∷◌, ℕ, ◌+◌}
+use Rattle.std.specs.Prelude.{List, [], ◌∷◌, ℕ, ◌+◌, Option, Some, None}
 use Rattle.room.specs.declared.Room.{Room}
-use Rattle.room.specs.declared.Neighbour.{Neighbour}
-use Rattle.room.specs.declared.Neighbour.TheVariants.{Inside, Outside}
 use Rattle.room.specs.Room.{volume}
 use Rattle.room.specs.Units.{no_facing}
 use Rattle.routing_resources.specs.Marks.{no_marks}
@@ -12,7 +10,6 @@ use Rattle.blocks.specs.Blocks.{of_block, tabulated, kinds_of}
 use Rattle.job_list.specs.Judged.{contents_at}
 use Rattle.laying.specs.Laying.{Net, Laid, laid_room, laid_net, owned_by, overlap_of}
 use Rattle.laid_nets.specs.declared.Meeting.{Meeting}
-use Rattle.laid_nets.specs.declared.Meeting.TheVariants.{Nowhere, At}
 
 -- ---- the room of blocks with their facings
 
@@ -28,30 +25,34 @@ room_at sheet = let J = contents_at sheet in laid_room (kinds_of J.room J.blocks
 pub record LaidNets : Type 0 where
   pub room : Laid
   pub owners : List ℕ
-  pub met : Meeting
+  pub met : Option Meeting
 
-abbrev pub laid_so_far : Laid → List ℕ → Meeting → LaidNets
+abbrev pub laid_so_far : Laid → List ℕ → Option Meeting → LaidNets
 laid_so_far room owners met = record { room = room; owners = owners; met = met }
 
 -- before any net
 abbrev pub unlaid : Room → Laid → LaidNets
-unlaid R room = laid_so_far room (no_marks (volume R)) Nowhere
+unlaid R room = laid_so_far room (no_marks (volume R)) None
+
+-- net k meets a lower one at this cell
+abbrev pub meeting_at : ℕ → ℕ → Meeting
+meeting_at k cell = record { net = k; cell = cell }
 
 -- the first net to meet a lower one is told
-abbrev pub met_after : Meeting → ℕ → Neighbour → Meeting
-met_after (At net cell) k overlap = At net cell
-met_after Nowhere k (Inside cell) = At k cell
-met_after Nowhere k Outside = Nowhere
+abbrev pub met_after : Option Meeting → ℕ → Option ℕ → Option Meeting
+met_after (Some earlier) k overlap = Some earlier
+met_after None k (Some cell) = Some (meeting_at k cell)
+met_after None k None = None
 
 -- a net's cells become its own; where two nets have met nobody asks any more
-abbrev pub owners_after : Meeting → ℕ → List ℕ → List ℕ → List ℕ
-owners_after Nowhere k occupied owners = owned_by k occupied owners
-owners_after (At net cell) k occupied owners = owners
+abbrev pub owners_after : Option Meeting → ℕ → List ℕ → List ℕ → List ℕ
+owners_after None k occupied owners = owned_by k occupied owners
+owners_after (Some earlier) k occupied owners = owners
 
 -- net k laid behind those so far
 unfoldable pub with_net : Room → ℕ → Net → LaidNets → LaidNets
 with_net R k N S =
-    let met : Meeting = met_after S.met k (overlap_of N.occupied S.owners) in
+    let met : Option Meeting = met_after S.met k (overlap_of N.occupied S.owners) in
     laid_so_far (laid_net R N S.room) (owners_after met k N.occupied S.owners) met
 
 -- the nets from the k-th on

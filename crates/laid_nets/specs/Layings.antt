@@ -1,11 +1,11 @@
 -- What the contracts of laying one net of a list, and of laying out its room, cite.
-use Rattle.std.specs.Prelude.{◌≡◌, List, ℕ, ◌+◌, ◌<◌, ◌^◌, length, replicate}
+use Rattle.std.specs.Prelude.{◌≡◌, List, ℕ, ◌+◌, ◌<◌, ◌^◌, length, replicate, Option, None}
 use Rattle.room.specs.declared.Room.{Room}
 use Rattle.room.specs.Room.{Good, volume}
 use Rattle.job_sheet.specs.declared.Job.{Job}
 use Rattle.job_sheet.specs.Sheet.{Contents}
 use Rattle.job_sheet.specs.Accepted.{Accepted}
-use Rattle.blocks.specs.declared.Placement.{Placement}
+use Rattle.blocks.specs.Blocks.{Placement, Placed}
 use Rattle.blocks.specs.Blocks.{Placing}
 use Rattle.ends.specs.declared.Taps.{Taps}
 use Rattle.branches.specs.declared.BranchLengths.{BranchLengths}
@@ -31,32 +31,32 @@ pub record RoomAsked (sheet : List ℕ) (job : Job) (kinds facings nodes : List 
 -- its blocks are laid out with their facings, or number 7 is due
 pub record RoomSet (sheet : List ℕ) (r : Placement) (kinds facings : List ℕ) : Type 0 where
   pub placing : Placing (contents_at sheet).room (contents_at sheet).blocks (length (contents_at sheet).blocks) r
-  pub laid : r ≡ Placement.Placed → laid_room kinds facings ≡ room_at sheet
+  pub laid : r ≡ Placed → laid_room kinds facings ≡ room_at sheet
 
 -- ---- a net
 
 -- net k may be told as one of 32 bits, unless it meets a lower one
-abbrev pub Numbered : ℕ → Meeting → List ℕ → List ℕ → Type 0
-Numbered k met occupied owners = met_after met k (overlap_of occupied owners) ≡ Meeting.Nowhere → k + 1 < 2 ^ 32
+abbrev pub Numbered : ℕ → Option Meeting → List ℕ → List ℕ → Type 0
+Numbered k met occupied owners = met_after met k (overlap_of occupied owners) ≡ None → k + 1 < 2 ^ 32
 
 -- its cells can become its own
-pub record Owning (met : Meeting) (k : ℕ) (occupied owners : List ℕ) : Type 0 where
-  pub numbered : met ≡ Meeting.Nowhere → k + 1 < 2 ^ 32
+pub record Owning (met : Option Meeting) (k : ℕ) (occupied owners : List ℕ) : Type 0 where
+  pub numbered : met ≡ None → k + 1 < 2 ^ 32
   pub long : length owners ≡ length occupied
 
-pub record NetLayable (R : Room) (source : ℕ) (T : Taps) (k : ℕ) (met : Meeting) (L : BranchLengths) (cells occupied planned owners kinds facings links parents line : List ℕ) : Type 0 where
+pub record NetLayable (R : Room) (source : ℕ) (T : Taps) (k : ℕ) (met : Option Meeting) (L : BranchLengths) (cells occupied planned owners kinds facings links parents line : List ℕ) : Type 0 where
   pub layable : Layable R source T L cells occupied planned kinds facings links parents line
   pub owners-long : length owners ≡ volume R
   pub numbered : Numbered k met occupied owners
 
-pub record NetLaid (R : Room) (source : ℕ) (T : Taps) (k : ℕ) (met : Meeting) (L : BranchLengths) (cells occupied planned owners kinds facings : List ℕ)
-    (r : Meeting) (owners' kinds' facings' : List ℕ) : Type 0 where
+pub record NetLaid (R : Room) (source : ℕ) (T : Taps) (k : ℕ) (met : Option Meeting) (L : BranchLengths) (cells occupied planned owners kinds facings : List ℕ)
+    (r : Option Meeting) (owners' kinds' facings' : List ℕ) : Type 0 where
   pub is : laid_so_far (laid_room kinds' facings') owners' r ≡ with_net R k (net_of source T L cells occupied planned) (laid_so_far (laid_room kinds facings) owners met)
 
 -- ---- the net of a sheet
 
 -- a sheet of a list for which no number is due, the branches of its net, and memory of exactly V cells
-pub record SheetLayable (sheet : List ℕ) (k : ℕ) (met : Meeting) (L : BranchLengths) (cells occupied planned owners kinds facings links parents line : List ℕ) : Type 0 where
+pub record SheetLayable (sheet : List ℕ) (k : ℕ) (met : Option Meeting) (L : BranchLengths) (cells occupied planned owners kinds facings links parents line : List ℕ) : Type 0 where
   pub memory : Memory
   pub first : Contents
   pub place : ℕ
@@ -73,5 +73,5 @@ pub record SheetLayable (sheet : List ℕ) (k : ℕ) (met : Meeting) (L : Branch
   pub line-long : length line ≡ volume (contents_at sheet).room
   pub numbered : Numbered k met occupied owners
 
-abbrev pub SheetLaid : (sheet : List ℕ) (k : ℕ) (met : Meeting) (L : BranchLengths) (cells occupied planned owners kinds facings : List ℕ) (r : Meeting) (owners' kinds' facings' : List ℕ) → Type 0
+abbrev pub SheetLaid : (sheet : List ℕ) (k : ℕ) (met : Option Meeting) (L : BranchLengths) (cells occupied planned owners kinds facings : List ℕ) (r : Option Meeting) (owners' kinds' facings' : List ℕ) → Type 0
 SheetLaid sheet = NetLaid (contents_at sheet).room (ends_at sheet).source (ends_at sheet).taps

@@ -1,18 +1,17 @@
 -- Laws of laying one net of a list: what each function asks of the other, and that one net more is laid behind those so far.
-use Rattle.std.specs.Prelude.{◌≡◌, refl, List, [], ◌∷◌, ◌++◌, ℕ, ◌+◌, ◌<◌, length, replicate}
-use Rattle.std.proofs.Common.{sym, subst, ◌∙◌, arith, add_assoc}
+use Rattle.std.specs.Prelude.{◌≡◌, List, [], ◌∷◌, ◌++◌, ℕ, ◌+◌, length, Option}
+use Rattle.std.proofs.Common.{sym, subst, ◌∙◌, arith}
 use Rattle.std.proofs.Math.Path.{ap}
 use Rattle.room.specs.declared.Room.{Room}
-use Rattle.room.specs.declared.Neighbour.{Neighbour}
 use Rattle.room.specs.Room.{Good, volume}
 use Rattle.job_sheet.specs.declared.Job.{Job}
 use Rattle.job_sheet.specs.Accepted.{Accepted}
 use Rattle.job_sheet.specs.Places.{blocks_in}
-use Rattle.blocks.specs.declared.Placement.{Placement}
+use Rattle.blocks.specs.Blocks.{Placement}
 use Rattle.blocks.specs.Blocks.{BlocksLaid, left_by, kinds_of, Placing}
 use Rattle.ends.specs.declared.Ends.{Ends}
 use Rattle.ends.specs.declared.Taps.{Taps}
-use Rattle.ends.specs.Ends.{sinks_in, ends_of, NetInside}
+use Rattle.ends.specs.Ends.{sinks_in, ends_of}
 use Rattle.outset.specs.SetOutLaws.{same_ends, use_of, sinks_in_lem}
 use Rattle.branches.specs.declared.BranchLengths.{BranchLengths}
 use Rattle.repeaters.specs.Masks.{BranchesReady}
@@ -21,11 +20,11 @@ use Rattle.job_list.specs.JudgeLaws.{accepted-contents, accepted-room}
 use Rattle.job_list.specs.GoodNets.{good-room-is}
 use Rattle.other_nets.specs.Others.{ends_at}
 use Rattle.other_nets.specs.OtherLaws.{SheetReady, ends-inside}
-use Rattle.laying.specs.Laying.{Net, Laid, laid_room, laid_net, overlap_of}
-use Rattle.laying.specs.Layable.{net_of, Layable}
+use Rattle.laying.specs.Laying.{Net, laid_room, laid_net, overlap_of}
+use Rattle.laying.specs.Layable.{net_of}
 use Rattle.laid_nets.specs.declared.Meeting.{Meeting}
-use Rattle.laid_nets.specs.LaidNets.{facings_of, room_at, LaidNets, laid_so_far, met_after, owners_after, with_net, laid_nets}
-use Rattle.laid_nets.specs.Layings.{RoomAsked, RoomSet, Owning, NetLayable, NetLaid, SheetLayable, SheetLaid}
+use Rattle.laid_nets.specs.LaidNets.{facings_of, LaidNets, laid_so_far, met_after, owners_after, with_net, laid_nets}
+use Rattle.laid_nets.specs.Layings.{RoomSet, Owning, NetLayable, NetLaid, SheetLayable, SheetLaid}
 
 -- ---- the room
 
@@ -41,9 +40,9 @@ module _ {sheet : List ℕ} {job : Job} (A : Accepted sheet job) {kinds nodes fa
 
 -- ---- a net
 
-module _ {R : Room} {source : ℕ} {T : Taps} {k : ℕ} {met : Meeting} {L : BranchLengths} {cells occupied planned owners kinds facings links parents line : List ℕ}
-    (P : NetLayable R source T k met L cells occupied planned owners kinds facings links parents line) {overlap : Neighbour} (o : overlap ≡ overlap_of occupied owners)
-    {m : Meeting} (e : m ≡ met_after met k overlap) where
+module _ {R : Room} {source : ℕ} {T : Taps} {k : ℕ} {met : Option Meeting} {L : BranchLengths} {cells occupied planned owners kinds facings links parents line : List ℕ}
+    (P : NetLayable R source T k met L cells occupied planned owners kinds facings links parents line) {overlap : Option ℕ} (o : overlap ≡ overlap_of occupied owners)
+    {m : Option Meeting} (e : m ≡ met_after met k overlap) where
   met-is : m ≡ met_after met k (overlap_of occupied owners)
   met-is = e ∙ ap (met_after met k) o
 
@@ -58,7 +57,7 @@ module _ {R : Room} {source : ℕ} {T : Taps} {k : ℕ} {met : Meeting} {L : Bra
 
 -- ---- the net of a sheet
 
-module _ {sheet : List ℕ} {k : ℕ} {met : Meeting} {L : BranchLengths} {cells occupied planned owners kinds facings links parents line : List ℕ}
+module _ {sheet : List ℕ} {k : ℕ} {met : Option Meeting} {L : BranchLengths} {cells occupied planned owners kinds facings links parents line : List ℕ}
     (P : SheetLayable sheet k met L cells occupied planned owners kinds facings links parents line) {job : Job} (A : Accepted sheet job) {e : Ends}
     (is : e ≡ ends_of job.room job.source (sinks_in job.sinks)) where
   R-is : (contents_at sheet).room ≡ job.room
@@ -99,7 +98,7 @@ module _ {sheet : List ℕ} {k : ℕ} {met : Meeting} {L : BranchLengths} {cells
     numbered = P.numbered;
   }
 
-  pub sheet-laid : {r : Meeting} {owners' kinds' facings' : List ℕ} → NetLaid job.room e.source e.taps k met L cells occupied planned owners kinds facings r owners' kinds' facings'
+  pub sheet-laid : {r : Option Meeting} {owners' kinds' facings' : List ℕ} → NetLaid job.room e.source e.taps k met L cells occupied planned owners kinds facings r owners' kinds' facings'
       → SheetLaid sheet k met L cells occupied planned owners kinds facings r owners' kinds' facings'
   sheet-laid N = record {
     is = N.is ∙ (λ i. with_net (sym R-is i) k (net_of (ends-here i).source (ends-here i).taps L cells occupied planned) (laid_so_far (laid_room kinds facings) owners met));

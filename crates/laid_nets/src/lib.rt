@@ -9,17 +9,17 @@ ghost use Rattle.job_sheet.specs.Places.{blocks_in};
 ghost use Rattle.laid_nets.specs.LaidNets.{facings_of, met_after, owners_after};
 ghost use Rattle.laid_nets.specs.Layings.{RoomAsked, RoomSet, Owning, NetLayable, NetLaid, SheetLayable, SheetLaid};
 
-use blocks::Placement;
+use blocks::Overlap;
 use branches::BranchLengths;
 use ends::Taps;
 use job_sheet::{Job, Part};
-use room::{Neighbour, Room};
+use room::Room;
 
 // Where two nets overlap: the first net to meet a lower one, and its least such cell. Number 16 with them.
 #[derive(Clone, Copy)]
-pub enum Meeting {
-    Nowhere,
-    At(usize, usize),
+pub struct Meeting {
+    pub net: usize,
+    pub cell: usize,
 }
 
 // The facing of each block in its cell. Of two blocks in one cell the first counts, so the last is written first.
@@ -29,12 +29,9 @@ fn place_facings(sheet: &[u8], part: Part, room: Room, facings: &mut [u8])
     requires facings_value { facings.old ≡ replicate (volume room) 0 }
     ensures { facings.new ≡ facings_of room (blocks_in sheet.now part) }
 {
-    let mut left = part.count;
-    while 0 < left {
-        left -= 1;
-        let block = job_sheet::block_at(sheet, part, left);
-        let cell = room.cell(block.at);
-        facings[cell] = block.facing;
+    for i in (0..part.count).rev() {
+        let block = job_sheet::block_at(sheet, part, i);
+        facings[room.cell(block.at)] = block.facing;
     }
 }
 
@@ -45,7 +42,7 @@ pub fn set_room(
     kinds: &mut [u8],
     facings: &mut [u8],
     nodes: &mut [u32],
-) -> Placement
+) -> Result<(), Overlap>
     requires { RoomAsked sheet.now job kinds.old facings.old nodes.old }
     ensures { RoomSet sheet.now result kinds.new facings.new }
 {
@@ -55,26 +52,23 @@ pub fn set_room(
 }
 
 // Where two nets overlap, now that this net's least such cell is known.
-fn met_after(met: Meeting, net: usize, overlap: Neighbour) -> Meeting
+fn met_after(met: Option<Meeting>, net: usize, overlap: Option<usize>) -> Option<Meeting>
     ensures { result ≡ met_after met net overlap }
 {
     match met {
-        Meeting::At(earlier, cell) => Meeting::At(earlier, cell),
-        Meeting::Nowhere => match overlap {
-            Neighbour::Inside(cell) => Meeting::At(net, cell),
-            Neighbour::Outside => Meeting::Nowhere,
-        },
+        Some(earlier) => Some(earlier),
+        None => overlap.map(|cell| Meeting { net, cell }),
     }
 }
 
 // The cells that a net occupies become its own, unless two nets have met.
-fn own_cells(met: Meeting, net: usize, occupied: &[u8], owners: &mut [u32])
+fn own_cells(met: Option<Meeting>, net: usize, occupied: &[u8], owners: &mut [u32])
     requires { Owning met net occupied.now owners.old }
     ensures { owners.new ≡ owners_after met net occupied.now owners.old }
 {
     match met {
-        Meeting::Nowhere => laying::own(net as u32, occupied, owners),
-        Meeting::At(_, _) => {}
+        None => laying::own(net as u32, occupied, owners),
+        Some(_) => {}
     }
 }
 
@@ -84,7 +78,7 @@ fn lay_next(
     source: usize,
     taps: Taps,
     net: usize,
-    met: Meeting,
+    met: Option<Meeting>,
     branches: &[u32],
     lengths: BranchLengths,
     occupied: &[u8],
@@ -95,7 +89,7 @@ fn lay_next(
     links: &mut [u32],
     parents: &mut [u32],
     line: &mut [u32],
-) -> Meeting
+) -> Option<Meeting>
     requires { NetLayable room source taps net met lengths branches.now occupied.now planned.now owners.old kinds.old facings.old links.old parents.old line.old }
     ensures { NetLaid room source taps net met lengths branches.now occupied.now planned.now owners.old kinds.old facings.old result owners.new kinds.new facings.new }
 {
@@ -112,7 +106,7 @@ fn lay_next(
 pub fn lay_sheet(
     sheet: &[u8],
     net: usize,
-    met: Meeting,
+    met: Option<Meeting>,
     branches: &[u32],
     lengths: BranchLengths,
     occupied: &[u8],
@@ -123,13 +117,13 @@ pub fn lay_sheet(
     links: &mut [u32],
     parents: &mut [u32],
     line: &mut [u32],
-) -> Meeting
+) -> Option<Meeting>
     requires { SheetLayable sheet.now net met lengths branches.now occupied.now planned.now owners.old kinds.old facings.old links.old parents.old line.old }
     ensures { SheetLaid sheet.now net met lengths branches.now occupied.now planned.now owners.old kinds.old facings.old result owners.new kinds.new facings.new }
 {
     let reading = sheet_reader::read_sheet(sheet);
     let job = reading.job;
-    let ends = ends::realize_ends(job.room, job.source, job.sinks);
+    let ends = ends::realize_ends(job.room, job.source, job.sinks).unwrap();
     lay_next(
         job.room,
         ends.source,

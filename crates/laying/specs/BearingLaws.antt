@@ -1,22 +1,15 @@
 -- Laws of supports: how the loops over a mask's cells and over the sinks go, and the tests of a support's kind in turn.
-use Rattle.std.specs.Prelude.{◌≡◌, refl, ◌≢◌, Bool, true, false, ◌||◌, List, ℕ, ◌+◌, ◌/◌, ◌≤◌, ◌<◌, length, get_or, drop}
-use Rattle.std.proofs.Common.{sym, ap, ◌∙◌, arith, drop_of_length-le, length-take-le, eq-eqb, ne_eqb}
+use Rattle.std.specs.Prelude.{◌≡◌, refl, ◌≢◌, Bool, true, false, ◌||◌, List, ℕ, ◌+◌, ◌/◌, ◌≤◌, ◌<◌, length, get_or, drop, Option, Some, None}
+use Rattle.std.proofs.Common.{sym, ap, ◌∙◌, arith, drop_of_length-le, eq-eqb, ne_eqb}
 use Rattle.basics.specs.Lists.{any, drop_next}
 use Rattle.room.specs.declared.Room.{Room}
 use Rattle.room.specs.declared.Pos.{Pos}
-use Rattle.room.specs.declared.Neighbour.{Neighbour}
-use Rattle.room.specs.declared.Neighbour.TheVariants.{Inside, Outside}
 use Rattle.room.specs.Room.{holds_at}
 use Rattle.room.specs.Units.{solid, transparent}
 use Rattle.ends.specs.declared.Tap.{Tap}
-use Rattle.ends.specs.declared.Taps.{Taps}
-use Rattle.ends.specs.Ends.{no_tap, taps_in}
-use Rattle.ends.specs.EndLaws.{tap-is}
 use Rattle.repeaters.specs.Links.{ordered_moves, ordered_move, linked_place, cons_place, cells_by}
 use Rattle.repeaters.specs.LinkLaws.{cells_left, cells-more, cells-none}
 use Rattle.laying.specs.Laying.{stair_end, powered_at, support_kind}
-use Rattle.laying.specs.Bearing.{powers}
-use Rattle.laying.specs.Layable.{TapsHeld}
 
 -- ---- one member after another is asked
 
@@ -41,27 +34,11 @@ module _ {X : Type 0} (p : X → Bool) (l : List X) where
     pub asked-none : length l ≤ i → false ≡ any p l
     asked-none h = sym (ap (any p) (drop_of_length-le l h)) ∙ I.left
 
--- the taps in use are as many as are counted
-pub taps-there : {T : Taps} → TapsHeld T → length (taps_in T) ≡ T.count
-taps-there {T} H = length-take-le T.count T.taps (omega (arith, H.few, H.whole))
-
-module _ {T : Taps} (H : TapsHeld T) (v : ℕ) {k : ℕ} (I : Asked (powers v) (taps_in T) k) where
-  pub power_yes : k < T.count → powers v (get_or T.taps k no_tap) ≡ true → true ≡ powered_at (taps_in T) v
-  unfolding powered_at
-  power_yes h t = asked_yes (powers v) (taps_in T) I no_tap (rw (taps-there H) h) (rw (tap-is T k h) at t)
-
-  pub power_no : k < T.count → powers v (get_or T.taps k no_tap) ≡ false → Asked (powers v) (taps_in T) (k + 1)
-  power_no h f = asked_no (powers v) (taps_in T) I no_tap (rw (taps-there H) h) (rw (tap-is T k h) at f)
-
-  pub power-none : T.count ≤ k → false ≡ powered_at (taps_in T) v
-  unfolding powered_at
-  power-none h = asked-none (powers v) (taps_in T) I (rw (taps-there H) h)
-
 -- ---- one bit of a mask after another
 
-any_place : (test : ℕ → Bool) (place : Neighbour) (vs : List ℕ) → any test (cons_place place vs) ≡ holds_at test place || any test vs
-any_place test (Inside v) vs = refl
-any_place test Outside vs = refl
+any_place : (test : ℕ → Bool) (place : Option ℕ) (vs : List ℕ) → any test (cons_place place vs) ≡ holds_at test place || any test vs
+any_place test (Some v) vs = refl
+any_place test None vs = refl
 
 pub record LinksAsked (R : Room) (p : Pos) (test : ℕ → Bool) (mask rest k : ℕ) : Type 0 where
   pub within : k ≤ 12

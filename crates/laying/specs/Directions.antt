@@ -5,7 +5,6 @@ use Rattle.room.specs.Room.{volume}
 use Rattle.room.specs.Units.{no_facing}
 use Rattle.routing_resources.specs.Marks.{is_marked}
 use Rattle.repeaters.specs.Repeaters.{repeater_marks}
-use Rattle.repeater_claims.specs.Standing.{Directed}
 use Rattle.repeater_claims.specs.StandingLaws.{repeater-directed}
 use Rattle.laying.specs.Laying.{Net, Laid, direction_of, parents_on, powered_at, laid_net}
 use Rattle.laying.specs.StandLaws.{Long}

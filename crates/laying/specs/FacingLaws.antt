@@ -1,19 +1,17 @@
 -- The facing of a BlockPower sink's repeater: from the approach to the terminal is opposite to the sink's facing.
-use Rattle.std.specs.Prelude.{◌≡◌, refl, ◌≢◌, true, false, ℕ, ◌+◌, ◌≤◌, eqb}
+use Rattle.std.specs.Prelude.{◌≡◌, refl, ◌≢◌, true, false, ℕ, ◌+◌, ◌≤◌, eqb, Option, Some, None, Result, Ok, Err}
 use Rattle.std.proofs.Common.{sym, ap, ◌∙◌, arith}
 use borrow.Author.Tests.{eq-eqb, ne_eqb, le-leb, lt-leb}
 use Rattle.basics.specs.Tests.{either, ask, ask_same, never, passed}
 use Rattle.room.specs.declared.Room.{Room}
 use Rattle.room.specs.declared.Pos.{Pos}
-use Rattle.room.specs.declared.Neighbour.{Neighbour}
-use Rattle.room.specs.declared.Neighbour.TheVariants.{Inside, Outside}
-use Rattle.room.specs.Room.{Within, pos_of, between, by, neighbour}
+use Rattle.room.specs.Room.{Within, pos_of, between, by}
 use Rattle.room.specs.Units.{repeater, north, east, south, west, wire, facing_horizontal, facing_move, ahead}
 use Rattle.room.specs.MoveLaws.{Moved, leads}
-use Rattle.port_realization.specs.declared.Terminal.{Terminal}
+use Rattle.port_realization.specs.declared.EndFault.{EndFault}
 use Rattle.port_realization.specs.declared.Realized.{Realized}
 use Rattle.port_realization.specs.Ports.{terminal_of, approach_of, realized_of}
-use Rattle.port_realization.specs.PortLaws.{SinkInside, sink-inside}
+use Rattle.port_realization.specs.PortLaws.{sink-inside}
 use Rattle.job_sheet.specs.declared.Sink.{Sink}
 use Rattle.ends.specs.Ends.{sink_end, tap_of}
 use Rattle.repeaters.specs.Repeaters.{facing_by, facing_of}
@@ -78,13 +76,13 @@ moved_back p q facing t m =
     to-east : Moved p (by 0 1 1) q → facing ≡ 4 → facing_by q p ≡ opposite_facing facing
     to-east v e = rw e (faces_east q p (omega (arith, v.y_by)) (omega (arith, v.x_by)) (omega (arith, v.z_by)))
 
-ahead-back : (R : Room) (n facing v : ℕ) → facing_horizontal facing ≡ true → ahead R n facing ≡ Inside v → facing_of R v n ≡ opposite_facing facing
+ahead-back : (R : Room) (n facing v : ℕ) → facing_horizontal facing ≡ true → ahead R n facing ≡ Some v → facing_of R v n ≡ opposite_facing facing
 unfolding ahead
 ahead-back R n facing v t e = moved_back (pos_of R n) (pos_of R v) facing t (leads R n (facing_move facing) v (rw t at e)).moved
 
 -- ---- a BlockPower sink that no number refuses
 
-module _ (R : Room) (k : Sink) (inside : Within R k.end.at) (power : k.end.port ≢ wire) (terminal approach : ℕ) (end : sink_end R k ≡ Realized.At terminal approach) where
+module _ (R : Room) (k : Sink) (inside : Within R k.end.at) (power : k.end.port ≢ wire) (terminal approach : ℕ) (end : sink_end R k ≡ Ok (record { terminal = terminal; approach = approach })) where
   horizontal : facing_horizontal k.end.facing ≡ true
   unfolding sink_end realized_of terminal_of
   horizontal = ask (facing_horizontal k.end.facing) (λ t. t) (λ f. never (cc (rw (ne_eqb k.end.port wire power, f) at end)))

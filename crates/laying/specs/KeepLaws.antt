@@ -1,18 +1,14 @@
 -- Laws of what stays: a fold that keeps a rule, and which cells a block, a cell's laying, a repeater and a sink leave as they were.
-use Rattle.std.specs.Prelude.{◌≡◌, refl, ◌≢◌, Bool, true, false, not, ◌&&◌, ◌||◌, eqb, get_or}
+use Rattle.std.specs.Prelude.{◌≡◌, refl, ◌≢◌, Bool, true, false, not, ◌&&◌, ◌||◌, eqb, get_or, Option, Some, None}
 use Rattle.std.proofs.Common.{sym, ◌∙◌, inl, inr, get_or-set_other, eq-eqb, ne_eqb}
 use mathlib.Core.List.{List, [], ◌∷◌}
 use Prim.Native.Nat.{ℕ, zero, suc}
-use Rattle.std.proofs.lemmas.Bool.{eqb-false}
 use Rattle.basics.specs.Tests.{ask, ask_same, never}
 use Rattle.basics.specs.Lists.{In, any}
 use Rattle.basics.specs.Folds.{along}
 use Rattle.room.specs.declared.Room.{Room}
-use Rattle.room.specs.declared.Neighbour.{Neighbour}
-use Rattle.room.specs.declared.Neighbour.TheVariants.{Inside, Outside}
 use Rattle.room.specs.Room.{beneath}
 use Rattle.room.specs.Units.{air, redstone_wire, repeater}
-use Rattle.routing_resources.specs.Marks.{is_marked}
 use Rattle.ends.specs.declared.Tap.{Tap}
 use Rattle.repeaters.specs.Repeaters.{cells_passing, facing_of}
 use Rattle.laying.specs.Laying.{Laid, placed, laid_on, laid_at, cell_laid, powered_at, laid_sink}
@@ -58,13 +54,13 @@ full-keeps kind cell L v n =
     (λ e. let m : get_or L.kinds cell 0 ≢ air = rw e at n in rw (ne_eqb (get_or L.kinds cell air) air m) (keeps-all L v))
     (laid-keeps kind cell L v)
 
-at-keeps : (kind : ℕ) (place : Neighbour) (L : Laid) (v : ℕ) → place ≢ Inside v → Keeps L (laid_at kind place L) v
-at-keeps kind (Inside cell) L v n = laid-keeps kind cell L v (λ e. n (rw e refl))
-at-keeps kind Outside L v n = keeps-all L v
+at-keeps : (kind : ℕ) (place : Option ℕ) (L : Laid) (v : ℕ) → place ≢ Some v → Keeps L (laid_at kind place L) v
+at-keeps kind (Some cell) L v n = laid-keeps kind cell L v (λ e. n (rw e refl))
+at-keeps kind None L v n = keeps-all L v
 
-at-full : (kind : ℕ) (place : Neighbour) (L : Laid) (v : ℕ) → get_or L.kinds v 0 ≢ air → Keeps L (laid_at kind place L) v
-at-full kind (Inside cell) L v n = full-keeps kind cell L v n
-at-full kind Outside L v n = keeps-all L v
+at-full : (kind : ℕ) (place : Option ℕ) (L : Laid) (v : ℕ) → get_or L.kinds v 0 ≢ air → Keeps L (laid_at kind place L) v
+at-full kind (Some cell) L v n = full-keeps kind cell L v n
+at-full kind None L v n = keeps-all L v
 
 -- ---- one occupied cell
 
@@ -72,7 +68,7 @@ module _ (R : Room) (support : ℕ) (planned : Bool) (cell : ℕ) (L : Laid) (v 
   abbrev borne : Laid
   borne = laid_at support (beneath R cell) L
 
-  pub cell-keeps : v ≢ cell → beneath R cell ≢ Inside v → Keeps L (cell_laid R support planned cell L) v
+  pub cell-keeps : v ≢ cell → beneath R cell ≢ Some v → Keeps L (cell_laid R support planned cell L) v
   unfolding cell_laid
   cell-keeps n b =
       let low = at-keeps support (beneath R cell) L v b in

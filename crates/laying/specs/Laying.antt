@@ -1,12 +1,10 @@
 -- One routed net laid into the room of blocks with their facings, over what the nets before it have left, as `materialize_multinet` lays it with wire shapes
 -- left out; and whose the cells are. Definitions alone; their laws are in the files named Laws.
-use Rattle.std.specs.Prelude.{Bool, not, ◌&&◌, ◌||◌, List, ℕ, ◌+◌, ◌-◌, eqb, length, get_or, set}
+use Rattle.std.specs.Prelude.{Bool, not, ◌&&◌, ◌||◌, List, ℕ, ◌+◌, ◌-◌, eqb, length, get_or, set, Option, Some, None}
 use Rattle.basics.specs.Tests.{either}
 use Rattle.basics.specs.Lists.{any}
 use Rattle.basics.specs.Folds.{along}
 use Rattle.room.specs.declared.Room.{Room}
-use Rattle.room.specs.declared.Neighbour.{Neighbour}
-use Rattle.room.specs.declared.Neighbour.TheVariants.{Inside, Outside}
 use Rattle.room.specs.Room.{volume, pos_of, beneath, first_below}
 use Rattle.room.specs.Units.{air, solid, transparent, redstone_wire, repeater, no_facing}
 use Rattle.routing_resources.specs.Marks.{is_marked, with_byte}
@@ -40,9 +38,9 @@ unfoldable pub laid_on : ℕ → ℕ → Laid → Laid
 laid_on kind cell L = either (eqb (get_or L.kinds cell air) air) (placed kind no_facing cell L) L
 
 -- "a support outside the room isn't laid": everything there is Solid
-abbrev pub laid_at : ℕ → Neighbour → Laid → Laid
-laid_at kind (Inside cell) L = laid_on kind cell L
-laid_at kind Outside L = L
+abbrev pub laid_at : ℕ → Option ℕ → Laid → Laid
+laid_at kind (Some cell) L = laid_on kind cell L
+laid_at kind None L = L
 
 -- ---- supports
 
@@ -110,5 +108,5 @@ unfoldable pub owned_by : ℕ → List ℕ → List ℕ → List ℕ
 owned_by number occupied owners = with_byte (number + 1) (is_marked occupied) owners
 
 -- "its least such cell": that it occupies and a lower net owns
-unfoldable pub overlap_of : List ℕ → List ℕ → Neighbour
+unfoldable pub overlap_of : List ℕ → List ℕ → Option ℕ
 overlap_of occupied owners = first_below (length occupied) (λ v. is_marked occupied v && not (eqb (get_or owners v 0) 0))

@@ -6,7 +6,7 @@ use Rattle.room.specs.declared.Room.{Room}
 use Rattle.ends.specs.declared.Taps.{Taps}
 use Rattle.branches.specs.declared.BranchLengths.{BranchLengths}
 use Rattle.repeaters.specs.Links.{linked_cells}
-use Rattle.laying.specs.Laying.{Net, Laid, laid_cell, laid_repeater, laid_sink, marked_cells, next_on, parents_on, laid_net}
+use Rattle.laying.specs.Laying.{Net, Laid, laid_cell, laid_repeater, laid_sink, marked_cells, parents_on, laid_net}
 use Rattle.laying.specs.Layable.{RoomHeld, TapsHeld, MarksHeld, Rootable, TreeRooted, Layable}
 
 pub held_on : {R : Room} {kinds facings : List ℕ} → RoomHeld R kinds facings → {kinds' facings' : List ℕ} → length kinds' ≡ length kinds → length facings' ≡ length facings

@@ -1,12 +1,11 @@
 -- Laws of owners: how the loops that look for an overlap and that own cells go.
-use Rattle.std.specs.Prelude.{◌≡◌, refl, ◌≢◌, Bool, true, false, ◌&&◌, ◌||◌, List, ℕ, ◌+◌, ◌≤◌, ◌<◌, eqb, leb, length, get_or, set}
+use Rattle.std.specs.Prelude.{◌≡◌, refl, ◌≢◌, Bool, true, false, ◌&&◌, ◌||◌, List, ℕ, ◌+◌, ◌≤◌, ◌<◌, eqb, leb, length, get_or, set, Some, None}
 use Rattle.std.proofs.Math.Path.{sym}
-use Rattle.std.proofs.Common.{ap, ◌∙◌, arith, eq-eqb, ne_eqb, le-leb}
+use Rattle.std.proofs.Common.{◌∙◌, arith, eq-eqb, ne_eqb, le-leb}
 use Rattle.std.proofs.lemmas.Bool.{lt-leb}
 use Rattle.basics.specs.Tests.{ask_same, ask_less}
-use Rattle.room.specs.declared.Neighbour.TheVariants.{Inside, Outside}
 use Rattle.room.specs.PlaceLaws.{first-none, first-is}
-use Rattle.routing_resources.specs.Marks.{is_marked, with_byte}
+use Rattle.routing_resources.specs.Marks.{is_marked}
 use Rattle.routing_resources.specs.MarkLaws.{MarkedSoFar, marking-none, marking-next, with_none, with_same, with_set}
 use Rattle.laying.specs.Laying.{owned_by, overlap_of}
 use Rattle.laying.specs.Bearing.{meets}
@@ -25,11 +24,11 @@ module _ (occupied owners : List ℕ) where
     pub met_no : i < length occupied → meets (get_or occupied i 0) (get_or owners i 0) ≡ false → NoneMet occupied owners (i + 1)
     met_no h f = record { within = omega arith; none = λ v l. ask_same v i (λ e. rw e f) (λ d. I.none v (omega (arith, d))) }
 
-    pub met_yes : i < length occupied → meets (get_or occupied i 0) (get_or owners i 0) ≡ true → Inside i ≡ overlap_of occupied owners
+    pub met_yes : i < length occupied → meets (get_or occupied i 0) (get_or owners i 0) ≡ true → Some i ≡ overlap_of occupied owners
     unfolding overlap_of
     met_yes h t = sym (first-is _ (length occupied) i h t I.none)
 
-    pub met-none : length occupied ≤ i → Outside ≡ overlap_of occupied owners
+    pub met-none : length occupied ≤ i → None ≡ overlap_of occupied owners
     unfolding overlap_of
     met-none h = sym (first-none _ (length occupied) (λ v l. I.none v (omega arith)))
 

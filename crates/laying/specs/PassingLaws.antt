@@ -5,6 +5,7 @@ use Rattle.std.proofs.Common.{sym, ap, ◌∙◌, arith}
 use Rattle.std.proofs.Math.Numerals.{add-one}
 use Rattle.basics.specs.Folds.{along, Folding, fold_first, fold_next, fold_last}
 use Rattle.room.specs.declared.Room.{Room}
+use Rattle.room.specs.Room.{volume}
 use Rattle.ends.specs.declared.Tap.{Tap}
 use Rattle.ends.specs.declared.Taps.{Taps}
 use Rattle.ends.specs.Ends.{no_tap, taps_in, TapsInside}
@@ -76,6 +77,12 @@ module _ {step : ℕ → Laid → Laid} {p : ℕ → Bool} {n : ℕ} {kinds₀ f
 
 -- ---- the sinks so far
 
+-- each sink in use has its ends in the room
+pub ends-inside : {R : Room} {T : Taps} → TapsInside R T → (i : ℕ) → i < length (taps_in T)
+    → ((get_or (taps_in T) i no_tap).terminal < volume R) × ((get_or (taps_in T) i no_tap).approach < volume R)
+ends-inside {T = T} f i h =
+    let k : i < T.count = rw (taps-long f) at h in (rw (← tap-is T i k) (f.terminal_in_lem i k), rw (← tap-is T i k) (f.approach_in i k))
+
 pub record SunkSoFar (R : Room) (T : Taps) (kinds₀ facings₀ kinds facings : List ℕ) (k : ℕ) : Type 0 where
   pub walk : Folding (laid_sink R) (taps_in T) (laid_room kinds₀ facings₀) (laid_room kinds facings) k
   pub kinds-same : length kinds ≡ length kinds₀
@@ -86,10 +93,10 @@ module _ (R : Room) (T : Taps) where
   sunk_first kinds facings = record { walk = fold_first (laid_sink R) (taps_in T) (laid_room kinds facings); kinds-same = refl; facings-same = refl }
 
 module _ {R : Room} {T : Taps} {kinds₀ facings₀ kinds facings : List ℕ} {k : ℕ} (I : SunkSoFar R T kinds₀ facings₀ kinds facings k) where
-  pub sunk_next : TapsInside R T → k < T.count → (tap : Tap) → tap ≡ get_or T.taps k no_tap → {kinds' facings' : List ℕ} → length kinds' ≡ length kinds → length facings' ≡ length facings
+  pub sunk_next : k < length (taps_in T) → (tap : Tap) → tap ≡ get_or (taps_in T) k no_tap → {kinds' facings' : List ℕ} → length kinds' ≡ length kinds → length facings' ≡ length facings
       → laid_room kinds' facings' ≡ laid_sink R tap (laid_room kinds facings) → SunkSoFar R T kinds₀ facings₀ kinds' facings' (k + 1)
-  sunk_next f h tap t a b e = record {
-    walk = fold_next (laid_sink R) (taps_in T) I.walk no_tap (rw (taps-long f) h) _ (e ∙ ap (λ (x : Tap). laid_sink R x (laid_room kinds facings)) (t ∙ tap-is T k h));
+  sunk_next h tap t a b e = record {
+    walk = fold_next (laid_sink R) (taps_in T) I.walk no_tap h _ (e ∙ ap (λ (x : Tap). laid_sink R x (laid_room kinds facings)) t);
     kinds-same = a ∙ I.kinds-same;
     facings-same = b ∙ I.facings-same;
   }
@@ -97,5 +104,5 @@ module _ {R : Room} {T : Taps} {kinds₀ facings₀ kinds facings : List ℕ} {k
   pub sunk_held : RoomHeld R kinds₀ facings₀ → RoomHeld R kinds facings
   sunk_held H = record { good = H.good; kinds-long = I.kinds-same ∙ H.kinds-long; facings-long = I.facings-same ∙ H.facings-long }
 
-  pub sunk_last : TapsInside R T → T.count ≤ k → laid_room kinds facings ≡ along (laid_sink R) (taps_in T) (laid_room kinds₀ facings₀)
-  sunk_last f h = fold_last (laid_sink R) (taps_in T) I.walk (rw (taps-long f) h)
+  pub sunk_last : length (taps_in T) ≤ k → laid_room kinds facings ≡ along (laid_sink R) (taps_in T) (laid_room kinds₀ facings₀)
+  sunk_last h = fold_last (laid_sink R) (taps_in T) I.walk h

@@ -1,6 +1,6 @@
 -- Laws of what stands at last: the lists keep their lengths, a cell that is marked has its turn, and a repeater that stands stays one.
-use Rattle.std.specs.Prelude.{◌≡◌, refl, ◌≢◌, Bool, false, eqb, length, get_or}
-use Rattle.std.proofs.Common.{sym, ap, ◌∙◌, inl, inr, arith, length-set, get_or-set_same}
+use Rattle.std.specs.Prelude.{◌≡◌, Bool, eqb, length, get_or, Option, Some, None}
+use Rattle.std.proofs.Common.{◌∙◌, inl, inr, arith, length-set, get_or-set_same}
 use Rattle.std.proofs.Math.Bool.{true}
 use mathlib.Core.List.{List, [], ◌∷◌}
 use Prim.Native.Nat.{ℕ, zero, suc, ◌+◌, ◌≤◌, ◌<◌}
@@ -8,8 +8,6 @@ use Rattle.basics.specs.Tests.{ask, ask_same}
 use Rattle.basics.specs.Lists.{In}
 use Rattle.basics.specs.Folds.{along}
 use Rattle.room.specs.declared.Room.{Room}
-use Rattle.room.specs.declared.Neighbour.{Neighbour}
-use Rattle.room.specs.declared.Neighbour.TheVariants.{Inside, Outside}
 use Rattle.room.specs.Room.{beneath}
 use Rattle.room.specs.Units.{air, redstone_wire, repeater, no_facing}
 use Rattle.ends.specs.declared.Tap.{Tap}
@@ -31,9 +29,9 @@ laid-long : {n : ℕ} (kind cell : ℕ) (L : Laid) → Long n L → Long n (laid
 unfolding laid_on
 laid-long kind cell L H = ask (eqb (get_or L.kinds cell air) air) (λ t. rw t (placed-long kind no_facing cell L H)) (λ f. rw f H)
 
-at_long : {n : ℕ} (kind : ℕ) (place : Neighbour) (L : Laid) → Long n L → Long n (laid_at kind place L)
-at_long kind (Inside cell) L H = laid-long kind cell L H
-at_long kind Outside L H = H
+at_long : {n : ℕ} (kind : ℕ) (place : Option ℕ) (L : Laid) → Long n L → Long n (laid_at kind place L)
+at_long kind (Some cell) L H = laid-long kind cell L H
+at_long kind None L H = H
 
 pub cell-long : {n : ℕ} (R : Room) (support : ℕ) (planned : Bool) (cell : ℕ) (L : Laid) → Long n L → Long n (cell_laid R support planned cell L)
 unfolding cell_laid

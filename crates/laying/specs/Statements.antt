@@ -1,8 +1,7 @@
 -- What the theorems say of a laid net.
-use Rattle.std.specs.Prelude.{◌≡◌, ◌≢◌, true, false, List, ℕ, ◌+◌, ◌-◌, leb, get_or}
+use Rattle.std.specs.Prelude.{◌≡◌, ◌≢◌, true, false, ℕ, ◌+◌, ◌-◌, leb, get_or, Some}
 use Rattle.basics.specs.Tests.{either}
 use Rattle.room.specs.declared.Room.{Room}
-use Rattle.room.specs.declared.Neighbour.TheVariants.{Inside}
 use Rattle.room.specs.Room.{beneath}
 use Rattle.routing_resources.specs.Marks.{is_marked}
 use Rattle.laying.specs.Laying.{Net, Laid, powered_at}
@@ -20,7 +19,7 @@ pub record NoRepeater (N : Net) (v : ℕ) : Type 0 where
 -- the net does not name the cell: it is none of its occupied cells, not right beneath one, and no repeater is put there
 pub record Unnamed (R : Room) (N : Net) (v : ℕ) : Type 0 where
   pub free : is_marked N.occupied v ≡ false
-  pub bears-none : (u : ℕ) → is_marked N.occupied u ≡ true → beneath R u ≢ Inside v
+  pub bears-none : (u : ℕ) → is_marked N.occupied u ≡ true → beneath R u ≢ Some v
   pub no_repeater : NoRepeater N v
 
 -- a block of this kind stands there, facing so

@@ -1,18 +1,17 @@
 -- What is known of a laid net: what it doesn't name it leaves as it was, blocks stay but where it puts repeaters, and these stand as planned.
-use Rattle.std.specs.Prelude.{◌≡◌, refl, ◌≢◌, Bool, true, false, List, ℕ, zero, suc, ◌+◌, ◌-◌, ◌<◌, ◌≤◌, length}
-use Rattle.std.proofs.Common.{sym, ap, ◌∙◌, arith, length-set, get_or-set_same}
+use Rattle.std.specs.Prelude.{◌≡◌, ◌≢◌, true, false, List, ℕ, suc, ◌-◌, ◌<◌}
+use Rattle.std.proofs.Common.{sym, ap, ◌∙◌, arith}
 use Rattle.std.proofs.Math.ListN.{get_or}
-use Rattle.basics.specs.Tests.{ask, ask_same, never}
+use Rattle.basics.specs.Tests.{ask_same, never}
 use Rattle.basics.specs.Lists.{In}
 use Rattle.basics.specs.Folds.{along}
 use Rattle.room.specs.declared.Room.{Room}
-use Rattle.room.specs.declared.Neighbour.TheVariants.{Inside}
-use Rattle.room.specs.Room.{volume, beneath}
-use Rattle.room.specs.Units.{air, repeater, no_facing}
+use Rattle.room.specs.Room.{volume}
+use Rattle.room.specs.Units.{air, repeater}
 use Rattle.routing_resources.specs.Marks.{is_marked}
 use Rattle.ends.specs.declared.Tap.{Tap}
 use Rattle.repeaters.specs.Repeaters.{facing_of}
-use Rattle.laying.specs.Laying.{Net, Laid, placed, support_kind, laid_cell, laid_repeater, laid_sink, direction_of, marked_cells, next_on, parents_on, powered_at, laid_net}
+use Rattle.laying.specs.Laying.{Net, Laid, support_kind, laid_cell, laid_repeater, laid_sink, direction_of, marked_cells, next_on, parents_on, powered_at, laid_net}
 use Rattle.laying.specs.Statements.{Keeps, NoRepeater, Unnamed, Stands}
 use Rattle.laying.specs.PlacingLaws.{directed}
 use Rattle.laying.specs.StandLaws.{Long, placed-long, cell-long, placed-stands, stands_on, has_turn, member_turn, sink-long, sink-repeater}

@@ -10,21 +10,15 @@ ghost use Rattle.laying.specs.Layable.{TapsHeld};
 
 use ends::{Tap, Taps};
 use repeaters::linked_place;
-use room::{Neighbour, Room, SOLID, TRANSPARENT};
+use room::{Room, SOLID, TRANSPARENT};
 use routing_resources::MARKED;
 
 // Whether the cell at a place, if there is one, lies higher or lower than this level.
-fn off_level(room: Room, place: Neighbour, level: usize) -> bool
+fn off_level(room: Room, place: Option<usize>, level: usize) -> bool
     requires { Good room }
     ensures { result ≡ holds_at (off_level room level) place }
 {
-    match place {
-        Neighbour::Inside(cell) => {
-            let p = room.pos(cell);
-            p.y != level
-        }
-        Neighbour::Outside => false,
-    }
+    place.is_some_and(|cell| room.pos(cell).y != level)
 }
 
 // Whether the cell is an end of a stair: one of its tree neighbours, which the mask has, lies higher or lower.
@@ -35,14 +29,12 @@ fn climbs(room: Room, mask: u32, cell: usize) -> bool
 {
     let p = room.pos(cell);
     let mut rest = mask;
-    let mut k: usize = 0;
-    while k < 12 {
+    for k in 0..12 {
         let place = linked_place(room, p, rest, k);
         if off_level(room, place, p.y) {
             return true;
         }
         rest /= 2;
-        k += 1;
     }
     false
 }
@@ -51,10 +43,7 @@ fn climbs(room: Room, mask: u32, cell: usize) -> bool
 fn powers(tap: Tap, cell: usize) -> bool
     ensures { result ≡ powers cell tap }
 {
-    if tap.wire {
-        return false;
-    }
-    tap.terminal == cell
+    !tap.wire && tap.terminal == cell
 }
 
 // Whether the cell is the terminal of a BlockPower sink.
@@ -62,14 +51,10 @@ fn powered_at(taps: Taps, cell: usize) -> bool
     requires { TapsHeld taps }
     ensures { result ≡ powered_at (taps_in taps) cell }
 {
-    let count = taps.count;
-    let mut k: usize = 0;
-    while k < count {
-        let tap = taps.taps[k];
-        if powers(tap, cell) {
+    for tap in &taps.taps[..taps.count] {
+        if powers(*tap, cell) {
             return true;
         }
-        k += 1;
     }
     false
 }
@@ -83,14 +68,9 @@ pub fn support_kind(room: Room, taps: Taps, repeaters: &[u8], links: &[u32], cel
     requires cell_bound { cell < volume room }
     ensures { result ≡ support_kind room (linked_cells room links.now) (taps_in taps) repeaters.now cell }
 {
-    if repeaters[cell] == MARKED {
-        return SOLID;
+    if repeaters[cell] == MARKED || powered_at(taps, cell) || climbs(room, links[cell], cell) {
+        SOLID
+    } else {
+        TRANSPARENT
     }
-    if powered_at(taps, cell) {
-        return SOLID;
-    }
-    if climbs(room, links[cell], cell) {
-        return SOLID;
-    }
-    TRANSPARENT
 }

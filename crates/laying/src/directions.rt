@@ -20,9 +20,10 @@ fn direction(room: Room, parents: &[u32], cell: usize) -> u8
 {
     let parent = as_index(parents[cell]);
     if parent == 0 {
-        return NO_FACING;
+        NO_FACING
+    } else {
+        facing(room, parent - 1, cell)
     }
-    facing(room, parent - 1, cell)
 }
 
 // A repeater at a cell, whatever stands there.
@@ -49,13 +50,9 @@ pub fn lay_repeaters(
     requires repeaters_len { length repeaters.now ≡ volume room }
     ensures { laid_room kinds.new facings.new ≡ along (laid_repeater room parents.now) (marked_cells room repeaters.now) (laid_room kinds.old facings.old) }
 {
-    let mut cell: usize = 0;
-    while cell < repeaters.len() {
-        if repeaters[cell] != MARKED {
-            cell += 1;
-            continue;
+    for (cell, mark) in repeaters.iter().enumerate() {
+        if *mark == MARKED {
+            lay_repeater(room, parents, cell, kinds, facings);
         }
-        lay_repeater(room, parents, cell, kinds, facings);
-        cell += 1;
     }
 }

@@ -4,7 +4,7 @@ ghost use Rattle.room.specs.Room.{volume, beneath};
 ghost use Rattle.laying.specs.Laying.{laid_room, placed, laid_on, laid_at, cell_laid};
 ghost use Rattle.laying.specs.Layable.{RoomHeld};
 
-use room::{AIR, NO_FACING, Neighbour, REDSTONE_WIRE, Room};
+use room::{AIR, NO_FACING, REDSTONE_WIRE, Room};
 
 // A block stands at the cell, whatever stood there.
 pub fn place(kind: u8, facing: u8, cell: usize, kinds: &mut [u8], facings: &mut [u8])
@@ -33,7 +33,7 @@ fn bear(room: Room, support: u8, cell: usize, kinds: &mut [u8], facings: &mut [u
     requires cell_bound { cell < volume room }
     ensures { laid_room kinds.new facings.new ≡ laid_at support (beneath room cell) (laid_room kinds.old facings.old) }
 {
-    if let Neighbour::Inside(below) = room.beneath(cell) {
+    if let Some(below) = room.beneath(cell) {
         lay(support, below, kinds, facings);
     }
 }
@@ -52,8 +52,7 @@ pub fn lay_cell(
     ensures { laid_room kinds.new facings.new ≡ cell_laid room support planned cell (laid_room kinds.old facings.old) }
 {
     bear(room, support, cell, kinds, facings);
-    if planned {
-        return;
+    if !planned {
+        lay(REDSTONE_WIRE, cell, kinds, facings);
     }
-    lay(REDSTONE_WIRE, cell, kinds, facings);
 }

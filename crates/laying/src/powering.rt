@@ -19,11 +19,10 @@ fn lay_sink(room: Room, tap: Tap, kinds: &mut [u8], facings: &mut [u8])
     requires approach_bound { tap.approach < volume room }
     ensures { laid_room kinds.new facings.new ≡ laid_sink room tap (laid_room kinds.old facings.old) }
 {
-    if tap.wire {
-        return;
+    if !tap.wire {
+        let towards = facing(room, tap.approach, tap.terminal);
+        place(REPEATER, towards, tap.terminal, kinds, facings);
     }
-    let towards = facing(room, tap.approach, tap.terminal);
-    place(REPEATER, towards, tap.terminal, kinds, facings);
 }
 
 // Each sink in sheet order: of two at one terminal the later stays.
@@ -32,11 +31,7 @@ pub fn lay_sinks(room: Room, taps: Taps, kinds: &mut [u8], facings: &mut [u8])
     requires taps_inside { TapsInside room taps }
     ensures { laid_room kinds.new facings.new ≡ along (laid_sink room) (taps_in taps) (laid_room kinds.old facings.old) }
 {
-    let count = taps.count;
-    let mut k: usize = 0;
-    while k < count {
-        let tap = taps.taps[k];
-        lay_sink(room, tap, kinds, facings);
-        k += 1;
+    for tap in &taps.taps[..taps.count] {
+        lay_sink(room, *tap, kinds, facings);
     }
 }

@@ -20,8 +20,8 @@ pub fn root_tree(
     requires { Rootable room source lengths branches.now links.old parents.old line.old }
     ensures { TreeRooted room source (branches_of lengths branches.now) links.new parents.new }
 {
-    lent::clear_words(links);
+    lent::clear(links);
     tree_adjacency(room, branches, lengths, links);
-    lent::clear_words(parents);
+    lent::clear(parents);
     rooted_parent(room, source, links, parents, line);
 }

@@ -56,13 +56,9 @@ pub fn lay_cells(
     requires marks_held { MarksHeld room occupied.now repeaters.now links.now }
     ensures { laid_room kinds.new facings.new ≡ along (laid_cell room (linked_cells room links.now) (taps_in taps) repeaters.now) (marked_cells room occupied.now) (laid_room kinds.old facings.old) }
 {
-    let mut cell: usize = 0;
-    while cell < occupied.len() {
-        if occupied[cell] != MARKED {
-            cell += 1;
-            continue;
+    for (cell, mark) in occupied.iter().enumerate() {
+        if *mark == MARKED {
+            lay_occupied(room, taps, repeaters, links, cell, kinds, facings);
         }
-        lay_occupied(room, taps, repeaters, links, cell, kinds, facings);
-        cell += 1;
     }
 }

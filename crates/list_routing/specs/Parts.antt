@@ -1,19 +1,18 @@
 -- What the contracts of one net's parts cite: routed into what is left of the branch buffer and of the lengths, and laid.
-use Rattle.std.specs.Prelude.{◌≡◌, List, ◌++◌, ℕ, ◌+◌, ◌-◌, ◌*◌, ◌≤◌, ◌<◌, length, take, drop}
+use Rattle.std.specs.Prelude.{◌≡◌, List, ◌++◌, ℕ, ◌+◌, ◌-◌, ◌*◌, ◌≤◌, ◌<◌, length, take, drop, Option, Result, Ok, Err}
 use Rattle.std.proofs.Common.{ap}
 use Rattle.ground.specs.declared.Mode.{Mode}
 use Rattle.job_sheet.specs.Sheet.{max_sinks}
 use Rattle.branches.specs.declared.BranchLengths.{BranchLengths}
 use Rattle.branches.specs.Branches.{sum, lengths_in, Short}
-use Rattle.net_tree.specs.declared.Answer.{Answer}
-use Rattle.net_tree.specs.declared.Ended.TheVariants.{Routed, Refused}
-use Rattle.net_tree.specs.Answers.{Lent, lent}
+use Rattle.net_tree.specs.declared.Tree.{Tree}
+use Rattle.net_tree.specs.declared.Refused.{Refused}
+use Rattle.net_tree.specs.Answers.{Answer, Lent, lent}
 use Rattle.kept_nets.specs.Keep.{NextAsked, NextRouted}
 use Rattle.laid_nets.specs.declared.Meeting.{Meeting}
 use Rattle.laid_nets.specs.Layings.{SheetLayable, SheetLaid}
 use Rattle.list_routing.specs.declared.Stand.{Stand}
-use Rattle.list_routing.specs.declared.Step.{Step}
-use Rattle.list_routing.specs.declared.Step.TheVariants as step
+use Rattle.list_routing.specs.declared.NetRefused.{NetRefused}
 
 -- a sheet of the list, from here to there
 abbrev pub sheet_here : List ℕ → ℕ → ℕ → List ℕ
@@ -68,19 +67,26 @@ pub record TreeLayable (list : List ℕ) (stand : Stand) (end : ℕ) (L : Branch
 pub record AnswerLayable (list : List ℕ) (stand : Stand) (end : ℕ) (r : Answer) (branches occupied planned owners kinds facings known previous path : List ℕ) : Type 0 where
   pub span : Span list stand.place end
   pub used-most : stand.used ≤ length branches
-  pub tree : (x y : ℕ) → r.ended ≡ Routed x y → TreeLayable list stand end r.lengths branches occupied planned owners kinds facings known previous path
+  pub tree : (t : Tree) → r ≡ Ok t → TreeLayable list stand end t.lengths branches occupied planned owners kinds facings known previous path
 
 -- how far the walk has come with a net whose branches have these lengths
-abbrev pub further : Stand → ℕ → BranchLengths → Meeting → Stand
+abbrev pub further : Stand → ℕ → BranchLengths → Option Meeting → Stand
 further stand end L met = record { place = end; net = stand.net + 1; used = stand.used + sum (lengths_in L); met = met }
 
-pub data AnswerLaid (list : List ℕ) (stand : Stand) (end : ℕ) (a : Answer) (branches occupied planned owners kinds facings : List ℕ) (r : Step) (owners' kinds' facings' : List ℕ) : Type 0 where
-  laid_one : (x y : ℕ) → a.ended ≡ Routed x y → (met : Meeting) → r ≡ step.On (further stand end a.lengths met)
-      → SheetLaid (sheet_here list stand.place end) stand.net stand.met a.lengths (rest_of stand.used branches) occupied planned owners kinds facings met owners' kinds' facings'
+-- a net that refuses
+abbrev pub net_refused : ℕ → ℕ → ℕ → NetRefused
+net_refused net number detail = record { net = net; number = number; detail = detail }
+
+pub data AnswerLaid (list : List ℕ) (stand : Stand) (end : ℕ) (a : Answer) (branches occupied planned owners kinds facings : List ℕ) (r : Result Stand NetRefused) (owners' kinds' facings' : List ℕ) : Type 0 where
+  laid_one : (t : Tree) → a ≡ Ok t → (met : Option Meeting) → r ≡ Ok (further stand end t.lengths met)
+      → SheetLaid (sheet_here list stand.place end) stand.net stand.met t.lengths (rest_of stand.used branches) occupied planned owners kinds facings met owners' kinds' facings'
       → AnswerLaid list stand end a branches occupied planned owners kinds facings r owners' kinds' facings'
-  laid_none : (number detail : ℕ) → a.ended ≡ Refused number detail → r ≡ step.Refused stand.net number detail
+  laid_none : (e : Refused) → a ≡ Err e → r ≡ Err (net_refused stand.net e.number e.detail)
       → AnswerLaid list stand end a branches occupied planned owners kinds facings r owners' kinds' facings'
 
-pub further-by : (stand : Stand) (end : ℕ) (L : BranchLengths) (met : Meeting) {n : ℕ} → n ≡ sum (lengths_in L)
-    → step.On (record { place = end; net = stand.net + 1; used = stand.used + n; met = met }) ≡ step.On (further stand end L met)
-further-by stand end L met e = ap (λ n. step.On (record { place = end; net = stand.net + 1; used = stand.used + n; met = met })) e
+pub further-by : (stand : Stand) (end : ℕ) (L : BranchLengths) (met : Option Meeting) {n : ℕ} → n ≡ sum (lengths_in L)
+    → ◌≡◌ {A = Result Stand NetRefused} (Ok (record { place = end; net = stand.net + 1; used = stand.used + n; met = met })) (Ok (further stand end L met))
+further-by stand end L met e = ap on e
+  where
+    on : ℕ → Result Stand NetRefused
+    on m = Ok (record { place = end; net = stand.net + 1; used = stand.used + m; met = met })

@@ -1,5 +1,5 @@
 -- Laws of one step of the walk: what its parts ask, and that one net more keeps what is known of the nets so far.
-use Rattle.std.specs.Prelude.{◌≡◌, refl, true, ℕ, suc, ◌+◌, ◌-◌, ◌≤◌, ◌<◌, get_or, take, drop}
+use Rattle.std.specs.Prelude.{◌≡◌, refl, true, ℕ, suc, ◌+◌, ◌-◌, ◌≤◌, ◌<◌, get_or, take, drop, Option, Result, Ok, Err}
 use Rattle.std.proofs.Math.Path.{sym, ap}
 use Rattle.std.proofs.Common.{subst, ◌∙◌, arith, length-append, length-drop, drop-drop}
 use mathlib.Core.List.{List, [], ◌∷◌, ◌++◌}
@@ -18,9 +18,10 @@ use Rattle.job_sheet.specs.Sheet.{max_sinks}
 use Rattle.branches.specs.Branches.{sum, lengths_in, branch_lengths, branches_of}
 use Rattle.branches.specs.BranchLaws.{lengths_theirs, lengths-sum}
 use Rattle.repeaters.specs.Masks.{AllSteps, BranchesReady}
-use Rattle.net_tree.specs.declared.Answer.{Answer}
-use Rattle.net_tree.specs.declared.Ended.TheVariants.{Routed, Refused}
-use Rattle.net_tree.specs.Answers.{Lent, lent, TreeOutcome, routed, no_tree, answer_of}
+use Rattle.net_tree.specs.declared.Tree as trees
+use Rattle.net_tree.specs.declared.Refused as refusals
+use Rattle.net_tree.specs.EntryLaws.{one-tree, one-refusal}
+use Rattle.net_tree.specs.Answers.{Answer, Lent, lent, TreeOutcome, routed, no_tree, answer_of}
 use Rattle.laying.specs.Laying.{Net}
 use Rattle.job_list.specs.Split.{sheet_long, first_sheet, sheets_in}
 use Rattle.job_list.specs.SplitLaws.{long-most, long-some, sheets_some, sheets_none}
@@ -38,8 +39,7 @@ use Rattle.kept_nets.specs.BranchSound.{GoodBranch}
 use Rattle.kept_nets.specs.Keep.{NextKept, NextHeld}
 use Rattle.kept_nets.specs.KeepLaws.{their_branched, their_branches, their_short}
 use Rattle.list_routing.specs.declared.Stand.{Stand}
-use Rattle.list_routing.specs.declared.Step.{Step}
-use Rattle.list_routing.specs.declared.Step.TheVariants as step
+use Rattle.list_routing.specs.declared.NetRefused.{NetRefused}
 use Rattle.list_routing.specs.ListLent.{ListLent, SameSizes, Desk}
 use Rattle.list_routing.specs.Walk.{cells_of, lengths_of, cells-more, lengths-more, taken_more, planned-more, before-is, step-routed, step-refused, outcome-by-marks}
 use Rattle.list_routing.specs.Parts.{sheet_here, rest_of, counted_at, PartAsked, PartRouted, TreeLayable, AnswerLayable, further, AnswerLaid, laid_one, laid_none}
@@ -169,38 +169,39 @@ module _ {mode : Mode} {list : List ℕ} {stand : Stand} {B : ListLent} (O : Wal
         (λ v h. before-is R W.nets (volume R) W.before-are v (rw (ap volume (sym room-here)) at h) ∙ ap (λ Q. taken_by Q W.nets v) room-here)
 
     -- a tree came of it
-    record RoutedNow : Type 0 where
+    record RoutedNow (t : trees.Tree) : Type 0 where
       pub bs : List (List ℕ)
       pub occ : List ℕ
       pub rep : List ℕ
       pub is : out ≡ routed bs occ rep
-      pub lengths-are : r.lengths ≡ branch_lengths bs
+      pub lengths-are : t.lengths ≡ branch_lengths bs
       pub held : NextHeld bs occ rep (contents_at here).room (ends_at here).source (rest_of stand.used B.branches) (rest_of (counted_at stand) B.lengths) B.repeaters B.before
           N.branches N.lengths-left repeaters' before' occupied' planned'
 
-    routed-now : {x y : ℕ} → r.ended ≡ Routed x y → RoutedNow
-    routed-now q = go out refl N.routed.answer N.routed.kept
+    routed-now : {t : trees.Tree} → r ≡ Ok t → RoutedNow t
+    routed-now {t} q = go out refl N.routed.answer N.routed.kept
       where
         go : (o : TreeOutcome) → out ≡ o → r ≡ answer_of o
             → NextKept o (contents_at here).room (ends_at here).source (rest_of stand.used B.branches) (rest_of (counted_at stand) B.lengths) B.repeaters B.before
-            N.branches N.lengths-left repeaters' before' occupied' planned' → RoutedNow
-        go (routed bs occ rep) w a K = record { bs = bs; occ = occ; rep = rep; is = w; lengths-are = ap (λ z. z.lengths) a; held = K }
+            N.branches N.lengths-left repeaters' before' occupied' planned' → RoutedNow t
+        go (routed bs occ rep) w a K = record { bs = bs; occ = occ; rep = rep; is = w; lengths-are = ap (λ z. z.lengths) (one-tree q a); held = K }
         go (no_tree number detail) w a K = never (cc)
 
-    refused-now : {n d : ℕ} → r.ended ≡ Refused n d → (out ≡ no_tree n d) × (buffer_number < n)
-    refused-now {n} {d} q = go out refl N.routed.answer N.routed.kept
+    refused-now : {e : refusals.Refused} → r ≡ Err e → (out ≡ no_tree e.number e.detail) × (buffer_number < e.number)
+    refused-now {e} q = go out refl N.routed.answer N.routed.kept
       where
         go : (o : TreeOutcome) → out ≡ o → r ≡ answer_of o
             → NextKept o (contents_at here).room (ends_at here).source (rest_of stand.used B.branches) (rest_of (counted_at stand) B.lengths) B.repeaters B.before
-            N.branches N.lengths-left repeaters' before' occupied' planned' → (out ≡ no_tree n d) × (buffer_number < n)
+            N.branches N.lengths-left repeaters' before' occupied' planned' → (out ≡ no_tree e.number e.detail) × (buffer_number < e.number)
         go (routed bs occ rep) w a K = never (cc)
         go (no_tree number detail) w a K =
-            let p : number ≡ n = cc in
-            let s : detail ≡ d = cc in
-            (w ∙ (λ i. no_tree (p i) (s i)), omega arith)
+            let s = one-refusal a q in
+            let p : number ≡ e.number = ap (λ x. x.number) s in
+            let d : detail ≡ e.detail = ap (λ x. x.detail) s in
+            (w ∙ (λ i. no_tree (p i) (d i)), omega arith)
 
-    module _ (T : RoutedNow) (branches-same : length branches' ≡ length B.branches) where
-      count-is : sum (lengths_in r.lengths) ≡ length (joined T.bs)
+    module _ {t : trees.Tree} (T : RoutedNow t) (branches-same : length branches' ≡ length B.branches) where
+      count-is : sum (lengths_in t.lengths) ≡ length (joined T.bs)
       count-is = ap (λ L. sum (lengths_in L)) T.lengths-are ∙ lengths-sum T.bs (branch_lengths T.bs) (lengths_theirs T.bs) refl
 
       branches-fit : stand.used + length (joined T.bs) ≤ length B.branches
@@ -211,10 +212,10 @@ module _ {mode : Mode} {list : List ℕ} {stand : Stand} {B : ListLent} (O : Wal
       part-is =
           part-back (cells_of W.nets) B.branches W.branches-are stand.used W.used-is W.used-most N.branches branches' N.branches-are ∙ T.held.branches-are
 
-      cut-is : branches_of r.lengths (rest_of stand.used branches') ≡ T.bs
+      cut-is : branches_of t.lengths (rest_of stand.used branches') ≡ T.bs
       cut-is = (λ i. branches_of (T.lengths-are i) (part-is i)) ∙ their_branches room-good T.held.good (rest_of stand.used B.branches)
 
-      branches-ready : BranchesReady (contents_at here).room r.lengths (rest_of stand.used branches')
+      branches-ready : BranchesReady (contents_at here).room t.lengths (rest_of stand.used branches')
       branches-ready = record {
         branched = rw (T.lengths-are, part-is) (their_branched room-good T.held.good (rest_of stand.used B.branches));
         steps = rw cut-is (all-steps (contents_at here).room T.bs T.held.good.each-good);
@@ -228,7 +229,7 @@ module _ {mode : Mode} {list : List ℕ} {stand : Stand} {B : ListLent} (O : Wal
 
       tree-layable : length occupied' ≡ length B.occupied → length planned' ≡ length B.planned → (known' previous' path' : List ℕ) → length known' ≡ length B.known
           → length previous' ≡ length B.previous → length path' ≡ length B.path
-          → TreeLayable list stand end r.lengths branches' occupied' planned' B.owners B.kinds B.facings known' previous' path'
+          → TreeLayable list stand end t.lengths branches' occupied' planned' B.owners B.kinds B.facings known' previous' path'
       tree-layable o p known' previous' path' k q s = record {
         short = rw T.lengths-are (their_short room-good T.held.good (rest_of stand.used B.branches));
         few = rw T.lengths-are T.held.good.few;
@@ -260,12 +261,12 @@ module _ {mode : Mode} {list : List ℕ} {stand : Stand} {B : ListLent} (O : Wal
       abbrev nets' : List Net
       nets' = W.nets ++ (net ∷ [])
 
-      module _ {B' : ListLent} (same : SameSizes B B') {met : Meeting} (branches-are : B'.branches ≡ branches') (lengths-are : B'.lengths ≡ lengths')
+      module _ {B' : ListLent} (same : SameSizes B B') {met : Option Meeting} (branches-are : B'.branches ≡ branches') (lengths-are : B'.lengths ≡ lengths')
           (repeaters-are : B'.repeaters ≡ repeaters') (before-are : B'.before ≡ before') (occupied-long : length occupied' ≡ length B.occupied)
-          (laid : SheetLaid here stand.net stand.met r.lengths (rest_of stand.used branches') occupied' planned' B.owners B.kinds B.facings met
+          (laid : SheetLaid here stand.net stand.met t.lengths (rest_of stand.used branches') occupied' planned' B.owners B.kinds B.facings met
           B'.owners B'.kinds B'.facings) where
         abbrev next : Stand
-        next = further stand end r.lengths met
+        next = further stand end t.lengths met
 
         each_long : length (branch_lengths T.bs).each ≡ max_sinks
         each_long = (their_short room-good T.held.good (rest_of stand.used B.branches)).whole
@@ -332,7 +333,7 @@ module _ {mode : Mode} {list : List ℕ} {stand : Stand} {B : ListLent} (O : Wal
           desk = desk-still W.desk same;
         }
 
-    pub ends_with : {n d : ℕ} → r.ended ≡ Refused n d → EndsWith mode list B stand.net n d
+    pub ends_with : {e : refusals.Refused} → r ≡ Err e → EndsWith mode list B stand.net e.number e.detail
     ends_with q =
         let w = refused-now q in (
           sym W.left
@@ -347,14 +348,14 @@ module _ {mode : Mode} {list : List ℕ} {stand : Stand} {B : ListLent} (O : Wal
       answer-layable p {known'} {previous'} {path'} k q s = record {
         span = record { ordered = omega (arith, end-behind); within = end-within };
         used-most = omega (arith, W.used-most);
-        tree = λ x y t. tree-layable (routed-now t) branches-same occupied-long p known' previous' path' k q s;
+        tree = λ t w. tree-layable (routed-now w) branches-same occupied-long p known' previous' path' k q s;
       }
 
-      pub stepped : {B' : ListLent} → SameSizes B B' → B'.branches ≡ branches' → B'.lengths ≡ lengths' → B'.repeaters ≡ repeaters' → B'.before ≡ before' → {s : Step}
+      pub stepped : {B' : ListLent} → SameSizes B B' → B'.branches ≡ branches' → B'.lengths ≡ lengths' → B'.repeaters ≡ repeaters' → B'.before ≡ before' → {s : Result Stand NetRefused}
           → AnswerLaid list stand end r branches' occupied' planned' B.owners B.kinds B.facings s B'.owners B'.kinds B'.facings → Stepped mode list stand B s B'
-      stepped same b l p f (laid_one x y q met is laid) =
+      stepped same b l p f (laid_one t q met is laid) =
           rw is record { to = (walking-next (routed-now q) branches-same same b l p f occupied-long laid, end-behind) }
-      stepped same b l p f (laid_none n d q is) = rw is record { to = ends_with q }
+      stepped same b l p f (laid_none x q is) = rw is record { to = ends_with q }
 
 -- ---- the whole walk
 
@@ -389,7 +390,7 @@ module _ {mode : Mode} {list : List ℕ} {B₀ : ListLent} {stand : Stand} {B : 
   abbrev S : Walking mode list stand B
   S = F.walking
 
-  pub walked_all : length list ≤ stand.place → Walked mode list B₀ (step.On stand) B
+  pub walked_all : length list ≤ stand.place → Walked mode list B₀ (Ok stand) B
   unfolding route_from
   walked_all h =
       let none : sheets_in (drop stand.place list) ≡ [] = sheets_none (drop stand.place list) (rw (length-drop stand.place list) (omega arith)) in
@@ -408,14 +409,14 @@ module _ {mode : Mode} {list : List ℕ} {B₀ : ListLent} {stand : Stand} {B : 
         };
       }
 
-  pub walked-refused : {net number detail : ℕ} {B' : ListLent} → EndsWith mode list B net number detail → Walked mode list B₀ (step.Refused net number detail) B'
+  pub walked-refused : {refused : NetRefused} {B' : ListLent} → EndsWith mode list B refused.net refused.number refused.detail → Walked mode list B₀ (Err refused) B'
   walked-refused E = record { to = ((λ i. routed_list mode list (sym F.same.branches i) (sym F.same.queue i)) ∙ E.0, E.1) }
 
-  module _ {r : Step} {B' : ListLent} (T : Stepped mode list stand B r B') where
-    pub walked_step : (net number detail : ℕ) → r ≡ step.Refused net number detail → Walked mode list B₀ r B'
-    walked_step net number detail e = rw e (walked-refused (rw e at T.to))
+  module _ {r : Result Stand NetRefused} {B' : ListLent} (T : Stepped mode list stand B r B') where
+    pub walked_step : (refused : NetRefused) → r ≡ Err refused → Walked mode list B₀ (Err refused) B'
+    walked_step refused e = walked-refused (rw e at T.to)
 
-    module _ (next : Stand) (e : r ≡ step.On next) where
+    module _ (next : Stand) (e : r ≡ Ok next) where
       on-now : Walking mode list next B' × (stand.place < next.place)
       on-now = rw e at T.to
 

@@ -1,5 +1,5 @@
 -- What the contracts of the walk along a list cite: how far it has come, and what one net more comes to.
-use Rattle.std.specs.Prelude.{◌≡◌, List, ℕ, ◌-◌, ◌*◌, ◌≤◌, ◌<◌, length, drop}
+use Rattle.std.specs.Prelude.{◌≡◌, List, ℕ, ◌-◌, ◌*◌, ◌≤◌, ◌<◌, length, drop, None, Result, Ok, Err}
 use Rattle.numbers.specs.Refusals.{buffer_number}
 use Rattle.lent.specs.Lent.{filled}
 use Rattle.room.specs.declared.Room.{Room}
@@ -14,12 +14,10 @@ use Rattle.job_list.specs.Judged.{contents_at}
 use Rattle.job_list.specs.GoodNets.{GoodFrom}
 use Rattle.other_nets.specs.OtherLaws.{ListReady}
 use Rattle.nets.specs.Nets.{taken_by, all-kept, refused-by, route_from, routed_list}
-use Rattle.laid_nets.specs.declared.Meeting.{Meeting}
 use Rattle.laid_nets.specs.LaidNets.{room_at, LaidNets, laid_so_far, unlaid, laid_nets}
 use Rattle.laid_nets.specs.CountLaws.{Counted}
 use Rattle.list_routing.specs.declared.Stand.{Stand}
-use Rattle.list_routing.specs.declared.Step.{Step}
-use Rattle.list_routing.specs.declared.Step.TheVariants.{On, Refused}
+use Rattle.list_routing.specs.declared.NetRefused.{NetRefused}
 use Rattle.list_routing.specs.ListLent.{ListLent, Desk}
 use Rattle.list_routing.specs.Walk.{cells_of, lengths_of, planned_by}
 
@@ -29,7 +27,7 @@ room_of list = (contents_at (first_sheet list)).room
 
 -- before the first net
 abbrev pub at_first : Stand
-at_first = record { place = 0; net = 0; used = 0; met = Meeting.Nowhere }
+at_first = record { place = 0; net = 0; used = 0; met = None }
 
 -- the nets laid so far
 abbrev pub so_far : Stand → ListLent → LaidNets
@@ -68,11 +66,11 @@ abbrev pub EndsWith : Mode → List ℕ → ListLent → (net number detail : �
 EndsWith mode list B net number detail = (routed_list mode list (length B.branches) (length B.queue) ≡ refused-by net number detail) × (buffer_number < number)
 
 -- one net more, or the list ends with it
-abbrev pub SteppedTo : Step → Mode → List ℕ → Stand → ListLent → ListLent → Type 0
-SteppedTo (On next) mode list stand B B' = Walking mode list next B' × (stand.place < next.place)
-SteppedTo (Refused net number detail) mode list stand B B' = EndsWith mode list B net number detail
+abbrev pub SteppedTo : Result Stand NetRefused → Mode → List ℕ → Stand → ListLent → ListLent → Type 0
+SteppedTo (Ok next) mode list stand B B' = Walking mode list next B' × (stand.place < next.place)
+SteppedTo (Err refused) mode list stand B B' = EndsWith mode list B refused.net refused.number refused.detail
 
-pub record Stepped (mode : Mode) (list : List ℕ) (stand : Stand) (B : ListLent) (r : Step) (B' : ListLent) : Type 0 where
+pub record Stepped (mode : Mode) (list : List ℕ) (stand : Stand) (B : ListLent) (r : Result Stand NetRefused) (B' : ListLent) : Type 0 where
   pub to : SteppedTo r mode list stand B B'
 
 -- all nets are kept and laid
@@ -85,9 +83,9 @@ pub record AllWalked (mode : Mode) (list : List ℕ) (stand : Stand) (B B' : Lis
   pub repeaters-are : B'.repeaters ≡ marked_by (planned_by nets) (no_marks (volume (room_of list)))
   pub laid-are : so_far stand B' ≡ laid_nets (room_of list) 0 nets (unlaid (room_of list) (room_at (first_sheet list)))
 
-abbrev pub WalkedTo : Step → Mode → List ℕ → ListLent → ListLent → Type 0
-WalkedTo (On stand) mode list B B' = AllWalked mode list stand B B'
-WalkedTo (Refused net number detail) mode list B B' = EndsWith mode list B net number detail
+abbrev pub WalkedTo : Result Stand NetRefused → Mode → List ℕ → ListLent → ListLent → Type 0
+WalkedTo (Ok stand) mode list B B' = AllWalked mode list stand B B'
+WalkedTo (Err refused) mode list B B' = EndsWith mode list B refused.net refused.number refused.detail
 
-pub record Walked (mode : Mode) (list : List ℕ) (B : ListLent) (r : Step) (B' : ListLent) : Type 0 where
+pub record Walked (mode : Mode) (list : List ℕ) (B : ListLent) (r : Result Stand NetRefused) (B' : ListLent) : Type 0 where
   pub to : WalkedTo r mode list B B'

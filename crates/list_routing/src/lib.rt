@@ -11,7 +11,7 @@ ghost use Rattle.list_routing.specs.Walking.{at_first, Walking, WalkingOn, Stepp
 use ground::Mode;
 use job_sheet::MAX_SINKS;
 use laid_nets::Meeting;
-use net_tree::{Answer, Ended};
+use net_tree::{Refused, Tree};
 
 // How far the walk has come: where the next sheet begins, the number of its net, how many cells of the branch buffer are in
 // use, and where two nets overlap.
@@ -20,15 +20,15 @@ pub struct Stand {
     pub place: usize,
     pub net: usize,
     pub used: usize,
-    pub met: Meeting,
+    pub met: Option<Meeting>,
 }
 
-// What a net, or a whole list, comes to: the walk goes on from here, or the net refuses: its number in the list, the number
-// that comes back, and the detail.
+// A net that refuses, and with it the list: its number in the list, the number that comes back, and the detail.
 #[derive(Clone, Copy)]
-pub enum Step {
-    On(Stand),
-    Refused(usize, u32, usize),
+pub struct NetRefused {
+    pub net: usize,
+    pub number: u32,
+    pub detail: usize,
 }
 
 // Where the sheet that begins here ends.
@@ -60,7 +60,7 @@ fn route_part(
     path: &mut [u32],
     best: &mut [u32],
     queue: &mut [u64],
-) -> Answer
+) -> Result<Tree, Refused>
     requires { PartAsked list.now stand end planned.old before.old lengths.old (lent branches.old occupied.old repeaters.old unlaid.old blocked.old classes.old joinable.old known.old previous.old path.old best.old queue.old) }
     ensures { PartRouted mode list.now stand end before.old lengths.old (lent branches.old occupied.old repeaters.old unlaid.old blocked.old classes.old joinable.old known.old previous.old path.old best.old queue.old) result branches.new lengths.new repeaters.new before.new occupied.new planned.new }
 {
@@ -96,7 +96,7 @@ fn lay_answer(
     list: &[u8],
     stand: Stand,
     end: usize,
-    answer: Answer,
+    answer: Result<Tree, Refused>,
     branches: &[u32],
     occupied: &[u8],
     planned: &[u8],
@@ -106,19 +106,25 @@ fn lay_answer(
     known: &mut [u32],
     previous: &mut [u32],
     path: &mut [u32],
-) -> Step
+) -> Result<Stand, NetRefused>
     requires { AnswerLayable list.now stand end answer branches.now occupied.now planned.now owners.old kinds.old facings.old known.old previous.old path.old }
     ensures { AnswerLaid list.now stand end answer branches.now occupied.now planned.now owners.old kinds.old facings.old result owners.new kinds.new facings.new }
 {
-    let ended = answer.ended;
     let net = stand.net;
-    if let Ended::Refused { number, detail } = ended {
-        return Step::Refused(net, number, detail);
-    }
+    let tree = match answer {
+        Ok(tree) => tree,
+        Err(Refused { number, detail }) => {
+            return Err(NetRefused {
+                net,
+                number,
+                detail,
+            });
+        }
+    };
     let place = stand.place;
     let used = stand.used;
     let overlap = stand.met;
-    let each = answer.lengths;
+    let each = tree.lengths;
     let met = laid_nets::lay_sheet(
         &list[place..end],
         net,
@@ -134,7 +140,7 @@ fn lay_answer(
         previous,
         path,
     );
-    Step::On(Stand {
+    Ok(Stand {
         place: end,
         net: net + 1,
         used: used + branches::joined_length(each, each.count),
@@ -165,7 +171,7 @@ fn next_net(
     path: &mut [u32],
     best: &mut [u32],
     queue: &mut [u64],
-) -> Step
+) -> Result<Stand, NetRefused>
     requires { WalkingOn mode list.now stand (list_lent branches.old lengths.old owners.old repeaters.old kinds.old facings.old occupied.old planned.old before.old unlaid.old blocked.old classes.old joinable.old known.old previous.old path.old best.old queue.old) }
     ensures { Stepped mode list.now stand (list_lent branches.old lengths.old owners.old repeaters.old kinds.old facings.old occupied.old planned.old before.old unlaid.old blocked.old classes.old joinable.old known.old previous.old path.old best.old queue.old) result (list_lent branches.new lengths.new owners.new repeaters.new kinds.new facings.new occupied.new planned.new before.new unlaid.new blocked.new classes.new joinable.new known.new previous.new path.new best.new queue.new) }
 {
@@ -201,7 +207,7 @@ pub fn walk_list(
     path: &mut [u32],
     best: &mut [u32],
     queue: &mut [u64],
-) -> Step
+) -> Result<Stand, NetRefused>
     requires { Walking mode list.now at_first (list_lent branches.old lengths.old owners.old repeaters.old kinds.old facings.old occupied.old planned.old before.old unlaid.old blocked.old classes.old joinable.old known.old previous.old path.old best.old queue.old) }
     ensures { Walked mode list.now (list_lent branches.old lengths.old owners.old repeaters.old kinds.old facings.old occupied.old planned.old before.old unlaid.old blocked.old classes.old joinable.old known.old previous.old path.old best.old queue.old) result (list_lent branches.new lengths.new owners.new repeaters.new kinds.new facings.new occupied.new planned.new before.new unlaid.new blocked.new classes.new joinable.new known.new previous.new path.new best.new queue.new) }
 {
@@ -209,18 +215,15 @@ pub fn walk_list(
         place: 0,
         net: 0,
         used: 0,
-        met: Meeting::Nowhere,
+        met: None,
     };
+    // no counting loop: each sheet says itself where it ends
     while stand.place < list.len() {
-        let step = next_net(
+        stand = next_net(
             mode, list, stand, branches, lengths, owners, repeaters, kinds, facings, occupied,
             planned, before, unlaid, blocked, classes, joinable, known, previous, path, best,
             queue,
-        );
-        let Step::On(next) = step else {
-            return step;
-        };
-        stand = next;
+        )?;
     }
-    Step::On(stand)
+    Ok(stand)
 }

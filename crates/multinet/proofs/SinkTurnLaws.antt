@@ -1,21 +1,20 @@
 -- Laws of a sink's turn: what its functions ask, and what they come to.
-use Rattle.std.specs.Prelude.{◌≡◌, refl, List, ℕ, ◌+◌, ◌*◌, ◌≤◌, ◌<◌, length, take}
+use Rattle.std.specs.Prelude.{◌≡◌, refl, Result, List, ℕ, ◌+◌, ◌*◌, ◌≤◌, ◌<◌, length, take, Some, None, Ok, Err}
 use Rattle.std.proofs.Common.{sym, ◌∙◌, arith}
 use Rattle.basics.specs.Lists.{joined}
 use Rattle.room_search.specs.Routing.{graph_of}
 use Rattle.job_sheet.specs.Sheet.{max_sinks}
-use Rattle.goals.specs.declared.Tried.{Tried}
-use Rattle.goals.specs.declared.Tried.TheVariants.{Found, Failed, Full}
-use Rattle.room.specs.declared.Cost.{Cost}
+use Rattle.goals.specs.declared.Found.{Found}
+use Rattle.goals.specs.declared.QueueFull as full-queue
 use Rattle.goals.specs.Goals.{Trial, found, route_to_tree}
-use Rattle.goals.specs.Trials.{Tells, told, Grounds}
+use Rattle.goals.specs.Trials.{Tried, Tells, told, Grounds}
 use Rattle.goals.proofs.RouteLaws.{tree-joins, joins-lawful, joins-cells, joins-short, joins-steps}
 use Rattle.branches.specs.declared.BranchLengths.{BranchLengths}
 use Rattle.branches.specs.Branches.{Short, longest_branch}
 use Rattle.branches.specs.BranchLaws.{joined-place, place-within, lengths-sum}
 use Rattle.branches.specs.LoopLaws.{sum-most}
-use Rattle.multinet.specs.declared.Turned.{Turned}
-use Rattle.multinet.specs.declared.Turned.TheVariants.{Stopped}
+use Rattle.multinet.specs.declared.Grown.{Grown}
+use Rattle.multinet.specs.declared.Stopped.{Stopped}
 use Rattle.multinet.specs.declared.Stop.{Stop}
 use Rattle.multinet.specs.declared.Stop.TheVariants.{QueueFull, NoGoal, BufferFull}
 use Rattle.multinet.specs.Adding.{before_sink, used_by, BranchPlaceable, BranchPlaced, buffer-full, is-placed}
@@ -84,8 +83,8 @@ module _ {P : Plot} {turn : ℕ} {L : BranchLengths} {outset start-buffer joinab
         }
 
 -- a route's path stands in its buffer
-pub found-fits : {trial : Trial} {r : Tried} {cells : List ℕ} → Tells trial r cells → (n : ℕ) (cost : Cost) → r ≡ Found n cost → n ≤ length cells
-found-fits T n cost q = rw q at T.fits
+pub found-fits : {trial : Trial} {r : Tried} {cells : List ℕ} → Tells trial r cells → (f : Found) → r ≡ Ok (Some f) → f.length ≤ length cells
+found-fits T f q = rw q at T.fits
 
 -- ---- what the turn comes to
 
@@ -109,27 +108,27 @@ module _ {P : Plot} {turn : ℕ} {L : BranchLengths} {joinable blocked classes k
   module _ {r : Tried} {best' : List ℕ}
       (T : Tells (route_to_tree (site_at P joinable) (tap_at P k).approach blocked) r best')
     where
-      pub came-full : (x : _) → r ≡ Full x → {joinable' blocked' : List ℕ} → joinable' ≡ joinable → blocked' ≡ blocked
-          → TurnCame P turn L joinable blocked branches (Stopped (QueueFull x) k) joinable' blocked' branches
+      pub came-full : (x : full-queue.QueueFull) → r ≡ Err x → {joinable' blocked' : List ℕ} → joinable' ≡ joinable → blocked' ≡ blocked
+          → TurnCame P turn L joinable blocked branches (Err (record { stop = QueueFull x.0; sink = k })) joinable' blocked' branches
       came-full x q j b = record {
-        came = λ o s G. unmoved A.turn_in_lem e G {stop = QueueFull x} (sink-full A.sound G A.turn_in_lem k e (trial A.sound G A.count-is k e A.turn_in_lem T) x.0 (rw q)) j b refl;
+        came = λ o s G. unmoved A.turn_in_lem e G {stop = QueueFull x.0} (sink-full A.sound G A.turn_in_lem k e (trial A.sound G A.count-is k e A.turn_in_lem T) x.0.0 (rw q)) j b refl;
       }
 
-      pub came-failed : r ≡ Failed → {joinable' blocked' : List ℕ} → joinable' ≡ joinable → blocked' ≡ blocked
-          → TurnCame P turn L joinable blocked branches (Stopped (NoGoal (tap_at P k).approach) k) joinable' blocked' branches
+      pub came-failed : r ≡ Ok None → {joinable' blocked' : List ℕ} → joinable' ≡ joinable → blocked' ≡ blocked
+          → TurnCame P turn L joinable blocked branches (Err (record { stop = NoGoal (tap_at P k).approach; sink = k })) joinable' blocked' branches
       came-failed q j b = record {
         came = λ o s G. unmoved A.turn_in_lem e G {stop = NoGoal (tap_at P k).approach} (sink_fails A.sound G A.turn_in_lem k e (trial A.sound G A.count-is k e A.turn_in_lem T) (rw q)) j b refl;
       }
 
-      module _ (n : ℕ) (cost : _) (q : r ≡ Found n cost) where
-        is_found : told r best' ≡ found (take n best') cost.0
+      module _ (f : Found) (q : r ≡ Ok (Some f)) where
+        is_found : told r best' ≡ found (take f.length best') f.cost.0
         is_found = rw q
 
         pub branch-placeable : {joinable'' blocked'' : List ℕ} → joinable'' ≡ joinable → blocked'' ≡ blocked
-            → BranchPlaceable P.room k L (tap_at P k) (take n best') joinable'' blocked''
+            → BranchPlaceable P.room k L (tap_at P k) (take f.length best') joinable'' blocked''
         branch-placeable j b =
             let G = A.growing in
-            let w = route-known A.sound G A.count-is k e A.turn_in_lem T (take n best') cost.0 is_found in
+            let w = route-known A.sound G A.count-is k e A.turn_in_lem T (take f.length best') f.cost.0 is_found in
             record {
               good = A.sound.good;
               few = omega (arith, A.count-is, A.sound.net.taps_in_lem.few);
@@ -145,20 +144,20 @@ module _ {P : Plot} {turn : ℕ} {L : BranchLengths} {joinable blocked classes k
               blocked-long = rw (b, G.blocked-is) G.sprouted.blocked-long;
             }
 
-        pub came-placed : P.buffer ≡ length branches → {joinable' blocked' branches' joinable'' blocked'' : List ℕ} → joinable'' ≡ joinable → blocked'' ≡ blocked → {t : Turned}
-            → BranchPlaced P.room k L (tap_at P k) (take n best') branches joinable'' blocked'' t branches' joinable' blocked'
+        pub came-placed : P.buffer ≡ length branches → {joinable' blocked' branches' joinable'' blocked'' : List ℕ} → joinable'' ≡ joinable → blocked'' ≡ blocked → {t : Result Grown Stopped}
+            → BranchPlaced P.room k L (tap_at P k) (take f.length best') branches joinable'' blocked'' t branches' joinable' blocked'
             → TurnCame P turn L joinable blocked branches t joinable' blocked' branches'
         came-placed m j b (buffer-full over is same) = record {
-          came = λ o s G. rw is (unmoved A.turn_in_lem e G {stop = BufferFull (k + 1)} (sink-buffer-full A.sound G A.turn_in_lem k e (trial A.sound G A.count-is k e A.turn_in_lem T) (take n best') cost.0 is_found
+          came = λ o s G. rw is (unmoved A.turn_in_lem e G {stop = BufferFull (k + 1)} (sink-buffer-full A.sound G A.turn_in_lem k e (trial A.sound G A.count-is k e A.turn_in_lem T) (take f.length best') f.cost.0 is_found
               (omega (arith, m, over, used-is A.sound G A.count-is k e A.turn_in_lem))) (same.1 ∙ j) (same.2 ∙ b) same.0);
         }
         came-placed m j b (is-placed fits is D) = record {
           came = λ o s G.
-              let w = route-known A.sound G A.count-is k e A.turn_in_lem T (take n best') cost.0 is_found in
+              let w = route-known A.sound G A.count-is k e A.turn_in_lem T (take f.length best') f.cost.0 is_found in
               let u = used-is A.sound G A.count-is k e A.turn_in_lem in
               rw is (
                 omega (arith, sink_in A.sound G A.count-is k e A.turn_in_lem, A.sound.net.taps_in_lem.few),
-                sink-grows A.sound G A.turn_in_lem k e (trial A.sound G A.count-is k e A.turn_in_lem T) (take n best') cost.0 is_found w (omega (arith, m, fits, u))
+                sink-grows A.sound G A.turn_in_lem k e (trial A.sound G A.count-is k e A.turn_in_lem T) (take f.length best') f.cost.0 is_found w (omega (arith, m, fits, u))
                     (rw j at D.joinable-are) (rw b at D.blocked-are) (rw (before-is A.sound G A.count-is k e A.turn_in_lem, u) at D.branches-are) refl,
               );
         }

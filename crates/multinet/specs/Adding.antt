@@ -1,5 +1,5 @@
 -- What the contracts of `add_branch` and `place_branch` cite.
-use Rattle.std.specs.Prelude.{◌≡◌, List, ℕ, ◌+◌, ◌*◌, ◌≤◌, ◌<◌, length, take}
+use Rattle.std.specs.Prelude.{◌≡◌, Result, Ok, Err, List, ℕ, ◌+◌, ◌*◌, ◌≤◌, ◌<◌, length, take}
 use Rattle.room.specs.declared.Room.{Room}
 use Rattle.room.specs.Room.{Good, volume, max_volume}
 use Rattle.routing_resources.specs.Marks.{marked_by, AllCells}
@@ -9,8 +9,8 @@ use Rattle.ends.specs.declared.Tap.{Tap}
 use Rattle.job_sheet.specs.Sheet.{max_sinks}
 use Rattle.branches.specs.declared.BranchLengths.{BranchLengths}
 use Rattle.branches.specs.Branches.{branch_of, all_but_last, inserted, sum, Short, lengths_in, longest_branch}
-use Rattle.multinet.specs.declared.Turned.{Turned}
-use Rattle.multinet.specs.declared.Turned.TheVariants.{Grown, Stopped}
+use Rattle.multinet.specs.declared.Grown.{Grown}
+use Rattle.multinet.specs.declared.Stopped.{Stopped}
 use Rattle.multinet.specs.declared.Stop.TheVariants.{BufferFull}
 
 -- a path of the room, a place for its branch, and marks of the room's cells
@@ -55,10 +55,10 @@ pub record BranchPlaceable (R : Room) (k : ℕ) (L : BranchLengths) (tap : Tap) 
   pub blocked-long : length blocked ≡ volume R
 
 -- number 15 is due and nothing is changed, or the branch is placed
-pub data BranchPlaced (R : Room) (k : ℕ) (L : BranchLengths) (tap : Tap) (path branches joinable blocked : List ℕ) (r : Turned) (branches' joinable' blocked' : List ℕ) : Type 0 where
-  buffer-full : length branches < used_by L + length (branch_of tap path) → r ≡ Stopped (BufferFull (k + 1)) k
+pub data BranchPlaced (R : Room) (k : ℕ) (L : BranchLengths) (tap : Tap) (path branches joinable blocked : List ℕ) (r : Result Grown Stopped) (branches' joinable' blocked' : List ℕ) : Type 0 where
+  buffer-full : length branches < used_by L + length (branch_of tap path) → r ≡ Err (record { stop = BufferFull (k + 1); sink = k })
       → (branches' ≡ branches) × (joinable' ≡ joinable) × (blocked' ≡ blocked)
       → BranchPlaced R k L tap path branches joinable blocked r branches' joinable' blocked'
-  is-placed : used_by L + length (branch_of tap path) ≤ length branches → r ≡ Grown k (length (branch_of tap path))
+  is-placed : used_by L + length (branch_of tap path) ≤ length branches → r ≡ Ok (record { sink = k; length = length (branch_of tap path) })
       → BranchAdded R (before_sink L k) (used_by L) tap path branches joinable blocked branches' joinable' blocked'
       → BranchPlaced R k L tap path branches joinable blocked r branches' joinable' blocked'

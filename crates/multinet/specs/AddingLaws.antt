@@ -1,5 +1,5 @@
 -- Laws of adding a branch: it stands in the buffer at its place, and its cells are in the room.
-use Rattle.std.specs.Prelude.{◌≡◌, refl, List, ℕ, ◌+◌, ◌-◌, ◌≤◌, ◌<◌, length, take, drop}
+use Rattle.std.specs.Prelude.{◌≡◌, refl, Ok, Err, List, ℕ, ◌+◌, ◌-◌, ◌≤◌, ◌<◌, length, take, drop}
 use Rattle.std.proofs.Common.{◌∙◌, arith}
 use Rattle.room.specs.declared.Room.{Room}
 use Rattle.room.specs.Room.{volume}
@@ -11,7 +11,6 @@ use Rattle.branches.specs.declared.BranchLengths.{BranchLengths}
 use Rattle.branches.specs.Branches.{branch_of, all_but_last, inserted}
 use Rattle.branches.specs.BranchLaws.{branch-some, branch-below, but_last_below, branch-at, but_last_at}
 use Rattle.multinet.specs.Adding.{Addable, BranchAdded, before_sink, used_by, BranchPlaceable, BranchPlaced, buffer-full, is-placed}
-use Rattle.multinet.specs.declared.Turned.TheVariants.{Grown, Stopped}
 use Rattle.multinet.specs.declared.Stop.TheVariants.{BufferFull}
 
 module _ {R : Room} {at used len : ℕ} {tap : Tap} {path branches joinable blocked : List ℕ} (A : Addable R at used len tap path branches joinable blocked) where
@@ -52,7 +51,7 @@ module _ {R : Room} {at used len : ℕ} {tap : Tap} {path branches joinable bloc
 
 pub no_space_left : {R : Room} {k : ℕ} {L : BranchLengths} {tap : Tap} {path branches joinable blocked : List ℕ}
     {used len : ℕ} → used ≡ used_by L → len ≡ length (branch_of tap path) → length branches < used + len
-    → BranchPlaced R k L tap path branches joinable blocked (Stopped (BufferFull (k + 1)) k) branches joinable blocked
+    → BranchPlaced R k L tap path branches joinable blocked (Err (record { stop = BufferFull (k + 1); sink = k })) branches joinable blocked
 no_space_left u l n = buffer-full (rw (u, l) at n) refl (refl, refl, refl)
 
 module _ {R : Room} {k : ℕ} {L : BranchLengths} {tap : Tap} {path branches joinable blocked : List ℕ} (A : BranchPlaceable R k L tap path joinable blocked)
@@ -72,5 +71,5 @@ module _ {R : Room} {k : ℕ} {L : BranchLengths} {tap : Tap} {path branches joi
   }
 
   pub branch-placed : {branches' joinable' blocked' : List ℕ} → BranchAdded R at used tap path branches joinable blocked branches' joinable' blocked'
-      → BranchPlaced R k L tap path branches joinable blocked (Grown k len) branches' joinable' blocked'
+      → BranchPlaced R k L tap path branches joinable blocked (Ok (record { sink = k; length = len })) branches' joinable' blocked'
   branch-placed b = is-placed (rw (u, l) at fits) (rw l refl) (rw (a, u) at b)

@@ -1,8 +1,7 @@
 -- What the loop over the sinks' turns keeps: the tree so far, as the lent slices hold it.
-use Rattle.std.specs.Prelude.{◌≡◌, ◌⊎◌, List, [], ◌∷◌, ℕ, ◌-◌, ◌≤◌, ◌<◌, length, get_or, drop}
+use Rattle.std.specs.Prelude.{◌≡◌, ◌⊎◌, List, [], ◌∷◌, ℕ, ◌-◌, ◌≤◌, ◌<◌, length, get_or, drop, None}
 use Rattle.basics.specs.Lists.{joined}
 use Rattle.room.specs.declared.Room.{Room}
-use Rattle.room.specs.declared.Neighbour.TheVariants.{Outside}
 use Rattle.room.specs.Room.{Good, volume, Step}
 use Rattle.room.specs.Units.{GoodConfig}
 use Rattle.routing_resources.specs.Marks.{marked_by, is_marked, AllCells, Marks}
@@ -36,7 +35,7 @@ pub record RouteKnown (S : Site) (start : ℕ) (path : List ℕ) : Type 0 where
   pub steps : Steps S.room path
   pub short : length path ≤ volume S.room
   pub cells_in : AllCells S.room path
-  pub free : conflict_of S.room S.kinds S.joinable path ≡ Outside
+  pub free : conflict_of S.room S.kinds S.joinable path ≡ None
 
 abbrev pub turn_in : Plot → ℕ → ℕ
 turn_in P k = turn_of (far P.room P.source P.taps.taps) P.taps.count k

@@ -1,5 +1,5 @@
 -- What the contracts of the growing functions cite, and what their loop keeps.
-use Rattle.std.specs.Prelude.{◌≡◌, List, ℕ, ◌+◌, ◌≤◌, ◌<◌, length, set}
+use Rattle.std.specs.Prelude.{◌≡◌, Result, Ok, Err, List, ℕ, ◌+◌, ◌≤◌, ◌<◌, length, set}
 use Rattle.numbers.specs.Refusals.{queue_full_number, no_goal_number, branches_full_number}
 use Rattle.room.specs.Room.{volume}
 use Rattle.ground.specs.declared.Ground.{Ground}
@@ -9,13 +9,11 @@ use Rattle.ends.specs.declared.Taps.{Taps}
 use Rattle.goals.specs.Goals.{Site}
 use Rattle.goals.specs.Trials.{Grounds, WorkMemory}
 use Rattle.branches.specs.declared.BranchLengths.{BranchLengths}
-use Rattle.multinet.specs.declared.Turned.{Turned}
-use Rattle.multinet.specs.declared.Turned.TheVariants.{Grown, Stopped}
+use Rattle.multinet.specs.declared.Grown.{Grown}
+use Rattle.multinet.specs.declared.Stopped.{Stopped}
 use Rattle.multinet.specs.declared.Stop.{Stop}
 use Rattle.multinet.specs.declared.Stop.TheVariants.{QueueFull, NoGoal, BufferFull}
-use Rattle.multinet.specs.declared.GrowthEnd.{GrowthEnd}
-use Rattle.multinet.specs.declared.GrowthEnd.TheVariants.{Whole, Early}
-use Rattle.multinet.specs.declared.GrownBranches.{GrownBranches}
+use Rattle.multinet.specs.declared.Early.{Early}
 use Rattle.routing_resources.specs.Marks.{Marks}
 use Rattle.multinet.specs.Tree.{Plot, Growth, stopped, grow_sink, sink_now, source_marks}
 use Rattle.multinet.specs.Growing.{SoundPlot, Growing}
@@ -76,12 +74,12 @@ pub record StoppedEarly (P : Plot) (outset start-buffer each joinable blocked br
   pub stops : grow_sink P sink growing.tree ≡ stopped_by stop
 
 -- the next turn's tree, or the number that is due for the whole
-abbrev pub Came : Plot → List ℕ → List ℕ → ℕ → List ℕ → List ℕ → List ℕ → List ℕ → Turned → Type 0
-Came P outset start-buffer turn each joinable blocked branches (Grown k n) =
-    (k < max_sinks) × Growing P outset start-buffer (turn + 1) joinable blocked branches (set each k n)
-Came P outset start-buffer turn each joinable blocked branches (Stopped stop k) = StoppedEarly P outset start-buffer each joinable blocked branches stop k
+abbrev pub Came : Plot → List ℕ → List ℕ → ℕ → List ℕ → List ℕ → List ℕ → List ℕ → Result Grown Stopped → Type 0
+Came P outset start-buffer turn each joinable blocked branches (Ok g) =
+    (g.sink < max_sinks) × Growing P outset start-buffer (turn + 1) joinable blocked branches (set each g.sink g.length)
+Came P outset start-buffer turn each joinable blocked branches (Err s) = StoppedEarly P outset start-buffer each joinable blocked branches s.stop s.sink
 
-pub record TurnCame (P : Plot) (turn : ℕ) (L : BranchLengths) (joinable blocked branches : List ℕ) (r : Turned) (joinable' blocked' branches' : List ℕ) : Type 0 where
+pub record TurnCame (P : Plot) (turn : ℕ) (L : BranchLengths) (joinable blocked branches : List ℕ) (r : Result Grown Stopped) (joinable' blocked' branches' : List ℕ) : Type 0 where
   pub came : (outset start-buffer : List ℕ) → Growing P outset start-buffer turn joinable blocked branches L.each
       → Came P outset start-buffer turn L.each joinable' blocked' branches' r
 
@@ -118,10 +116,10 @@ pub record Turning (P : Plot) (outset start-buffer : List ℕ) (turn : ℕ) (L :
   pub so_far : turn ≤ P.taps.count
 
 -- the whole growth, as its answer tells it
-abbrev pub EndTold : Plot → List ℕ → List ℕ → BranchLengths → List ℕ → List ℕ → List ℕ → GrowthEnd → Type 0
-EndTold P outset start-buffer L joinable blocked branches Whole =
+abbrev pub EndTold : Plot → List ℕ → List ℕ → List ℕ → List ℕ → List ℕ → Result BranchLengths Early → Type 0
+EndTold P outset start-buffer joinable blocked branches (Ok L) =
     (L.count ≡ P.taps.count) × Growing P outset start-buffer P.taps.count joinable blocked branches L.each
-EndTold P outset start-buffer L joinable blocked branches (Early stop sink) = StoppedEarly P outset start-buffer L.each joinable blocked branches stop sink
+EndTold P outset start-buffer joinable blocked branches (Err e) = StoppedEarly P outset start-buffer e.lengths.each joinable blocked branches e.stop e.sink
 
-pub record GrowthTold (P : Plot) (outset start-buffer : List ℕ) (r : GrownBranches) (joinable blocked branches : List ℕ) : Type 0 where
-  pub told : EndTold P outset start-buffer r.lengths joinable blocked branches r.end
+pub record GrowthTold (P : Plot) (outset start-buffer : List ℕ) (r : Result BranchLengths Early) (joinable blocked branches : List ℕ) : Type 0 where
+  pub told : EndTold P outset start-buffer joinable blocked branches r

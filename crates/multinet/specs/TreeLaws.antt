@@ -1,5 +1,5 @@
 -- Laws of the whole growth: how the loop over the turns begins, goes on and ends.
-use Rattle.std.specs.Prelude.{◌≡◌, refl, true, false, ℕ, ◌+◌, ◌-◌, ◌≤◌, ◌<◌, eqb, replicate}
+use Rattle.std.specs.Prelude.{◌≡◌, refl, Result, Ok, Err, true, false, ℕ, ◌+◌, ◌-◌, ◌≤◌, ◌<◌, eqb, replicate}
 use Rattle.std.proofs.Math.Path.{sym, ap}
 use Rattle.std.proofs.Common.{◌∙◌, eqb-true}
 use mathlib.Core.List.{List, []}
@@ -18,10 +18,8 @@ use Rattle.goals.specs.Trials.{WorkMemory}
 use Rattle.branches.specs.declared.BranchLengths.{BranchLengths}
 use Rattle.branches.specs.Branches.{no_lengths}
 use Rattle.branches.specs.BranchLaws.{order-first, lengths-first, joined-nothing}
-use Rattle.multinet.specs.declared.Turned.{Turned}
-use Rattle.multinet.specs.declared.Turned.TheVariants.{Grown, Stopped}
-use Rattle.multinet.specs.declared.Stop.{Stop}
-use Rattle.multinet.specs.declared.GrowthEnd.TheVariants.{Whole, Early}
+use Rattle.multinet.specs.declared.Grown.{Grown}
+use Rattle.multinet.specs.declared.Stopped.{Stopped}
 use Rattle.multinet.specs.Tree.{Plot, planted, grow_from, growth_of, source_marks}
 use Rattle.multinet.specs.Growing.{SoundPlot, Sprouted, Growing}
 use Rattle.multinet.specs.SinkTurns.{Turnable, Came, TurnCame, with_length, Plantable, Turning, GrowthTold}
@@ -102,19 +100,19 @@ module _ {P : Plot} {outset start-buffer : List ℕ} {turn : ℕ} {L : BranchLen
     best-long = b;
   }
 
-  module _ {turned : Turned} {joinable' blocked' branches' : List ℕ} (C : TurnCame P turn L joinable blocked branches turned joinable' blocked' branches') where
+  module _ {turned : Result Grown Stopped} {joinable' blocked' branches' : List ℕ} (C : TurnCame P turn L joinable blocked branches turned joinable' blocked' branches') where
     came-now : Came P outset start-buffer turn L.each joinable' blocked' branches' turned
     came-now = C.came outset start-buffer T.growing
 
-    pub turn_recordable : {k n : ℕ} → turned ≡ Grown k n → k < max_sinks
+    pub turn_recordable : {g : Grown} → turned ≡ Ok g → g.sink < max_sinks
     turn_recordable e = (rw e at came-now).0
 
-    pub turn-ends : {stop : Stop} {sink : ℕ} → turned ≡ Stopped stop sink → GrowthTold P outset start-buffer (record { end = Early stop sink; lengths = L }) joinable' blocked' branches'
+    pub turn-ends : {s : Stopped} → turned ≡ Err s → GrowthTold P outset start-buffer (Err (record { stop = s.stop; sink = s.sink; lengths = L })) joinable' blocked' branches'
     turn-ends e = record { told = rw e at came-now }
 
-    pub turn-goes-on : turn < P.taps.count → {k n : ℕ} → turned ≡ Grown k n → {L' : BranchLengths} → L' ≡ with_length L k n
+    pub turn-goes-on : turn < P.taps.count → {g : Grown} → turned ≡ Ok g → {L' : BranchLengths} → L' ≡ with_length L g.sink g.length
         → Turning P outset start-buffer (turn + 1) L' joinable' blocked' branches'
     turn-goes-on h e r = rw r (record { growing = (rw e at came-now).1; count-is = T.count-is; so_far = omega arith })
 
-  pub all_grown : P.taps.count ≤ turn → GrowthTold P outset start-buffer (record { end = Whole; lengths = L }) joinable blocked branches
+  pub all_grown : P.taps.count ≤ turn → GrowthTold P outset start-buffer (Ok L) joinable blocked branches
   all_grown h = let e : turn ≡ P.taps.count = omega (arith, T.so_far) in record { told = (T.count-is, rw e at T.growing) }

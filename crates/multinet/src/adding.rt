@@ -1,7 +1,7 @@
 // A sink's route becomes a branch of the tree.
 ghost use Rattle.multinet.specs.Adding.{Addable, BranchAdded, BranchPlaceable, BranchPlaced};
 
-use crate::{Stop, Turned};
+use crate::{Grown, Stop, Stopped};
 use branches::BranchLengths;
 use ends::Tap;
 use room::Room;
@@ -38,22 +38,19 @@ pub fn place_branch(
     branches: &mut [u32],
     joinable: &mut [u8],
     blocked: &mut [u8],
-) -> Turned
+) -> Result<Grown, Stopped>
     requires { BranchPlaceable room sink lengths tap path.now joinable.old blocked.old }
     ensures { BranchPlaced room sink lengths tap path.now branches.old joinable.old blocked.old result branches.new joinable.new blocked.new }
 {
     let used = branches::joined_length(lengths, lengths.count);
     let len = branches::branch_length(path.len(), tap);
     if branches.len() < used + len {
-        return Turned::Stopped {
+        return Err(Stopped {
             stop: Stop::BufferFull(sink + 1),
-            sink: sink,
-        };
+            sink,
+        });
     }
     let at = branches::joined_length(lengths, sink);
     add_branch(room, at, used, len, tap, path, branches, joinable, blocked);
-    Turned::Grown {
-        sink: sink,
-        length: len,
-    }
+    Ok(Grown { sink, length: len })
 }

@@ -6,7 +6,7 @@ ghost use Rattle.goals.specs.Trials.{Tells, site_of};
 ghost use Rattle.multinet.specs.SinkTurns.{Findable, plot_of, Turnable, TurnCame, with_length, Plantable, GrowthTold};
 
 use crate::adding::place_branch;
-use crate::{GrownBranches, GrowthEnd, Stop, Turned};
+use crate::{Early, Grown, Stop, Stopped};
 use branches::BranchLengths;
 use ends::Taps;
 use goals::Tried;
@@ -53,7 +53,7 @@ fn grow_sink(
     best: &mut [u32],
     queue: &mut [u64],
     branches: &mut [u32],
-) -> Turned
+) -> Result<Grown, Stopped>
     requires { Turnable (plot_of ground kinds.now queue.old branches.old source taps) turn lengths joinable.old blocked.old classes.old known.old previous.old path.old best.old branches.old }
     ensures { TurnCame (plot_of ground kinds.now queue.old branches.old source taps) turn lengths joinable.old blocked.old branches.old result joinable.new blocked.new branches.new }
 {
@@ -72,26 +72,31 @@ fn grow_sink(
         queue,
         tap.approach,
     );
-    match tried {
-        Tried::Full(expanded) => Turned::Stopped {
-            stop: Stop::QueueFull(expanded),
-            sink: sink,
-        },
-        Tried::Failed => Turned::Stopped {
+    let found = match tried {
+        Ok(found) => found,
+        Err(full) => {
+            return Err(Stopped {
+                stop: Stop::QueueFull(full.0),
+                sink,
+            });
+        }
+    };
+    let Some(found) = found else {
+        return Err(Stopped {
             stop: Stop::NoGoal(tap.approach),
-            sink: sink,
-        },
-        Tried::Found { length, cost: _ } => place_branch(
-            ground.room,
             sink,
-            lengths,
-            tap,
-            &best[..length],
-            branches,
-            joinable,
-            blocked,
-        ),
-    }
+        });
+    };
+    place_branch(
+        ground.room,
+        sink,
+        lengths,
+        tap,
+        &best[..found.length],
+        branches,
+        joinable,
+        blocked,
+    )
 }
 
 // The branches' lengths with one more.
@@ -120,33 +125,27 @@ pub fn grow_tree(
     best: &mut [u32],
     queue: &mut [u64],
     branches: &mut [u32],
-) -> GrownBranches
+) -> Result<BranchLengths, Early>
     requires { Plantable (plot_of ground kinds.now queue.old branches.old source taps) joinable.old blocked.old classes.old known.old previous.old path.old best.old }
     ensures { GrowthTold (plot_of ground kinds.now queue.old branches.old source taps) blocked.old branches.old result joinable.new blocked.new branches.new }
 {
     let count = taps.count;
     let mut lengths = branches::no_lengths(count);
-    let mut turn: usize = 0;
-    while turn < count {
+    for turn in 0..count {
         let turned = grow_sink(
             ground, source, taps, lengths, turn, kinds, joinable, blocked, classes, known,
             previous, path, best, queue, branches,
         );
         match turned {
-            Turned::Grown { sink, length } => {
-                lengths = with_length(lengths, sink, length);
-            }
-            Turned::Stopped { stop, sink } => {
-                return GrownBranches {
-                    end: GrowthEnd::Early { stop, sink },
-                    lengths: lengths,
-                };
+            Ok(Grown { sink, length }) => lengths = with_length(lengths, sink, length),
+            Err(Stopped { stop, sink }) => {
+                return Err(Early {
+                    stop,
+                    sink,
+                    lengths,
+                });
             }
         }
-        turn += 1;
     }
-    GrownBranches {
-        end: GrowthEnd::Whole,
-        lengths: lengths,
-    }
+    Ok(lengths)
 }

@@ -17,23 +17,24 @@ pub enum Stop {
     BufferFull(usize),
 }
 
-// What a sink's turn comes to: it has a branch of so many cells, or a number is due for it.
+// A sink that has a branch of so many cells.
 #[derive(Clone, Copy)]
-pub enum Turned {
-    Grown { sink: usize, length: usize },
-    Stopped { stop: Stop, sink: usize },
+pub struct Grown {
+    pub sink: usize,
+    pub length: usize,
 }
 
-// How growing ends: every sink has its branch, or a number was due for this one.
+// A sink for which a number is due at its turn.
 #[derive(Clone, Copy)]
-pub enum GrowthEnd {
-    Whole,
-    Early { stop: Stop, sink: usize },
+pub struct Stopped {
+    pub stop: Stop,
+    pub sink: usize,
 }
 
-// What growing comes to: how it ended, and the branches' lengths.
+// The growth's early end: the sink at whose turn a number was due, and the lengths of the branches before it.
 #[derive(Clone, Copy)]
-pub struct GrownBranches {
-    pub end: GrowthEnd,
+pub struct Early {
+    pub stop: Stop,
+    pub sink: usize,
     pub lengths: branches::BranchLengths,
 }

@@ -51,7 +51,6 @@ none-repeated R bs f i r =
 
 module _ {M : Memory} {F : Contents} {j : ℕ} {sheet : List ℕ} (G : GoodNet M F j sheet) where
   is-ready : ready (outset_at sheet) ≡ true
-  unfolding ends_of
   is-ready = rw G.ends
 
   pub like_set_out : {K : Contents} {others : ℕ → Bool} → WithResources (contents_at sheet) K (kinds_at sheet) (nodes_at sheet) others
@@ -60,6 +59,7 @@ module _ {M : Memory} {F : Contents} {j : ℕ} {sheet : List ℕ} (G : GoodNet M
       subst (λ C. OutsetOf C (outset_at sheet) (kinds_at sheet) (nodes_at sheet) (blocked_at_outset (kinds_at sheet) (nodes_at sheet) C (ends_at sheet).source (ends_at sheet).taps)) (sym W.but_for_lists)
       record {
         laid = record { placing = each-its-own (none-repeated (contents_at sheet).room (contents_at sheet).blocks G.apart) refl; kinds-are = refl; nodes-are = refl };
+        fault-is = refl;
         ends-are = refl;
         blocked-are = rw is-ready;
       }

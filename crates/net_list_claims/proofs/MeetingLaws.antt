@@ -1,5 +1,5 @@
 -- Laws of where nets meet and of whose the cells are: what is known of the nets laid so far, and that one net more keeps it.
-use Rattle.std.specs.Prelude.{◌≡◌, refl, ◌≢◌, Bool, true, false, not, ◌&&◌, ℕ, zero, suc, ◌+◌, ◌≤◌, ◌<◌, eqb}
+use Rattle.std.specs.Prelude.{◌≡◌, refl, ◌≢◌, Bool, true, false, not, ◌&&◌, ℕ, zero, suc, ◌+◌, ◌≤◌, ◌<◌, eqb, Option, Some, None}
 use Rattle.std.proofs.Common.{sym, ap, subst, ◌∙◌, arith, ne_eqb}
 use mathlib.Core.List.{List, [], ◌∷◌, ◌++◌, append-nil}
 use Rattle.std.proofs.Math.ListN.{length, get_or, length-append, get_or-append, get_or-eq_default}
@@ -8,8 +8,6 @@ use Rattle.std.proofs.Math.Seq.{append_snoc}
 use Rattle.std.proofs.lemmas.Bool.{eqb-false, not-true}
 use Rattle.basics.specs.Tests.{either, ask, ask_same, ask_less, never, and_left, and_right}
 use Rattle.room.specs.declared.Room.{Room}
-use Rattle.room.specs.declared.Neighbour.{Neighbour}
-use Rattle.room.specs.declared.Neighbour.TheVariants.{Inside, Outside}
 use Rattle.room.specs.Room.{volume, in_or_out, or_else, first_below}
 use Rattle.room.specs.RoomLaws.{inside-passed}
 use Rattle.room.specs.PlaceLaws.{first-passed, none_first}
@@ -17,7 +15,6 @@ use Rattle.routing_resources.specs.Marks.{is_marked, with_byte, no_marks}
 use Rattle.routing_resources.specs.MarkLaws.{with_length_lem, with_at}
 use Rattle.laying.specs.Laying.{Net, owned_by, overlap_of}
 use Rattle.laid_nets.specs.declared.Meeting.{Meeting}
-use Rattle.laid_nets.specs.declared.Meeting.TheVariants.{Nowhere, At}
 use Rattle.laid_nets.specs.LaidNets.{LaidNets, met_after, owners_after, with_net, laid_nets}
 use Rattle.net_list_claims.specs.Statements.{no_net, net_in, Occupies, Meets, Apart, FirstMeeting}
 
@@ -34,15 +31,15 @@ marked-below marks v t =
     (λ h. let z : get_or marks v 0 ≡ 0 = get_or-eq_default marks 0 {n = v} h in never (cc (rw z at t)))
 
 -- no lower one passes
-first-lower : (test : ℕ → Bool) (n v : ℕ) → first_below n test ≡ Inside v → (u : ℕ) → u < v → test u ≡ false
+first-lower : (test : ℕ → Bool) (n v : ℕ) → first_below n test ≡ Some v → (u : ℕ) → u < v → test u ≡ false
 unfolding first_below
 first-lower test zero v e u h = never (cc)
 first-lower test (suc n) v e u h = go (first_below n test) refl e (first-lower test n)
   where
-    go : (place : Neighbour) → first_below n test ≡ place → or_else place (in_or_out (test n) n) ≡ Inside v
-        → ((w : ℕ) → first_below n test ≡ Inside w → (x : ℕ) → x < w → test x ≡ false) → test u ≡ false
-    go (Inside w) q f lower = lower v (q ∙ f) u h
-    go Outside q f lower = none_first test n q u (omega (arith, (inside-passed (test n) n v f).0))
+    go : (place : Option ℕ) → first_below n test ≡ place → or_else place (in_or_out (test n) n) ≡ Some v
+        → ((w : ℕ) → first_below n test ≡ Some w → (x : ℕ) → x < w → test x ≡ false) → test u ≡ false
+    go (Some w) q f lower = lower v (q ∙ f) u h
+    go None q f lower = none_first test n q u (omega (arith, (inside-passed (test n) n v f).0))
 
 -- ---- nets with one more behind
 
@@ -92,9 +89,9 @@ pub record Owned (R : Room) (nets : List Net) (owners : List ℕ) : Type 0 where
   pub long : length owners ≡ volume R
   pub whose : (v : ℕ) → v < volume R → Whose nets owners v
 
-abbrev pub Standing : Room → List Net → List ℕ → Meeting → Type 0
-Standing R nets owners Nowhere = Owned R nets owners
-Standing R nets owners (At k v) = FirstMeeting nets k v
+abbrev pub Standing : Room → List Net → List ℕ → Option Meeting → Type 0
+Standing R nets owners None = Owned R nets owners
+Standing R nets owners (Some met) = FirstMeeting nets met.net met.cell
 
 -- ---- one net more
 
@@ -127,7 +124,7 @@ module _ (R : Room) (nets : List Net) (owners : List ℕ) (S : Owned R nets owne
       go (its_own k l o e) = record { own = subst (λ L. is_marked L.occupied v ≡ true) (sym (new-net nets N)) own; lower = k; before = l; too = occupies_old nets N k v l o }
 
   -- the first cell that passes is where it meets one
-  met-first : (v : ℕ) → overlap_of N.occupied owners ≡ Inside v → FirstMeeting (with_last nets N) (length nets) v
+  met-first : (v : ℕ) → overlap_of N.occupied owners ≡ Some v → FirstMeeting (with_last nets N) (length nets) v
   unfolding overlap_of
   met-first v e =
       let p = first-passed test (length N.occupied) v e in
@@ -138,7 +135,7 @@ module _ (R : Room) (nets : List Net) (owners : List ℕ) (S : Owned R nets owne
         first = apart-old nets N (length nets) (omega arith) S.apart;
       }
 
-  module _ (e : overlap_of N.occupied owners ≡ Outside) where
+  module _ (e : overlap_of N.occupied owners ≡ None) where
     none_passes : (v : ℕ) → v < volume R → test v ≡ false
     unfolding overlap_of
     none_passes v h = none_first test (length N.occupied) e v (omega arith)
@@ -176,12 +173,12 @@ module _ (R : Room) (nets : List Net) (owners : List ℕ) (S : Owned R nets owne
 
 module _ (R : Room) where
   -- net k laid behind those so far
-  after : (nets : List Net) (owners : List ℕ) (met : Meeting) (N : Net) → length N.occupied ≡ volume R → Standing R nets owners met
-      → (overlap : Neighbour) → overlap_of N.occupied owners ≡ overlap
+  after : (nets : List Net) (owners : List ℕ) (met : Option Meeting) (N : Net) → length N.occupied ≡ volume R → Standing R nets owners met
+      → (overlap : Option ℕ) → overlap_of N.occupied owners ≡ overlap
       → Standing R (with_last nets N) (owners_after (met_after met (length nets) overlap) (length nets) N.occupied owners) (met_after met (length nets) overlap)
-  after nets owners (At k v) N l S overlap e = first-old nets N k v S
-  after nets owners Nowhere N l S (Inside v) e = met-first R nets owners S N l v e
-  after nets owners Nowhere N l S Outside e = owned-more R nets owners S N l e
+  after nets owners (Some met) N l S overlap e = first-old nets N met.net met.cell S
+  after nets owners None N l S (Some v) e = met-first R nets owners S N l v e
+  after nets owners None N l S None e = owned-more R nets owners S N l e
 
   -- all of them
   pub all-standing : (more nets : List Net) (S : LaidNets) → ((k : ℕ) → k < length more → length (net_in more k).occupied ≡ volume R) → Standing R nets S.owners S.met
@@ -193,7 +190,7 @@ module _ (R : Room) where
       let U = all-standing more (with_last nets N) (with_net R (length nets) N S) (λ k h. l (suc k) (omega arith)) (after nets S.owners S.met N (l 0 (omega arith)) T _ refl) in
       rw (number, append_snoc nets N more) at U
 
-  pub none-standing : Standing R [] (no_marks (volume R)) Nowhere
+  pub none-standing : Standing R [] (no_marks (volume R)) None
   none-standing = record {
     apart = record { none = λ k v h M. absurd (omega arith) };
     long = length-replicate {A = ℕ} (volume R) 0;

@@ -1,5 +1,5 @@
 -- What a list that is answered means, from the promise of `route_nets` alone.
-use Rattle.std.specs.Prelude.{◌≡◌, refl, List, ℕ, ◌<◌, length}
+use Rattle.std.specs.Prelude.{◌≡◌, refl, List, ℕ, ◌<◌, length, Option, Some, None}
 use Rattle.std.proofs.Common.{sym, ap, subst, ◌∙◌}
 use Rattle.basics.specs.Tests.{never}
 use Rattle.basics.specs.Folds.{along}
@@ -11,12 +11,10 @@ use Rattle.job_list.specs.Split.{first_sheet}
 use Rattle.job_list.specs.Judged.{judged_list}
 use Rattle.nets.specs.Nets.{Routing, all-kept, refused-by, routed_list}
 use Rattle.laid_nets.specs.declared.Meeting.{Meeting}
-use Rattle.laid_nets.specs.declared.Meeting.TheVariants.{Nowhere, At}
 use Rattle.laid_nets.specs.LaidNets.{room_at, LaidNets, unlaid, laid_nets}
 use Rattle.list_routing.specs.ListLent.{ListLent}
 use Rattle.list_routing.specs.Walking.{room_of}
-use Rattle.several_nets.specs.declared.ListAnswer.{ListAnswer}
-use Rattle.several_nets.specs.Answers.{memory_of, ListOutcome, all_laid, no_list, laid_outcome, routed_outcome, ListComes, due, repeated, walked, Promise}
+use Rattle.several_nets.specs.Answers.{ListAnswer, memory_of, ListOutcome, all_laid, no_list, laid_outcome, routed_outcome, ListComes, due, repeated, walked, Promise}
 use Rattle.net_list_claims.specs.Statements.{net_in, Routed, AllKept, AllDirected, Apart, OwnersTold}
 use Rattle.net_list_claims.proofs.Theorems.{each-net-single, never_seventeen, routed-one-room, sixteen_means, owners_mean, laid_in_order, unnamed_stay}
 
@@ -41,7 +39,7 @@ module _ {mode : Mode} {list : List ℕ} {B : ListLent} {r : ListAnswer} {B' : L
       S : List Net → LaidNets
       S kept = laid_nets R 0 kept (unlaid R (room_at (first_sheet list)))
 
-      of : (T : Routed mode list (length B.branches) (length B.queue) nets) → (S nets).met ≡ Nowhere → owners ≡ (S nets).owners → room ≡ (S nets).room → LaidList mode list B nets owners room
+      of : (T : Routed mode list (length B.branches) (length B.queue) nets) → (S nets).met ≡ None → owners ≡ (S nets).owners → room ≡ (S nets).room → LaidList mode list B nets owners room
       of T m o q =
           let one = routed-one-room T in
           record {
@@ -54,15 +52,15 @@ module _ {mode : Mode} {list : List ℕ} {B : ListLent} {r : ListAnswer} {B' : L
             unnamed = λ v h. subst (λ x. Keeps (room_at (first_sheet list)) x v) (sym q) (unnamed_stay R nets (room_at (first_sheet list)) v h);
           }
 
-      met : (kept : List Net) (m : Meeting) → (S kept).met ≡ m → laid_outcome m R kept (S kept) ≡ all_laid nets planned owners room
-          → ((S nets).met ≡ Nowhere) × (kept ≡ nets) × (owners ≡ (S nets).owners) × (room ≡ (S nets).room)
-      met kept Nowhere w q =
+      met : (kept : List Net) (m : Option Meeting) → (S kept).met ≡ m → laid_outcome m R kept (S kept) ≡ all_laid nets planned owners room
+          → ((S nets).met ≡ None) × (kept ≡ nets) × (owners ≡ (S nets).owners) × (room ≡ (S nets).room)
+      met kept None w q =
           let n : kept ≡ nets = cc in
           (ap (λ l. (S l).met) (sym n) ∙ w, n, sym (cc) ∙ ap (λ l. (S l).owners) n, sym (cc) ∙ ap (λ l. (S l).room) n)
-      met kept (At net cell) w q = never (cc)
+      met kept (Some meeting) w q = never (cc)
 
       kept_by : (w : Routing) → routed_list mode list (length B.branches) (length B.queue) ≡ w → routed_outcome R (room_at (first_sheet list)) w ≡ all_laid nets planned owners room
-          → (routed_list mode list (length B.branches) (length B.queue) ≡ all-kept nets) × ((S nets).met ≡ Nowhere) × (owners ≡ (S nets).owners) × (room ≡ (S nets).room)
+          → (routed_list mode list (length B.branches) (length B.queue) ≡ all-kept nets) × ((S nets).met ≡ None) × (owners ≡ (S nets).owners) × (room ≡ (S nets).room)
       kept_by (all-kept kept) w q = let M = met kept (S kept).met refl q in (w ∙ ap all-kept M.1, M.0, M.2, M.3)
       kept_by (refused-by net number detail) w q = never (cc)
 

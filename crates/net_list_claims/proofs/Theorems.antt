@@ -1,5 +1,5 @@
 -- SEVERAL NETS: what is known of a list that is routed net by net and laid into one room, from the definitions alone.
-use Rattle.std.specs.Prelude.{◌≡◌, refl, ◌≢◌, Bool, true, false, List, [], ◌∷◌, ℕ, zero, suc, ◌+◌, ◌-◌, ◌≤◌, ◌<◌, length, get_or, take}
+use Rattle.std.specs.Prelude.{◌≡◌, refl, ◌≢◌, Bool, true, false, List, [], ◌∷◌, ℕ, zero, suc, ◌+◌, ◌-◌, ◌≤◌, ◌<◌, length, get_or, take, Option, Some, None}
 use Rattle.std.proofs.Common.{sym, ap, subst, ◌∙◌, arith}
 use Rattle.std.proofs.Math.ListN.{get_or-eq_default}
 use Rattle.basics.specs.Tests.{ask, ask_less, never}
@@ -22,8 +22,7 @@ use Rattle.laying.specs.Laying.{Net, Laid, laid_net}
 use Rattle.laying.specs.Statements.{Keeps, NoRepeater, Unnamed}
 use Rattle.nets.specs.Nets.{kinds_at, nodes_at, outset_at, lent_for, taken_by, all-kept, refused-by, routed_list}
 use Rattle.laid_nets.specs.declared.Meeting.{Meeting}
-use Rattle.laid_nets.specs.declared.Meeting.TheVariants.{Nowhere, At}
-use Rattle.laid_nets.specs.LaidNets.{room_at, LaidNets, unlaid, laid_nets}
+use Rattle.laid_nets.specs.LaidNets.{room_at, LaidNets, unlaid, meeting_at, laid_nets}
 use Rattle.list_routing.specs.Walk.{cells_of}
 use Rattle.list_routing.specs.Walking.{room_of}
 use Rattle.net_list_claims.specs.Statements.{net_in, sheet_in, Routed, LikeNet, reserved_for, KeptNet, AllKept, RefusedNet, AllDirected, PutsRepeater, StandsDirected, Occupies, FirstMeeting, OneRoom, MeetingTold, OwnersTold}
@@ -112,13 +111,13 @@ module _ {mode : Mode} {list : List ℕ} {buffer queue : ℕ} {nets : List Net} 
 -- ---- where two nets meet, and whose the cells are
 
 -- there is at most one first meeting
-first_once : {nets : List Net} {k v j u : ℕ} → FirstMeeting nets k v → FirstMeeting nets j u → At j u ≡ At k v
+first_once : {nets : List Net} {k v j u : ℕ} → FirstMeeting nets k v → FirstMeeting nets j u → Some (meeting_at j u) ≡ Some (meeting_at k v)
 first_once {nets} {k} {v} {j} {u} F G =
     ask_less k j (λ h. absurd (G.first.none k v h F.meets))
     (λ a. ask_less j k (λ h. absurd (F.first.none j u h G.meets))
     (λ b. let q : j ≡ k = omega arith in cells q (subst (λ i. FirstMeeting nets i u) q G)))
   where
-    cells : j ≡ k → FirstMeeting nets k u → At j u ≡ At k v
+    cells : j ≡ k → FirstMeeting nets k u → Some (meeting_at j u) ≡ Some (meeting_at k v)
     cells q H =
         ask_less u v (λ h. absurd (F.least u h H.meets))
         (λ a. ask_less v u (λ h. absurd (H.least v h F.meets)) (λ b. let s : u ≡ v = omega arith in cc))
@@ -134,18 +133,18 @@ module _ (R : Room) {nets : List Net} (one : OneRoom R nets) (room : Laid) where
   pub sixteen_means : MeetingTold nets laid.met
   sixteen_means = go laid.met standing
     where
-      go : (met : Meeting) → Standing R nets laid.owners met → MeetingTold nets met
-      go Nowhere S = record {
+      go : (met : Option Meeting) → Standing R nets laid.owners met → MeetingTold nets met
+      go None S = record {
         meeting = λ k v. ((λ e. never (cc)), (λ F. absurd (S.apart.none k v F.net F.meets)));
         nowhere = ((λ e. S.apart), (λ A. refl));
       }
-      go (At j u) F = record {
-        meeting = λ k v. ((λ e. let a : j ≡ k = cc in let b : u ≡ v = cc in rw (← a, ← b) F), (λ G. first_once G F));
-        nowhere = ((λ e. never (cc)), (λ A. absurd (A.none j u F.net F.meets)));
+      go (Some m) F = record {
+        meeting = λ k v. ((λ e. let q : m ≡ meeting_at k v = cc in subst (λ (x : Meeting). FirstMeeting nets x.net x.cell) q F), (λ G. first_once G F));
+        nowhere = ((λ e. never (cc)), (λ A. absurd (A.none m.net m.cell F.net F.meets)));
       }
 
   -- where no two nets meet, "`owners` (V; 0 or net + 1)"
-  pub owners_mean : laid.met ≡ Nowhere → OwnersTold R nets laid.owners
+  pub owners_mean : laid.met ≡ None → OwnersTold R nets laid.owners
   owners_mean e = go (subst (Standing R nets laid.owners) e standing)
     where
       go : Owned R nets laid.owners → OwnersTold R nets laid.owners

@@ -1,17 +1,17 @@
 -- Laws of a good sheet's BlockPower sinks: each has a facing, so a repeater from its approach to its terminal has a direction.
-use Rattle.std.specs.Prelude.{◌≡◌, refl, ◌≢◌, false, List, [], ◌∷◌, map, ℕ, zero, suc, ◌+◌, ◌-◌, ◌<◌, eqb, leb, replicate}
+use Rattle.std.specs.Prelude.{◌≡◌, refl, ◌≢◌, false, List, [], ◌∷◌, map, ℕ, zero, suc, ◌+◌, ◌-◌, ◌<◌, eqb, leb, replicate, Some, None, Option, Result, Ok, Err}
 use Rattle.std.proofs.Common.{sym, ap, ◌∙◌, inl, arith, leb-false}
 use Rattle.std.proofs.Math.Logic.{inr}
 use Rattle.std.proofs.Math.ListN.{length}
 use Rattle.std.proofs.lemmas.List.{length-map}
 use Rattle.std.proofs.Math.Seq.{take_at}
 use Rattle.std.proofs.lemmas.Bool.{eqb-false}
-use Rattle.numbers.specs.Refusals.{port_facing_number, end_outside_number}
 use Rattle.basics.specs.Tests.{ask, never}
 use Rattle.basics.specs.Lists.{In, every_in, every_map}
 use Rattle.room.specs.declared.Room.{Room}
 use Rattle.room.specs.Room.{Within}
 use Rattle.room.specs.Units.{no_facing, wire}
+use Rattle.port_realization.specs.declared.EndFault.{EndFault}
 use Rattle.port_realization.specs.declared.Realized.{Realized}
 use Rattle.job_sheet.specs.declared.Sink.{Sink}
 use Rattle.job_sheet.specs.declared.Judgement.TheVariants as judgement
@@ -20,8 +20,8 @@ use Rattle.job_sheet.specs.Sheet.{Contents, max_sinks, is_good, judged, sink_fau
 use Rattle.job_sheet.specs.Places.{shaped}
 use Rattle.job_sheet.proofs.AcceptedLaws.{no_fault, sink-within}
 use Rattle.ends.specs.declared.Tap.{Tap}
-use Rattle.ends.specs.declared.Fault.{Fault}
-use Rattle.ends.specs.Ends.{sink_end, due_for, first_due, no_tap, tap_from, tap_of, taps_in, fault_by, fault_of, ends_of}
+use Rattle.ends.specs.Ends.{sink_end, due_for, is_due, first_due, no_tap, tap_from, tap_of, taps_in, fault_by, fault_of, ends_of}
+use Rattle.ends.specs.EndLaws.{other-due, by-good, NoneFor, none_for}
 use Rattle.ends.specs.Ends as endings
 use Rattle.repeaters.specs.Repeaters.{facing_of}
 use Rattle.job_list.specs.declared.Memory.{Memory}
@@ -41,22 +41,17 @@ opposite-some facing e =
 
 -- ---- no number is due for any end
 
-none-due : (number place : ℕ) (rs : List Realized) → first_due number place rs ≡ 0 → (r : Realized) → In r rs → due_for r ≢ number
+none-due : (due : EndFault) (place : ℕ) (rs : List (Result Realized EndFault)) → first_due due place rs ≡ None → (r : Result Realized EndFault) → In r rs → due_for r ≢ Some due
 unfolding first_due
-none-due number place [] e r i = absurd i
-none-due number place (q ∷ rs) e r i =
-    ask (eqb (due_for q) number)
-    (λ t. let z : suc place ≡ 0 = rw t at e in absurd (omega arith))
-    (λ f. on f (none-due number (suc place) rs (rw f at e) r) i)
+none-due due place [] e r i = absurd i
+none-due due place (q ∷ rs) e r i =
+    ask (is_due due (due_for q))
+    (λ t. never (cc (rw t at e)))
+    (λ f. on f (none-due due (suc place) rs (rw f at e) r) i)
   where
-    on : eqb (due_for q) number ≡ false → (In r rs → due_for r ≢ number) → In r (q ∷ rs) → due_for r ≢ number
-    on f rest (inl s) = rw s (eqb-false _ _ f)
+    on : is_due due (due_for q) ≡ false → (In r rs → due_for r ≢ Some due) → In r (q ∷ rs) → due_for r ≢ Some due
+    on f rest (inl s) = rw s (other-due _ _ f)
     on f rest (inr j) = rest j
-
-by-good : (n m : ℕ) → fault_by n m ≡ Fault.Good → (n ≡ 0) × (m ≡ 0)
-by-good zero zero e = (refl, refl)
-by-good zero (suc m) e = never (cc)
-by-good (suc n) m e = never (cc)
 
 in_map : {X Y : Type 0} (f : X → Y) (xs : List X) (x : X) → In x xs → In (f x) (map f xs)
 in_map f [] x i = absurd i
@@ -76,16 +71,15 @@ from_map f (x ∷ xs) y (inr i) = let F = from_map f xs y i in record { it = F.i
 
 -- ---- one sink
 
-tap-directed : (R : Room) (k : Sink) → Within R k.end.at → (due_for (sink_end R k) ≢ port_facing_number) → (due_for (sink_end R k) ≢ end_outside_number)
+tap-directed : (R : Room) (k : Sink) → Within R k.end.at → NoneFor (sink_end R k)
     → (tap_of R k).wire ≡ false → facing_of R (tap_of R k).approach (tap_of R k).terminal ≢ no_facing
 unfolding tap_of
-tap-directed R k w n m = go (sink_end R k) refl n m
+tap-directed R k w n = go (sink_end R k) refl n
   where
-    go : (r : Realized) → sink_end R k ≡ r → (due_for r ≢ port_facing_number) → (due_for r ≢ end_outside_number) → (tap_from (eqb k.end.port wire) k.tail r).wire ≡ false
+    go : (r : Result Realized EndFault) → sink_end R k ≡ r → NoneFor r → (tap_from (eqb k.end.port wire) k.tail r).wire ≡ false
         → facing_of R (tap_from (eqb k.end.port wire) k.tail r).approach (tap_from (eqb k.end.port wire) k.tail r).terminal ≢ no_facing
-    go (Realized.At t a) q x y f = λ e. opposite-some k.end.facing (sym (power_faces R k w (eqb-false _ _ f) t a q) ∙ e)
-    go Realized.NoFacing q x y f = absurd (x refl)
-    go Realized.Outside q x y f = absurd (y refl)
+    go (Ok r) q x f = λ e. opposite-some k.end.facing (sym (power_faces R k w (eqb-false _ _ f) r.terminal r.approach q) ∙ e)
+    go (Err fault) q x f = absurd (x fault refl)
 
 -- ---- all sinks of a good sheet
 
@@ -114,4 +108,4 @@ module _ {M : Memory} {F : Contents} {k : ℕ} {sheet : List ℕ} (G : GoodNet M
       let z = by-good _ _ G.ends in
       let here : In (sink_end J.room T.it) (endings.ends_at J.room J.source J.sinks) = inr (in_map (sink_end J.room) J.sinks T.it T.there) in
       rw T.is
-      (tap-directed J.room T.it (within-room T.it T.there) (none-due port_facing_number 0 _ z.0 _ here) (none-due end_outside_number 0 _ z.1 _ here))
+      (tap-directed J.room T.it (within-room T.it T.there) (none_for _ (none-due EndFault.NoFacing 0 _ z.0 _ here) (none-due EndFault.Outside 0 _ z.1 _ here)))

@@ -1,5 +1,5 @@
 -- What the theorems say of several nets: how each is routed behind those before it, where two of them meet, whose the cells are, and how the room is laid.
-use Rattle.std.specs.Prelude.{◌≡◌, ◌≢◌, ◌↔◌, Bool, true, false, ◌||◌, List, [], ◌++◌, map, ℕ, ◌+◌, ◌-◌, ◌≤◌, ◌<◌, length, get_or, take}
+use Rattle.std.specs.Prelude.{◌≡◌, ◌≢◌, ◌↔◌, Bool, true, false, ◌||◌, List, [], ◌++◌, map, ℕ, ◌+◌, ◌-◌, ◌≤◌, ◌<◌, length, get_or, take, Option, Some, None}
 use Rattle.numbers.specs.Refusals.{done_number}
 use Rattle.basics.specs.Lists.{In}
 use Rattle.room.specs.declared.Room.{Room}
@@ -21,7 +21,7 @@ use Rattle.laying.specs.Laying.{Net, Laid, direction_of, parents_on, powered_at}
 use Rattle.nets.specs.Nets.{kinds_at, nodes_at, outset_at, lent_for, net_outcome, taken_by, all-kept, net_at, routed_list}
 use Rattle.nets.specs.Theorems.{WithResources}
 use Rattle.laid_nets.specs.declared.Meeting.{Meeting}
-use Rattle.laid_nets.specs.declared.Meeting.TheVariants.{Nowhere, At}
+use Rattle.laid_nets.specs.LaidNets.{meeting_at}
 use Rattle.list_routing.specs.Walk.{cells_of}
 
 -- net k of these, and the k-th sheet of a list, both from 0; behind the last there is an empty one
@@ -151,9 +151,9 @@ pub record OneRoom (R : Room) (nets : List Net) : Type 0 where
   pub long : (k : ℕ) → k < length nets → length (net_in nets k).occupied ≡ volume R
 
 -- a meeting is told exactly where it is the first, and none exactly where no net shares a cell with another
-pub record MeetingTold (nets : List Net) (met : Meeting) : Type 0 where
-  pub meeting : (k v : ℕ) → (met ≡ At k v) ↔ FirstMeeting nets k v
-  pub nowhere : (met ≡ Nowhere) ↔ Apart nets (length nets)
+pub record MeetingTold (nets : List Net) (met : Option Meeting) : Type 0 where
+  pub meeting : (k v : ℕ) → (met ≡ Some (meeting_at k v)) ↔ FirstMeeting nets k v
+  pub nowhere : (met ≡ None) ↔ Apart nets (length nets)
 
 -- ---- whose the cells are
 

@@ -1,6 +1,6 @@
 -- What `route_net_tree` answers, and what every lent buffer then holds, as docs/RULES.md, Numbers that come back, has it for a tree. The mode, the sheet and the
 -- lengths of the lent buffers determine all of it. Definitions alone; their laws are in the files named Laws.
-use Rattle.std.specs.Prelude.{◌≡◌, Bool, true, false, ◌&&◌, List, [], ◌∷◌, ℕ, leb, length}
+use Rattle.std.specs.Prelude.{◌≡◌, Result, Ok, Err, Bool, true, false, ◌&&◌, List, [], ◌∷◌, ℕ, leb, length}
 use Rattle.numbers.specs.Refusals.{done_number, buffer_number}
 use Rattle.basics.specs.Tests.{either}
 use Rattle.basics.specs.Lists.{every, joined}
@@ -12,14 +12,14 @@ use Rattle.job_sheet.specs.declared.Reading.{Reading}
 use Rattle.job_sheet.specs.declared.Judgement.TheVariants as judgement
 use Rattle.job_sheet.specs.Version.{version_in}
 use Rattle.job_sheet.specs.Sheet.{Contents, Means, Read, judged, is_good, number_of}
-use Rattle.outset.specs.declared.Outset.{Outset}
+use Rattle.outset.specs.SetOut.{Outset}
 use Rattle.outset.specs.SetOut.{ready, number_by, detail_by, OutsetOf}
 use Rattle.room_search.specs.Routing.{places_in}
 use Rattle.branches.specs.Branches.{branch_lengths, marked_count}
 use Rattle.multinet.specs.Tree.{Plot, Growth, grown, stopped, growth_of, repeaters_of}
 use Rattle.net_tree.specs.declared.Lengths.{Lengths}
-use Rattle.net_tree.specs.declared.Answer.{Answer}
-use Rattle.net_tree.specs.declared.Ended.TheVariants.{Routed, Refused}
+use Rattle.net_tree.specs.declared.Tree.{Tree}
+use Rattle.net_tree.specs.declared.Refused.{Refused}
 
 -- what is lent: three outputs, and nine buffers of work memory
 pub record Lent : Type 0 where
@@ -89,7 +89,7 @@ unfoldable pub job_outcome : Mode → Contents → Lengths → Outset → List �
 job_outcome mode J L O kinds blocked =
     either (ready O)
     (outcome_of (plot_for mode J L O kinds) (growth_of (plot_for mode J L O kinds) blocked))
-    (no_tree (number_by O.placement O.ends.fault) (detail_by O.placement O.ends.fault))
+    (no_tree (number_by O.placement O.fault) (detail_by O.placement O.fault))
 
 -- "A tree checks 1, 2, 3, then record by record 4 before 5, then 6, 7, ..": what comes of a sheet
 pub data Comes (mode : Mode) (sheet : List ℕ) (L : Lengths) (o : TreeOutcome) : Type 0 where
@@ -101,10 +101,14 @@ pub data Comes (mode : Mode) (sheet : List ℕ) (L : Lengths) (o : TreeOutcome) 
 
 -- ---- the answer
 
+-- a tree, or the number that is due
+abbrev pub Answer : Type 0
+Answer = Result Tree Refused
+
 -- the counts of the marked cells, and the branches' lengths; a refusal has no branches
 abbrev pub answer_of : TreeOutcome → Answer
-answer_of (routed bs occupied repeaters) = record { ended = Routed (marked_count occupied) (marked_count repeaters); lengths = branch_lengths bs }
-answer_of (no_tree number detail) = record { ended = Refused number detail; lengths = branch_lengths [] }
+answer_of (routed bs occupied repeaters) = Ok (record { occupied = marked_count occupied; repeaters = marked_count repeaters; lengths = branch_lengths bs })
+answer_of (no_tree number detail) = Err (record { number = number; detail = detail })
 
 -- its number, 0 for a tree
 abbrev pub number_for : TreeOutcome → ℕ

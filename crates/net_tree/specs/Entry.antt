@@ -1,11 +1,10 @@
 -- What the contracts of the entry's parts cite.
-use Rattle.std.specs.Prelude.{◌≡◌, List, ◌++◌, ℕ, ◌<◌, length, drop, replicate, true}
+use Rattle.std.specs.Prelude.{◌≡◌, Result, Ok, Err, List, ◌++◌, ℕ, ◌<◌, length, drop, replicate, true}
 use Rattle.numbers.specs.Refusals.{buffer_number}
 use Rattle.basics.specs.Lists.{joined}
 use Rattle.lent.specs.Lent.{filled}
 use Rattle.multinet.specs.declared.Stop.{Stop}
-use Rattle.multinet.specs.declared.GrowthEnd.TheVariants.{Whole, Early}
-use Rattle.multinet.specs.declared.GrownBranches.{GrownBranches}
+use Rattle.multinet.specs.declared.Early.{Early}
 use Rattle.room.specs.declared.Room.{Room}
 use Rattle.room.specs.Room.{volume}
 use Rattle.room_search.specs.TriedMoves.{places_of}
@@ -15,7 +14,7 @@ use Rattle.job_sheet.specs.declared.Job.{Job}
 use Rattle.job_sheet.specs.Accepted.{Accepted}
 use Rattle.job_sheet.specs.Sheet.{Contents, Means}
 use Rattle.ends.specs.declared.Taps.{Taps}
-use Rattle.outset.specs.declared.Outset.{Outset}
+use Rattle.outset.specs.SetOut.{Outset}
 use Rattle.outset.specs.SetOut.{OutsetOf}
 use Rattle.goals.specs.Trials.{WorkMemory}
 use Rattle.branches.specs.declared.BranchLengths.{BranchLengths}
@@ -23,10 +22,8 @@ use Rattle.branches.specs.Branches.{marked_count}
 use Rattle.multinet.specs.Tree.{Plot, growth_of}
 use Rattle.multinet.specs.Growing.{SoundPlot}
 use Rattle.multinet.specs.Finishing.{Finishable, Finished}
-use Rattle.net_tree.specs.declared.Answer.{Answer}
-use Rattle.net_tree.specs.declared.Ended.{Ended}
-use Rattle.net_tree.specs.declared.Ended.TheVariants.{Routed, Refused}
-use Rattle.net_tree.specs.Answers.{Lent, lengths_of, buffers_good, TreeOutcome, routed, no_tree, outcome_of, job_outcome, answer_of}
+use Rattle.net_tree.specs.declared.Tree.{Tree}
+use Rattle.net_tree.specs.Answers.{Answer, Lent, lengths_of, buffers_good, TreeOutcome, routed, no_tree, outcome_of, job_outcome, answer_of}
 use Rattle.multinet.specs.SinkTurns.{stop_number, stop_detail}
 
 -- what the outputs hold: the answer and zeros behind it; after a number, whatever it was that they held when it was due
@@ -41,8 +38,8 @@ pub record Harvestable (R : Room) (source : ℕ) (taps : Taps) (L : BranchLength
   pub finishable : Finishable R source taps L branches occupied repeaters (no_marks (volume R)) known previous path
 
 -- what the tree occupies and its repeaters, marked and counted
-pub record Harvested (R : Room) (run source : ℕ) (taps : Taps) (L : BranchLengths) (branches : List ℕ) (r : Answer) (occupied repeaters : List ℕ) : Type 0 where
-  pub answer : r ≡ record { ended = Routed (marked_count occupied) (marked_count repeaters); lengths = L }
+pub record Harvested (R : Room) (run source : ℕ) (taps : Taps) (L : BranchLengths) (branches : List ℕ) (r : Tree) (occupied repeaters : List ℕ) : Type 0 where
+  pub answer : r ≡ record { occupied = marked_count occupied; repeaters = marked_count repeaters; lengths = L }
   pub finished : Finished R run source taps L branches occupied repeaters
 
 -- the number that ended the growth
@@ -50,13 +47,13 @@ abbrev pub refused_by : Stop → TreeOutcome
 refused_by stop = no_tree (stop_number stop) (stop_detail stop)
 
 -- a growth that can be harvested if it is whole
-pub record Gatherable (R : Room) (source : ℕ) (taps : Taps) (g : GrownBranches) (branches occupied repeaters classes known previous path : List ℕ) : Type 0 where
-  pub harvestable : g.end ≡ Whole → Harvestable R source taps g.lengths branches occupied repeaters classes known previous path
+pub record Gatherable (R : Room) (source : ℕ) (taps : Taps) (g : Result BranchLengths Early) (branches occupied repeaters classes known previous path : List ℕ) : Type 0 where
+  pub harvestable : (L : BranchLengths) → g ≡ Ok L → Harvestable R source taps L branches occupied repeaters classes known previous path
 
 -- the harvest of a whole tree, or a refusal
-pub data Gathered (R : Room) (run source : ℕ) (taps : Taps) (g : GrownBranches) (branches : List ℕ) (r : Answer) (occupied repeaters : List ℕ) : Type 0 where
-  ended-early : (stop : Stop) (sink : ℕ) → g.end ≡ Early stop sink → r ≡ answer_of (refused_by stop) → Gathered R run source taps g branches r occupied repeaters
-  in_whole : g.end ≡ Whole → Harvested R run source taps g.lengths branches r occupied repeaters → Gathered R run source taps g branches r occupied repeaters
+pub data Gathered (R : Room) (run source : ℕ) (taps : Taps) (g : Result BranchLengths Early) (branches : List ℕ) (r : Answer) (occupied repeaters : List ℕ) : Type 0 where
+  ended-early : (e : Early) → g ≡ Err e → r ≡ answer_of (refused_by e.stop) → Gathered R run source taps g branches r occupied repeaters
+  in_whole : (L : BranchLengths) → g ≡ Ok L → (t : Tree) → r ≡ Ok t → Harvested R run source taps L branches t occupied repeaters → Gathered R run source taps g branches r occupied repeaters
 
 -- a plot that no number refuses, these cells blocked, cleared outputs, and work memory of exactly V cells
 pub record Growable (P : Plot) (B : Lent) : Type 0 where
@@ -124,6 +121,6 @@ pub record FrontRouted (mode : Mode) (sheet : List ℕ) (job : Job) (B : Lent) (
   pub repeaters-is : repeaters' ≡ repeaters-front ++ drop (volume job.room) B.repeaters
 
 -- an output that a refusal leaves all zero
-abbrev pub settled_by : Ended → List ℕ → List ℕ
-settled_by (Routed occupied repeaters) buffer = buffer
-settled_by (Refused number detail) buffer = replicate (length buffer) 0
+abbrev pub settled_by : Answer → List ℕ → List ℕ
+settled_by (Ok tree) buffer = buffer
+settled_by (Err refused) buffer = replicate (length buffer) 0

@@ -1,7 +1,7 @@
 -- Laws of the entry: lent memory that suffices, and what is lent on.
-use Rattle.std.specs.Prelude.{◌≡◌, refl, true, List, [], ◌∷◌, ℕ, ◌≤◌, ◌<◌, leb, length, take, replicate}
-use Rattle.std.proofs.Common.{sym, ap, ◌∙◌, inl, inr, length-take-le, leb-true}
-use Rattle.basics.specs.Tests.{and_left, and_right}
+use Rattle.std.specs.Prelude.{◌≡◌, Ok, Err, ◌↔◌, refl, Bool, true, false, ◌&&◌, List, [], ◌∷◌, ℕ, zero, suc, ◌≤◌, ◌<◌, leb, length, take, replicate, IsTrue, slice_index, EachIndex}
+use Rattle.std.proofs.Common.{sym, ap, ◌∙◌, arith, inl, inr, length-take-le, le-leb, leb-true}
+use Rattle.basics.specs.Tests.{ask, never, and_left, and_right}
 use Rattle.basics.specs.Lists.{In, every, every_in}
 use Rattle.basics.specs.Zeros.{take_zeros}
 use Rattle.room.specs.declared.Room.{Room}
@@ -10,12 +10,20 @@ use Rattle.routing_resources.specs.Marks.{no_marks}
 use Rattle.ground.specs.declared.Mode.{Mode}
 use Rattle.job_sheet.specs.declared.Job.{Job}
 use Rattle.job_sheet.specs.Sheet.{Contents}
-use Rattle.outset.specs.declared.Outset.{Outset}
+use Rattle.outset.specs.SetOut.{Outset}
 use Rattle.room_search.specs.Routing.{places_in}
 use Rattle.net_tree.specs.declared.Lengths.{Lengths}
-use Rattle.net_tree.specs.declared.Answer.{Answer}
-use Rattle.net_tree.specs.Answers.{Lent, lent, lengths_of, buffers_good, job_outcome}
+use Rattle.net_tree.specs.declared.Tree.{Tree}
+use Rattle.net_tree.specs.declared.Refused.{Refused}
+use Rattle.net_tree.specs.Answers.{Answer, Lent, lent, lengths_of, buffers_good, job_outcome}
 use Rattle.net_tree.specs.Entry.{Routable, JobRouted, Lendable, OutputsClear}
+
+-- an answer is one tree, or one refusal
+pub one-tree : {r : Answer} {t u : Tree} → r ≡ Ok t → r ≡ Ok u → t ≡ u
+one-tree p q = let e = sym p ∙ q in cc
+
+pub one-refusal : {r : Answer} {e f : Refused} → r ≡ Err e → r ≡ Err f → e ≡ f
+one-refusal p q = let e = sym p ∙ q in cc
 
 -- what number 6 does not refuse
 pub record LongEnough (n : ℕ) (L : Lengths) : Type 0 where
@@ -31,6 +39,29 @@ pub record LongEnough (n : ℕ) (L : Lengths) : Type 0 where
   pub best-enough : n ≤ L.best
   pub places-some : 0 < places_in L.queue
 
+-- the buffers that hold an entry a cell
+abbrev long_buffers : Lengths → List ℕ
+long_buffers L = L.occupied ∷ L.repeaters ∷ L.kinds ∷ L.blocked ∷ L.classes ∷ L.joinable ∷ L.known ∷ L.previous ∷ L.path ∷ L.best ∷ []
+
+-- by place: each number is at least n
+long_every : (n : ℕ) (xs : List ℕ) → EachIndex xs (λ k. n ≤ slice_index xs k) → every (leb n) xs ≡ true
+long_every n [] f = refl
+long_every n (x ∷ xs) f = rw (le-leb n x (f 0 (omega arith)), long_every n xs (λ i h. f (suc i) (omega arith)))
+
+every_long : (n : ℕ) (xs : List ℕ) → every (leb n) xs ≡ true → EachIndex xs (λ k. n ≤ slice_index xs k)
+every_long n [] e i h = absurd (omega arith)
+every_long n (x ∷ xs) e zero h = leb-true n x (and_left (leb n x) (every (leb n) xs) e)
+every_long n (x ∷ xs) e (suc i) h = every_long n xs (and_right (leb n x) (every (leb n) xs) e) i (omega arith)
+
+every-told : (n : ℕ) (xs : List ℕ) (b : Bool) → IsTrue b ↔ EachIndex xs (λ k. n ≤ slice_index xs k) → b ≡ every (leb n) xs
+every-told n xs true f = sym (long_every n xs (f.0 refl))
+every-told n xs false f = ask (every (leb n) xs) (λ t. never (cc (f.1 (every_long n xs t)))) (λ e. sym e)
+
+pub buffers-told : (R : Room) (L : Lengths) {n : ℕ} → n ≡ volume R → {b : Bool}
+    → IsTrue b ↔ EachIndex (long_buffers L) (λ k. n ≤ slice_index (long_buffers L) k) → (b && leb 1 (places_in L.queue)) ≡ buffers_good R L
+unfolding buffers_good
+buffers-told R L e {b} f = ap (λ t. t && leb 1 (places_in L.queue)) (every-told _ (long_buffers L) b f ∙ ap (λ n. every (leb n) (long_buffers L)) e)
+
 -- every buffer in the list fits
 all_fit : (n : ℕ) (l : List ℕ) → every (leb n) l ≡ true → (a : ℕ) → In a l → n ≤ a
 all_fit n l e a i = leb-true n a (every_in (leb n) l e a i)
@@ -38,9 +69,8 @@ all_fit n l e a i = leb-true n a (every_in (leb n) l e a i)
 pub long-enough : (R : Room) (L : Lengths) → buffers_good R L ≡ true → LongEnough (volume R) L
 unfolding buffers_good
 long-enough R L e =
-    let l = L.occupied ∷ L.repeaters ∷ L.kinds ∷ L.blocked ∷ L.classes ∷ L.joinable ∷ L.known ∷ L.previous ∷ L.path ∷ L.best ∷ [] in
-    let all = every (leb (volume R)) l in
-    let fit = all_fit (volume R) l (and_left all (leb 1 (places_in L.queue)) e) in
+    let all = every (leb (volume R)) (long_buffers L) in
+    let fit = all_fit (volume R) (long_buffers L) (and_left all (leb 1 (places_in L.queue)) e) in
     record {
       occupied-enough = fit _ (inl refl);
       repeaters-enough = fit _ (inr (inl refl));

@@ -1,5 +1,5 @@
 -- Laws of a job's growth: what growing and harvesting ask, and that they make up what the definition has.
-use Rattle.std.specs.Prelude.{◌≡◌, refl, List, [], ◌∷◌, ◌++◌, map, ℕ, zero, suc, ◌-◌, ◌≤◌, ◌<◌, eqb, length, get_or, drop, replicate}
+use Rattle.std.specs.Prelude.{◌≡◌, refl, Result, Ok, Err, List, [], ◌∷◌, ◌++◌, map, ℕ, zero, suc, ◌-◌, ◌≤◌, ◌<◌, eqb, length, get_or, drop, replicate}
 use Rattle.std.proofs.Math.Path.{sym, ap}
 use Rattle.std.proofs.Common.{◌∙◌, take-append-drop, ext_get_or}
 use native.Mathlib.Omega.{arith}
@@ -19,17 +19,14 @@ use Rattle.branches.specs.Branches.{branch_lengths, marked_count}
 use Rattle.branches.specs.BranchLaws.{lengths_theirs}
 use Rattle.multinet.specs.declared.Stop.{Stop}
 use Rattle.multinet.specs.declared.Stop.TheVariants.{QueueFull, NoGoal, BufferFull}
-use Rattle.multinet.specs.declared.GrowthEnd.{GrowthEnd}
-use Rattle.multinet.specs.declared.GrowthEnd.TheVariants.{Whole, Early}
-use Rattle.multinet.specs.declared.GrownBranches.{GrownBranches}
+use Rattle.multinet.specs.declared.Early.{Early}
 use Rattle.multinet.specs.Tree.{Plot, grown, stopped, grow_from, growth_of, repeaters_of}
 use Rattle.multinet.specs.Growing.{Growing}
 use Rattle.multinet.specs.SinkTurns.{Plantable, EndTold, GrowthTold}
 use Rattle.multinet.proofs.SinkTurnLaws.{early-growth}
 use Rattle.multinet.specs.Finishing.{BufferHolds, Finishable}
-use Rattle.net_tree.specs.declared.Answer.{Answer}
-use Rattle.net_tree.specs.declared.Ended.TheVariants.{Routed}
-use Rattle.net_tree.specs.Answers.{Lent, no_tree, outcome_of, answer_of}
+use Rattle.net_tree.specs.declared.Tree.{Tree}
+use Rattle.net_tree.specs.Answers.{Answer, Lent, no_tree, outcome_of, answer_of}
 use Rattle.net_tree.specs.Entry.{Harvestable, Harvested, Growable, TreeGrown, refused_by, Gatherable, Gathered, ended-early, in_whole}
 
 -- ---- lists
@@ -47,8 +44,8 @@ pub harvest_finishable : {R : Room} {source : ℕ} {taps : Taps} {L : BranchLeng
 harvest_finishable H e = rw (e, H.classes-long) H.finishable
 
 same_answer : {occupied occupied' repeaters repeaters' : List ℕ} {L L' : BranchLengths} → occupied ≡ occupied' → repeaters ≡ repeaters' → L ≡ L'
-    → ◌≡◌ {A = Answer} (record { ended = Routed (marked_count occupied) (marked_count repeaters); lengths = L }) (record { ended = Routed (marked_count occupied') (marked_count repeaters'); lengths = L' })
-same_answer o p l = λ i. record { ended = Routed (marked_count (o i)) (marked_count (p i)); lengths = l i }
+    → ◌≡◌ {A = Answer} (Ok (record { occupied = marked_count occupied; repeaters = marked_count repeaters; lengths = L })) (Ok (record { occupied = marked_count occupied'; repeaters = marked_count repeaters'; lengths = L' }))
+same_answer o p l = λ i. Ok (record { occupied = marked_count (o i); repeaters = marked_count (p i); lengths = l i })
 
 -- ---- growing
 
@@ -69,18 +66,18 @@ module _ {P : Plot} {B : Lent} (A : Growable P B) where
       → {branches occupied repeaters : List ℕ} → TreeGrown P B r branches occupied repeaters
   stopped-grown e h a = record { answer = a ∙ rw e; outputs = rw e h }
 
-  module _ {g : GrownBranches} {joinable blocked branches : List ℕ} (T : GrowthTold P B.blocked B.branches g joinable blocked branches) where
-    told_as : {end : GrowthEnd} → g.end ≡ end → EndTold P B.blocked B.branches g.lengths joinable blocked branches end
+  module _ {g : Result BranchLengths Early} {joinable blocked branches : List ℕ} (T : GrowthTold P B.blocked B.branches g joinable blocked branches) where
+    told_as : {end : Result BranchLengths Early} → g ≡ end → EndTold P B.blocked B.branches joinable blocked branches end
     told_as e = rw (← e) T.told
 
-    refused-grown : (stop : Stop) (sink : ℕ) → g.end ≡ Early stop sink → {r : Answer} → r ≡ answer_of (refused_by stop) → {branches' occupied' repeaters' : List ℕ}
+    refused-grown : (stop : Stop) (sink : ℕ) (L : BranchLengths) → g ≡ Err (record { stop = stop; sink = sink; lengths = L }) → {r : Answer} → r ≡ answer_of (refused_by stop) → {branches' occupied' repeaters' : List ℕ}
         → TreeGrown P B r branches' occupied' repeaters'
-    refused-grown (QueueFull x) sink e a = stopped-grown (early-growth (told_as e)) (omega arith) a
-    refused-grown (NoGoal cell) sink e a = stopped-grown (early-growth (told_as e)) (omega arith) a
-    refused-grown (BufferFull place) sink e a = stopped-grown (early-growth (told_as e)) (omega arith) a
+    refused-grown (QueueFull x) sink L e a = stopped-grown (early-growth (told_as e)) (omega arith) a
+    refused-grown (NoGoal cell) sink L e a = stopped-grown (early-growth (told_as e)) (omega arith) a
+    refused-grown (BufferFull place) sink L e a = stopped-grown (early-growth (told_as e)) (omega arith) a
 
-    module _ (e : g.end ≡ Whole) where
-      abbrev all_in : Growing P B.blocked B.branches P.taps.count joinable blocked branches g.lengths.each
+    module _ (L : BranchLengths) (e : g ≡ Ok L) where
+      abbrev all_in : Growing P B.blocked B.branches P.taps.count joinable blocked branches L.each
       all_in = (told_as e).1
 
       abbrev bs : List (List ℕ)
@@ -90,15 +87,15 @@ module _ {P : Plot} {B : Lent} (A : Growable P B) where
       unfolding grow_from
       grown-is = let z : P.taps.count - P.taps.count ≡ 0 = omega arith in sym (rw z at all_in.same)
 
-      count-is : length bs ≡ g.lengths.count
+      count-is : length bs ≡ L.count
       count-is = all_in.sprouted.count-is ∙ sym (told_as e).0
 
-      holds : BufferHolds g.lengths branches bs
+      holds : BufferHolds L branches bs
       holds = record { in_order = all_in.in_order; lengths-are = all_in.lengths-are; count-is = count-is }
 
       harvestable : {classes known previous path : List ℕ} → length classes ≡ length B.classes → length known ≡ length B.known
           → length previous ≡ length B.previous → length path ≡ length B.path
-          → Harvestable P.room P.source P.taps g.lengths branches B.occupied B.repeaters classes known previous path
+          → Harvestable P.room P.source P.taps L branches B.occupied B.repeaters classes known previous path
       harvestable cl kn pr pa = record {
         classes-long = cl ∙ A.classes-long;
         finishable = record {
@@ -120,7 +117,7 @@ module _ {P : Plot} {B : Lent} (A : Growable P B) where
       }
 
       -- the lengths of the branches, and none behind them
-      lengths-are : g.lengths ≡ branch_lengths bs
+      lengths-are : L ≡ branch_lengths bs
       lengths-are = λ i. record { count = sym count-is i; each = each-are i }
         where
           few : length bs ≤ max_sinks
@@ -129,9 +126,9 @@ module _ {P : Plot} {B : Lent} (A : Growable P B) where
           wide : length (map length bs ++ replicate (max_sinks - length bs) 0) ≡ max_sinks
           wide = padded_long (map length bs) max_sinks (length bs) 0 (length-map bs length) few
 
-          each-are : g.lengths.each ≡ map length bs ++ replicate (max_sinks - length bs) 0
+          each-are : L.each ≡ map length bs ++ replicate (max_sinks - length bs) 0
           each-are =
-              ext_get_or 0 g.lengths.each (map length bs ++ replicate (max_sinks - length bs) 0) (all_in.each_long ∙ sym wide)
+              ext_get_or 0 L.each (map length bs ++ replicate (max_sinks - length bs) 0) (all_in.each_long ∙ sym wide)
               (λ i h. ask_less i (length bs)
               (λ q. all_in.lengths-are.each-is i q ∙ sym ((lengths_theirs bs).each-is i q))
               (λ q. all_in.each_none i (omega (arith, q, all_in.sprouted.count-is)) ∙ sym (behind_map bs (max_sinks - length bs) i q)))
@@ -141,14 +138,14 @@ module _ {P : Plot} {B : Lent} (A : Growable P B) where
           sym (take-append-drop (length (joined bs)) branches)
           ∙ rw (all_in.in_order.in_order, all_in.behind) (ap (λ l. joined bs ++ drop (length (joined bs)) l) A.branches-clear ∙ ap (λ l. joined bs ++ l) (drop_zeros (length (joined bs)) (length B.branches)))
 
-      harvested : {r : Answer} {occupied repeaters : List ℕ} → Harvested P.room P.run P.source P.taps g.lengths branches r occupied repeaters
-          → TreeGrown P B r branches occupied repeaters
+      harvested : {t : Tree} {occupied repeaters : List ℕ} → Harvested P.room P.run P.source P.taps L branches t occupied repeaters
+          → TreeGrown P B (Ok t) branches occupied repeaters
       unfolding repeaters_of
       harvested {occupied = occupied} {repeaters = repeaters} H =
           let o : occupied ≡ all_in.tree.occupied = H.finished.occupied-are bs holds ∙ sym all_in.sprouted.occupied-is in
           let p : repeaters ≡ repeaters_of P all_in.tree = H.finished.repeaters-are bs holds in
           record {
-            answer = H.answer ∙ same_answer o p lengths-are ∙ ap (λ x. answer_of (outcome_of P x)) (sym grown-is);
+            answer = ap Ok H.answer ∙ same_answer o p lengths-are ∙ ap (λ x. answer_of (outcome_of P x)) (sym grown-is);
             outputs = rw grown-is (branches-are, o, p);
           }
 
@@ -157,9 +154,9 @@ module _ {P : Plot} {B : Lent} (A : Growable P B) where
     pub gatherable : {classes known previous path : List ℕ} → length classes ≡ length B.classes → length known ≡ length B.known
         → length previous ≡ length B.previous → length path ≡ length B.path
         → Gatherable P.room P.source P.taps g branches B.occupied B.repeaters classes known previous path
-    gatherable cl kn pr pa = record { harvestable = λ w. harvestable w cl kn pr pa }
+    gatherable cl kn pr pa = record { harvestable = λ L w. harvestable L w cl kn pr pa }
 
     pub gathered : {r : Answer} {occupied repeaters : List ℕ} → Gathered P.room P.run P.source P.taps g branches r occupied repeaters
         → TreeGrown P B r branches occupied repeaters
-    gathered (ended-early stop sink e a) = refused-grown stop sink e a
-    gathered (in_whole w H) = harvested w H
+    gathered (ended-early x e a) = refused-grown x.stop x.sink x.lengths e a
+    gathered (in_whole L w t a H) = rw a (harvested L w H)

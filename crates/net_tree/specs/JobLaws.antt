@@ -1,5 +1,5 @@
 -- Laws of a job: what setting out and growing ask, and that they make up what the definition has.
-use Rattle.std.specs.Prelude.{◌≡◌, refl, true, false, List, ℕ, ◌<◌, get_or}
+use Rattle.std.specs.Prelude.{◌≡◌, refl, true, false, List, ℕ, ◌<◌, get_or, Option, Some, None, Ok, Err}
 use Rattle.std.proofs.Common.{sym, subst, ◌∙◌, arith}
 use Rattle.std.proofs.Math.Path.{ap}
 use Rattle.std.proofs.Math.ListN.{length, length-replicate}
@@ -15,40 +15,38 @@ use Rattle.job_sheet.specs.Version.{version_in}
 use Rattle.job_sheet.specs.Sheet.{Contents, Means, judged, job_of}
 use Rattle.job_sheet.specs.Accepted.{Accepted}
 use Rattle.job_sheet.proofs.Theorems.{one-meaning}
-use Rattle.blocks.specs.declared.Placement.{Placement}
+use Rattle.blocks.specs.Blocks.{Placement, Placed}
 use Rattle.blocks.specs.Blocks.{kinds_of, nodes_of, BlocksLaid}
 use Rattle.blocks.proofs.BlockLaws.{tabulated-long}
 use Rattle.ends.specs.declared.Fault.{Fault}
-use Rattle.ends.specs.Ends.{no_tap, sinks_in, ends_of}
-use Rattle.ends.specs.EndLaws.{sinks-long}
-use Rattle.outset.specs.declared.Outset.{Outset}
+use Rattle.ends.specs.Ends.{no_tap, sinks_in, fault_of, ends_of}
+use Rattle.ends.specs.EndLaws.{fault-late, sinks-long}
+use Rattle.outset.specs.SetOut.{Outset}
 use Rattle.outset.specs.Outset.{blocked_at_outset}
 use Rattle.outset.specs.SetOut.{ready_by, ready, number_by, detail_by, OutsetAsked, OutsetOf, SetOut}
-use Rattle.outset.specs.SetOutLaws.{ready-placed, same_ends, contents-of, use_of, sinks_in_lem, good-room, sinks-within, good-ends}
+use Rattle.outset.specs.SetOutLaws.{ready-placed, same_faults, same_ends, contents-of, use_of, sinks_in_lem, good-room, sinks-within, good-ends}
 use Rattle.room_search.specs.Routing.{places_in}
 use Rattle.multinet.specs.Tree.{Plot, growth_of}
 use Rattle.multinet.specs.Growing.{Near, SoundPlot}
 use Rattle.multinet.specs.NearLaws.{taps-near}
 use Rattle.multinet.specs.SinkTurns.{plot_of}
 use Rattle.net_tree.specs.declared.Lengths.{Lengths}
-use Rattle.net_tree.specs.declared.Answer.{Answer}
-use Rattle.net_tree.specs.Answers.{Lent, lent, lengths_of, buffers_good, no_tree, plot_for, outcome_of, job_outcome, answer_of}
+use Rattle.net_tree.specs.Answers.{Answer, Lent, lent, lengths_of, buffers_good, no_tree, plot_for, outcome_of, job_outcome, answer_of}
 use Rattle.net_tree.specs.Entry.{Growable, TreeGrown, Routable, JobRouted}
 use Rattle.net_tree.specs.EntryLaws.{long-enough}
 
 -- a number from setting out is above 6
-pub late : (p : Placement) (f : Fault) → ready_by p f ≡ false → buffer_number < number_by p f
-late (Placement.RepeatAt cell) f e = omega arith
-late Placement.Placed Fault.Good e = never (cc)
-late Placement.Placed (Fault.NoFacing place) e = omega arith
-late Placement.Placed (Fault.Outside place) e = omega arith
+pub late : (p : Placement) (f : Option Fault) → ready_by p f ≡ false → buffer_number < number_by p f
+late (Err overlap) f e = omega arith
+late (Ok placed) None e = never (cc)
+late (Ok placed) (Some fault) e = (fault-late fault.due).0
 
 -- ---- an accepted job that is set out, where no number from 7 to 9 is due
 
 module _ {sheet : List ℕ} {job : Job} (A : Accepted sheet job) {O : Outset} {kinds nodes blocked : List ℕ} (S : OutsetOf A.contents O kinds nodes blocked)
     (r : ready O ≡ true) where
-  placed : BlocksLaid (contents-of A).room (contents-of A).blocks kinds nodes Placement.Placed
-  placed = rw (ready-placed O.placement O.ends.fault r) at S.laid
+  placed : BlocksLaid (contents-of A).room (contents-of A).blocks kinds nodes Placed
+  placed = rw (ready-placed O.placement O.fault r) at S.laid
 
   kinds-long : length kinds ≡ volume job.room
   kinds-long = ap length placed.kinds-are ∙ tabulated-long _ _ ∙ ap volume (sym (use_of A).room-is)
@@ -58,6 +56,9 @@ module _ {sheet : List ℕ} {job : Job} (A : Accepted sheet job) {O : Outset} {k
 
   ends-are : O.ends ≡ ends_of job.room job.source (sinks_in job.sinks)
   ends-are = S.ends-are ∙ same_ends (sym (use_of A).room-is) (sym (use_of A).source_is) (sym (sinks_in_lem A))
+
+  fault-is : O.fault ≡ fault_of job.room job.source (sinks_in job.sinks)
+  fault-is = S.fault-is ∙ same_faults (sym (use_of A).room-is) (sym (use_of A).source_is) (sym (sinks_in_lem A))
 
   sinks-count : O.ends.taps.count ≡ job.sinks.count
   unfolding ends_of
@@ -109,7 +110,7 @@ module _ {sheet : List ℕ} {job : Job} (A : Accepted sheet job) {O : Outset} {k
     }
 
     job-sound : 0 < places_in L.queue → SoundPlot job_plot
-    job-sound h = record { good = good-room A; config-good = (use_of A).config-good; kinds-long = kinds-long; places-some = h; net = good-ends A O.placement ends-are r; near = near }
+    job-sound h = record { good = good-room A; config-good = (use_of A).config-good; kinds-long = kinds-long; places-some = h; net = good-ends A O.placement fault-is ends-are r; near = near }
 
     contents-outcome : job_outcome mode (contents-of A) L O kinds blocked ≡ outcome_of job_plot (growth_of job_plot blocked)
     unfolding job_outcome
@@ -133,7 +134,7 @@ module _ {sheet : List ℕ} {job : Job} {B : Lent} (A : Routable sheet job B) wh
     set_for = S.is A.accepted.contents A.accepted.means
 
     -- number 7, 8 or 9
-    pub job-refused : ready_by O.placement O.ends.fault ≡ false → {r : Answer} → r ≡ answer_of (no_tree (number_by O.placement O.ends.fault) (detail_by O.placement O.ends.fault))
+    pub job-refused : ready_by O.placement O.fault ≡ false → {r : Answer} → r ≡ answer_of (no_tree (number_by O.placement O.fault) (detail_by O.placement O.fault))
         → {branches occupied repeaters : List ℕ} → JobRouted mode sheet B r branches occupied repeaters
     unfolding job_outcome
     job-refused f a = record {
@@ -141,14 +142,14 @@ module _ {sheet : List ℕ} {job : Job} {B : Lent} (A : Routable sheet job B) wh
       kinds = kinds;
       nodes = nodes;
       blocked = blocked;
-      outcome = no_tree (number_by O.placement O.ends.fault) (detail_by O.placement O.ends.fault);
+      outcome = no_tree (number_by O.placement O.fault) (detail_by O.placement O.fault);
       is_set = S.is;
       comes = λ J m. rw f;
       answer = a;
-      outputs = late O.placement O.ends.fault f;
+      outputs = late O.placement O.fault f;
     }
 
-    module _ (r : ready_by O.placement O.ends.fault ≡ true) where
+    module _ (r : ready_by O.placement O.fault ≡ true) where
       abbrev P : Plot
       P = plot_of (record { room = job.room; config = job.config; mode = mode; run = job.run }) kinds B.queue B.branches O.ends.source O.ends.taps
 

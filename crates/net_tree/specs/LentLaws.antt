@@ -15,8 +15,9 @@ use Rattle.job_sheet.specs.declared.Judgement.TheVariants as judgement
 use Rattle.job_sheet.specs.Sheet.{Read, is_good, number_of}
 use Rattle.job_sheet.specs.Accepted.{Accepted}
 use Rattle.job_sheet.proofs.Theorems.{usable}
-use Rattle.net_tree.specs.declared.Answer.{Answer}
-use Rattle.net_tree.specs.Answers.{Lent, lent, lengths_of, buffers_good, TreeOutcome, routed, no_tree, job_outcome, Comes, unread, unlent, set_out, answer_of, number_for, branches_for, occupied_for, repeaters_for, lent_after, Promise}
+use Rattle.net_tree.specs.Answers.{Answer, Lent, lent, lengths_of, buffers_good, TreeOutcome, routed, no_tree, job_outcome, Comes, unread, unlent, set_out, answer_of, number_for, branches_for, occupied_for, repeaters_for, lent_after, Promise}
+use Rattle.net_tree.specs.declared.memory.Memory.{Memory}
+use Rattle.net_tree.specs.Held.{lent_with}
 use Rattle.net_tree.specs.Entry.{OutputsHold, Lendable, OutputsClear, FrontRouted, settled_by}
 use Rattle.net_tree.specs.EntryLaws.{enough}
 
@@ -92,7 +93,7 @@ module _ {sheet : List ℕ} {job : Job} {B : Lent} (A : Lendable sheet job B) {b
         rw (high h) (ap (λ n. replicate n 0) (sym z))
 
     module _ {branches'' occupied'' repeaters'' : List ℕ}
-        (sb : branches'' ≡ settled_by r.ended branches') (so : occupied'' ≡ settled_by r.ended occupied') (sr : repeaters'' ≡ settled_by r.ended repeaters') where
+        (sb : branches'' ≡ settled_by r branches') (so : occupied'' ≡ settled_by r occupied') (sr : repeaters'' ≡ settled_by r repeaters') where
       record Outputs (o : TreeOutcome) : Type 0 where
         branches-are : branches'' ≡ output_after (number_for o) (branches_for o) B.branches
         occupied-are : occupied'' ≡ output_after (number_for o) (occupied_for o) B.occupied
@@ -100,18 +101,18 @@ module _ {sheet : List ℕ} {job : Job} {B : Lent} (A : Lendable sheet job B) {b
 
       outputs : (o : TreeOutcome) → r ≡ answer_of o → OutputsHold o branches branches' F.occupied-front F.repeaters-front → Outputs o
       outputs (routed bs marks repeating) a w = record {
-        branches-are = sb ∙ ap (λ x. settled_by x.ended branches') a ∙ w.0 ∙ ap (λ n. joined bs ++ replicate (n - length (joined bs)) 0) (zeros-long {n = length B.branches} eb);
+        branches-are = sb ∙ ap (λ x. settled_by x branches') a ∙ w.0 ∙ ap (λ n. joined bs ++ replicate (n - length (joined bs)) 0) (zeros-long {n = length B.branches} eb);
         occupied-are =
-            so ∙ ap (λ x. settled_by x.ended occupied') a
+            so ∙ ap (λ x. settled_by x occupied') a
             ∙ marks-behind B.occupied marks eo (enough A).occupied-enough (F.occupied-is ∙ ap (λ l. l ++ drop (volume job.room) occupied) w.1) ko;
         repeaters-are =
-            sr ∙ ap (λ x. settled_by x.ended repeaters') a
+            sr ∙ ap (λ x. settled_by x repeaters') a
             ∙ marks-behind B.repeaters repeating er (enough A).repeaters-enough (F.repeaters-is ∙ ap (λ l. l ++ drop (volume job.room) repeaters) w.2) kr;
       }
       outputs (no_tree number detail) a w = record {
-        branches-are = sb ∙ ap (λ x. settled_by x.ended branches') a ∙ refused-after w B.branches branches' kb eb;
-        occupied-are = so ∙ ap (λ x. settled_by x.ended occupied') a ∙ refused-after w B.occupied occupied' ko eo;
-        repeaters-are = sr ∙ ap (λ x. settled_by x.ended repeaters') a ∙ refused-after w B.repeaters repeaters' kr er;
+        branches-are = sb ∙ ap (λ x. settled_by x branches') a ∙ refused-after w B.branches branches' kb eb;
+        occupied-are = so ∙ ap (λ x. settled_by x occupied') a ∙ refused-after w B.occupied occupied' ko eo;
+        repeaters-are = sr ∙ ap (λ x. settled_by x repeaters') a ∙ refused-after w B.repeaters repeaters' kr er;
       }
 
       work-after : (buffer mid : List ℕ) {final : List ℕ} → length mid ≡ length buffer → Cleared mid final → final ≡ work_after (number_for job-outcome) buffer
@@ -176,4 +177,24 @@ promise_unlent {sheet = sheet} {B = B} {job = job} A f a = record {
   comes = unlent A.contents A.means A.good (ap (λ R. buffers_good R (lengths_of B)) (sym (usable sheet job A).room-is) ∙ f) refl;
   answer = a;
   lent_is = refl;
+}
+
+-- ---- work memory that one struct holds
+
+pub promise-held : {mode : Mode} {sheet : List ℕ} {B : Lent} {r : Answer} {branches occupied repeaters kinds blocked classes joinable known previous path best queue : List ℕ} (M : Memory) → Promise mode sheet B r (lent_with branches occupied repeaters M)
+    → kinds ≡ M.kinds.now
+    → blocked ≡ M.blocked.now
+    → classes ≡ M.classes.now
+    → joinable ≡ M.joinable.now
+    → known ≡ M.known.now
+    → previous ≡ M.previous.now
+    → path ≡ M.path.now
+    → best ≡ M.best.now
+    → queue ≡ M.queue.now
+    → Promise mode sheet B r (lent branches occupied repeaters kinds blocked classes joinable known previous path best queue)
+promise-held {branches = branches} {occupied = occupied} {repeaters = repeaters} M P e0 e1 e2 e3 e4 e5 e6 e7 e8 = record {
+  outcome = P.outcome;
+  comes = P.comes;
+  answer = P.answer;
+  lent_is = (λ i. lent branches occupied repeaters (e0 i) (e1 i) (e2 i) (e3 i) (e4 i) (e5 i) (e6 i) (e7 i) (e8 i)) ∙ P.lent_is;
 }

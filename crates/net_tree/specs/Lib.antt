@@ -1,4 +1,5 @@
 pub mod Answers
+pub mod Held
 pub mod Entry
 pub mod SheetTrees
 pub mod GrowJobLaws

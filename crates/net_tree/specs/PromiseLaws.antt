@@ -9,12 +9,11 @@ use Rattle.job_sheet.specs.declared.Judgement.TheVariants as judgement
 use Rattle.job_sheet.specs.Version.{version_in}
 use Rattle.job_sheet.specs.Sheet.{Contents, Means, Read, judged, is_good}
 use Rattle.job_sheet.proofs.Theorems.{one-meaning, coincide as one-reading, answers-meaning}
-use Rattle.outset.specs.declared.Outset.{Outset}
+use Rattle.outset.specs.SetOut.{Outset}
 use Rattle.outset.specs.SetOut.{OutsetOf}
 use Rattle.outset.specs.SetOutLaws.{outset-one}
 use Rattle.net_tree.specs.declared.Lengths.{Lengths}
-use Rattle.net_tree.specs.declared.Answer.{Answer}
-use Rattle.net_tree.specs.Answers.{Lent, TreeOutcome, job_outcome, Comes, unread, unlent, set_out, answer_of, lent_after, Promise}
+use Rattle.net_tree.specs.Answers.{Answer, Lent, TreeOutcome, job_outcome, Comes, unread, unlent, set_out, answer_of, lent_after, Promise}
 
 -- a sheet that is accepted is not refused by its reading
 pub read-good : {sheet : List ℕ} {r : Reading} {J : Contents} → Read sheet r → Means sheet J → judged (version_in sheet) J ≡ judgement.Good → is_good r.judgement ≡ true

@@ -1,14 +1,15 @@
 -- What comes of a sheet that no number from 1 to 9 refuses grew over a sound plot of its contents: the tree that is given out, or the number.
-use Rattle.std.specs.Prelude.{◌≡◌, refl, true, List, ℕ, ◌≤◌, ◌<◌}
+use Rattle.std.specs.Prelude.{◌≡◌, refl, true, List, ℕ, ◌≤◌, ◌<◌, Option, Some, None, Ok, Err}
 use Rattle.std.proofs.Common.{ap, arith}
 use Rattle.basics.specs.Tests.{ask, never}
 use Rattle.ground.specs.declared.Mode.{Mode}
 use Rattle.job_sheet.specs.declared.Judgement.{Judgement}
 use Rattle.job_sheet.specs.declared.Judgement.TheVariants as judgement
 use Rattle.job_sheet.specs.Sheet.{number_of}
-use Rattle.blocks.specs.declared.Placement.{Placement}
+use Rattle.blocks.specs.Blocks.{Placement}
 use Rattle.ends.specs.declared.Fault.{Fault}
 use Rattle.outset.specs.SetOut.{ready, number_by}
+use Rattle.ends.specs.EndLaws.{fault-late}
 use Rattle.multinet.specs.Tree.{Growth, grown, stopped, growth_of}
 use Rattle.net_tree.specs.declared.Lengths.{Lengths}
 use Rattle.net_tree.specs.Answers.{routed, no_tree, number_for, plot_for, outcome_of, job_outcome, Comes, unread, unlent, set_out}
@@ -51,11 +52,10 @@ read_small judgement.Config = omega arith
 read_small judgement.Position = omega arith
 read_small judgement.Code = omega arith
 
-set-small : (p : Placement) (f : Fault) → number_by p f ≤ 9
-set-small (Placement.RepeatAt cell) f = omega arith
-set-small Placement.Placed Fault.Good = omega arith
-set-small Placement.Placed (Fault.NoFacing place) = omega arith
-set-small Placement.Placed (Fault.Outside place) = omega arith
+set-small : (p : Placement) (f : Option Fault) → number_by p f ≤ 9
+set-small (Err overlap) f = omega arith
+set-small (Ok placed) None = omega arith
+set-small (Ok placed) (Some fault) = (fault-late fault.due).1
 
 pub stop-of : {mode : Mode} {sheet : List ℕ} {L : Lengths} {number detail : ℕ} → Comes mode sheet L (no_tree number detail) → 9 < number → StopOf mode sheet L number detail
 unfolding job_outcome
@@ -64,7 +64,7 @@ stop-of (unlent J m g b e) h = absurd (omega (arith, h, ap number_for e))
 stop-of {mode} {sheet} {L} {number} {detail} (set_out J m g b O kinds nodes blocked s e) h =
     ask (ready O)
     (λ t. go t (growth_of (plot_for mode J L O kinds) blocked) refl (rw t at e))
-    (λ f. let q : number ≡ number_by O.placement O.ends.fault = ap number_for (rw f at e) in absurd (omega (arith, h, q, set-small O.placement O.ends.fault)))
+    (λ f. let q : number ≡ number_by O.placement O.fault = ap number_for (rw f at e) in absurd (omega (arith, h, q, set-small O.placement O.fault)))
   where
     go : ready O ≡ true → (growth : Growth) → growth_of (plot_for mode J L O kinds) blocked ≡ growth
         → no_tree number detail ≡ outcome_of (plot_for mode J L O kinds) growth → StopOf mode sheet L number detail

@@ -5,7 +5,7 @@ use Rattle.ground.specs.declared.Mode.{Mode}
 use Rattle.job_sheet.specs.declared.Judgement.TheVariants.{Good}
 use Rattle.job_sheet.specs.Version.{version_in}
 use Rattle.job_sheet.specs.Sheet.{Contents, Means, judged}
-use Rattle.outset.specs.declared.Outset.{Outset}
+use Rattle.outset.specs.SetOut.{Outset}
 use Rattle.outset.specs.SetOut.{ready, OutsetOf}
 use Rattle.multinet.specs.Tree.{Tree, grown, stopped, growth_of, repeaters_of}
 use Rattle.multinet.specs.Growing.{SoundPlot}

@@ -1,15 +1,23 @@
 // The public tree: the order of judgement, and what is lent.
-ghost use Rattle.std.specs.Prelude.{◌≡◌};
+ghost use Rattle.std.specs.Prelude.{◌≡◌, ◌≤◌, ◌↔◌, IsTrue, slice_index, EachIndex};
 ghost use Rattle.lent.specs.Lent.{Cleared};
 ghost use Rattle.net_tree.specs.Answers.{buffers_good, Promise, lent};
 ghost use Rattle.net_tree.specs.Entry.{settled_by, Lendable, OutputsClear, FrontRouted};
+ghost use Rattle.net_tree.specs.Held.{SameBuffers, SameLengths, lent_with};
 ghost use Rattle.room.specs.Room.{Good};
 
-use crate::job::{refuse, route_job};
-use crate::{Answer, Ended, Lengths};
+use crate::job::route_job;
+use crate::{Lengths, Memory, Refused, Tree};
 use ground::Mode;
 use job_sheet::Job;
 use room::Room;
+
+// Whether each buffer holds an entry a cell.
+fn all_long(lengths: &[usize], cells: usize) -> bool
+    ensures { IsTrue result ↔ EachIndex lengths.now (λ k. cells ≤ slice_index lengths.now k) }
+{
+    lengths.iter().all(|long| cells <= *long)
+}
 
 // Whether the lent memory suffices; where it doesn't, number 6 is due.
 fn lent_enough(room: Room, lent: Lengths) -> bool
@@ -29,23 +37,16 @@ fn lent_enough(room: Room, lent: Lengths) -> bool
         lent.path,
         lent.best,
     ];
-    let mut i: usize = 0;
-    while i < 10 {
-        if each[i] < cells {
-            return false;
-        }
-        i += 1;
-    }
-    1 <= lent.queue / 2
+    all_long(&each, cells) && 1 <= lent.queue / 2
 }
 
 // The outputs are cleared, to their very end.
 fn clear_outputs(branches: &mut [u32], occupied: &mut [u8], repeaters: &mut [u8])
     ensures { Cleared branches.old branches.new × Cleared occupied.old occupied.new × Cleared repeaters.old repeaters.new }
 {
-    lent::clear_words(branches);
-    lent::clear_bytes(occupied);
-    lent::clear_bytes(repeaters);
+    lent::clear(branches);
+    lent::clear(occupied);
+    lent::clear(repeaters);
 }
 
 // Work memory is cleared, to its very end.
@@ -62,30 +63,31 @@ pub fn clear_work(
 )
     ensures { Cleared kinds.old kinds.new × Cleared blocked.old blocked.new × Cleared classes.old classes.new × Cleared joinable.old joinable.new × Cleared known.old known.new × Cleared previous.old previous.new × Cleared path.old path.new × Cleared best.old best.new × Cleared queue.old queue.new }
 {
-    lent::clear_bytes(kinds);
-    lent::clear_bytes(blocked);
-    lent::clear_bytes(classes);
-    lent::clear_bytes(joinable);
-    lent::clear_words(known);
-    lent::clear_words(previous);
-    lent::clear_words(path);
-    lent::clear_words(best);
-    lent::clear_longs(queue);
+    let mut memory = Memory {
+        kinds,
+        blocked,
+        classes,
+        joinable,
+        known,
+        previous,
+        path,
+        best,
+        queue,
+    };
+    memory.clear();
 }
 
 // A refusal leaves the outputs all zero.
-fn settle(ended: Ended, branches: &mut [u32], occupied: &mut [u8], repeaters: &mut [u8])
-    ensures { (branches.new ≡ settled_by ended branches.old) × (occupied.new ≡ settled_by ended occupied.old) × (repeaters.new ≡ settled_by ended repeaters.old) }
+fn settle(
+    answer: Result<Tree, Refused>,
+    branches: &mut [u32],
+    occupied: &mut [u8],
+    repeaters: &mut [u8],
+)
+    ensures { (branches.new ≡ settled_by answer branches.old) × (occupied.new ≡ settled_by answer occupied.old) × (repeaters.new ≡ settled_by answer repeaters.old) }
 {
-    match ended {
-        Ended::Routed {
-            occupied: _,
-            repeaters: _,
-        } => {}
-        Ended::Refused {
-            number: _,
-            detail: _,
-        } => clear_outputs(branches, occupied, repeaters),
+    if answer.is_err() {
+        clear_outputs(branches, occupied, repeaters);
     }
 }
 
@@ -98,19 +100,13 @@ fn route_front(
     branches: &mut [u32],
     occupied: &mut [u8],
     repeaters: &mut [u8],
-    kinds: &mut [u8],
-    blocked: &mut [u8],
-    classes: &mut [u8],
-    joinable: &mut [u8],
-    known: &mut [u32],
-    previous: &mut [u32],
-    path: &mut [u32],
-    best: &mut [u32],
-    queue: &mut [u64],
-) -> Answer
-    requires lendable { Lendable sheet.now job (lent branches.old occupied.old repeaters.old kinds.old blocked.old classes.old joinable.old known.old previous.old path.old best.old queue.old) }
-    requires outputs_clear { OutputsClear (lent branches.old occupied.old repeaters.old kinds.old blocked.old classes.old joinable.old known.old previous.old path.old best.old queue.old) }
-    ensures { FrontRouted mode sheet.now job (lent branches.old occupied.old repeaters.old kinds.old blocked.old classes.old joinable.old known.old previous.old path.old best.old queue.old) result branches.new occupied.new repeaters.new }
+    memory: &mut Memory<'_>,
+) -> Result<Tree, Refused>
+    requires lendable { Lendable sheet.now job (lent_with branches.old occupied.old repeaters.old memory.old) }
+    requires outputs_clear { OutputsClear (lent_with branches.old occupied.old repeaters.old memory.old) }
+    ensures same_buffers { SameBuffers memory.old memory.new }
+    ensures same_lengths { SameLengths memory.old memory.new }
+    ensures routed { FrontRouted mode sheet.now job (lent_with branches.old occupied.old repeaters.old memory.old) result branches.new occupied.new repeaters.new }
 {
     let cells = job.room.volume();
     route_job(
@@ -120,15 +116,15 @@ fn route_front(
         branches,
         &mut occupied[..cells],
         &mut repeaters[..cells],
-        &mut kinds[..cells],
-        &mut blocked[..cells],
-        &mut classes[..cells],
-        &mut joinable[..cells],
-        &mut known[..cells],
-        &mut previous[..cells],
-        &mut path[..cells],
-        &mut best[..cells],
-        queue,
+        &mut memory.kinds[..cells],
+        &mut memory.blocked[..cells],
+        &mut memory.classes[..cells],
+        &mut memory.joinable[..cells],
+        &mut memory.known[..cells],
+        &mut memory.previous[..cells],
+        &mut memory.path[..cells],
+        &mut memory.best[..cells],
+        memory.queue,
     )
 }
 
@@ -140,29 +136,16 @@ fn route_lent(
     branches: &mut [u32],
     occupied: &mut [u8],
     repeaters: &mut [u8],
-    kinds: &mut [u8],
-    blocked: &mut [u8],
-    classes: &mut [u8],
-    joinable: &mut [u8],
-    known: &mut [u32],
-    previous: &mut [u32],
-    path: &mut [u32],
-    best: &mut [u32],
-    queue: &mut [u64],
-) -> Answer
-    requires { Lendable sheet.now job (lent branches.old occupied.old repeaters.old kinds.old blocked.old classes.old joinable.old known.old previous.old path.old best.old queue.old) }
-    ensures { Promise mode sheet.now (lent branches.old occupied.old repeaters.old kinds.old blocked.old classes.old joinable.old known.old previous.old path.old best.old queue.old) result (lent branches.new occupied.new repeaters.new kinds.new blocked.new classes.new joinable.new known.new previous.new path.new best.new queue.new) }
+    memory: &mut Memory<'_>,
+) -> Result<Tree, Refused>
+    requires { Lendable sheet.now job (lent_with branches.old occupied.old repeaters.old memory.old) }
+    ensures same_buffers { SameBuffers memory.old memory.new }
+    ensures promise { Promise mode sheet.now (lent_with branches.old occupied.old repeaters.old memory.old) result (lent_with branches.new occupied.new repeaters.new memory.new) }
 {
     clear_outputs(branches, occupied, repeaters);
-    let answer = route_front(
-        mode, sheet, job, branches, occupied, repeaters, kinds, blocked, classes, joinable, known,
-        previous, path, best, queue,
-    );
-    clear_work(
-        kinds, blocked, classes, joinable, known, previous, path, best, queue,
-    );
-    let ended = answer.ended;
-    settle(ended, branches, occupied, repeaters);
+    let answer = route_front(mode, sheet, job, branches, occupied, repeaters, memory);
+    memory.clear();
+    settle(answer, branches, occupied, repeaters);
     answer
 }
 
@@ -184,13 +167,16 @@ pub fn route_net_tree(
     path: &mut [u32],
     best: &mut [u32],
     queue: &mut [u64],
-) -> Answer
+) -> Result<Tree, Refused>
     ensures { Promise mode sheet.now (lent branches.old occupied.old repeaters.old kinds.old blocked.old classes.old joinable.old known.old previous.old path.old best.old queue.old) result (lent branches.new occupied.new repeaters.new kinds.new blocked.new classes.new joinable.new known.new previous.new path.new best.new queue.new) }
 {
     let reading = sheet_reader::read_sheet(sheet);
     let judgement = reading.judgement;
     if !judgement.is_good() {
-        return refuse(judgement.number(), 0);
+        return Err(Refused {
+            number: judgement.number(),
+            detail: 0,
+        });
     }
     let lent_lengths = Lengths {
         branches: branches.len(),
@@ -208,10 +194,21 @@ pub fn route_net_tree(
     };
     let job = reading.job;
     if !lent_enough(job.room, lent_lengths) {
-        return refuse(numbers::BUFFER_NUMBER, 0);
+        return Err(Refused {
+            number: numbers::BUFFER_NUMBER,
+            detail: 0,
+        });
     }
-    route_lent(
-        mode, sheet, job, branches, occupied, repeaters, kinds, blocked, classes, joinable, known,
-        previous, path, best, queue,
-    )
+    let mut memory = Memory {
+        kinds,
+        blocked,
+        classes,
+        joinable,
+        known,
+        previous,
+        path,
+        best,
+        queue,
+    };
+    route_lent(mode, sheet, job, branches, occupied, repeaters, &mut memory)
 }

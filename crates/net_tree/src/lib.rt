@@ -2,23 +2,27 @@
 #![tactic(auto)]
 
 mod entry; // entry.rt: the order of judgement, and what is lent
+mod memory; // memory.rt: lent work memory
 mod job; // job.rt: an accepted job, over work memory of exactly V cells
 
 pub use entry::{clear_work, route_net_tree};
-pub use job::{grow_job, plant, refuse};
+pub use job::{grow_job, plant};
+pub use memory::Memory;
 
-// How a tree has ended: routed, with the number of cells that it occupies and of its repeaters; or refused, by its number.
+// A routed tree: how many cells it occupies, how many repeaters it has, and its branches' lengths in sheet order.
 #[derive(Clone, Copy)]
-pub enum Ended {
-    Routed { occupied: usize, repeaters: usize },
-    Refused { number: u32, detail: usize },
+pub struct Tree {
+    pub occupied: usize,
+    pub repeaters: usize,
+    pub lengths: branches::BranchLengths,
 }
 
-// How a tree has ended, and its branches' lengths in sheet order; none after a refusal.
+// Why there is no tree: the number that is due, and its detail. A number and no `numbers::Refusal`, since `stop-of` and the
+// theorems on it speak of the numbers of outcomes.
 #[derive(Clone, Copy)]
-pub struct Answer {
-    pub ended: Ended,
-    pub lengths: branches::BranchLengths,
+pub struct Refused {
+    pub number: u32,
+    pub detail: usize,
 }
 
 // The lengths of the lent buffers.

@@ -6,10 +6,9 @@ use Rattle.room.specs.declared.Room.{Room}
 use Rattle.room.specs.Room.{volume}
 use Rattle.ground.specs.declared.Mode.{Mode}
 use Rattle.job_sheet.specs.Sheet.{Contents}
-use Rattle.blocks.specs.declared.Placement.{Placement}
-use Rattle.blocks.specs.Blocks.{kinds_of, nodes_of}
-use Rattle.ends.specs.Ends.{taps_in}
-use Rattle.outset.specs.declared.Outset.{Outset}
+use Rattle.blocks.specs.Blocks.{Placed, kinds_of, nodes_of}
+use Rattle.ends.specs.Ends.{taps_in, fault_of}
+use Rattle.outset.specs.SetOut.{Outset}
 use Rattle.laying.specs.Laying.{Net}
 use Rattle.net_tree.specs.declared.Lengths.{Lengths}
 use Rattle.net_tree.specs.Answers.{TreeOutcome, routed, no_tree, job_outcome}
@@ -28,7 +27,7 @@ nodes_at sheet = let J = contents_at sheet in nodes_of J.room J.blocks
 
 -- the job of a sheet set out, where no number is due
 abbrev pub outset_at : List ℕ → Outset
-outset_at sheet = record { placement = Placement.Placed; ends = ends_at sheet }
+outset_at sheet = let J = contents_at sheet in record { placement = Placed; fault = fault_of J.room J.source J.sinks; ends = ends_at sheet }
 
 -- what is blocked for net k, where the nets before keep others off these cells
 abbrev pub blocked_at : List ℕ → ℕ → (ℕ → Bool) → List ℕ → List ℕ

@@ -1,5 +1,5 @@
 -- Laws of one net's routing: what setting out and growing ask, and that they make up what the definition has.
-use Rattle.std.specs.Prelude.{◌≡◌, refl, Bool, false, ◌||◌, List, ℕ, ◌≤◌, ◌<◌}
+use Rattle.std.specs.Prelude.{◌≡◌, refl, Bool, false, ◌||◌, List, ℕ, ◌≤◌, ◌<◌, None, Ok, Err}
 use Rattle.std.proofs.Math.Path.{sym, ap}
 use Rattle.std.proofs.Common.{subst, ◌∙◌, arith}
 use Rattle.std.proofs.Math.Bool.{true}
@@ -19,23 +19,21 @@ use Rattle.job_sheet.specs.declared.Judgement.TheVariants.{Good}
 use Rattle.job_sheet.specs.Version.{version_in}
 use Rattle.job_sheet.specs.Sheet.{Contents, Means, judged}
 use Rattle.job_sheet.specs.Accepted.{Accepted}
-use Rattle.blocks.specs.declared.Placement.{Placement}
-use Rattle.blocks.specs.declared.Placement.TheVariants.{Placed, RepeatAt}
+use Rattle.blocks.specs.Blocks.{Placement}
+use Rattle.blocks.specs.Blocks.{Placed}
 use Rattle.blocks.specs.Blocks.{kinds_of, nodes_of, BlocksLaid}
 use Rattle.blocks.proofs.BlockLaws.{tabulated-long}
-use Rattle.ends.specs.declared.Fault.{Fault}
 use Rattle.ends.specs.declared.Ends.{Ends}
 use Rattle.ends.specs.Ends.{sinks_in, ends_of}
-use Rattle.outset.specs.declared.Outset.{Outset}
+use Rattle.outset.specs.SetOut.{Outset}
 use Rattle.outset.specs.Outset.{blocked_at_outset}
 use Rattle.outset.specs.SetOut.{ready_by, ready, OutsetAsked, OutsetOf, SetOut}
 use Rattle.outset.specs.SetOutLaws.{same_ends, use_of, sinks_in_lem}
 use Rattle.multinet.specs.Tree.{Plot, growth_of}
 use Rattle.multinet.specs.Growing.{SoundPlot}
 use Rattle.multinet.specs.SinkTurns.{plot_of}
-use Rattle.net_tree.specs.declared.Answer.{Answer}
 use Rattle.net_tree.specs.declared.Lengths.{Lengths}
-use Rattle.net_tree.specs.Answers.{Lent, lent, buffers_good, plot_for, outcome_of, job_outcome, answer_of}
+use Rattle.net_tree.specs.Answers.{Answer, Lent, lent, buffers_good, plot_for, outcome_of, job_outcome, answer_of}
 use Rattle.net_tree.specs.Entry.{Growable, TreeGrown, OutputsHold}
 use Rattle.net_tree.specs.JobLaws.{plot-sound}
 use Rattle.job_list.specs.Judged.{contents_at, repeats_in}
@@ -48,8 +46,8 @@ use Rattle.nets.specs.Nets.{kinds_at, nodes_at, outset_at, blocked_at, lent_for,
 use Rattle.nets.specs.Routes.{PrepareAsked, Prepared, NetAsked, NetRouted}
 
 placed-is : (p : Placement) → is_repeat p ≡ false → p ≡ Placed
-placed-is Placed e = refl
-placed-is (RepeatAt v) e = never (cc)
+placed-is (Ok placed) e = refl
+placed-is (Err overlap) e = never (cc)
 
 -- ---- set out
 
@@ -68,17 +66,16 @@ module _ {list sheet : List ℕ} {job : Job} {before kinds₀ nodes₀ blocked�
     placement-is = placed-is O.placement (sym (repeats_placing J.room J.blocks set_here.laid.placing) ∙ A.net.apart)
 
     outset-is : O ≡ outset_at sheet
-    outset-is = λ i. record { placement = placement-is i; ends = set_here.ends-are i }
+    outset-is = λ i. record { placement = placement-is i; fault = set_here.fault-is i; ends = set_here.ends-are i }
 
     now-set : OutsetOf J (outset_at sheet) kinds nodes blocked
     now-set = rw outset-is at set_here
 
-    fault_none : (ends_at sheet).fault ≡ Fault.Good
-    unfolding ends_of
-    fault_none = A.net.ends
-
     ready-now : ready (outset_at sheet) ≡ true
-    ready-now = ap (ready_by Placed) fault_none
+    ready-now = ap (ready_by Placed) A.net.ends
+
+    pub ready-set : ready O ≡ true
+    ready-set = rw outset-is ready-now
 
     blocked-alone : blocked ≡ blocked_at_outset (kinds_at sheet) (nodes_at sheet) J (ends_at sheet).source (ends_at sheet).taps
     blocked-alone = rw ready-now at now-set.blocked-are
@@ -153,7 +150,6 @@ module _ {list sheet : List ℕ} {job : Job} {before : List ℕ} {B : Lent} (A :
       rw (n, q)
 
   ready-here : ready (outset_at sheet) ≡ true
-  unfolding ends_of
   ready-here = ap (ready_by Placed) A.asked.net.ends
 
   module _ (mode : Mode) where

@@ -9,10 +9,9 @@ use Rattle.job_sheet.specs.Sheet.{Contents}
 use Rattle.job_sheet.specs.Accepted.{Accepted}
 use Rattle.ends.specs.declared.Ends.{Ends}
 use Rattle.outset.specs.SetOut.{OutsetOf}
-use Rattle.net_tree.specs.declared.Answer.{Answer}
 use Rattle.multinet.specs.Tree.{Plot, growth_of}
 use Rattle.multinet.specs.Growing.{SoundPlot}
-use Rattle.net_tree.specs.Answers.{Lent, answer_of, outcome_of}
+use Rattle.net_tree.specs.Answers.{Answer, Lent, answer_of, outcome_of}
 use Rattle.net_tree.specs.Entry.{OutputsHold}
 use Rattle.job_list.specs.declared.Memory.{Memory}
 use Rattle.job_list.specs.Judged.{contents_at}

@@ -7,7 +7,7 @@ ghost use Rattle.nets.specs.Routes.{PrepareAsked, Prepared, NetAsked, NetRouted}
 use ends::Ends;
 use ground::{Ground, Mode};
 use job_sheet::Job;
-use net_tree::Answer;
+use net_tree::{Refused, Tree};
 
 // Sets one net out: the room's blocks, its ends, and what is blocked for it in the list.
 fn prepare_net(
@@ -23,8 +23,7 @@ fn prepare_net(
     requires { PrepareAsked list.now sheet.now job before.now kinds.old nodes.old blocked.old }
     ensures { Prepared list.now sheet.now net before.now result kinds.new nodes.new blocked.new }
 {
-    let outset = outset::set_out(sheet, job, kinds, nodes, blocked);
-    let ends = outset.ends;
+    let ends = outset::set_out(sheet, job, kinds, nodes, blocked).unwrap();
     other_nets::block_others(job.room, list, net, ends.source, ends.taps, before, blocked);
     ends
 }
@@ -50,7 +49,7 @@ pub fn route_net(
     path: &mut [u32],
     best: &mut [u32],
     queue: &mut [u64],
-) -> Answer
+) -> Result<Tree, Refused>
     requires { NetAsked list.now sheet.now job before.now (lent branches.old occupied.old repeaters.old kinds.old blocked.old classes.old joinable.old known.old previous.old path.old best.old queue.old) }
     ensures { NetRouted mode list.now sheet.now net before.now (lent branches.old occupied.old repeaters.old kinds.old blocked.old classes.old joinable.old known.old previous.old path.old best.old queue.old) result branches.new occupied.new repeaters.new }
 {

@@ -3,11 +3,12 @@
 
 ghost use Rattle.std.specs.Prelude.{◌≡◌, ◌≤◌, length, true};
 ghost use Rattle.list_routing.specs.ListLent.{list_lent};
-ghost use Rattle.nets_reply.specs.Reply.{value_count, values_after, NetsTold};
+ghost use Rattle.nets_reply.specs.Reply.{value_count, values_of, values_after, NetsTold};
+ghost use Rattle.several_nets.specs.Answers.{number_told};
 ghost use Rattle.nets_reply.specs.ReplyLaws.{wiped_by};
 
 use ground::Mode;
-use several_nets::ListAnswer;
+use list_routing::NetRefused;
 
 // How many values a list comes to: the detail, the net's index, and how many nets there are.
 const VALUES: usize = 3;
@@ -17,19 +18,37 @@ fn wipe(number: u32, values: &mut [u64])
     ensures { values.new ≡ wiped_by number values.old }
 {
     if lent::touches(number) {
-        lent::clear_longs(values);
+        lent::clear(values);
+    }
+}
+
+// The number that comes back for an answer, 0 where all nets are laid.
+fn number_told(answer: Result<usize, NetRefused>) -> u32
+    ensures { result ≡ number_told answer }
+{
+    match answer {
+        Ok(_) => numbers::DONE_NUMBER,
+        Err(why) => why.number,
+    }
+}
+
+// The values of an answer: the detail, the net's index, and how many nets there are.
+fn values_of(answer: Result<usize, NetRefused>) -> [u64; VALUES]
+    ensures { result ≡ values_of answer }
+{
+    match answer {
+        Ok(nets) => [0, 0, nets as u64],
+        Err(why) => [why.detail as u64, why.net as u64, 0],
     }
 }
 
 // Writes the values of an answer; behind them zeros, or where lent memory is not touched what was there.
-fn write_values(answer: ListAnswer, values: &mut [u64])
+fn write_values(answer: Result<usize, NetRefused>, values: &mut [u64])
     requires { value_count ≤ length values.old }
     ensures { values.new ≡ values_after true answer values.old }
 {
-    wipe(answer.number, values);
-    values[0] = answer.detail as u64;
-    values[1] = answer.net as u64;
-    values[2] = answer.nets as u64;
+    wipe(number_told(answer), values);
+    values[..VALUES].copy_from_slice(&values_of(answer));
 }
 
 // A job list, told as numbers, as `several_nets::route_nets`: the number comes back, 0 where all nets are laid; its detail, the
@@ -82,12 +101,12 @@ pub fn route_and_tell(
             best,
             &mut queue[..0],
         );
-        return short.number;
+        return number_told(short);
     }
     let answer = several_nets::route_nets(
         mode, list, branches, lengths, owners, repeaters, kinds, facings, occupied, planned,
         before, unlaid, blocked, classes, joinable, known, previous, path, best, queue,
     );
     write_values(answer, values);
-    answer.number
+    number_told(answer)
 }

@@ -1,6 +1,8 @@
 -- The numbers that come back, each under its name. docs/RULES.md tells their details and the order in which they are judged.
 -- Definitions alone.
 use Rattle.std.specs.Prelude.{List, [], ◌∷◌, ℕ}
+use Rattle.numbers.specs.declared.Refusal.{Refusal}
+use Rattle.numbers.specs.declared.Refusal.TheVariants.{Sheet, Sides, Config, Position, Code, Buffer, Overlap, PortFacing, EndOutside, NotRouteable, NoRoute, LimitPassed, QueueFull, NoGoal, BranchesFull, NetsOverlap, TextShort, BadLine}
 
 -- a route, a tree; of what is judged so far: no number is due
 abbrev pub done_number : ℕ
@@ -101,3 +103,24 @@ all_numbers =
     ∷ text_short_number
     ∷ bad_line_number
     ∷ []
+
+-- the number of a refusal
+abbrev pub number_of : Refusal → ℕ
+number_of Sheet = sheet_number
+number_of Sides = sides_number
+number_of Config = config_number
+number_of Position = position_number
+number_of Code = code_number
+number_of Buffer = buffer_number
+number_of Overlap = overlap_number
+number_of PortFacing = port_facing_number
+number_of EndOutside = end_outside_number
+number_of NotRouteable = not_routeable_number
+number_of NoRoute = no_route_number
+number_of LimitPassed = limit_passed_number
+number_of QueueFull = queue_full_number
+number_of NoGoal = no_goal_number
+number_of BranchesFull = branches_full_number
+number_of NetsOverlap = nets_overlap_number
+number_of TextShort = text_short_number
+number_of BadLine = bad_line_number

@@ -3,7 +3,7 @@
 #![tactic(auto)]
 
 ghost use Rattle.std.specs.Prelude.{◌≡◌};
-ghost use Rattle.numbers.specs.Refusals.{all_numbers};
+ghost use Rattle.numbers.specs.Refusals.{all_numbers, number_of};
 
 // A route, a tree; of what is judged so far: no number is due.
 pub const DONE_NUMBER: u32 = 0;
@@ -87,4 +87,63 @@ pub fn all_numbers() -> [u32; 19]
         TEXT_SHORT_NUMBER,
         BAD_LINE_NUMBER,
     ]
+}
+
+// Why a call gives no answer: what each number but 0 stands for.
+#[derive(Clone, Copy, Debug, PartialEq, Eq)]
+pub enum Refusal {
+    Sheet,
+    Sides,
+    Config,
+    Position,
+    Code,
+    Buffer,
+    Overlap,
+    PortFacing,
+    EndOutside,
+    NotRouteable,
+    NoRoute,
+    LimitPassed,
+    QueueFull,
+    NoGoal,
+    BranchesFull,
+    NetsOverlap,
+    TextShort,
+    BadLine,
+}
+
+impl Refusal {
+    // The number that comes back for it.
+    pub fn number(self) -> u32
+        ensures { result ≡ number_of self }
+    {
+        match self {
+            Refusal::Sheet => SHEET_NUMBER,
+            Refusal::Sides => SIDES_NUMBER,
+            Refusal::Config => CONFIG_NUMBER,
+            Refusal::Position => POSITION_NUMBER,
+            Refusal::Code => CODE_NUMBER,
+            Refusal::Buffer => BUFFER_NUMBER,
+            Refusal::Overlap => OVERLAP_NUMBER,
+            Refusal::PortFacing => PORT_FACING_NUMBER,
+            Refusal::EndOutside => END_OUTSIDE_NUMBER,
+            Refusal::NotRouteable => NOT_ROUTEABLE_NUMBER,
+            Refusal::NoRoute => NO_ROUTE_NUMBER,
+            Refusal::LimitPassed => LIMIT_PASSED_NUMBER,
+            Refusal::QueueFull => QUEUE_FULL_NUMBER,
+            Refusal::NoGoal => NO_GOAL_NUMBER,
+            Refusal::BranchesFull => BRANCHES_FULL_NUMBER,
+            Refusal::NetsOverlap => NETS_OVERLAP_NUMBER,
+            Refusal::TextShort => TEXT_SHORT_NUMBER,
+            Refusal::BadLine => BAD_LINE_NUMBER,
+        }
+    }
+}
+
+impl From<Refusal> for u32 {
+    ghost from_gives = { λ refusal r. r ≡ number_of refusal };
+
+    fn from(refusal: Refusal) -> u32 {
+        refusal.number()
+    }
 }

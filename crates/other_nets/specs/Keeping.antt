@@ -1,10 +1,9 @@
 -- What the contract of keeping a routed net cites.
 use Rattle.std.specs.Prelude.{◌≡◌, List, ◌++◌, ℕ, ◌≤◌, length, drop}
-use Rattle.std.proofs.Common.{sym, ap, ◌∙◌, arith}
+use Rattle.std.proofs.Common.{ap, ◌∙◌, arith}
 use Rattle.std.proofs.Math.Seq.{take-length}
 use Rattle.basics.specs.Copies.{Copied, front-all}
 use Rattle.room.specs.declared.Room.{Room}
-use Rattle.room.specs.Room.{volume}
 use Rattle.routing_resources.specs.Marks.{marked_by, is_marked}
 use Rattle.job_sheet.specs.Sheet.{max_sinks}
 use Rattle.branches.specs.declared.BranchLengths.{BranchLengths}

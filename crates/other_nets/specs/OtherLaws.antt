@@ -1,14 +1,14 @@
 -- Laws of what a net of a list keeps off: how the loops mark it, and that the marks come to `blocked_in_list`.
-use Rattle.std.specs.Prelude.{◌≡◌, refl, Bool, true, false, not, ◌&&◌, ◌||◌, ℕ, zero, suc, ◌+◌, ◌-◌, ◌≤◌, ◌<◌, eqb, leb, get_or, take, set}
+use Rattle.std.specs.Prelude.{None, ◌≡◌, refl, Bool, true, false, not, ◌&&◌, ◌||◌, ℕ, zero, suc, ◌+◌, ◌-◌, ◌≤◌, ◌<◌, eqb, leb, get_or, take, set}
 use Rattle.std.proofs.Math.Path.{sym, ap, subst}
-use Rattle.std.proofs.Common.{◌∙◌, add-one, length-drop, length-set, drop_of_length-le, get_or-set_same, get_or-set_other, ext_get_or, le-leb, eq-eqb, ne_eqb, eqb-true}
+use Rattle.std.proofs.Common.{◌∙◌, length-drop, length-set, drop_of_length-le, get_or-set_same, get_or-set_other, ext_get_or, le-leb, eq-eqb, ne_eqb}
 use mathlib.Core.List.{List, [], ◌∷◌}
 use native.Mathlib.Omega.{arith}
 use Rattle.std.proofs.Math.ListN.{length, drop, get_or-eq_default}
-use Rattle.std.proofs.Math.Seq.{drop-drop, slice-cons, slice_empty}
-use Rattle.std.proofs.lemmas.Bool.{lt-leb, eqb-false}
+use Rattle.std.proofs.Math.Seq.{drop-drop}
+use Rattle.std.proofs.lemmas.Bool.{lt-leb}
 use Rattle.basics.specs.Tests.{either, ask, ask_same, ask_less, never}
-use Rattle.basics.specs.Lists.{any}
+use Rattle.basics.specs.Lists.{any, drop_next}
 use Rattle.room.specs.declared.Room.{Room}
 use Rattle.room.specs.Room.{Good, volume}
 use Rattle.routing_resources.specs.Marks.{with_byte, marked_by, unmarked_by, is_marked, no_marks, AllCells}
@@ -26,7 +26,6 @@ use Rattle.job_sheet.specs.Accepted.{Accepted}
 use Rattle.ends.specs.declared.Tap.{Tap}
 use Rattle.ends.specs.declared.Taps.{Taps}
 use Rattle.ends.specs.declared.Ends.{Ends}
-use Rattle.ends.specs.declared.Fault.{Fault}
 use Rattle.ends.specs.Ends.{taps_in, sinks_in, ends_of, fault_of, NetInside}
 use Rattle.ends.specs.EndLaws.{net_in}
 use Rattle.branches.specs.declared.BranchLengths.{BranchLengths}
@@ -34,11 +33,11 @@ use Rattle.branches.specs.Branches.{sum, lengths_in, cut_into, branches_of, Bran
 use Rattle.outset.specs.Outset.{blocked_by, own_cell, blocked_at_outset}
 use Rattle.outset.specs.SetOutLaws.{same_ends, use_of, sinks_in_lem, source-within, sinks-within}
 use Rattle.job_list.specs.declared.Memory.{Memory}
-use Rattle.job_list.specs.Split.{sheet_long, first_sheet, behind_first, sheets_in, sheets_of}
+use Rattle.job_list.specs.Split.{sheet_long, first_sheet, sheets_in, sheets_of}
 use Rattle.job_list.specs.SplitLaws.{long-most, long-some, sheets_some, sheets_none}
 use Rattle.job_list.specs.Judged.{contents_at, net_judgement}
 use Rattle.job_list.specs.JudgeLaws.{accepted-contents}
-use Rattle.job_list.specs.GoodNets.{GoodNet, GoodFrom, good-room-is, good-reading}
+use Rattle.job_list.specs.GoodNets.{good-fault, GoodNet, GoodFrom, good-room-is, good-reading}
 use Rattle.other_nets.specs.Others.{near_cell, branch_clear, net_clear, tap_protects, protects, ends_at, sheet_protects, protected_from, blocked_in_list}
 
 -- ---- one cell, one branch, one tap
@@ -78,7 +77,6 @@ pub record NetReady (R : Room) (source : ℕ) (L : BranchLengths) (cells marks :
 
 -- those of the first k branches are marked: with those of the others they make all
 pub record MarkingNet (R : Room) (L : BranchLengths) (cells start marks : List ℕ) (from k : ℕ) : Type 0 where
-  pub within : k ≤ L.count
   pub fits : from + sum (drop k (lengths_in L)) ≤ length cells
   pub cells_left : AllIn R (cut_into (drop k (lengths_in L)) (drop from cells))
   pub long : length marks ≡ length start
@@ -86,14 +84,12 @@ pub record MarkingNet (R : Room) (L : BranchLengths) (cells start marks : List �
 
 module _ {R : Room} {source : ℕ} {L : BranchLengths} {cells marks₀ : List ℕ} (N : NetReady R source L cells marks₀) where
   pub net-none : (start : List ℕ) → MarkingNet R L cells start start 0 0
-  net-none start = record { within = omega arith; fits = omega (arith, N.branched.within); cells_left = N.cells_in; long = refl; left = refl }
+  net-none start = record { fits = omega (arith, N.branched.within); cells_left = N.cells_in; long = refl; left = refl }
 
   module _ {start marks : List ℕ} {from k : ℕ} (I : MarkingNet R L cells start marks from k) where
-    module _ (h : k < L.count) (to : ℕ) (e : to ≡ from + get_or L.each k 0) where
+    module _ (h : k < length (lengths_in L)) (to : ℕ) (e : to ≡ from + get_or (lengths_in L) k 0) where
       first : drop k (lengths_in L) ≡ (to - from) ∷ drop (k + 1) (lengths_in L)
-      first =
-          let size_is : to - from ≡ get_or L.each k 0 = omega arith in
-          rw (add-one, size_is) (slice-cons k L.count L.each 0 h (omega (arith, N.branched.few, N.branched.whole)))
+      first = let size_is : to - from ≡ get_or (lengths_in L) k 0 = omega arith in rw size_is (drop_next (lengths_in L) k 0 h)
 
       cut : cut_into (drop k (lengths_in L)) (drop from cells) ≡ take (to - from) (drop from cells) ∷ cut_into (drop (k + 1) (lengths_in L)) (drop to cells)
       unfolding cut_into
@@ -114,7 +110,6 @@ module _ {R : Room} {source : ℕ} {L : BranchLengths} {cells marks₀ : List �
 
       pub net-next : {marks' : List ℕ} → marks' ≡ marked_by (λ v. branch_clear R v (take (to - from) (drop from cells))) marks → MarkingNet R L cells start marks' to (k + 1)
       net-next {marks'} m = record {
-        within = omega arith;
         fits = omega (arith, I.fits, more);
         cells_left = cells-now.1;
         long = ap length m ∙ with_length_lem 1 _ marks ∙ I.long;
@@ -125,11 +120,10 @@ module _ {R : Room} {source : ℕ} {L : BranchLengths} {cells marks₀ : List �
             ∙ I.left;
       }
 
-    pub net-all : L.count ≤ k → marks ≡ marked_by (λ v. any (branch_clear R v) (branches_of L cells)) start
+    pub net-all : length (lengths_in L) ≤ k → marks ≡ marked_by (λ v. any (branch_clear R v) (branches_of L cells)) start
     unfolding cut_into
     net-all h =
-        let none : drop k (lengths_in L) ≡ [] = (let e : k ≡ L.count = omega (arith, I.within) in rw e (slice_empty L.count L.each)) in
-        sym (with_none 1 _ marks (λ v q. ap (λ l. any (branch_clear R v) (cut_into l (drop from cells))) none)) ∙ I.left
+        sym (with_none 1 _ marks (λ v q. ap (λ l. any (branch_clear R v) (cut_into l (drop from cells))) (drop_of_length-le (lengths_in L) h))) ∙ I.left
 
   pub net-marked : {marks' marks'' : List ℕ} → marks' ≡ marked_by (λ v. near_cell R v source) marks₀ → marks'' ≡ marked_by (λ v. any (branch_clear R v) (branches_of L cells)) marks'
       → marks'' ≡ marked_by (net_clear R source (branches_of L cells)) marks₀
@@ -160,9 +154,8 @@ module _ {R : Room} {sheet marks : List ℕ} (S : SheetReady R sheet marks) wher
     room-here : job.room ≡ R
     room-here = (use_of A).room-is ∙ ap (λ J. J.room) (accepted-contents A) ∙ good-room-is S.net ∙ S.room-is
 
-    fault_here : fault_of job.room job.source (sinks_in job.sinks) ≡ Fault.Good
-    unfolding ends_of
-    fault_here = ap (λ x. x.fault) (sym is ∙ ends-here) ∙ S.net.ends
+    fault_here : fault_of job.room job.source (sinks_in job.sinks) ≡ None
+    fault_here = good-fault S.net A
 
     pub ends-inside : NetInside R e.source e.taps
     unfolding ends_of

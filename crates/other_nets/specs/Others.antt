@@ -1,7 +1,7 @@
 -- What a net of a list keeps off beside its own sheet's lists: "the occupied cells of all nets before it as conductors (so with keepouts), their stairs'
 -- clearances; and of every other job, before or behind it, the protected cells: source terminal, sink terminals and approaches, and the keepouts of all
 -- these". Definitions alone; their laws are in OtherLaws.
-use Rattle.std.specs.Prelude.{◌≡◌, Bool, false, not, ◌&&◌, ◌||◌, List, [], ◌∷◌, ℕ, ◌+◌, eqb}
+use Rattle.std.specs.Prelude.{Bool, false, not, ◌&&◌, ◌||◌, List, [], ◌∷◌, ℕ, ◌+◌, eqb}
 use Rattle.basics.specs.Lists.{any}
 use Rattle.room.specs.declared.Room.{Room}
 use Rattle.room.specs.Room.{volume}

@@ -15,10 +15,8 @@ fn write_lengths(lengths: BranchLengths, out: &mut [u32])
     requires max_sinks_in_bounds { max_sinks ≤ length out.old }
     ensures { out.new ≡ lengths.each ++ drop (length lengths.each) out.old }
 {
-    let mut sink: usize = 0;
-    while sink < job_sheet::MAX_SINKS {
-        out[sink] = lengths.each[sink] as u32;
-        sink += 1;
+    for (sink, length) in lengths.each.iter().enumerate() {
+        out[sink] = *length as u32;
     }
 }
 

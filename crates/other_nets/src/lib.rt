@@ -18,7 +18,8 @@ pub use keeping::keep_net;
 pub use protected::block_others;
 use room::{Room, as_index};
 
-// Marks a cell and its keepout.
+// Marks a cell and its keepout. `outset` does the same for a sheet's conductors: its clause spells out what `near_cell` names
+// here, and one function for both would be no plainer, since each caller's law cites its own.
 pub fn mark_near(room: Room, marks: &mut [u8], cell: usize)
     requires good { Good room }
     requires cell_bound { cell < volume room }
@@ -36,10 +37,8 @@ fn mark_conductors(room: Room, branch: &[u32], marks: &mut [u8])
     requires marks_len { length marks.old ≡ volume room }
     ensures { marks.new ≡ marked_by (λ v. any (near_cell room v) branch.now) marks.old }
 {
-    let mut i: usize = 0;
-    while i < branch.len() {
-        mark_near(room, marks, as_index(branch[i]));
-        i += 1;
+    for cell in branch {
+        mark_near(room, marks, as_index(*cell));
     }
 }
 
@@ -66,13 +65,10 @@ pub fn mark_net(
     ensures { marks.new ≡ marked_by (net_clear room source (branches_of lengths branches.now)) marks.old }
 {
     mark_near(room, marks, source);
-    let count = lengths.count;
     let mut from: usize = 0;
-    let mut k: usize = 0;
-    while k < count {
-        let to = from + lengths.each[k];
+    for length in &lengths.each[..lengths.count] {
+        let to = from + *length;
         mark_branch(room, &branches[from..to], marks);
         from = to;
-        k += 1;
     }
 }

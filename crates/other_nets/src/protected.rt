@@ -31,10 +31,8 @@ fn mark_ends(room: Room, source: usize, taps: Taps, marks: &mut [u8])
     ensures { marks.new ≡ marked_by (protects room source taps) marks.old }
 {
     mark_near(room, marks, source);
-    let mut i: usize = 0;
-    while i < taps.count {
-        mark_tap(room, marks, taps.taps[i]);
-        i += 1;
+    for tap in &taps.taps[..taps.count] {
+        mark_tap(room, marks, *tap);
     }
 }
 
@@ -43,13 +41,12 @@ fn mark_sheet(room: Room, sheet: &[u8], own: bool, marks: &mut [u8])
     requires { SheetReady room sheet.now marks.old }
     ensures { marks.new ≡ marked_by (sheet_protects room own sheet.now) marks.old }
 {
-    if own {
-        return;
+    if !own {
+        let reading = sheet_reader::read_sheet(sheet);
+        let job = reading.job;
+        let ends = ends::realize_ends(job.room, job.source, job.sinks).unwrap();
+        mark_ends(room, ends.source, ends.taps, marks);
     }
-    let reading = sheet_reader::read_sheet(sheet);
-    let job = reading.job;
-    let ends = ends::realize_ends(job.room, job.source, job.sinks);
-    mark_ends(room, ends.source, ends.taps, marks);
 }
 
 // The protected cells of all jobs of a list but one.
@@ -59,6 +56,7 @@ fn mark_jobs(room: Room, list: &[u8], net: usize, marks: &mut [u8])
 {
     let mut place: usize = 0;
     let mut k: usize = 0;
+    // no counting loop: each sheet says itself where it ends
     while place < list.len() {
         let end = place + job_list::sheet_size(&list[place..]);
         mark_sheet(room, &list[place..end], k == net, marks);
@@ -82,10 +80,8 @@ pub fn add_marks(more: &[u8], marks: &mut [u8])
     requires { length more.now ≡ length marks.old }
     ensures { marks.new ≡ marked_by (is_marked more.now) marks.old }
 {
-    let mut i: usize = 0;
-    while i < marks.len() {
-        marks[i] = with_mark(more[i], marks[i]);
-        i += 1;
+    for (i, more) in more.iter().enumerate() {
+        marks[i] = with_mark(*more, marks[i]);
     }
 }
 

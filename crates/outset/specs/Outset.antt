@@ -1,12 +1,11 @@
 -- "Blocked at the outset", as docs/RULES.md, The tree of one net, has it: which cells no branch may enter when the first search starts.
 -- Definitions alone; their laws are in OutsetLaws.
-use Rattle.std.specs.Prelude.{◌≡◌, Bool, true, false, not, ◌&&◌, ◌||◌, List, ℕ, ◌+◌, ◌<◌, eqb, length, get_or}
+use Rattle.std.specs.Prelude.{◌≡◌, Bool, true, false, not, ◌&&◌, ◌||◌, List, ℕ, ◌+◌, ◌<◌, eqb, length, get_or, Option, Some}
 use Rattle.basics.specs.Tests.{either}
 use Rattle.basics.specs.Lists.{any}
 use Rattle.ends.specs.Ends.{taps_in, NetInside}
 use Rattle.room.specs.declared.Room.{Room}
 use Rattle.room.specs.declared.Pos.{Pos}
-use Rattle.room.specs.declared.Neighbour.{Neighbour}
 use Rattle.room.specs.Room.{Good, volume, cell_of, holds_at, beneath}
 use Rattle.room.specs.Units.{air, solid, redstone_torch, repeater, lever, redstone_block, ahead}
 use Rattle.routing_resources.specs.Marks.{marked_by, no_marks, is_cell}
@@ -38,7 +37,7 @@ unfoldable pub solid_of : List ℕ → List ℕ → ℕ → ℕ → Bool
 solid_of kinds nodes node v = eqb (get_or kinds v air) solid && eqb (get_or nodes v 0) (node + 1)
 
 -- "the keepout of a Repeater's output cell (its cell plus its facing; none unless horizontal)"
-abbrev pub output_keepout : Room → List ℕ → List ℕ → ℕ → Neighbour → ℕ → Bool
+abbrev pub output_keepout : Room → List ℕ → List ℕ → ℕ → Option ℕ → ℕ → Bool
 output_keepout R kinds nodes node place v = holds_at (λ output. solid_of kinds nodes node output && in_keepout R output v) place
 
 -- v is in the keepout that a block asks for
@@ -88,9 +87,9 @@ pub record Sized (R : Room) (kinds nodes marks : List ℕ) : Type 0 where
   pub long : length marks ≡ volume R
 
 -- an output cell, where there is one, is in the room
-pub record OutputKnown (R : Room) (kinds nodes : List ℕ) (output : Neighbour) (marks : List ℕ) : Type 0 where
+pub record OutputKnown (R : Room) (kinds nodes : List ℕ) (output : Option ℕ) (marks : List ℕ) : Type 0 where
   pub sized : Sized R kinds nodes marks
-  pub output_in : (v : ℕ) → output ≡ Neighbour.Inside v → v < volume R
+  pub output_in : (v : ℕ) → output ≡ Some v → v < volume R
 
 -- an accepted sheet, the room's blocks, a net whose ends are in the room, and cleared marks
 pub record OutsetReady (sheet : List ℕ) (job : Job) (source : ℕ) (k : Taps) (kinds nodes marks : List ℕ) : Type 0 where

@@ -1,11 +1,10 @@
 -- Laws of the outset: how the loops over the sheet's lists and the net's ends mark, and what the functions ask of their parameters.
-use Rattle.std.specs.Prelude.{◌≡◌, refl, Bool, true, false, not, ◌&&◌, ◌||◌, List, ℕ, ◌<◌, eqb, length, get_or}
+use Rattle.std.specs.Prelude.{◌≡◌, refl, Bool, true, false, not, ◌&&◌, ◌||◌, List, ℕ, ◌<◌, eqb, length, get_or, Option, Some, None}
 use Rattle.std.proofs.Math.Path.{sym}
 use Rattle.std.proofs.Common.{ap, ◌∙◌}
 use Rattle.basics.specs.Lists.{any}
 use Rattle.room.specs.declared.Room.{Room}
 use Rattle.room.specs.declared.Pos.{Pos}
-use Rattle.room.specs.declared.Neighbour.{Neighbour}
 use Rattle.room.specs.Room.{Within, volume, cell_of, beneath}
 use Rattle.room.specs.RoomLaws.{cell_in}
 use Rattle.room.specs.Units.{repeater, ahead}
@@ -39,16 +38,16 @@ module _ {sheet : List ℕ} {R : Room} {p : Part} {marks : List ℕ} (L : Positi
 -- ---- the keepout that a block asks for
 
 module _ (R : Room) (kinds nodes marks : List ℕ) where
-  module _ (node : ℕ) {output : Neighbour} where
-    pub output_solid : {cell : ℕ} {marks' : List ℕ} → output ≡ Neighbour.Inside cell → solid_of kinds nodes node cell ≡ true → marks' ≡ marked_by (in_keepout R cell) marks
+  module _ (node : ℕ) {output : Option ℕ} where
+    pub output_solid : {cell : ℕ} {marks' : List ℕ} → output ≡ Some cell → solid_of kinds nodes node cell ≡ true → marks' ≡ marked_by (in_keepout R cell) marks
         → marks' ≡ marked_by (output_keepout R kinds nodes node output) marks
     output_solid e s m = m ∙ with_same 1 _ _ marks (λ v h. rw (e, s) refl)
 
-    pub output_other : {cell : ℕ} → output ≡ Neighbour.Inside cell → solid_of kinds nodes node cell ≡ false
+    pub output_other : {cell : ℕ} → output ≡ Some cell → solid_of kinds nodes node cell ≡ false
         → marks ≡ marked_by (output_keepout R kinds nodes node output) marks
     output_other e s = sym (with_none 1 _ marks (λ v h. rw (e, s) refl))
 
-    pub output_none : output ≡ Neighbour.Outside → marks ≡ marked_by (output_keepout R kinds nodes node output) marks
+    pub output_none : output ≡ None → marks ≡ marked_by (output_keepout R kinds nodes node output) marks
     output_none e = sym (with_none 1 _ marks (λ v h. rw e refl))
 
   module _ (b : Block) where
@@ -58,7 +57,7 @@ module _ (R : Room) (kinds nodes marks : List ℕ) where
     block-powers e p m = m ∙ with_same 1 _ _ marks (λ v h. rw (e, p) refl)
 
     module _ (n : powers b.kind ≡ false) where
-      pub block_output : {cell : ℕ} {marks' : List ℕ} → cell ≡ cell_of R b.at → eqb b.kind repeater ≡ true → {output : Neighbour} → output ≡ ahead R cell b.facing
+      pub block_output : {cell : ℕ} {marks' : List ℕ} → cell ≡ cell_of R b.at → eqb b.kind repeater ≡ true → {output : Option ℕ} → output ≡ ahead R cell b.facing
           → marks' ≡ marked_by (output_keepout R kinds nodes b.node output) marks
           → marks' ≡ marked_by (λ v. block_keepout R kinds nodes v b) marks
       unfolding block_keepout
@@ -71,7 +70,7 @@ module _ (R : Room) (kinds nodes marks : List ℕ) where
 -- ---- what is taken out
 
 module _ (R : Room) (marks : List ℕ) {marks' marks'' : List ℕ} where
-  pub out-cell : (cell : ℕ) {under : Neighbour} → under ≡ beneath R cell → marks' ≡ unmarked_by (eqb cell) marks → marks'' ≡ with_byte 0 (is_cell under) marks'
+  pub out-cell : (cell : ℕ) {under : Option ℕ} → under ≡ beneath R cell → marks' ≡ unmarked_by (eqb cell) marks → marks'' ≡ with_byte 0 (is_cell under) marks'
       → marks'' ≡ unmarked_by (λ v. at_or_beneath R v cell) marks
   unfolding at_or_beneath
   out-cell cell e m n = n ∙ rw (e, m) (with_or 0 (eqb cell) (is_cell (beneath R cell)) marks)

@@ -11,19 +11,59 @@ ghost use Rattle.routing_resources.specs.Marks.{marked_by, unmarked_by};
 ghost use Rattle.job_sheet.specs.Accepted.{BlockList};
 ghost use Rattle.job_sheet.specs.Places.{positions_in, blocks_in};
 ghost use Rattle.outset.specs.Outset.{stands_at, near_conductor, powers, solid_of, output_keepout, block_keepout, at_or_beneath, tap_cell, own_cell, PositionsListed, Sized, OutputKnown, OutsetReady, OutsetMarked};
+ghost use Rattle.outset.specs.declared.Refusal.{Refusal};
+ghost use Rattle.outset.specs.SetOut.{refusal_number, refusal_detail};
 ghost use Rattle.ends.specs.Ends.{NetInside};
 
-use blocks::Placement;
-use ends::{Ends, Tap, Taps};
+use blocks::Overlap;
+use ends::{Fault, Tap, Taps};
 use job_sheet::{Block, Job, Part};
-use room::{Neighbour, Room};
-pub use setting_out::{detail_by, number_by, ready_by, set_out};
+use room::Room;
+pub use setting_out::set_out;
 
-// What setting a tree out comes to: whether each block has a cell of its own, and the net's ends.
+// Why no tree is set out: number 7, or number 8 or 9 of one of its ends.
 #[derive(Clone, Copy)]
-pub struct Outset {
-    pub placement: Placement,
-    pub ends: Ends,
+pub enum Refusal {
+    Blocks(Overlap),
+    End(Fault),
+}
+
+impl Refusal {
+    // The number that is due.
+    pub fn number(self) -> u32
+        ensures { result ≡ refusal_number self }
+    {
+        match self {
+            Refusal::Blocks(_) => numbers::OVERLAP_NUMBER,
+            Refusal::End(fault) => fault.number(),
+        }
+    }
+
+    // Its detail: the cell of a repeat, or "0 source, k-th sink k".
+    pub fn detail(self) -> usize
+        ensures { result ≡ refusal_detail self }
+    {
+        match self {
+            Refusal::Blocks(overlap) => overlap.cell,
+            Refusal::End(fault) => fault.place,
+        }
+    }
+}
+
+impl From<Overlap> for Refusal {
+    ghost from_gives = { λ overlap refusal. refusal ≡ Refusal.Blocks overlap };
+
+    fn from(overlap: Overlap) -> Refusal {
+        Refusal::Blocks(overlap)
+    }
+}
+
+impl From<Fault> for Refusal {
+    ghost from_gives = { λ fault refusal. refusal ≡ Refusal.End fault };
+
+    fn from(fault: Fault) -> Refusal {
+        Refusal::End(fault)
+    }
 }
 
 // Marks the cells of a list of positions.
@@ -31,11 +71,9 @@ pub fn mark_positions(sheet: &[u8], part: Part, room: Room, marks: &mut [u8])
     requires { PositionsListed sheet.now room part marks.old }
     ensures { marks.new ≡ marked_by (λ v. any (stands_at room v) (positions_in sheet.now part)) marks.old }
 {
-    let mut i: usize = 0;
-    while i < part.count {
+    for i in 0..part.count {
         let at = job_sheet::position_at(sheet, part, i);
         routing_resources::mark(marks, room.cell(at));
-        i += 1;
     }
 }
 
@@ -55,36 +93,30 @@ fn mark_conductors(sheet: &[u8], part: Part, room: Room, marks: &mut [u8])
     requires { PositionsListed sheet.now room part marks.old }
     ensures { marks.new ≡ marked_by (λ v. any (near_conductor room v) (positions_in sheet.now part)) marks.old }
 {
-    let mut i: usize = 0;
-    while i < part.count {
+    for i in 0..part.count {
         let at = job_sheet::position_at(sheet, part, i);
         mark_conductor(room, marks, room.cell(at));
-        i += 1;
     }
 }
 
 // RedstoneTorch, RedstoneBlock and Lever.
+#[tactic(auto, unfolding(crate::specs::Outset::powers))]
 fn powers(kind: u8) -> bool
     ensures { result ≡ powers kind }
 {
-    if kind == room::REDSTONE_TORCH {
-        return true;
-    }
-    if kind == room::REDSTONE_BLOCK {
-        return true;
-    }
-    kind == room::LEVER
+    matches!(
+        kind,
+        room::REDSTONE_TORCH | room::REDSTONE_BLOCK | room::LEVER
+    )
 }
 
 // Whether a cell holds a Solid block of that node.
+#[tactic(auto, unfolding(crate::specs::Outset::solid_of))]
 fn solid_of(kinds: &[u8], nodes: &[u32], node: u16, cell: usize) -> bool
     requires { (cell < length kinds.now) × (cell < length nodes.now) }
     ensures { result ≡ solid_of kinds.now nodes.now node cell }
 {
-    if kinds[cell] != room::SOLID {
-        return false;
-    }
-    nodes[cell] == node as u32 + 1
+    kinds[cell] == room::SOLID && nodes[cell] == node as u32 + 1
 }
 
 // Marks the keepout of a Repeater's output cell, where that is a Solid block of the same node.
@@ -93,13 +125,13 @@ fn output_keepout(
     kinds: &[u8],
     nodes: &[u32],
     node: u16,
-    output: Neighbour,
+    output: Option<usize>,
     marks: &mut [u8],
 )
     requires { OutputKnown room kinds.now nodes.now output marks.old }
     ensures { marks.new ≡ marked_by (output_keepout room kinds.now nodes.now node output) marks.old }
 {
-    if let Neighbour::Inside(cell) = output {
+    if let Some(cell) = output {
         if solid_of(kinds, nodes, node, cell) {
             routing_resources::electrical_keepout_for_wire(room, marks, cell);
         }
@@ -142,11 +174,9 @@ pub fn cell_source_keepout(
     requires block_list { BlockList sheet.now room part (blocks_in sheet.now part) }
     ensures { marks.new ≡ marked_by (λ v. any (block_keepout room kinds.now nodes.now v) (blocks_in sheet.now part)) marks.old }
 {
-    let mut i: usize = 0;
-    while i < part.count {
+    for i in 0..part.count {
         let block = job_sheet::block_at(sheet, part, i);
         block_keepout(room, block, kinds, nodes, marks);
-        i += 1;
     }
 }
 
@@ -179,10 +209,8 @@ pub fn take_out_ends(room: Room, source: usize, taps: Taps, marks: &mut [u8])
     ensures { marks.new ≡ unmarked_by (own_cell room source taps) marks.old }
 {
     take_out(room, marks, source);
-    let mut i: usize = 0;
-    while i < taps.count {
+    for i in 0..taps.count {
         take_out_tap(room, marks, taps.taps[i]);
-        i += 1;
     }
 }
 

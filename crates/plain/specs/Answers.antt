@@ -1,6 +1,6 @@
 -- What `plain_route` answers, and what every lent buffer then holds, as docs/MORE-RULES.md, The plain engine, has it. Each input determines all of it
 -- but which of the cheapest paths is answered.
-use Rattle.std.specs.Prelude.{◌≡◌, List, [], ℕ, length}
+use Rattle.std.specs.Prelude.{◌≡◌, List, [], ℕ, length, Ok, Err, Result}
 use Rattle.numbers.specs.Refusals.{done_number, not_routeable_number, no_route_number}
 use Rattle.lent.specs.Lent.{output_after, work_after}
 use Rattle.room.specs.declared.Room.{Room}
@@ -11,14 +11,11 @@ use Rattle.best_first.specs.Ways.{NoWay}
 use Rattle.best_first.specs.Statements.{Lawful, Cheapest}
 use Rattle.sweeps.specs.Sweeps.{ReachedCount}
 use Rattle.room_search.specs.Routing.{graph}
-use Rattle.routing.specs.declared.EndsFit.{EndsFit}
-use Rattle.routing.specs.declared.EndsFit.TheVariants.{Good as EndsGood, Bad as EndsBad}
-use Rattle.routing.specs.declared.Judgement.{Judgement}
-use Rattle.routing.specs.declared.Judgement.TheVariants.{Fit, Unfit}
-use Rattle.routing.specs.Answers.{Input, input, task_of, judged, refusal_number}
-use Rattle.routing.specs.Entry.{ends_fit}
-use Rattle.plain.specs.declared.PlainAnswer.{PlainAnswer}
-use Rattle.plain.specs.declared.PlainAnswer.TheVariants.{Routed, Refused, NotRouteable, NoRoute}
+use Rattle.routing.specs.Answers.{Input, input, task_of, judged, refusal_number, Judgement}
+use Rattle.routing.specs.Entry.{ends_fit, EndsFit}
+use Rattle.plain.specs.declared.PlainRoute.{PlainRoute}
+use Rattle.plain.specs.declared.PlainUnrouted.{PlainUnrouted}
+use Rattle.plain.specs.declared.PlainUnrouted.TheVariants.{Refused, NotRouteable, NoRoute}
 
 -- three costs, and a node limit that 3 is never due for
 abbrev pub costs_alone : Cost → Cost → Cost → RouterConfig
@@ -34,38 +31,40 @@ input_of R horizontal stair support kinds start goal path known previous classes
     input R (costs_alone horizontal stair support) kinds start goal
     (record { path = length path; known = length known; previous = length previous; classes = length classes; queue = unused_queue })
 
+-- a route, or why there is none
+abbrev pub PlainAnswer : Type 0
+PlainAnswer = Result PlainRoute PlainUnrouted
+
 -- what the sweeps may answer, at any costs. A route: a way to the goal that adds up to its cost, and none is cheaper. "No route": no way leads to the
 -- goal, and as many cells as are told have a way to them
 abbrev pub Found : Graph → PlainAnswer → List ℕ → Type 0
-Found G (Routed r) cells = (length cells ≡ r.length) × Lawful G cells r.cost.0 × Cheapest G r.cost.0
-Found G (NoRoute n) cells = (cells ≡ []) × NoWay G × ReachedCount G n.0
-Found G (Refused why) cells = ⊥
-Found G (NotRouteable cell) cells = ⊥
+Found G (Ok r) cells = (length cells ≡ r.length) × Lawful G cells r.cost.0 × Cheapest G r.cost.0
+Found G (Err (NoRoute n)) cells = (cells ≡ []) × NoWay G × ReachedCount G n.0
+Found G (Err (Refused why)) cells = ⊥
+Found G (Err (NotRouteable cell)) cells = ⊥
 
 -- "Refusals: 2, 3, 6, 5, 4, 10, 11"
 abbrev pub Answered : Judgement → EndsFit → Graph → PlainAnswer → List ℕ → Type 0
-Answered (Unfit why) ends G r cells = (r ≡ Refused why) × (cells ≡ [])
-Answered Fit (EndsBad cell) G r cells = (r ≡ NotRouteable cell) × (cells ≡ [])
-Answered Fit EndsGood G r cells = Found G r cells
+Answered (Err why) ends G r cells = (r ≡ Err (Refused why)) × (cells ≡ [])
+Answered (Ok _) (Err cell) G r cells = (r ≡ Err (NotRouteable cell)) × (cells ≡ [])
+Answered (Ok _) (Ok _) G r cells = Found G r cells
 
 -- the number of each answer, 0 for a route, its detail, and a route's cost
 abbrev pub number_of : PlainAnswer → ℕ
-number_of (Routed r) = done_number
-number_of (Refused why) = refusal_number why
-number_of (NotRouteable cell) = not_routeable_number
-number_of (NoRoute n) = no_route_number
+number_of (Ok r) = done_number
+number_of (Err (Refused why)) = refusal_number why
+number_of (Err (NotRouteable cell)) = not_routeable_number
+number_of (Err (NoRoute n)) = no_route_number
 
 abbrev pub detail_of : PlainAnswer → ℕ
-detail_of (Routed r) = 0
-detail_of (Refused why) = 0
-detail_of (NotRouteable cell) = cell
-detail_of (NoRoute n) = n.0
+detail_of (Ok r) = 0
+detail_of (Err (Refused why)) = 0
+detail_of (Err (NotRouteable cell)) = cell
+detail_of (Err (NoRoute n)) = n.0
 
 abbrev pub route_cost : PlainAnswer → ℕ
-route_cost (Routed r) = r.cost.0
-route_cost (Refused why) = 0
-route_cost (NotRouteable cell) = 0
-route_cost (NoRoute n) = 0
+route_cost (Ok r) = r.cost.0
+route_cost (Err e) = 0
 
 -- the promise of `plain_route`. `cells` are the path of its route, none where there is no route: the one thing that the input leaves open is which
 -- cheapest path that is

@@ -8,7 +8,7 @@ use Rattle.sweeps.specs.Sweeps.{ReachedCount, Grounded, AtRest}
 use Rattle.room_search.specs.Routing.{Task, places_in, graph}
 use Rattle.routing.specs.Answers.{task_in}
 use Rattle.plain.specs.declared.Errand.{Errand}
-use Rattle.plain.specs.declared.PlainAnswer.{PlainAnswer}
+use Rattle.plain.specs.Answers.{PlainAnswer}
 use Rattle.plain.specs.Answers.{unused_queue, Found}
 
 -- the errand over a room of kinds

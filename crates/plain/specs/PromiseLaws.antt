@@ -1,5 +1,5 @@
 -- The promise of the plain engine, by its cases; and what it determines: everything but which of the cheapest paths is answered.
-use Rattle.std.specs.Prelude.{◌≡◌, refl, ◌≢◌, List, [], ◌++◌, ℕ, ◌-◌, pred, ltb, length, get_or, drop, take, replicate}
+use Rattle.std.specs.Prelude.{◌≡◌, refl, ◌≢◌, List, [], ◌++◌, ℕ, ◌-◌, pred, ltb, length, get_or, drop, take, replicate, Ok, Err}
 use Rattle.std.proofs.Common.{sym, ap, ◌∙◌, arith, length-take-le}
 use Rattle.std.proofs.Math.Nat.{sub-zero}
 use Rattle.basics.specs.Counts.{times}
@@ -16,16 +16,12 @@ use Rattle.room.specs.Units.{dearest}
 use Rattle.room_search.specs.Classes.{Plain, with_end}
 use Rattle.room_search.specs.SameGraphLaws.{ends-graph}
 use Rattle.routing.specs.declared.Refusal.{Refusal}
-use Rattle.routing.specs.declared.EndsFit.{EndsFit}
-use Rattle.routing.specs.declared.EndsFit.TheVariants.{Good as EndsGood, Bad as EndsBad}
-use Rattle.routing.specs.declared.Judgement.{Judgement}
-use Rattle.routing.specs.declared.Judgement.TheVariants.{Fit, Unfit}
-use Rattle.routing.specs.Answers.{Input, task_of, judged}
-use Rattle.routing.specs.Entry.{ends_fit}
+use Rattle.routing.specs.Answers.{Input, task_of, judged, Judgement}
+use Rattle.routing.specs.Entry.{ends_fit, EndsFit}
 use Rattle.routing.specs.PromiseLaws.{admitted, untouched}
 use Rattle.plain.specs.declared.Errand.{Errand}
-use Rattle.plain.specs.declared.PlainAnswer.{PlainAnswer}
-use Rattle.plain.specs.declared.PlainAnswer.TheVariants.{Routed, Refused, NotRouteable, NoRoute}
+use Rattle.plain.specs.Answers.{PlainAnswer}
+use Rattle.plain.specs.declared.PlainUnrouted.TheVariants.{Refused, NotRouteable, NoRoute}
 use Rattle.plain.specs.Sweeping.{Settled}
 use Rattle.plain.specs.Answers.{costs_alone, input_of, Found, Answered, number_of, detail_of, route_cost, Promise}
 use Rattle.plain.specs.Entry.{task_on, RoomReady, RoomSettled, RestShown, Admits, Fitted}
@@ -75,7 +71,7 @@ fitted {E} {kinds} S T e a b c = record {
 -- ---- what costs at rest answer
 
 module _ {goal : ℕ} {known previous path : List ℕ} (z : path ≡ replicate (length path) 0) where
-  pub told_none : get_or known goal 0 ≡ 0 → (n : ℕ) → n ≡ times (ltb 0) known → RestShown goal known previous path (NoRoute (record { 0 = n })) path
+  pub told_none : get_or known goal 0 ≡ 0 → (n : ℕ) → n ≡ times (ltb 0) known → RestShown goal known previous path (Err (NoRoute (record { 0 = n }))) path
   told_none e n q = record {
     cells = [];
     path-is = rw sub-zero z;
@@ -84,7 +80,7 @@ module _ {goal : ℕ} {known previous path : List ℕ} (z : path ≡ replicate (
 
   pub told-route : get_or known goal 0 ≢ 0 → (n c : ℕ) {path' : List ℕ} → n ≡ length (trace (length previous) previous goal []) → c ≡ get_or known goal 0 - 1
       → path' ≡ trace (length previous) previous goal [] ++ drop n path
-      → RestShown goal known previous path (Routed (record { length = n; cost = record { 0 = c } })) path'
+      → RestShown goal known previous path (Ok (record { length = n; cost = record { 0 = c } })) path'
   told-route p n c q w e = record {
     cells = trace (length previous) previous goal [];
     path-is = e ∙ ap (λ l. trace (length previous) previous goal [] ++ l) (ap (drop n) z ∙ drop_zeros n (length path) ∙ ap (λ k. replicate (length path - k) 0) q);
@@ -103,7 +99,7 @@ module _ (R : Room) (horizontal stair support : Cost) (kinds : List ℕ) (start 
   E = record { room = R; config = costs_alone horizontal stair support; start = start; goal = goal }
 
   -- refused before anything is touched
-  pub promise_unfit : (why : Refusal) → judged I ≡ Unfit why → Promise I path known previous classes (Refused why) path known previous classes
+  pub promise_unfit : (why : Refusal) → judged I ≡ Err why → Promise I path known previous classes (Err (Refused why)) path known previous classes
   promise_unfit why e = record {
     cells = [];
     answer = rw e (refl, refl);
@@ -113,7 +109,7 @@ module _ (R : Room) (horizontal stair support : Cost) (kinds : List ℕ) (start 
     classes-is = rw (untouched why);
   }
 
-  module _ (fit : judged I ≡ Fit) where
+  module _ (fit : judged I ≡ Ok tt) where
     pub admits : Admits E kinds path known previous classes
     admits =
         let p = admitted {R = R} {C = costs_alone horizontal stair support} {kinds = kinds} {start = start} {goal = goal} {L = I.lengths} fit in
@@ -126,8 +122,8 @@ module _ (R : Room) (horizontal stair support : Cost) (kinds : List ℕ) (start 
         }
 
     -- number 10
-    pub promise_end : (cell : ℕ) {path' known' previous' classes' : List ℕ} → EndsBad cell ≡ ends_fit kinds start goal → Cleared path path' → Cleared known known'
-        → Cleared previous previous' → Cleared classes classes' → Promise I path known previous classes (NotRouteable cell) path' known' previous' classes'
+    pub promise_end : (cell : ℕ) {path' known' previous' classes' : List ℕ} → Err cell ≡ ends_fit kinds start goal → Cleared path path' → Cleared known known'
+        → Cleared previous previous' → Cleared classes classes' → Promise I path known previous classes (Err (NotRouteable cell)) path' known' previous' classes'
     promise_end cell e a b c d = record {
       cells = [];
       answer = rw (fit, ← e) (refl, refl);
@@ -138,55 +134,55 @@ module _ (R : Room) (horizontal stair support : Cost) (kinds : List ℕ) (start 
     }
 
     -- the sweeps
-    pub promise_found : (r : PlainAnswer) {path' known' previous' classes' : List ℕ} → EndsGood ≡ ends_fit kinds start goal
+    pub promise_found : (r : PlainAnswer) {path' known' previous' classes' : List ℕ} → Ok tt ≡ ends_fit kinds start goal
         → Fitted E kinds path known previous classes r path' known' previous' classes' → Promise I path known previous classes r path' known' previous' classes'
     promise_found r {path'} {known'} {previous'} {classes'} e F = go r F.found
       where
         go : (r : PlainAnswer) → Found (graph (task_on E kinds)) r F.cells → Promise I path known previous classes r path' known' previous' classes'
-        go (Refused why) f = absurd f
-        go (NotRouteable cell) f = absurd f
-        go (Routed q) f = record { cells = F.cells; answer = rw (fit, ← e) f; path-is = F.path-is; known_is = F.known_is; previous-is = F.previous-is; classes-is = F.classes-is }
-        go (NoRoute n) f = record { cells = F.cells; answer = rw (fit, ← e) f; path-is = F.path-is; known_is = F.known_is; previous-is = F.previous-is; classes-is = F.classes-is }
+        go (Err (Refused why)) f = absurd f
+        go (Err (NotRouteable cell)) f = absurd f
+        go (Ok q) f = record { cells = F.cells; answer = rw (fit, ← e) f; path-is = F.path-is; known_is = F.known_is; previous-is = F.previous-is; classes-is = F.classes-is }
+        go (Err (NoRoute n)) f = record { cells = F.cells; answer = rw (fit, ← e) f; path-is = F.path-is; known_is = F.known_is; previous-is = F.previous-is; classes-is = F.classes-is }
 
 -- ---- what the promise determines
 
 -- two routes that are both cheapest cost the same, and a route and "no route" exclude each other
 module _ (G : Graph) where
   found-same : (r s : PlainAnswer) (k l : List ℕ) → Found G r k → Found G s l → (number_of r ≡ number_of s) × (detail_of r ≡ detail_of s) × (route_cost r ≡ route_cost s)
-  found-same (Refused why) s k l f g = absurd f
-  found-same (NotRouteable cell) s k l f g = absurd f
-  found-same (Routed q) (Refused why) k l f g = absurd g
-  found-same (Routed q) (NotRouteable cell) k l f g = absurd g
-  found-same (NoRoute n) (Refused why) k l f g = absurd g
-  found-same (NoRoute n) (NotRouteable cell) k l f g = absurd g
-  found-same (Routed q) (NoRoute n) k l f g = absurd (g.1 f.1.rest q.cost.0 f.1.way)
-  found-same (NoRoute n) (Routed q) k l f g = absurd (f.1 g.1.rest q.cost.0 g.1.way)
-  found-same (Routed q) (Routed p) k l f g =
+  found-same (Err (Refused why)) s k l f g = absurd f
+  found-same (Err (NotRouteable cell)) s k l f g = absurd f
+  found-same (Ok q) (Err (Refused why)) k l f g = absurd g
+  found-same (Ok q) (Err (NotRouteable cell)) k l f g = absurd g
+  found-same (Err (NoRoute n)) (Err (Refused why)) k l f g = absurd g
+  found-same (Err (NoRoute n)) (Err (NotRouteable cell)) k l f g = absurd g
+  found-same (Ok q) (Err (NoRoute n)) k l f g = absurd (g.1 f.1.rest q.cost.0 f.1.way)
+  found-same (Err (NoRoute n)) (Ok q) k l f g = absurd (f.1 g.1.rest q.cost.0 g.1.way)
+  found-same (Ok q) (Ok p) k l f g =
       (refl, refl, omega (arith, f.2 g.1.rest p.cost.0 g.1.way, g.2 f.1.rest q.cost.0 f.1.way))
-  found-same (NoRoute n) (NoRoute m) k l f g = (refl, count-one f.2 g.2, refl)
+  found-same (Err (NoRoute n)) (Err (NoRoute m)) k l f g = (refl, count-one f.2 g.2, refl)
 
   -- without a route the answer is the same
   found_none : (r s : PlainAnswer) (k l : List ℕ) → number_of r ≢ 0 → Found G r k → Found G s l → (r ≡ s) × (k ≡ l)
-  found_none (Refused why) s k l d f g = absurd f
-  found_none (NotRouteable cell) s k l d f g = absurd f
-  found_none (Routed q) s k l d f g = absurd (d refl)
-  found_none (NoRoute n) (Refused why) k l d f g = absurd g
-  found_none (NoRoute n) (NotRouteable cell) k l d f g = absurd g
-  found_none (NoRoute n) (Routed q) k l d f g = absurd (f.1 g.1.rest q.cost.0 g.1.way)
-  found_none (NoRoute n) (NoRoute m) k l d f g =
+  found_none (Err (Refused why)) s k l d f g = absurd f
+  found_none (Err (NotRouteable cell)) s k l d f g = absurd f
+  found_none (Ok q) s k l d f g = absurd (d refl)
+  found_none (Err (NoRoute n)) (Err (Refused why)) k l d f g = absurd g
+  found_none (Err (NoRoute n)) (Err (NotRouteable cell)) k l d f g = absurd g
+  found_none (Err (NoRoute n)) (Ok q) k l d f g = absurd (f.1 g.1.rest q.cost.0 g.1.way)
+  found_none (Err (NoRoute n)) (Err (NoRoute m)) k l d f g =
       let e : n.0 ≡ m.0 = count-one f.2 g.2 in
-      (λ i. NoRoute (record { 0 = e i }), f.0 ∙ sym g.0)
+      (λ i. Err (NoRoute (record { 0 = e i })), f.0 ∙ sym g.0)
 
   answered-same : (j : Judgement) (e : EndsFit) (r s : PlainAnswer) (k l : List ℕ) → Answered j e G r k → Answered j e G s l
       → (number_of r ≡ number_of s) × (detail_of r ≡ detail_of s) × (route_cost r ≡ route_cost s)
-  answered-same (Unfit why) e r s k l f g = let q : r ≡ s = f.0 ∙ sym g.0 in (ap number_of q, ap detail_of q, ap route_cost q)
-  answered-same Fit (EndsBad cell) r s k l f g = let q : r ≡ s = f.0 ∙ sym g.0 in (ap number_of q, ap detail_of q, ap route_cost q)
-  answered-same Fit EndsGood r s k l f g = found-same r s k l f g
+  answered-same (Err why) e r s k l f g = let q : r ≡ s = f.0 ∙ sym g.0 in (ap number_of q, ap detail_of q, ap route_cost q)
+  answered-same (Ok _) (Err cell) r s k l f g = let q : r ≡ s = f.0 ∙ sym g.0 in (ap number_of q, ap detail_of q, ap route_cost q)
+  answered-same (Ok _) (Ok _) r s k l f g = found-same r s k l f g
 
   answered-none : (j : Judgement) (e : EndsFit) (r s : PlainAnswer) (k l : List ℕ) → number_of r ≢ 0 → Answered j e G r k → Answered j e G s l → (r ≡ s) × (k ≡ l)
-  answered-none (Unfit why) e r s k l d f g = (f.0 ∙ sym g.0, f.1 ∙ sym g.1)
-  answered-none Fit (EndsBad cell) r s k l d f g = (f.0 ∙ sym g.0, f.1 ∙ sym g.1)
-  answered-none Fit EndsGood r s k l d f g = found_none r s k l d f g
+  answered-none (Err why) e r s k l d f g = (f.0 ∙ sym g.0, f.1 ∙ sym g.1)
+  answered-none (Ok _) (Err cell) r s k l d f g = (f.0 ∙ sym g.0, f.1 ∙ sym g.1)
+  answered-none (Ok _) (Ok _) r s k l d f g = found_none r s k l d f g
 
 pub record Result : Type 0 where
   pub answer : PlainAnswer

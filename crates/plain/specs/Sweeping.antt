@@ -1,8 +1,7 @@
 -- What the contracts of the sweeps over a room cite.
-use Rattle.std.specs.Prelude.{◌≡◌, Bool, true, false, List, ℕ, suc, ◌≤◌, ◌<◌, length, get_or, set}
+use Rattle.std.specs.Prelude.{◌≡◌, Bool, true, false, List, ℕ, suc, ◌≤◌, ◌<◌, length, get_or, set, Some}
 use Rattle.basics.specs.Lists.{In}
 use Rattle.room.specs.declared.Move.{Move}
-use Rattle.room.specs.declared.Neighbour.TheVariants.{Inside}
 use Rattle.room.specs.Room.{Good, volume, neighbour}
 use Rattle.room.specs.Units.{dearest, GoodConfig}
 use Rattle.best_first.specs.Search
@@ -39,7 +38,7 @@ pub record Sweeping (E : Errand) (classes known previous : List ℕ) : Type 0 wh
 -- where the move m leads from u to a cell that can be entered, it offers that no lower cost
 abbrev pub LooseMove : Errand → List ℕ → List ℕ → ℕ → Move → Type 0
 LooseMove E classes known u m =
-    (v : ℕ) → neighbour E.room u m ≡ Inside v → (get_or classes v 0 ≡ 0 → ⊥)
+    (v : ℕ) → neighbour E.room u m ≡ Some v → (get_or classes v 0 ≡ 0 → ⊥)
     → Loose known u (record { to = v; cost = total (price_of E.config m (get_or classes v 0)) })
 
 -- one move of u

@@ -1,6 +1,6 @@
 -- The sweeps over a room, as the code meets them: one move, the twelve moves of a cell, the cells one after another, sweep after sweep.
-use Rattle.std.specs.Prelude.{◌≡◌, refl, ◌⊎◌, ◌≢◌, Bool, true, false, ℕ, suc, ◌+◌, ◌*◌, ◌≤◌, ◌<◌, eqb, ltb, length, set, drop, replicate}
-use Rattle.std.proofs.Common.{sym, ◌∙◌, inl, inr, mul-le-mul, add-zero, add-one, arith, drop_of_length-le, get_or-set_same}
+use Rattle.std.specs.Prelude.{◌≡◌, refl, ◌⊎◌, ◌≢◌, Bool, true, false, ℕ, suc, ◌+◌, ◌*◌, ◌≤◌, ◌<◌, eqb, ltb, length, set, drop, replicate, Option, Some, None, ◌||◌}
+use Rattle.std.proofs.Common.{sym, ◌∙◌, inl, inr, add-zero, add-one, arith, drop_of_length-le, get_or-set_same}
 use Rattle.std.proofs.Math.Path.{ap}
 use mathlib.Core.List.{List, [], ◌∷◌, ◌++◌}
 use Rattle.std.proofs.Math.ListN.{get_or}
@@ -11,9 +11,7 @@ use Rattle.basics.specs.Counts.{times, times-most, bit}
 use Rattle.room.specs.declared.Room.{Room}
 use Rattle.room.specs.declared.Move.{Move}
 use Rattle.room.specs.declared.RouterConfig.{RouterConfig}
-use Rattle.room.specs.declared.Neighbour.{Neighbour}
-use Rattle.room.specs.declared.Neighbour.TheVariants.{Inside, Outside}
-use Rattle.room.specs.Room.{max_volume, by, volume, moves, move_at, neighbour}
+use Rattle.room.specs.Room.{by, volume, moves, move_at, neighbour}
 use Rattle.room.specs.Units.{max_product, dearest}
 use Rattle.room.specs.MoveLaws.{leads}
 use Rattle.best_first.specs.Search
@@ -33,7 +31,7 @@ use Rattle.plain.specs.Sweeping.{errand_graph, Lowered, no_dearer, lowers, Erran
 
 -- ---- a move that leads to a cell that can be entered is one of the graph's
 
-module _ (R : Room) (C : RouterConfig) (class : ℕ → ℕ) (u : ℕ) (m : Move) (v : ℕ) (leads_in : neighbour R u m ≡ Inside v) (can_enter_lem : class v ≡ 0 → ⊥) where
+module _ (R : Room) (C : RouterConfig) (class : ℕ → ℕ) (u : ℕ) (m : Move) (v : ℕ) (leads_in : neighbour R u m ≡ Some v) (can_enter_lem : class v ≡ 0 → ⊥) where
   abbrev g : Search.Move
   g = record { to = v; cost = total (price_of C m (class v)) }
 
@@ -43,9 +41,9 @@ module _ (R : Room) (C : RouterConfig) (class : ℕ → ℕ) (u : ℕ) (m : Move
   makes (k ∷ ms) (inl e) = rw (sym e, leads_in, ne_eqb (class v) 0 can_enter_lem) (inl refl)
   makes (k ∷ ms) (inr i) = past (neighbour R u k) (makes ms i)
     where
-      past : (w : Neighbour) → In g (moves_by R C class u ms) → In g (move_into C class k w ++ moves_by R C class u ms)
-      past Outside j = j
-      past (Inside t) j = ask (eqb (class t) 0) (λ z. rw z j) (λ z. rw z (inr j))
+      past : (w : Option ℕ) → In g (moves_by R C class u ms) → In g (move_into C class k w ++ moves_by R C class u ms)
+      past None j = j
+      past (Some t) j = ask (eqb (class t) 0) (λ z. rw z j) (λ z. rw z (inr j))
 
 -- ---- what a move costs
 
@@ -106,14 +104,14 @@ module _ {E : Errand} {classes known previous : List ℕ} (S : Sweeping E classe
   pub from_in : u < volume E.room
   from_in = omega (arith, in_reach known u (omega (arith, is_c)), (fit-long S.fit S.kept).0)
 
-  pub move-out : neighbour E.room u m ≡ Outside → MoveSwept E classes u m known false known previous
+  pub move-out : neighbour E.room u m ≡ None → MoveSwept E classes u m known false known previous
   move-out e = record { kept = S.kept; progress = progress-none; lower = no_higher known; stays = refl; loose = λ v q. never (cc) }
 
-  module _ (v : ℕ) (e : neighbour E.room u m ≡ Inside v) where
+  module _ (v : ℕ) (e : neighbour E.room u m ≡ Some v) where
     pub into_in : v < volume E.room
     into_in = (leads E.room u m v e).inside
 
-    same-cell : (w : ℕ) → neighbour E.room u m ≡ Inside w → w ≡ v
+    same-cell : (w : ℕ) → neighbour E.room u m ≡ Some w → w ≡ v
     same-cell w q = cc
 
     pub move-shut : get_or classes v 0 ≡ 0 → MoveSwept E classes u m known false known previous
@@ -161,8 +159,20 @@ module _ {E : Errand} {classes known previous : List ℕ} (S : Sweeping E classe
 
 -- ---- what a loop carries: r of this round, b of the rounds before, and both together
 
+or_true : (b : Bool) → b || true ≡ true
+or_true true = refl
+or_true false = refl
+
+or_false : (b : Bool) → b || false ≡ b
+or_false true = refl
+or_false false = refl
+
 abbrev pub Together : Bool → Bool → Bool → Type 0
 Together r b both = ((r ≡ true) × (both ≡ true)) ⊎ ((r ≡ false) × (both ≡ b))
+
+pub together : (b r : Bool) → Together r b (b || r)
+together b true = inl (refl, or_true b)
+together b false = inr (refl, or_false b)
 
 module _ {G : Search.Graph} {D : ℕ} {k l m : List ℕ} where
   pub progress-then : {b r : Bool} (both : Bool) → Together r b both → Progress G D b k l → Progress G D r l m → Progress G D both k m

@@ -1,5 +1,5 @@
 // The public plain engine, over lent memory.
-ghost use Rattle.std.specs.Prelude.{◌≡◌, ◌≤◌, ◌<◌, length, replicate};
+ghost use Rattle.std.specs.Prelude.{◌≡◌, ◌≤◌, ◌<◌, length, replicate, Err};
 ghost use Rattle.lent.specs.Lent.{Cleared};
 ghost use Rattle.trace.specs.Traces.{PreviousInside};
 ghost use Rattle.room.specs.Room.{max_volume};
@@ -7,11 +7,11 @@ ghost use Rattle.plain.specs.Answers.{input_of, Promise};
 ghost use Rattle.plain.specs.Entry.{RoomReady, RoomSettled, RestShown, Admits, Fitted};
 
 use crate::sweep::{count_known, settle};
-use crate::{Errand, PlainAnswer, PlainRoute, Reached};
+use crate::{Errand, PlainRoute, PlainUnrouted, Reached};
 use room::{Cost, Nodes, Room, RouterConfig};
 use room_search::{fill_classes, make_end};
 use routing::judge::judge;
-use routing::{EndsFit, Judgement, Lengths, bad_end};
+use routing::{Lengths, bad_end};
 
 // A queue of one place, that 6 is never due for: no sweep uses it.
 const UNUSED_QUEUE: usize = 2;
@@ -35,7 +35,12 @@ fn settle_room(
 }
 
 // What costs at rest answer; the path goes to a cleared buffer.
-fn answer_of(goal: usize, known: &[u32], previous: &[u32], path: &mut [u32]) -> PlainAnswer
+fn answer_of(
+    goal: usize,
+    known: &[u32],
+    previous: &[u32],
+    path: &mut [u32],
+) -> Result<PlainRoute, PlainUnrouted>
     requires goal_in_bounds { (goal < length previous.now) × (length previous.now ≤ max_volume) × (length known.now ≡ length previous.now) × (length previous.now ≤ length path.old) }
     requires previous_inside { PreviousInside previous.now }
     requires path_value { path.old ≡ replicate (length path.old) 0 }
@@ -43,10 +48,10 @@ fn answer_of(goal: usize, known: &[u32], previous: &[u32], path: &mut [u32]) -> 
 {
     let noted = known[goal];
     if noted == 0 {
-        return PlainAnswer::NoRoute(Reached(count_known(known)));
+        return Err(PlainUnrouted::NoRoute(Reached(count_known(known))));
     }
     let length = trace::path_to(previous, goal, path);
-    PlainAnswer::Routed(PlainRoute {
+    Ok(PlainRoute {
         length: length,
         cost: Cost(noted - 1),
     })
@@ -56,9 +61,9 @@ fn answer_of(goal: usize, known: &[u32], previous: &[u32], path: &mut [u32]) -> 
 fn clear_work(known: &mut [u32], previous: &mut [u32], classes: &mut [u8])
     ensures { Cleared known.old known.new × Cleared previous.old previous.new × Cleared classes.old classes.new }
 {
-    lent::clear_words(known);
-    lent::clear_words(previous);
-    lent::clear_bytes(classes);
+    lent::clear(known);
+    lent::clear(previous);
+    lent::clear(classes);
 }
 
 // Both ends are routeable: the sweeps, their answer and its path, and all work memory cleared.
@@ -69,7 +74,7 @@ fn answer_fit(
     known: &mut [u32],
     previous: &mut [u32],
     classes: &mut [u8],
-) -> PlainAnswer
+) -> Result<PlainRoute, PlainUnrouted>
     requires { Admits errand kinds.now path.old known.old previous.old classes.old }
     ensures { Fitted errand kinds.now path.old known.old previous.old classes.old result path.new known.new previous.new classes.new }
 {
@@ -82,7 +87,7 @@ fn answer_fit(
         &mut previous[..cells],
         &mut classes[..cells],
     );
-    lent::clear_words(path);
+    lent::clear(path);
     let answer = answer_of(errand.goal, &known[..cells], &previous[..cells], path);
     clear_work(known, previous, classes);
     answer
@@ -95,12 +100,12 @@ fn refuse_end(
     known: &mut [u32],
     previous: &mut [u32],
     classes: &mut [u8],
-) -> PlainAnswer
-    ensures { (result ≡ PlainAnswer.NotRouteable cell) × Cleared path.old path.new × Cleared known.old known.new × Cleared previous.old previous.new × Cleared classes.old classes.new }
+) -> Result<PlainRoute, PlainUnrouted>
+    ensures { (result ≡ Err (PlainUnrouted.NotRouteable cell)) × Cleared path.old path.new × Cleared known.old known.new × Cleared previous.old previous.new × Cleared classes.old classes.new }
 {
-    lent::clear_words(path);
+    lent::clear(path);
     clear_work(known, previous, classes);
-    PlainAnswer::NotRouteable(cell)
+    Err(PlainUnrouted::NotRouteable(cell))
 }
 
 // A cheapest route from the start to the goal over a room of kinds, by sweeps: a route, or the number that is due. The path
@@ -117,7 +122,7 @@ pub fn plain_route(
     known: &mut [u32],
     previous: &mut [u32],
     classes: &mut [u8],
-) -> PlainAnswer
+) -> Result<PlainRoute, PlainUnrouted>
     ensures { Promise (input_of room horizontal stair support kinds.now start goal path.old known.old previous.old classes.old) path.old known.old previous.old classes.old result path.new known.new previous.new classes.new }
 {
     let config = RouterConfig {
@@ -133,10 +138,8 @@ pub fn plain_route(
         classes: classes.len(),
         queue: UNUSED_QUEUE,
     };
-    if let Judgement::Unfit(why) = judge(room, config, kinds, start, goal, lengths) {
-        return PlainAnswer::Refused(why);
-    }
-    if let EndsFit::Bad(cell) = bad_end(kinds, start, goal) {
+    judge(room, config, kinds, start, goal, lengths)?;
+    if let Err(cell) = bad_end(kinds, start, goal) {
         return refuse_end(cell, path, known, previous, classes);
     }
     let errand = Errand {

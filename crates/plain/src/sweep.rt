@@ -8,7 +8,7 @@ ghost use Rattle.room_search.specs.Routing.{total, price_of};
 ghost use Rattle.plain.specs.Sweeping.{Lowered, Sweeping, MoveSwept, MovesSwept, Swept, Ready, Settled};
 
 use crate::Errand;
-use room::{Cost, Move, Neighbour, Room, RouterConfig};
+use room::{Cost, Move, Room, RouterConfig};
 
 // What the step of a move costs: flat, or a stair.
 fn step_cost(config: RouterConfig, m: Move) -> Cost
@@ -41,10 +41,8 @@ fn lower(known: &mut [u32], previous: &mut [u32], from: usize, cell: usize, cost
     ensures { Lowered from cell cost.0 known.old previous.old result known.new previous.new }
 {
     let old = known[cell];
-    if old != 0 {
-        if old <= cost.0 + 1 {
-            return false;
-        }
+    if old != 0 && old <= cost.0 + 1 {
+        return false;
     }
     known[cell] = cost.0 + 1;
     previous[cell] = (from + 1) as u32;
@@ -67,17 +65,15 @@ fn try_move(
     ensures { MoveSwept errand classes.now from m known.old result known.new previous.new }
 {
     let room = errand.room;
-    match room.neighbour(from, m) {
-        Neighbour::Inside(cell) => {
-            let class = classes[cell];
-            if class == 0 {
-                return false;
-            }
-            let step = move_cost(errand.config, m, class);
-            lower(known, previous, from, cell, Cost(cost.0 + step.0))
-        }
-        Neighbour::Outside => false,
+    let Some(cell) = room.neighbour(from, m) else {
+        return false;
+    };
+    let class = classes[cell];
+    if class == 0 {
+        return false;
     }
+    let step = move_cost(errand.config, m, class);
+    lower(known, previous, from, cell, Cost(cost.0 + step.0))
 }
 
 // Tries the twelve moves of a cell in their order, if it is known; gives whether one of them lowered a cost.
@@ -98,13 +94,8 @@ fn try_moves(
     }
     let cost = Cost(noted - 1);
     let mut changed = false;
-    let mut k: usize = 0;
-    while k < 12 {
-        let m = Room::move_at(k);
-        if try_move(errand, classes, known, previous, from, cost, m) {
-            changed = true;
-        }
-        k += 1;
+    for m in &Room::MOVES {
+        changed |= try_move(errand, classes, known, previous, from, cost, *m);
     }
     changed
 }
@@ -114,14 +105,9 @@ fn sweep(errand: Errand, classes: &[u8], known: &mut [u32], previous: &mut [u32]
     requires { Sweeping errand classes.now known.old previous.old }
     ensures { Swept errand classes.now known.old result known.new previous.new }
 {
-    let n = known.len();
     let mut changed = false;
-    let mut cell: usize = 0;
-    while cell < n {
-        if try_moves(errand, classes, known, previous, cell) {
-            changed = true;
-        }
-        cell += 1;
+    for cell in 0..known.len() {
+        changed |= try_moves(errand, classes, known, previous, cell);
     }
     changed
 }
@@ -131,12 +117,13 @@ pub fn settle(errand: Errand, classes: &[u8], known: &mut [u32], previous: &mut 
     requires { Ready errand classes.now known.old previous.old }
     ensures { Settled errand classes.now known.new previous.new result }
 {
-    lent::clear_words(known);
-    lent::clear_words(previous);
+    lent::clear(known);
+    lent::clear(previous);
     let first = errand.start;
     known[first] = 1;
     let mut sweeps: usize = 0;
     let mut changed = true;
+    // No `for`: how many sweeps it takes shows only as they are made.
     while changed {
         changed = sweep(errand, classes, known, previous);
         sweeps += 1;
@@ -148,14 +135,5 @@ pub fn settle(errand: Errand, classes: &[u8], known: &mut [u32], previous: &mut 
 pub fn count_known(known: &[u32]) -> usize
     ensures { result ≡ times (ltb 0) known.now }
 {
-    let n = known.len();
-    let mut count: usize = 0;
-    let mut i: usize = 0;
-    while i < n {
-        if known[i] != 0 {
-            count += 1;
-        }
-        i += 1;
-    }
-    count
+    known.iter().filter(|cost| **cost != 0).count()
 }

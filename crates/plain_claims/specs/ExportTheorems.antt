@@ -5,14 +5,14 @@ use Rattle.std.proofs.Common.{arith}
 use Rattle.lent.specs.Lent.{output_after}
 use Rattle.room.specs.declared.Nodes.{Nodes}
 use Rattle.routing.specs.declared.Lengths.{Lengths}
-use Rattle.routing.specs.declared.Answer.{Answer}
+use Rattle.routing.specs.Answers.{Answer}
 use Rattle.routing.specs.Answers as first
 use Rattle.routing.specs.Answers.{Input}
 use Rattle.exports.specs.Export.{values_told, Exported}
 use Rattle.exports.specs.PlainExport.{plain_value_count, plain_values, PlainExported, plain-short, plain-told}
 use Rattle.demands.specs.Statements.{Unrefused}
 use Rattle.demands.specs.ExportTheorems.{export_means}
-use Rattle.plain.specs.declared.PlainAnswer.{PlainAnswer}
+use Rattle.plain.specs.Answers.{PlainAnswer}
 use Rattle.plain.specs.Answers.{number_of}
 use Rattle.plain_claims.specs.Statements.{PlainMeaning, search_input, Compares}
 use Rattle.plain_claims.specs.Theorems.{plain-means, compares}

@@ -1,6 +1,6 @@
 -- Below 10 and 20 the two engines' costs may differ: 2x2x1, all Air, flat steps and stairs free, a new support 9, from 2 to 3. The search answers 18; no
 -- answer that keeps the plain engine's promise costs more than 9.
-use Rattle.std.specs.Prelude.{◌≡◌, refl, ◌⊎◌, List, [], ◌∷◌, ℕ, ◌≤◌, replicate}
+use Rattle.std.specs.Prelude.{◌≡◌, refl, ◌⊎◌, List, [], ◌∷◌, ℕ, ◌≤◌, replicate, Ok}
 use Rattle.std.proofs.Common.{ap, inl, inr, arith}
 use Rattle.numbers.specs.Refusals.{done_number, no_route_number}
 use Rattle.room.specs.Room.{sides_good, pos_of, cell_of, moves, between, stays, neighbour, beneath, distance}
@@ -8,12 +8,11 @@ use Rattle.room.specs.Units.{air, config_good, ranges_good, dearest}
 use Rattle.best_first.specs.Search.{sooner, least, push, offer, expand, trace, take_one, take_all, first_state, best_first}
 use Rattle.room_search.specs.Routing.{routeable_kind, routeable, bearing, class_for, price_of, moves_by, graph_of, searched}
 use Rattle.routing.specs.declared.Lengths.{Lengths}
-use Rattle.routing.specs.declared.Judgement.TheVariants.{Fit}
 use Rattle.routing.specs.Answers as first
 use Rattle.routing.specs.Answers.{Input, task_of, buffers_good, ends_inside, judged, fit_answer, answer_of}
 use Rattle.demands.specs.Lawful.{LawfulWay, way_cost, step_cost}
 use Rattle.demands.specs.Statements.{Unrefused}
-use Rattle.plain.specs.declared.PlainAnswer.{PlainAnswer}
+use Rattle.plain.specs.Answers.{PlainAnswer}
 use Rattle.plain.specs.Answers.{costs_alone, unused_queue, number_of, route_cost, Promise}
 use Rattle.plain_claims.specs.Statements.{search_input, PlainMeaning}
 use Rattle.plain_claims.specs.Theorems.{plain-route, plain-means}
@@ -52,7 +51,7 @@ costs_9 : way_cost (task_of cheap_air) (0 ∷ 3 ∷ []) ≡ 9
 unfolding step_cost pos_of beneath
 costs_9 = refl
 
-fit : judged cheap_air ≡ Fit
+fit : judged cheap_air ≡ Ok tt
 unfolding judged sides_good config_good ranges_good dearest buffers_good ends_inside between
 fit = refl
 

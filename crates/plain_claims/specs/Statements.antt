@@ -1,20 +1,19 @@
 -- What the theorems claim of the plain engine over a room of kinds, at any costs: definitions only. Lawful steps and ways are said by positions, apart
 -- from both engines, in demands/specs/Lawful.antt.
-use Rattle.std.specs.Prelude.{◌≡◌, ◌⊎◌, ◌≢◌, ◌↔◌, List, ◌++◌, ℕ, ◌-◌, ◌≤◌, ◌<◌, ltb, length, get_or, replicate}
+use Rattle.std.specs.Prelude.{◌≡◌, ◌⊎◌, ◌≢◌, ◌↔◌, List, ◌++◌, ℕ, ◌-◌, ◌≤◌, ◌<◌, ltb, length, get_or, replicate, Ok}
 use Rattle.numbers.specs.Refusals.{done_number, no_route_number, limit_passed_number, queue_full_number}
 use Rattle.basics.specs.Counts.{times}
 use Rattle.room.specs.declared.RouterConfig.{RouterConfig}
 use Rattle.room.specs.declared.Nodes.{Nodes}
 use Rattle.room.specs.Room.{volume}
 use Rattle.room_search.specs.Routing.{Task}
-use Rattle.routing.specs.declared.Answer.{Answer}
+use Rattle.routing.specs.Answers.{Answer}
 use Rattle.routing.specs.declared.Lengths.{Lengths}
 use Rattle.routing.specs.Answers as first
 use Rattle.routing.specs.Answers.{Input, task_of}
 use Rattle.demands.specs.Lawful.{LawfulSteps}
 use Rattle.demands.specs.Statements.{Priced, Lawful, Cheapest, NoLawfulWay, Unrefused}
-use Rattle.plain.specs.declared.PlainAnswer.{PlainAnswer}
-use Rattle.plain.specs.declared.PlainAnswer.TheVariants.{Routed}
+use Rattle.plain.specs.Answers.{PlainAnswer}
 use Rattle.plain.specs.declared.PlainRoute.{PlainRoute}
 use Rattle.plain.specs.Answers.{number_of, detail_of, route_cost}
 
@@ -46,7 +45,7 @@ pub record PlainRouteHeld (I : Input) (path : List ℕ) (route : PlainRoute) (pa
 -- what an answer says, at any costs: 0 a cheapest route, 11 that there is no lawful way, with the count of the cells that lawful steps lead to; where no
 -- number from 2 to 10 is due it is 0 or 11, and 11 exactly when no lawful way exists
 pub record PlainMeaning (I : Input) (path : List ℕ) (r : PlainAnswer) (path' : List ℕ) : Type 0 where
-  pub route-held : (route : PlainRoute) → r ≡ Routed route → PlainRouteHeld I path route path'
+  pub route-held : (route : PlainRoute) → r ≡ Ok route → PlainRouteHeld I path route path'
   pub no_route_true : number_of r ≡ no_route_number → NoLawfulWay (task_of I)
   pub no_route_counts : number_of r ≡ no_route_number → LedCount (task_of I) (detail_of r)
   pub no_route_exactly : Unrefused I → (number_of r ≡ no_route_number) ↔ NoLawfulWay (task_of I)

@@ -1,5 +1,5 @@
 -- THE PLAIN ENGINE'S CLAIMS, said of rooms: their kinds, costs and ends. Statements says what is claimed.
-use Rattle.std.specs.Prelude.{◌≡◌, ◌⊎◌, ◌≢◌, ◌↔◌, ℕ, ◌≤◌, get_or}
+use Rattle.std.specs.Prelude.{◌≡◌, ◌⊎◌, ◌≢◌, ◌↔◌, ℕ, ◌≤◌, get_or, Ok, Err}
 use Rattle.std.proofs.Math.Path.{refl, sym}
 use Rattle.std.proofs.Common.{ap, ◌∙◌, inl, inr, arith}
 use Rattle.std.proofs.Math.Bool.{true}
@@ -16,24 +16,20 @@ use Rattle.room_search.specs.SearchEndLaws.{start-is-end, goal-is-end}
 use Rattle.routing.specs.declared.Lengths.{Lengths}
 use Rattle.routing.specs.declared.Refusal.{Refusal}
 use Rattle.routing.specs.declared.Refusal.TheVariants.{Sides, Config, Buffer, Code, Position}
-use Rattle.routing.specs.declared.EndsFit.{EndsFit}
-use Rattle.routing.specs.declared.EndsFit.TheVariants.{Good as EndsGood, Bad as EndsBad}
-use Rattle.routing.specs.declared.Judgement.{Judgement}
-use Rattle.routing.specs.declared.Judgement.TheVariants.{Fit, Unfit}
-use Rattle.routing.specs.declared.Answer.{Answer}
-use Rattle.routing.specs.declared.Answer.TheVariants as first_says
+use Rattle.routing.specs.Answers.{Answer}
+use Rattle.routing.specs.declared.Unrouted.TheVariants as first_says
 use Rattle.routing.specs.declared.Route.{Route}
 use Rattle.routing.specs.Answers as first
-use Rattle.routing.specs.Answers.{Input, task_of, judged, answered, fit_answer, answer_of, refusal_number}
-use Rattle.routing.specs.Entry.{ends_fit}
+use Rattle.routing.specs.Answers.{Input, task_of, judged, answered, fit_answer, answer_of, refusal_number, Judgement}
+use Rattle.routing.specs.Entry.{ends_fit, EndsFit}
 use Rattle.routing.specs.PromiseLaws.{admitted}
 use Rattle.demands.specs.Lawful.{LawfulStep, step_cost, LawfulSteps, cost_from, LawfulWay, way_cost}
 use Rattle.demands.specs.Statements.{Posed, Priced, NoLawfulWay, Unrefused, Meaning, RouteHeld}
 use Rattle.demands.specs.Bridge.{way-lawful, lawful-way}
 use Rattle.demands.specs.Theorems.{ways_exactly, third_demand}
 use Rattle.plain.specs.declared.Errand.{Errand}
-use Rattle.plain.specs.declared.PlainAnswer.{PlainAnswer}
-use Rattle.plain.specs.declared.PlainAnswer.TheVariants.{Routed, Refused, NotRouteable, NoRoute}
+use Rattle.plain.specs.Answers.{PlainAnswer}
+use Rattle.plain.specs.declared.PlainUnrouted.TheVariants.{Refused, NotRouteable, NoRoute}
 use Rattle.plain.specs.declared.PlainRoute.{PlainRoute}
 use Rattle.plain.specs.Answers.{Found, Answered, number_of, detail_of, route_cost, Promise}
 use Rattle.plain.specs.Entry.{task_on, RoomSettled}
@@ -79,19 +75,19 @@ refusal-small Code = (omega arith, omega arith)
 refusal-small Position = (omega arith, omega arith)
 
 -- an answer by 0 is a route
-pub plain-route : (r : PlainAnswer) → number_of r ≡ done_number → (w : PlainRoute) × (r ≡ Routed w)
-plain-route (Routed w) z = (w, refl)
-plain-route (Refused why) z = absurd (omega (arith, refusal-small why, z))
-plain-route (NotRouteable cell) z = absurd (omega arith)
-plain-route (NoRoute n) z = absurd (omega arith)
+pub plain-route : (r : PlainAnswer) → number_of r ≡ done_number → (w : PlainRoute) × (r ≡ Ok w)
+plain-route (Ok w) z = (w, refl)
+plain-route (Err (Refused why)) z = absurd (omega (arith, refusal-small why, z))
+plain-route (Err (NotRouteable cell)) z = absurd (omega arith)
+plain-route (Err (NoRoute n)) z = absurd (omega arith)
 
-first-route : (a : Answer) → first.number_of a ≡ done_number → (w : Route) × (a ≡ first_says.Routed w)
-first-route (first_says.Routed w) z = (w, refl)
-first-route (first_says.Refused why) z = absurd (omega (arith, refusal-small why, z))
-first-route (first_says.NotRouteable cell) z = absurd (omega arith)
-first-route (first_says.NoRoute x) z = absurd (omega arith)
-first-route (first_says.LimitPassed x) z = absurd (omega arith)
-first-route (first_says.QueueFull x) z = absurd (omega arith)
+first-route : (a : Answer) → first.number_of a ≡ done_number → (w : Route) × (a ≡ Ok w)
+first-route (Ok w) z = (w, refl)
+first-route (Err (first_says.Refused why)) z = absurd (omega (arith, refusal-small why, z))
+first-route (Err (first_says.NotRouteable cell)) z = absurd (omega arith)
+first-route (Err (first_says.NoRoute x)) z = absurd (omega arith)
+first-route (Err (first_says.LimitPassed x)) z = absurd (omega arith)
+first-route (Err (first_says.QueueFull x)) z = absurd (omega arith)
 
 module _ (I : Input) where
   abbrev ends : EndsFit
@@ -99,7 +95,7 @@ module _ (I : Input) where
 
   -- no number from 2 to 10 is due: both ends are fit for wire
   module _ (U : Unrefused I) where
-    ends-good : ends ≡ EndsGood
+    ends-good : ends ≡ Ok tt
     unfolding routeable
     ends-good =
         let s : routeable_kind true (get_or I.kinds I.start air) ≡ true = rw (start-is-end I.start I.goal) at U.start-free in
@@ -111,18 +107,18 @@ module _ (I : Input) where
         let p = admitted {R = I.room} {C = I.config} {kinds = I.kinds} {start = I.start} {goal = I.goal} {L = I.lengths} U.fit in
         record { good = p.good; start_in = p.start_in; goal_in = p.goal_in; start-free = U.start-free; goal-free = U.goal-free }
 
-  start-free : ends ≡ EndsGood → routeable (task_of I) I.start ≡ true
+  start-free : ends ≡ Ok tt → routeable (task_of I) I.start ≡ true
   unfolding routeable
   start-free e =
       rw (start-is-end I.start I.goal)
-      (ask (routeable_kind true (get_or I.kinds I.start air)) (λ t. t) (λ f. never (let q : EndsBad I.start ≡ EndsGood = rw f at e in cc)))
+      (ask (routeable_kind true (get_or I.kinds I.start air)) (λ t. t) (λ f. never (let q : Err I.start ≡ Ok (tt {0}) = rw f at e in cc)))
 
-  goal-free : ends ≡ EndsGood → routeable (task_of I) I.goal ≡ true
+  goal-free : ends ≡ Ok tt → routeable (task_of I) I.goal ≡ true
   unfolding routeable
   goal-free e =
       let s : routeable_kind true (get_or I.kinds I.start air) ≡ true = rw (start-is-end I.start I.goal) at (start-free e) in
       rw (goal-is-end I.start I.goal)
-      (ask (routeable_kind true (get_or I.kinds I.goal air)) (λ t. t) (λ f. never (let q : EndsBad I.goal ≡ EndsGood = rw (s, f) at e in cc)))
+      (ask (routeable_kind true (get_or I.kinds I.goal air)) (λ t. t) (λ f. never (let q : Err I.goal ≡ Ok (tt {0}) = rw (s, f) at e in cc)))
 
   unrefused : (r : PlainAnswer) (cells : List ℕ) → Answered (judged I) ends (graph (task_of I)) r cells → (number_of r ≡ done_number) ⊎ (number_of r ≡ no_route_number) → Unrefused I
   unrefused r cells A z = go (judged I) ends refl refl A
@@ -131,9 +127,9 @@ module _ (I : Input) where
       not_small n a b e = elim z [ inl q ↦ omega (arith, q, e) | inr q ↦ omega (arith, q, e) ]
 
       go : (j : Judgement) (e : EndsFit) → judged I ≡ j → ends ≡ e → Answered j e (graph (task_of I)) r cells → Unrefused I
-      go (Unfit why) e p q B = absurd (not_small (refusal_number why) (refusal-small why).0 (omega (arith, refusal-small why)) (ap number_of B.0))
-      go Fit (EndsBad cell) p q B = absurd (not_small 10 (omega arith) (omega arith) (ap number_of B.0))
-      go Fit EndsGood p q B = record { fit = p; start-free = start-free q; goal-free = goal-free q }
+      go (Err why) e p q B = absurd (not_small (refusal_number why) (refusal-small why).0 (omega (arith, refusal-small why)) (ap number_of B.0))
+      go (Ok _) (Err cell) p q B = absurd (not_small 10 (omega arith) (omega arith) (ap number_of B.0))
+      go (Ok _) (Ok _) p q B = record { fit = p; start-free = start-free q; goal-free = goal-free q }
 
   -- ---- the answer's meaning
 
@@ -142,11 +138,11 @@ module _ (I : Input) where
     found : Unrefused I → Found (graph (task_of I)) r P.cells
     found U = rw (U.fit, ends-good U) at P.answer
 
-    as_route : (w : PlainRoute) → r ≡ Routed w → PlainRouteHeld I path w path'
+    as_route : (w : PlainRoute) → r ≡ Ok w → PlainRouteHeld I path w path'
     unfolding graph_of
     as_route w z =
         let U = unrefused r P.cells P.answer (inl (ap number_of z)) in
-        let f : Found (graph (task_of I)) (Routed w) P.cells = rw z at (found U) in
+        let f : Found (graph (task_of I)) (Ok w) P.cells = rw z at (found U) in
         let h = f.1 in
         let l = (ways_exactly (posed U) h.rest w.cost.0).0 h.way in
         record {
@@ -159,20 +155,20 @@ module _ (I : Input) where
 
     as_none : Unrefused I → (a : PlainAnswer) → Found (graph (task_of I)) a P.cells → number_of a ≡ no_route_number → NoLawfulWay (task_of I) × LedCount (task_of I) (detail_of a)
     unfolding graph_of
-    as_none U (Refused why) f z = absurd f
-    as_none U (NotRouteable cell) f z = absurd f
-    as_none U (Routed w) f z = absurd (omega arith)
-    as_none U (NoRoute n) f z =
+    as_none U (Err (Refused why)) f z = absurd f
+    as_none U (Err (NotRouteable cell)) f z = absurd f
+    as_none U (Ok w) f z = absurd (omega arith)
+    as_none U (Err (NoRoute n)) f z =
         (λ after l. f.1 after (way_cost (task_of I) after) ((ways_exactly (posed U) after (way_cost (task_of I) after)).1 (l, refl)), (counts-exactly (task_of I) (posed U).good n.0).0 f.2)
 
     none_so : number_of r ≡ no_route_number → NoLawfulWay (task_of I) × LedCount (task_of I) (detail_of r)
     none_so z = let U = unrefused r P.cells P.answer (inr z) in as_none U r (found U) z
 
     as_settled : (a : PlainAnswer) → Found (graph (task_of I)) a P.cells → (number_of a ≡ done_number) ⊎ (number_of a ≡ no_route_number)
-    as_settled (Refused why) f = absurd f
-    as_settled (NotRouteable cell) f = absurd f
-    as_settled (Routed w) f = inl refl
-    as_settled (NoRoute n) f = inr refl
+    as_settled (Err (Refused why)) f = absurd f
+    as_settled (Err (NotRouteable cell)) f = absurd f
+    as_settled (Ok w) f = inl refl
+    as_settled (Err (NoRoute n)) f = inr refl
 
     due-so : Unrefused I → NoLawfulWay (task_of I) → number_of r ≡ no_route_number
     due-so U n = go (as_settled r (found U))

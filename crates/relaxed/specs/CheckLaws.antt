@@ -1,5 +1,5 @@
 -- Laws of the check: move after move, cell after cell.
-use Rattle.std.specs.Prelude.{◌≡◌, ◌≢◌, Bool, true, false, List, [], ◌∷◌, ℕ, suc, ◌+◌, ◌≤◌, ◌<◌, leb, length, get_or}
+use Rattle.std.specs.Prelude.{◌≡◌, ◌≢◌, Bool, true, false, List, [], ◌∷◌, ℕ, suc, ◌+◌, ◌≤◌, ◌<◌, leb, length, get_or, Option, Some, None}
 use Rattle.std.proofs.Common.{sym, inl, inr, arith, mul-le-mul_left, leb-true, eq-eqb, ne_eqb}
 use Rattle.basics.specs.Tests.{ask_same, never}
 use Rattle.basics.specs.Lists.{In}
@@ -7,8 +7,6 @@ use Rattle.room.specs.declared.Room.{Room}
 use Rattle.room.specs.declared.Move.{Move}
 use Rattle.room.specs.declared.Pos.{Pos}
 use Rattle.room.specs.declared.RouterConfig.{RouterConfig}
-use Rattle.room.specs.declared.Neighbour.{Neighbour}
-use Rattle.room.specs.declared.Neighbour.TheVariants.{Inside, Outside}
 use Rattle.room.specs.RoomLaws.{pos_cell}
 use Rattle.room.specs.MoveLaws.{leads}
 use Rattle.room.specs.Room.{Within, volume, by, cell_of, pos_of, moves, move_at, neighbour, neighbour_at}
@@ -30,19 +28,19 @@ module _ (C : RouterConfig) (m : Move) where
 -- ---- the moves of one cell
 
 -- the cell that a move leads to is one of the room
-pub leads-inside : (R : Room) (at : Pos) (m : Move) {v : ℕ} → Within R at → neighbour_at R at m ≡ Inside v → v < volume R
+pub leads-inside : (R : Room) (at : Pos) (m : Move) {v : ℕ} → Within R at → neighbour_at R at m ≡ Some v → v < volume R
 unfolding neighbour
 leads-inside R at m {v} w e = (leads R (cell_of R at) m v (rw (pos_cell R at w) e)).inside
 
 -- a move leads to one cell
-same_place_lem : {place : Neighbour} {a b : ℕ} → place ≡ Inside a → place ≡ Inside b → a ≡ b
+same_place_lem : {place : Option ℕ} {a b : ℕ} → place ≡ Some a → place ≡ Some b → a ≡ b
 same_place_lem p q = cc
 
 module _ {R : Room} {C : RouterConfig} {bytes labels : List ℕ} {at : Pos} {label : ℕ} {m : Move} where
-  pub move-out : neighbour_at R at m ≡ Outside → (r : Bool) → MoveTold R C bytes labels at label m r
+  pub move-out : neighbour_at R at m ≡ None → (r : Bool) → MoveTold R C bytes labels at label m r
   move-out e r = record { told = λ t v q. never (cc) }
 
-  module _ {cell : ℕ} (leads : neighbour_at R at m ≡ Inside cell) where
+  module _ {cell : ℕ} (leads : neighbour_at R at m ≡ Some cell) where
     pub move-shut : get_or bytes cell 0 ≡ 0 → (r : Bool) → MoveTold R C bytes labels at label m r
     move-shut z r = record { told = λ t v q n. absurd (n (rw (same_place_lem leads q) at z)) }
 

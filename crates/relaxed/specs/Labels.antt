@@ -1,12 +1,11 @@
 -- Labels: what any way from a sink's approach to each cell costs at least, over every cell that some search of the sink's turn may enter, where supports
 -- cost nothing. A label is stored one above the cost; 0 says that no way leads there. Definitions alone; that no way is cheaper is shown in LabelLaws.
-use Rattle.std.specs.Prelude.{◌≡◌, ◌≢◌, Bool, true, List, ℕ, ◌+◌, ◌≤◌, ◌<◌, length, get_or}
+use Rattle.std.specs.Prelude.{◌≡◌, ◌≢◌, Bool, true, List, ℕ, ◌+◌, ◌≤◌, ◌<◌, length, get_or, Some}
 use Rattle.basics.specs.Lists.{In}
 use Rattle.room.specs.declared.Room.{Room}
 use Rattle.room.specs.declared.Move.{Move}
 use Rattle.room.specs.declared.Pos.{Pos}
 use Rattle.room.specs.declared.RouterConfig.{RouterConfig}
-use Rattle.room.specs.declared.Neighbour.TheVariants.{Inside}
 use Rattle.room.specs.Room.{Good, volume, above, moves, move_at, neighbour, neighbour_at}
 use Rattle.room.specs.Units.{GoodConfig}
 use Rattle.room_search.specs.Routing.{price_of}
@@ -20,7 +19,7 @@ use Rattle.blocked_world.specs.BlockedWorld.{class_seen, Says}
 
 -- cell v is neither g nor right above it
 abbrev pub Apart : Room → ℕ → ℕ → Type 0
-Apart R g v = (v ≢ g) × (above R g ≢ Inside v)
+Apart R g v = (v ≢ g) × (above R g ≢ Some v)
 
 -- by these bytes a cell is open that can be entered by the turn's class bytes, that is joinable, or that stands right above a joinable cell of number
 -- below n; every other cell has its class byte
@@ -28,7 +27,7 @@ pub record OpenedBelow (R : Room) (joinable classes bytes : List ℕ) (n : ℕ) 
   pub long : length bytes ≡ length classes
   pub as_before : (v : ℕ) → get_or classes v 0 ≢ 0 → get_or bytes v 0 ≢ 0
   pub goals : (g : ℕ) → g < n → is_marked joinable g ≡ true → get_or bytes g 0 ≢ 0
-  pub over-goals : (g v : ℕ) → g < n → is_marked joinable g ≡ true → above R g ≡ Inside v → get_or bytes v 0 ≢ 0
+  pub over-goals : (g v : ℕ) → g < n → is_marked joinable g ≡ true → above R g ≡ Some v → get_or bytes v 0 ≢ 0
   pub others : (v : ℕ) → ((g : ℕ) → g < n → is_marked joinable g ≡ true → Apart R g v) → get_or bytes v 0 ≡ get_or classes v 0
 
 -- of all joinable cells
@@ -40,7 +39,7 @@ pub record OpensBoth (R : Room) (cell : ℕ) (classes bytes : List ℕ) : Type 0
   pub long : length bytes ≡ length classes
   pub as_before : (v : ℕ) → get_or classes v 0 ≢ 0 → get_or bytes v 0 ≢ 0
   pub here : get_or bytes cell 0 ≢ 0
-  pub over : (v : ℕ) → above R cell ≡ Inside v → get_or bytes v 0 ≢ 0
+  pub over : (v : ℕ) → above R cell ≡ Some v → get_or bytes v 0 ≢ 0
   pub others : (v : ℕ) → Apart R cell v → get_or bytes v 0 ≡ get_or classes v 0
 
 -- the bytes say again what is seen, but for joinable cells of number n or higher and the cells right above them
@@ -58,7 +57,7 @@ MoveAgrees C bytes labels label m v = get_or bytes v 0 ≢ 0 → (0 < get_or lab
 -- a start that is labelled with cost 0, and no step that undercuts a label
 pub record Labels (R : Room) (C : RouterConfig) (bytes : List ℕ) (start : ℕ) (labels : List ℕ) : Type 0 where
   pub start_none : get_or labels start 0 ≡ 1
-  pub agree : (u : ℕ) → u < volume R → 0 < get_or labels u 0 → (m : Move) → In m moves → (v : ℕ) → neighbour R u m ≡ Inside v
+  pub agree : (u : ℕ) → u < volume R → 0 < get_or labels u 0 → (m : Move) → In m moves → (v : ℕ) → neighbour R u m ≡ Some v
       → MoveAgrees C bytes labels (get_or labels u 0) m v
 
 -- ---- what the contracts cite
@@ -72,19 +71,19 @@ pub record Fits (R : Room) (C : RouterConfig) (bytes labels : List ℕ) : Type 0
 
 -- where the answer is yes, the move m from this position and label agrees
 pub record MoveTold (R : Room) (C : RouterConfig) (bytes labels : List ℕ) (at : Pos) (label : ℕ) (m : Move) (r : Bool) : Type 0 where
-  pub told : r ≡ true → (v : ℕ) → neighbour_at R at m ≡ Inside v → MoveAgrees C bytes labels label m v
+  pub told : r ≡ true → (v : ℕ) → neighbour_at R at m ≡ Some v → MoveAgrees C bytes labels label m v
 
 -- the moves below k from this position and label agree
 pub record MovesAgree (R : Room) (C : RouterConfig) (bytes labels : List ℕ) (at : Pos) (label k : ℕ) : Type 0 where
-  pub agree : (j : ℕ) → j < k → (v : ℕ) → neighbour_at R at (move_at j) ≡ Inside v → MoveAgrees C bytes labels label (move_at j) v
+  pub agree : (j : ℕ) → j < k → (v : ℕ) → neighbour_at R at (move_at j) ≡ Some v → MoveAgrees C bytes labels label (move_at j) v
 
 -- where the answer is yes, all moves of this cell agree, if it has a label
 pub record CellTold (R : Room) (C : RouterConfig) (bytes labels : List ℕ) (u : ℕ) (r : Bool) : Type 0 where
-  pub told : r ≡ true → 0 < get_or labels u 0 → (m : Move) → In m moves → (v : ℕ) → neighbour R u m ≡ Inside v → MoveAgrees C bytes labels (get_or labels u 0) m v
+  pub told : r ≡ true → 0 < get_or labels u 0 → (m : Move) → In m moves → (v : ℕ) → neighbour R u m ≡ Some v → MoveAgrees C bytes labels (get_or labels u 0) m v
 
 -- the cells below n agree
 pub record CellsAgree (R : Room) (C : RouterConfig) (bytes labels : List ℕ) (n : ℕ) : Type 0 where
-  pub agree : (u : ℕ) → u < n → 0 < get_or labels u 0 → (m : Move) → In m moves → (v : ℕ) → neighbour R u m ≡ Inside v
+  pub agree : (u : ℕ) → u < n → 0 < get_or labels u 0 → (m : Move) → In m moves → (v : ℕ) → neighbour R u m ≡ Some v
       → MoveAgrees C bytes labels (get_or labels u 0) m v
 
 -- where the answer is yes, these are labels

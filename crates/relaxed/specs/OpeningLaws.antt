@@ -1,11 +1,9 @@
 -- Laws of opening: one cell after another is opened, with the cell above it.
-use Rattle.std.specs.Prelude.{◌≡◌, refl, ◌≢◌, true, List, ℕ, ◌+◌, ◌≤◌, ◌<◌, get_or, set}
+use Rattle.std.specs.Prelude.{◌≡◌, refl, ◌≢◌, true, List, ℕ, ◌+◌, ◌≤◌, ◌<◌, get_or, set, Option, Some, None}
 use Rattle.std.proofs.Common.{sym, ap, ◌∙◌, arith, length-set, get_or-set_same, get_or-set_other, eqb-true}
 use Rattle.std.proofs.Math.ListN.{length}
 use Rattle.basics.specs.Tests.{ask_same, never}
 use Rattle.room.specs.declared.Room.{Room}
-use Rattle.room.specs.declared.Neighbour.{Neighbour}
-use Rattle.room.specs.declared.Neighbour.TheVariants.{Inside, Outside}
 use Rattle.room.specs.Room.{Good, volume, above}
 use Rattle.room.specs.RoomLaws.{above_in, same-cell}
 use Rattle.ground.specs.declared.Mode.{Mode}
@@ -22,7 +20,7 @@ module _ (bytes : List ℕ) (cell : ℕ) (h : cell < length bytes) where
   opened-others v n = ask_same v cell (λ s. rw s opened-here) (λ d. rw (get_or-set_other bytes cell v 1 0 (λ s. d s)) n)
 
 module _ (R : Room) (cell : ℕ) (classes : List ℕ) (h : cell < length classes) where
-  pub opens-alone : above R cell ≡ Outside → OpensBoth R cell classes (set classes cell 1)
+  pub opens-alone : above R cell ≡ None → OpensBoth R cell classes (set classes cell 1)
   opens-alone e = record {
     long = length-set classes cell 1;
     as_before = opened-others classes cell h;
@@ -31,7 +29,7 @@ module _ (R : Room) (cell : ℕ) (classes : List ℕ) (h : cell < length classes
     others = λ v a. get_or-set_other classes cell v 1 0 (λ s. a.0 s);
   }
 
-  pub opens-both : (over : ℕ) → above R cell ≡ Inside over → over < length classes → OpensBoth R cell classes (set (set classes cell 1) over 1)
+  pub opens-both : (over : ℕ) → above R cell ≡ Some over → over < length classes → OpensBoth R cell classes (set (set classes cell 1) over 1)
   opens-both over e k =
       let l : over < length (set classes cell 1) = rw (length-set classes cell 1) k in
       record {
@@ -39,7 +37,7 @@ module _ (R : Room) (cell : ℕ) (classes : List ℕ) (h : cell < length classes
         as_before = λ v n. opened-others (set classes cell 1) over l v (opened-others classes cell h v n);
         here = opened-others (set classes cell 1) over l cell (opened-here classes cell h);
         over = λ v q. let same : over ≡ v = cc in rw (← same) (opened-here (set classes cell 1) over l);
-        others = λ v a. rw (get_or-set_other (set classes cell 1) over v 1 0 (λ s. a.1 (e ∙ ap Inside (sym s)))) (get_or-set_other classes cell v 1 0 (λ s. a.0 s));
+        others = λ v a. rw (get_or-set_other (set classes cell 1) over v 1 0 (λ s. a.1 (e ∙ ap Some (sym s)))) (get_or-set_other classes cell v 1 0 (λ s. a.0 s));
       }
 
 pub opened-none : (R : Room) (joinable classes : List ℕ) → OpenedBelow R joinable classes classes 0
@@ -100,15 +98,15 @@ module _ (mode : Mode) (R : Room) (G : Good R) (kinds joinable blocked : List �
         here = rw B.long h
 
         -- at one cell or another the byte is right
-        at : (v : ℕ) → v < volume R → ((g : ℕ) → n + 1 ≤ g → g < volume R → is_marked joinable g ≡ true → Apart R g v) → above R n ≢ Inside v → get_or (set bytes n (seen n)) v 0 ≡ seen v
+        at : (v : ℕ) → v < volume R → ((g : ℕ) → n + 1 ≤ g → g < volume R → is_marked joinable g ≡ true → Apart R g v) → above R n ≢ Some v → get_or (set bytes n (seen n)) v 0 ≡ seen v
         at v i a o =
             ask_same v n
             (λ s. rw s (get_or-set_same bytes n (seen n) 0 here))
             (λ d. rw (get_or-set_other bytes n v (seen n) 0 (λ s. d s)) (B.each v i (λ g l k m. ask_same g n (λ s. rw s (d, o)) (λ q. a g (omega (arith, l, q)) k m))))
 
-        go : (place : Neighbour) → above R n ≡ place → ShutBelow mode R kinds joinable blocked start (n + 1) (renewed_at mode R kinds blocked start start place (renewed mode R kinds blocked start start n bytes))
-        go Outside p = record { long = rw (length-set bytes n (seen n)) B.long; each = λ v i a. at v i a (λ q. never (cc)) }
-        go (Inside u) p =
+        go : (place : Option ℕ) → above R n ≡ place → ShutBelow mode R kinds joinable blocked start (n + 1) (renewed_at mode R kinds blocked start start place (renewed mode R kinds blocked start start n bytes))
+        go None p = record { long = rw (length-set bytes n (seen n)) B.long; each = λ v i a. at v i a (λ q. never (cc)) }
+        go (Some u) p =
             let u-in : u < length (set bytes n (seen n)) = rw (length-set bytes n (seen n), B.long) (above_in R G n u h p) in
             record {
               long = rw (length-set (set bytes n (seen n)) u (seen u), length-set bytes n (seen n)) B.long;

@@ -5,7 +5,7 @@ ghost use Rattle.room.specs.Units.{GoodConfig};
 ghost use Rattle.room_search.specs.TriedMoves.{places_of};
 ghost use Rattle.relaxed.specs.Labels.{Fits, LabelsTold, Labelable, TurnTold};
 
-use crate::check::labels_agree;
+use crate::check::Labelled;
 use crate::opening::{first_shut, open_goals, shut_goals};
 use ground::Ground;
 use room::{Cost, Nodes, Room, RouterConfig};
@@ -19,13 +19,10 @@ fn without_supports(room: Room, config: RouterConfig) -> RouterConfig
     requires { GoodConfig room config }
     ensures { GoodConfig room result }
 {
-    let horizontal = config.horizontal;
-    let stair = config.stair;
     RouterConfig {
         limit: Nodes(MOST_NODES),
-        horizontal: horizontal,
-        stair: stair,
         support: Cost(0),
+        ..config
     }
 }
 
@@ -44,10 +41,9 @@ fn label_open(
     requires previous_len { (length previous.old ≡ volume room) × (start < volume room) × (0 < places_of queue.old) }
     ensures { LabelsTold room config classes.now start known.new result }
 {
-    let shut = first_shut(classes);
-    if classes.len() <= shut {
+    let Some(shut) = first_shut(classes) else {
         return false;
-    }
+    };
     let outcome = room_search::search_classes(
         room,
         without_supports(room, config),
@@ -61,11 +57,17 @@ fn label_open(
     let Outcome::NoRoute(_) = outcome else {
         return false;
     };
-    labels_agree(room, config, classes, known, start)
+    let labelled = Labelled {
+        room,
+        config,
+        classes,
+        labels: known,
+    };
+    labelled.labels_agree(start)
 }
 
 // Labels the cells at a sink's turn, in `known`, and says whether these are labels. The class bytes are as they were when
-// this returns.
+// this returns. The labels stay in the lent `known`: an Option of them is no plainer, since the caller holds that slice.
 pub fn label_cells(
     ground: Ground,
     kinds: &[u8],

@@ -1,14 +1,12 @@
 // The cells that some search of a sink's turn may enter, as class bytes.
-ghost use Rattle.std.specs.Prelude.{◌≡◌, ◌≤◌, ◌<◌, length};
+ghost use Rattle.std.specs.Prelude.{◌≡◌, ◌<◌, IfSome, length};
 ghost use Rattle.room.specs.Room.{Good, volume};
 ghost use Rattle.blocked_world.specs.BlockedWorld.{WorldFits, Says};
 ghost use Rattle.relaxed.specs.Labels.{Opened, OpensBoth, ShutBelow};
 
 use ground::Ground;
-use room::{Neighbour, Room};
-
-// The class of a cell that is opened.
-const OPEN: u8 = 1;
+use room::Room;
+use room_search::{OPEN, SHUT};
 
 // Opens a cell and the one right above it.
 fn open_both(room: Room, classes: &mut [u8], cell: usize)
@@ -18,7 +16,7 @@ fn open_both(room: Room, classes: &mut [u8], cell: usize)
     ensures { OpensBoth room cell classes.old classes.new }
 {
     classes[cell] = OPEN;
-    if let Neighbour::Inside(over) = room.above(cell) {
+    if let Some(over) = room.above(cell) {
         classes[over] = OPEN;
     }
 }
@@ -31,13 +29,10 @@ pub fn open_goals(room: Room, joinable: &[u8], classes: &mut [u8])
     requires classes_len { length classes.old ≡ volume room }
     ensures { Opened room joinable.now classes.old classes.new }
 {
-    let cells = joinable.len();
-    let mut cell: usize = 0;
-    while cell < cells {
-        if joinable[cell] == routing_resources::MARKED {
+    for (cell, mark) in joinable.iter().enumerate() {
+        if *mark == routing_resources::MARKED {
             open_both(room, classes, cell);
         }
-        cell += 1;
     }
 }
 
@@ -55,27 +50,16 @@ pub fn shut_goals(
     requires shut_below { ShutBelow ground.mode ground.room kinds.now joinable.now blocked.now start 0 classes.old }
     ensures { Says ground.mode ground.room kinds.now blocked.now start start classes.new }
 {
-    let cells = joinable.len();
-    let mut cell: usize = 0;
-    while cell < cells {
-        if joinable[cell] == routing_resources::MARKED {
+    for (cell, mark) in joinable.iter().enumerate() {
+        if *mark == routing_resources::MARKED {
             blocked_world::refresh(ground, kinds, blocked, start, start, classes, cell);
         }
-        cell += 1;
     }
 }
 
-// A cell that is not open, or the number of cells where all are.
-pub fn first_shut(classes: &[u8]) -> usize
-    ensures { result ≤ length classes.now }
+// The first cell that is not open, if there is one.
+pub fn first_shut(classes: &[u8]) -> Option<usize>
+    ensures { IfSome result (λ cell. cell < length classes.now) }
 {
-    let cells = classes.len();
-    let mut cell: usize = 0;
-    while cell < cells {
-        if classes[cell] == 0 {
-            return cell;
-        }
-        cell += 1;
-    }
-    cells
+    classes.iter().position(|class| *class == SHUT)
 }

@@ -1,5 +1,5 @@
 -- ONE CALL FOR REPEATERS: what Claims claims, of each answer of `plan_net`.
-use Rattle.std.specs.Prelude.{◌≡◌, ◌≢◌, Bool, true, false, ◌&&◌, List, [], ◌++◌, ℕ, ◌+◌, ◌-◌, ◌<◌, eqb, length, get_or, take, replicate}
+use Rattle.std.specs.Prelude.{Result, Ok, Err, ◌≡◌, ◌≢◌, Bool, true, false, ◌&&◌, List, [], ◌++◌, ℕ, ◌+◌, ◌-◌, ◌<◌, eqb, length, get_or, take, replicate}
 use Rattle.std.proofs.Math.Path.{refl}
 use Rattle.std.proofs.Common.{sym, ap, ◌∙◌, arith, take_at, get_or-append-add, eqb-true}
 use Rattle.std.proofs.lemmas.List.{length-replicate}
@@ -14,14 +14,13 @@ use Rattle.routing_resources.specs.Marks.{is_marked, no_marks}
 use Rattle.routing_resources.specs.MarkLaws.{marked-after}
 use Rattle.job_sheet.specs.Sheet.{is_good, number_of}
 use Rattle.ends.specs.declared.Fault.{Fault}
-use Rattle.ends.specs.declared.Fault.TheVariants as fault
+use Rattle.std.specs.Prelude.{Option, Some, None}
 use Rattle.ends.specs.Ends.{sinks_in, fault_of, taps_in}
 use Rattle.ends.specs.EndLaws.{source_in_room}
 use Rattle.branches.specs.Branches.{marked_count}
 use Rattle.repeaters.specs.Repeaters.{planned, repeater_marks}
 use Rattle.repeaters.specs.NetEnds.{is_net_end}
-use Rattle.repeater_plan.specs.declared.Planned.{Planned}
-use Rattle.repeater_plan.specs.declared.Planned.TheVariants.{Repeaters, Refused}
+use Rattle.repeater_plan.specs.declared.Refused.{Refused}
 use Rattle.repeater_plan.specs.Plan.{Net, branches_in, judged, Lent, lengths_of, counts_good, lent_good, Outcome, planned as marked, unplanned, planned_marks, outcome_by, outcome_of, answer_of, lent_after, Promise}
 use Rattle.repeater_plan.specs.EntryLaws.{no_fault}
 use Rattle.repeater_claims.specs.Between.{StandsBetween}
@@ -34,14 +33,14 @@ use Rattle.repeater_claims.specs.Claims.{source_of, taps_for, neighbours_of, par
 pub record Accepted (N : Net) (count : ℕ) (B B' : Lent) : Type 0 where
   pub good : is_good (judged N) ≡ true
   pub counts : counts_good N ≡ true
-  pub ends-good : fault_of N.room N.source (sinks_in N.sinks) ≡ fault.Good
+  pub ends-good : fault_of N.room N.source (sinks_in N.sinks) ≡ None
   pub counted : count ≡ marked_count (planned_marks N)
   pub marks-are : B'.repeaters ≡ filled (planned_marks N) B.repeaters
 
 module _ (N : Net) (B B' : Lent) (count : ℕ) where
-  by_fault : (f : Fault) → fault_of N.room N.source (sinks_in N.sinks) ≡ f → is_good (judged N) ≡ true → counts_good N ≡ true
-      → Repeaters count ≡ answer_of (outcome_by (planned_marks N) f) → B' ≡ lent_after (outcome_by (planned_marks N) f) B → Accepted N count B B'
-  by_fault fault.Good e g c a l = record {
+  by_fault : (f : Option Fault) → fault_of N.room N.source (sinks_in N.sinks) ≡ f → is_good (judged N) ≡ true → counts_good N ≡ true
+      → Ok count ≡ answer_of (outcome_by (planned_marks N) f) → B' ≡ lent_after (outcome_by (planned_marks N) f) B → Accepted N count B B'
+  by_fault None e g c a l = record {
     good = g;
     counts = c;
     ends-good = e;
@@ -49,20 +48,19 @@ module _ (N : Net) (B B' : Lent) (count : ℕ) where
     marks-are = ap (λ x. x.repeaters) l;
   }
     where
-      repeaters-of : Planned → ℕ
-      repeaters-of (Repeaters n) = n
-      repeaters-of (Refused number detail) = 0
-  by_fault (fault.NoFacing place) e g c a l = never (cc)
-  by_fault (fault.Outside place) e g c a l = never (cc)
+      repeaters-of : Result ℕ Refused → ℕ
+      repeaters-of (Ok n) = n
+      repeaters-of (Err why) = 0
+  by_fault (Some fault) e g c a l = never (cc)
 
-  pub accepted : Promise N B (Repeaters count) B' → Accepted N count B B'
+  pub accepted : Promise N B (Ok count) B' → Accepted N count B B'
   unfolding outcome_of
   accepted P =
       ask (is_good (judged N))
       (λ g. ask (counts_good N && lent_good N.room (lengths_of B))
       (λ t. by_fault (fault_of N.room N.source (sinks_in N.sinks)) refl g (and_left (counts_good N) (lent_good N.room (lengths_of B)) t) (rw (g, t) at P.answer) (rw (g, t) at P.lent_is))
-      (λ f. let z : Repeaters count ≡ Refused buffer_number 0 = rw (g, f) at P.answer in never (cc)))
-      (λ f. let z : Repeaters count ≡ Refused (number_of (judged N)) 0 = rw f at P.answer in never (cc))
+      (λ f. let z : Ok count ≡ Err (record { number = buffer_number; detail = 0 }) = rw (g, f) at P.answer in never (cc)))
+      (λ f. let z : Ok count ≡ Err (record { number = number_of (judged N); detail = 0 }) = rw f at P.answer in never (cc))
 
 -- ---- marks with zeros behind them
 
@@ -123,5 +121,5 @@ module _ {N : Net} {B B' : Lent} {count : ℕ} (A : Accepted N count B B') where
   }
 
 -- from the promise alone: each answer of repeaters is so
-pub plan_claim : {N : Net} {B B' : Lent} {r : Planned} → Promise N B r B' → {count : ℕ} → r ≡ Repeaters count → PlanHolds N count B'
+pub plan_claim : {N : Net} {B B' : Lent} {r : Result ℕ Refused} → Promise N B r B' → {count : ℕ} → r ≡ Ok count → PlanHolds N count B'
 plan_claim {N} {B} {B'} P {count} e = plan_holds (accepted N B B' count (rw e at P))

@@ -1,17 +1,16 @@
 -- What the contracts of the entry's parts cite.
-use Rattle.std.specs.Prelude.{◌≡◌, List, ◌++◌, ℕ, ◌≤◌, length, drop, replicate}
-use Rattle.numbers.specs.Refusals.{port_facing_number, end_outside_number}
+use Rattle.std.specs.Prelude.{◌≡◌, List, ◌++◌, ℕ, ◌≤◌, length, drop, replicate, [], Option, Some, None, Result, Ok, Err}
 use Rattle.room.specs.declared.Room.{Room}
 use Rattle.room.specs.Room.{Good, volume}
 use Rattle.ends.specs.declared.Taps.{Taps}
 use Rattle.ends.specs.declared.Fault.{Fault}
-use Rattle.ends.specs.declared.Fault.TheVariants as fault
-use Rattle.ends.specs.Ends.{NetInside}
+use Rattle.ends.specs.declared.Ends.{Ends}
+use Rattle.ends.specs.Ends.{fault_number, NetInside}
 use Rattle.branches.specs.declared.BranchLengths.{BranchLengths}
 use Rattle.branches.specs.Branches.{marked_count}
 use Rattle.repeaters.specs.Masks.{BranchesReady}
-use Rattle.repeater_plan.specs.declared.Planned.{Planned}
-use Rattle.repeater_plan.specs.declared.Planned.TheVariants.{Repeaters, Refused}
+use Rattle.repeaters.specs.NetEnds.{net_repeaters}
+use Rattle.repeater_plan.specs.declared.Refused.{Refused}
 use Rattle.repeater_plan.specs.Plan.{Lent, Outcome, answer_of, lent_after}
 
 -- memory that suffices for each cell
@@ -42,13 +41,17 @@ pub record FrontPlaced (marks : List ℕ) (R : Room) (repeaters : List ℕ) (r :
   pub count : r ≡ marked_count marks
 
 -- so it is where no number is due; else nothing is marked
-abbrev pub PlacedBy : Fault → List ℕ → Room → List ℕ → Planned → List ℕ → Type 0
-PlacedBy fault.Good marks R repeaters r repeaters' =
-    (r ≡ Repeaters (marked_count marks)) × (length marks ≡ volume R) × (repeaters' ≡ marks ++ drop (volume R) repeaters)
-PlacedBy (fault.NoFacing place) marks R repeaters r repeaters' = (r ≡ Refused port_facing_number place) × (repeaters' ≡ repeaters)
-PlacedBy (fault.Outside place) marks R repeaters r repeaters' = (r ≡ Refused end_outside_number place) × (repeaters' ≡ repeaters)
+abbrev pub PlacedBy : Option Fault → List ℕ → Room → List ℕ → Result ℕ Refused → List ℕ → Type 0
+PlacedBy None marks R repeaters r repeaters' =
+    (r ≡ Ok (marked_count marks)) × (length marks ≡ volume R) × (repeaters' ≡ marks ++ drop (volume R) repeaters)
+PlacedBy (Some fault) marks R repeaters r repeaters' = (r ≡ Err (record { number = fault_number fault.due; detail = fault.place })) × (repeaters' ≡ repeaters)
+
+-- the repeaters of a net whose ends these are; none where a number is due for one
+abbrev pub marks_with : Room → ℕ → List (List ℕ) → Result Ends Fault → List ℕ
+marks_with R run branches (Ok e) = net_repeaters R run e.source e.taps branches
+marks_with R run branches (Err fault) = []
 
 -- what comes of it is answered, and left in lent memory
-pub record Settled (o : Outcome) (B : Lent) (r : Planned) (B' : Lent) : Type 0 where
+pub record Settled (o : Outcome) (B : Lent) (r : Result ℕ Refused) (B' : Lent) : Type 0 where
   pub answer : r ≡ answer_of o
   pub lent_is : B' ≡ lent_after o B

@@ -1,17 +1,17 @@
 -- Laws of the entry: what a net is that numbers 2 to 6 do not refuse, and what is left in lent memory.
-use Rattle.std.specs.Prelude.{◌≡◌, Bool, true, false, ◌&&◌, ℕ, ◌-◌, ◌≤◌, ◌<◌, eqb, leb, ltb, length, get_or, take, drop, replicate}
+use Rattle.std.specs.Prelude.{◌≡◌, Bool, true, false, ◌&&◌, ℕ, ◌-◌, ◌≤◌, ◌<◌, eqb, leb, ltb, length, get_or, take, drop, replicate, Option, Some, None, Result, Ok, Err}
 use Rattle.std.proofs.Math.Path.{refl, ap}
 use Rattle.std.proofs.Common.{sym, ◌∙◌, inl, inr, arith, length-take-le, take_at, get_or-take}
 use mathlib.Core.List.{List, [], ◌∷◌, ◌++◌, map}
 use Rattle.std.proofs.lemmas.List.{length-map}
 use borrow.Author.Tests.{ltb-true, eqb-true, le-leb, lt-leb}
-use Rattle.numbers.specs.Refusals.{buffer_number, port_facing_number, end_outside_number}
+use Rattle.numbers.specs.Refusals.{buffer_number}
+use Rattle.std.specs.Result.{result_err}
 use Rattle.basics.specs.Tests.{ask, and_left, and_right, passed, never}
 use Rattle.basics.specs.Lists.{In, any, every, every_in, every_map, every_append, in_at}
 use Rattle.basics.specs.Zeros.{take_zeros, drop_zeros, cleared-to, zeros-long}
 use Rattle.lent.specs.Lent.{filled}
 use Rattle.room.specs.declared.Room.{Room}
-use Rattle.room.specs.declared.Neighbour.{Neighbour}
 use Rattle.room.specs.Room.{Good, Within, sides_good, volume, moves, holds_at, neighbour, Step}
 use Rattle.room.specs.RoomLaws.{good}
 use Rattle.routing_resources.specs.Marks.{no_marks}
@@ -24,19 +24,18 @@ use Rattle.job_sheet.proofs.AcceptedLaws.{first_good, faultless, endpoint-within
 use Rattle.ends.specs.declared.Taps.{Taps}
 use Rattle.ends.specs.declared.Ends.{Ends}
 use Rattle.ends.specs.declared.Fault.{Fault}
-use Rattle.ends.specs.declared.Fault.TheVariants as fault
-use Rattle.ends.specs.Ends.{sinks_in, ends_of}
-use Rattle.ends.specs.EndLaws.{net_in}
+use Rattle.port_realization.specs.declared.EndFault.{EndFault}
+use Rattle.ends.specs.Ends.{sinks_in, fault_number, fault_of, ends_of, unless, realized_ends}
+use Rattle.ends.specs.EndLaws.{net_in, ends-told}
 use Rattle.branches.specs.declared.BranchLengths.{BranchLengths}
 use Rattle.branches.specs.Branches.{lengths_in, sum, marked_count}
 use Rattle.repeaters.specs.Masks.{Steps, AllSteps, BranchesReady}
 use Rattle.repeaters.specs.Sinks.{Placeable}
 use Rattle.repeaters.specs.NetEnds.{net_repeaters}
 use Rattle.repeater_plan.specs.declared.Lengths.{Lengths}
-use Rattle.repeater_plan.specs.declared.Planned.{Planned}
-use Rattle.repeater_plan.specs.declared.Planned.TheVariants.{Repeaters, Refused}
+use Rattle.repeater_plan.specs.declared.Refused.{Refused}
 use Rattle.repeater_plan.specs.Plan.{Net, branches_in, is_move, head_good, branch_good, branch_fault, room_fault, judged, Lent, lent, lengths_of, lent_good, counts_good, unplanned, planned_marks, outcome_by, outcome_of, answer_of, lent_after, Promise}
-use Rattle.repeater_plan.specs.Entry.{Enough, Lendable, Frontable, FrontPlaced, PlacedBy, Settled}
+use Rattle.repeater_plan.specs.Entry.{Enough, Lendable, Frontable, FrontPlaced, PlacedBy, marks_with, Settled}
 
 -- ---- number 6
 
@@ -89,9 +88,9 @@ any_in : {X : Type 0} (p : X → Bool) (xs : List X) → any p xs ≡ true → (
 any_in p [] e = never (cc)
 any_in p (x ∷ xs) e = ask (p x) (λ t. (x, inl refl, t)) (λ f. let r = any_in p xs (rw f at e) in (r.0, inr r.1, r.2))
 
-leads-to : (b : ℕ) (place : Neighbour) → holds_at (eqb b) place ≡ true → place ≡ Neighbour.Inside b
-leads-to b (Neighbour.Inside v) e = ap Neighbour.Inside (sym (eqb-true b v e))
-leads-to b Neighbour.Outside e = never (cc)
+leads-to : (b : ℕ) (place : Option ℕ) → holds_at (eqb b) place ≡ true → place ≡ Some b
+leads-to b (Some v) e = ap Some (sym (eqb-true b v e))
+leads-to b None e = never (cc)
 
 module _ (R : Room) where
   is-step : (a b : ℕ) → a < volume R → is_move R a b ≡ true → Step R a b
@@ -169,12 +168,13 @@ module _ (N : Net) (sinks-whole : length N.sinks.ends ≡ max_sinks) (lengths-wh
   }
 
   module _ {B : Lent} (m : lent_good N.room (lengths_of B) ≡ true) where
-    pub lendable : {E : Ends} → E ≡ ends_of N.room N.source (sinks_in N.sinks) → E.fault ≡ fault.Good
+    pub lendable : {r : Result Ends Fault} → r ≡ realized_ends N.room N.source (sinks_in N.sinks) → (E : Ends) → r ≡ Ok E
         → Lendable N.room E.source E.taps N.lengths N.cells B
     unfolding ends_of
-    lendable {E} e f =
-        let net = net_in N.source (no_fault N g).source-within sink-list (ap (λ x. x.fault) (sym e) ∙ f) in
-        record { good = (no_fault N g).room-good; net = rw e net; laid = ready-branches; enough = long-enough N.room B m }
+    lendable is E e =
+        let t = ends-told N.room N.source (sinks_in N.sinks) is e in
+        let net = net_in N.source (no_fault N g).source-within sink-list t.0 in
+        record { good = (no_fault N g).room-good; net = rw t.1 net; laid = ready-branches; enough = long-enough N.room B m }
 
 -- ---- in front of cleared memory
 
@@ -232,16 +232,14 @@ frontable {B = B} F r f =
       forbidden-clear = cleared-to (sym q) f;
     }
 
-module _ (marks : List ℕ) (R : Room) (repeaters : List ℕ) where
-  pub placed-good : (f : Fault) → f ≡ fault.Good → {n : ℕ} {repeaters' : List ℕ} → FrontPlaced marks R repeaters n repeaters'
-      → PlacedBy f marks R repeaters (Repeaters n) repeaters'
-  placed-good f e P = rw e (ap Repeaters P.count, P.long, P.is)
+module _ (R : Room) (run : ℕ) (branches : List (List ℕ)) (repeaters : List ℕ) {r : Result Ends Fault} where
+  pub placed-good : {E : Ends} → r ≡ Ok E → {n : ℕ} {repeaters' : List ℕ} → FrontPlaced (net_repeaters R run E.source E.taps branches) R repeaters n repeaters'
+      → PlacedBy (result_err r) (marks_with R run branches r) R repeaters (Ok n) repeaters'
+  placed-good e P = rw e (ap Ok P.count, P.long, P.is)
 
-  pub placed_unfaced : (f : Fault) (place : ℕ) → f ≡ fault.NoFacing place → {r : Planned} → r ≡ Refused port_facing_number place → PlacedBy f marks R repeaters r repeaters
-  placed_unfaced f place e p = rw e (p, refl)
-
-  pub placed-outside : (f : Fault) (place : ℕ) → f ≡ fault.Outside place → {r : Planned} → r ≡ Refused end_outside_number place → PlacedBy f marks R repeaters r repeaters
-  placed-outside f place e p = rw e (p, refl)
+  pub placed-refused : {f : Fault} → r ≡ Err f → {n : ℕ} → n ≡ fault_number f.due → {p : Result ℕ Refused} → p ≡ Err (record { number = n; detail = f.place })
+      → PlacedBy (result_err r) (marks_with R run branches r) R repeaters p repeaters
+  placed-refused e q p = rw (e, ← q) (p, refl)
 
 -- ---- what is left in lent memory
 
@@ -252,21 +250,24 @@ module _ (repeaters marks : List ℕ) {zeros : List ℕ} (z : zeros ≡ replicat
 nothing-filled : (repeaters : List ℕ) {zeros : List ℕ} → zeros ≡ replicate (length repeaters) 0 → {after : List ℕ} → after ≡ zeros → after ≡ filled [] repeaters
 nothing-filled repeaters z p = let s : length repeaters - 0 ≡ length repeaters = omega arith in p ∙ z ∙ ap (λ n. replicate n 0) (sym s)
 
-pub settled : (R : Room) (marks : List ℕ) (B : Lent) (f : Fault) {zeros : List ℕ} → zeros ≡ replicate (length B.repeaters) 0 → (r : Planned) (B' : Lent)
+-- a refusal by 8 or 9 leaves everything lent zero
+refused-left : (due : EndFault) (place : ℕ) (B B' : Lent) → B'.repeaters ≡ filled [] B.repeaters
+    → B'.forbidden ≡ replicate (length B.forbidden) 0 → B'.links ≡ replicate (length B.links) 0 → B'.parents ≡ replicate (length B.parents) 0
+    → B'.line ≡ replicate (length B.line) 0 → B' ≡ lent_after (unplanned (fault_number due) place) B
+refused-left EndFault.NoFacing place B B' q a b c d = λ i. record { repeaters = q i; forbidden = a i; links = b i; parents = c i; line = d i }
+refused-left EndFault.Outside place B B' q a b c d = λ i. record { repeaters = q i; forbidden = a i; links = b i; parents = c i; line = d i }
+
+pub settled : (R : Room) (marks : List ℕ) (B : Lent) (f : Option Fault) {zeros : List ℕ} → zeros ≡ replicate (length B.repeaters) 0 → (r : Result ℕ Refused) (B' : Lent)
     → PlacedBy f marks R zeros r B'.repeaters
     → B'.forbidden ≡ replicate (length B.forbidden) 0 → B'.links ≡ replicate (length B.links) 0 → B'.parents ≡ replicate (length B.parents) 0
     → B'.line ≡ replicate (length B.line) 0 → Settled (outcome_by marks f) B r B'
-settled R marks B fault.Good z r B' p a b c d = record {
+settled R marks B None z r B' p a b c d = record {
   answer = p.0;
   lent_is = let q = marks-filled B.repeaters marks z p.1 p.2 in λ i. record { repeaters = q i; forbidden = a i; links = b i; parents = c i; line = d i };
 }
-settled R marks B (fault.NoFacing place) z r B' p a b c d = record {
+settled R marks B (Some fault) z r B' p a b c d = record {
   answer = p.0;
-  lent_is = let q = nothing-filled B.repeaters z p.1 in λ i. record { repeaters = q i; forbidden = a i; links = b i; parents = c i; line = d i };
-}
-settled R marks B (fault.Outside place) z r B' p a b c d = record {
-  answer = p.0;
-  lent_is = let q = nothing-filled B.repeaters z p.1 in λ i. record { repeaters = q i; forbidden = a i; links = b i; parents = c i; line = d i };
+  lent_is = refused-left fault.due fault.place B B' (nothing-filled B.repeaters z p.1) a b c d;
 }
 
 -- ---- the promise
@@ -280,23 +281,30 @@ untouched judgement.Position e B = refl
 untouched judgement.Code e B = refl
 
 module _ (N : Net) (B : Lent) where
-  pub judged-bad : is_good (judged N) ≡ false → {r : Planned} → r ≡ answer_of (unplanned (number_of (judged N)) 0) → Promise N B r B
+  pub judged-bad : is_good (judged N) ≡ false → {r : Result ℕ Refused} → r ≡ answer_of (unplanned (number_of (judged N)) 0) → Promise N B r B
   unfolding outcome_of
   judged-bad f a = record { answer = rw f a; lent_is = rw f (untouched (judged N) f B) }
 
   module _ (g : is_good (judged N) ≡ true) where
-    pub counts-bad : counts_good N ≡ false → {r : Planned} → r ≡ answer_of (unplanned buffer_number 0) → Promise N B r B
+    pub counts-bad : counts_good N ≡ false → {r : Result ℕ Refused} → r ≡ answer_of (unplanned buffer_number 0) → Promise N B r B
     unfolding outcome_of
     counts-bad f a = record { answer = rw (g, f) a; lent_is = rw (g, f) refl }
 
     module _ (c : counts_good N ≡ true) where
-      pub lent-bad : lent_good N.room (lengths_of B) ≡ false → {r : Planned} → r ≡ answer_of (unplanned buffer_number 0) → Promise N B r B
+      pub lent-bad : lent_good N.room (lengths_of B) ≡ false → {r : Result ℕ Refused} → r ≡ answer_of (unplanned buffer_number 0) → Promise N B r B
       unfolding outcome_of
       lent-bad f a = record { answer = rw (g, c, f) a; lent_is = rw (g, c, f) refl }
 
-      pub all-good : lent_good N.room (lengths_of B) ≡ true → {E : Ends} → E ≡ ends_of N.room N.source (sinks_in N.sinks) → {r : Planned} {B' : Lent}
-          → Settled (outcome_by (net_repeaters N.room N.run E.source E.taps (branches_in N)) E.fault) B r B' → Promise N B r B'
-      unfolding outcome_of ends_of planned_marks
+      -- what comes of the ends comes of their fault
+      outcome-is : (f : Option Fault) → outcome_by (marks_with N.room N.run (branches_in N) (unless f (ends_of N.room N.source (sinks_in N.sinks)))) (result_err (unless f (ends_of N.room N.source (sinks_in N.sinks))))
+          ≡ outcome_by (planned_marks N) f
+      unfolding ends_of planned_marks
+      outcome-is None = refl
+      outcome-is (Some fault) = refl
+
+      pub all-good : lent_good N.room (lengths_of B) ≡ true → {E : Result Ends Fault} → E ≡ realized_ends N.room N.source (sinks_in N.sinks) → {r : Result ℕ Refused} {B' : Lent}
+          → Settled (outcome_by (marks_with N.room N.run (branches_in N) E) (result_err E)) B r B' → Promise N B r B'
+      unfolding outcome_of
       all-good t {E} e {r} {B'} S =
-          let o = ap (λ x. outcome_by (net_repeaters N.room N.run x.source x.taps (branches_in N)) x.fault) e in
+          let o = ap (λ x. outcome_by (marks_with N.room N.run (branches_in N) x) (result_err x)) e ∙ outcome-is (fault_of N.room N.source (sinks_in N.sinks)) in
           record { answer = rw (g, c, t) (S.answer ∙ ap answer_of o); lent_is = rw (g, c, t) (S.lent_is ∙ ap (λ x. lent_after x B) o) }

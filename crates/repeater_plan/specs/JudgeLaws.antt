@@ -1,7 +1,7 @@
 -- Laws of the judging: how its loops go, and what is known of branches that no number refuses.
-use Rattle.std.specs.Prelude.{◌≡◌, Bool, eqb, leb, get_or, take}
+use Rattle.std.specs.Prelude.{◌≡◌, Bool, eqb, leb, get_or, take, Option, min}
 use Rattle.std.proofs.Math.Path.{refl, sym, ap}
-use Rattle.std.proofs.Common.{◌∙◌, length-drop, drop_of_length-le, take_all, length-take-le, drop-drop, get_or-take, lt-ltb, le-ltb, le-leb}
+use Rattle.std.proofs.Common.{◌∙◌, length-drop, drop_of_length-le, take_all, drop-drop, lt-ltb, le-ltb, le-leb}
 use Rattle.std.proofs.Math.Bool.{true, false}
 use mathlib.Core.List.{List, [], ◌∷◌, map}
 use Prim.Native.Nat.{ℕ, ◌+◌, ◌-◌, ◌≤◌, ◌<◌}
@@ -12,7 +12,6 @@ use Rattle.basics.specs.Tests.{ask_less}
 use Rattle.basics.specs.Lists.{any, drop_next, in_at}
 use Rattle.room.specs.declared.Room.{Room}
 use Rattle.room.specs.declared.Move.{Move}
-use Rattle.room.specs.declared.Neighbour.{Neighbour}
 use Rattle.room.specs.Room.{sides_good, volume, moves, move_at, by, holds_at, neighbour}
 use Rattle.room.specs.MoveLaws.{small}
 use Rattle.job_sheet.specs.declared.Judgement.{Judgement}
@@ -27,13 +26,9 @@ use Rattle.repeater_plan.specs.Judging.{shorter, held}
 -- ---- so many as are there
 
 module _ (a b : ℕ) where
-  pub shorter-left : a < b → a ≡ shorter a b
+  pub shorter-min : min a b ≡ shorter a b
   unfolding shorter
-  shorter-left h = rw (lt-ltb a b h) refl
-
-  pub shorter_right : b ≤ a → b ≡ shorter a b
-  unfolding shorter
-  shorter_right h = rw (le-ltb a b h) refl
+  shorter-min = ask_less a b (λ h. rw (lt-ltb a b h) (omega arith)) (λ h. rw (le-ltb a b h) (omega arith))
 
   pub shorter-most : (shorter a b ≤ a) × (shorter a b ≤ b)
   unfolding shorter
@@ -89,7 +84,7 @@ unfolding moves
 move-small {k} h e = let s = small (move_at k) (in_at moves k (by 0 0 0) h) in rw e (s.x_small, s.y_small, s.z_small)
 
 -- what is tested is where the k-th move leads
-pub tested : (R : Room) (a b k : ℕ) {m : Move} {place : Neighbour} {r : Bool} → m ≡ move_at k → place ≡ neighbour R a m → r ≡ holds_at (eqb b) place
+pub tested : (R : Room) (a b k : ℕ) {m : Move} {place : Option ℕ} {r : Bool} → m ≡ move_at k → place ≡ neighbour R a m → r ≡ holds_at (eqb b) place
     → r ≡ holds_at (eqb b) (neighbour R a (move_at k))
 tested R a b k e f g = g ∙ ap (holds_at (eqb b)) (f ∙ ap (neighbour R a) e)
 
@@ -161,16 +156,6 @@ module _ {X : Type 0} (fault : X → Judgement) (l : List X) (found : Judgement)
     pub scan_done : length l ≤ k → now ≡ first_fault (found ∷ map fault l)
     scan_done h = sym (only-first now) ∙ rw (drop_of_length-le l h) at I.same
 
--- the same of the first so many of a list
-module _ {X : Type 0} (fault : X → Judgement) (count : ℕ) (l : List X) (found : Judgement) (few : count ≤ length l) {now : Judgement} {k : ℕ}
-    (I : Scanned fault (take count l) found now k) where
-  pub taken_next : is_good now ≡ true → (d : X) → k < count → (next : Judgement) → next ≡ fault (get_or l k d) → Scanned fault (take count l) found next (k + 1)
-  taken_next g d h next n =
-      scan_next fault (take count l) found I g d (omega (arith, length-take-le count l few)) next (n ∙ ap fault (sym (get_or-take count l k d h)))
-
-  pub taken-done : count ≤ k → now ≡ first_fault (found ∷ map fault (take count l))
-  taken-done h = scan_done fault (take count l) found I (omega (arith, length-take-le count l few))
-
 -- ---- the branches, cut off one after another
 
 pub record BranchesScanned (R : Room) (ns cells : List ℕ) (found now : Judgement) (from k : ℕ) : Type 0 where
@@ -189,7 +174,10 @@ module _ (R : Room) (ns cells : List ℕ) (found : Judgement) where
     unfolding cut_into
     branches-done h = sym (only-first now) ∙ rw (drop_of_length-le ns h) at I.same
 
-    module _ (h : k < length ns) (to : ℕ) (e : to ≡ from + shorter (get_or ns k 0) (length cells - from)) where
+    module _ (h : k < length ns) (to : ℕ) (end : to ≡ from + min (get_or ns k 0) (length cells - from)) where
+      e : to ≡ from + shorter (get_or ns k 0) (length cells - from)
+      e = end ∙ ap (λ m. from + m) (shorter-min (get_or ns k 0) (length cells - from))
+
       pub branch-ends : to ≤ length cells
       branch-ends = omega (arith, e, I.inside, (shorter-most (get_or ns k 0) (length cells - from)).1)
 
@@ -214,26 +202,6 @@ module _ (R : Room) (ns cells : List ℕ) (found : Judgement) where
 
           cut : cut_into (drop k ns) (drop from cells) ≡ take (get_or ns k 0) (drop from cells) ∷ cut_into (drop (k + 1) ns) (drop to cells)
           cut = rw (drop_next ns k 0 h, behind) refl
-
--- the same of the first so many lengths
-module _ (R : Room) (count : ℕ) (each cells : List ℕ) (found : Judgement) (few : count ≤ length each) {now : Judgement} {from k : ℕ}
-    (I : BranchesScanned R (take count each) cells found now from k) where
-  pub cut-done : count ≤ k → now ≡ first_fault (found ∷ map (branch_fault R) (cut_into (take count each) cells))
-  cut-done h = branches-done R (take count each) cells found I (omega (arith, length-take-le count each few))
-
-  module _ (h : k < count) {m : ℕ} (e : m ≡ shorter (get_or each k 0) (length cells - from)) where
-    there : k < length (take count each)
-    there = omega (arith, length-take-le count each few)
-
-    size : from + m ≡ from + shorter (get_or (take count each) k 0) (length cells - from)
-    size = ap (λ x. from + x) (e ∙ ap (λ x. shorter x (length cells - from)) (sym (get_or-take count each k 0 h)))
-
-    pub cut-ends : from + m ≤ length cells
-    cut-ends = branch-ends R (take count each) cells found I there (from + m) size
-
-    pub cut-next : is_good now ≡ true → (next : Judgement) → next ≡ branch_fault R (take (from + m - from) (drop from cells))
-        → BranchesScanned R (take count each) cells found next (from + m) (k + 1)
-    cut-next g next n = branches-next R (take count each) cells found I there (from + m) size g next n
 
 -- ---- all of it
 
@@ -279,16 +247,3 @@ module _ (ns : List ℕ) (cells : ℕ) where
     pub away-all : length ns ≤ k → true ≡ leb (sum ns) cells
     unfolding sum
     away-all h = sym (le-leb 0 left (omega arith)) ∙ (rw (drop_of_length-le ns h) at I.same)
-
--- the same of the first so many lengths
-module _ (count : ℕ) (each : List ℕ) (cells : ℕ) (few : count ≤ length each) {left k : ℕ} (I : TakenAway (take count each) cells left k) where
-  pub taken_next_length : k < count → get_or each k 0 ≤ left → TakenAway (take count each) cells (left - get_or each k 0) (k + 1)
-  taken_next_length h q =
-      let e = get_or-take count each k 0 h in
-      rw e at (away-next (take count each) cells I (omega (arith, length-take-le count each few)) (rw e q))
-
-  pub taken-over : k < count → left < get_or each k 0 → false ≡ leb (sum (take count each)) cells
-  taken-over h q = away-over (take count each) cells I (omega (arith, length-take-le count each few)) (rw (get_or-take count each k 0 h) q)
-
-  pub taken-all : count ≤ k → true ≡ leb (sum (take count each)) cells
-  taken-all h = away-all (take count each) cells I (omega (arith, length-take-le count each few))

@@ -1,7 +1,7 @@
 -- THE REPEATERS OF A NET IN ONE CALL: what `plan_net` judges, what it answers, and what every lent byte then holds. Definitions alone; each input determines
 -- all of it (PromiseLaws, `coincide`).
-use Rattle.std.specs.Prelude.{◌≡◌, Bool, true, ◌&&◌, List, [], ◌∷◌, ◌++◌, map, ℕ, eqb, leb, ltb, length}
-use Rattle.numbers.specs.Refusals.{done_number, buffer_number, port_facing_number, end_outside_number}
+use Rattle.std.specs.Prelude.{Result, Ok, Err, ◌≡◌, Bool, true, ◌&&◌, List, [], ◌∷◌, ◌++◌, map, ℕ, eqb, leb, ltb, length, Option, Some, None}
+use Rattle.numbers.specs.Refusals.{done_number, buffer_number}
 use Rattle.basics.specs.Tests.{either}
 use Rattle.basics.specs.Lists.{any, every}
 use Rattle.lent.specs.Lent.{output_after, work_after}
@@ -13,14 +13,12 @@ use Rattle.job_sheet.specs.declared.Judgement.{Judgement}
 use Rattle.job_sheet.specs.declared.Judgement.TheVariants as judgement
 use Rattle.job_sheet.specs.Sheet.{max_sinks, is_good, first_fault, limit_fault, endpoint_fault, sink_fault, number_of}
 use Rattle.ends.specs.declared.Fault.{Fault}
-use Rattle.ends.specs.declared.Fault.TheVariants as fault
-use Rattle.ends.specs.Ends.{sinks_in, fault_of, terminal_in, source_end, taps_of}
+use Rattle.ends.specs.Ends.{sinks_in, fault_number, fault_of, terminal_in, source_end, taps_of}
 use Rattle.branches.specs.declared.BranchLengths.{BranchLengths}
 use Rattle.branches.specs.Branches.{lengths_in, branches_of, sum, marked_count}
 use Rattle.repeaters.specs.NetEnds.{net_repeaters}
 use Rattle.repeater_plan.specs.declared.Lengths.{Lengths}
-use Rattle.repeater_plan.specs.declared.Planned.{Planned}
-use Rattle.repeater_plan.specs.declared.Planned.TheVariants.{Repeaters, Refused}
+use Rattle.repeater_plan.specs.declared.Refused.{Refused}
 
 -- what is asked: "source, sinks, branches and the limits". Branches stand one behind the other in one list of cells; each sink has its tail limit
 pub record Net : Type 0 where
@@ -110,10 +108,9 @@ planned_marks N =
     net_repeaters N.room N.run (terminal_in (source_end N.room N.source)) (taps_of N.room (sinks_in N.sinks)) (branches_in N)
 
 -- "8, 9, as for a tree"
-abbrev pub outcome_by : List ℕ → Fault → Outcome
-outcome_by marks fault.Good = planned marks
-outcome_by marks (fault.NoFacing place) = unplanned port_facing_number place
-outcome_by marks (fault.Outside place) = unplanned end_outside_number place
+abbrev pub outcome_by : List ℕ → Option Fault → Outcome
+outcome_by marks None = planned marks
+outcome_by marks (Some fault) = unplanned (fault_number fault.due) fault.place
 
 -- "2, 3, 4 before 5 in each record, 6, 8, 9"
 unfoldable pub outcome_of : Net → Lent → Outcome
@@ -124,9 +121,9 @@ outcome_of N B =
 
 -- ---- the answer, and the lent buffers
 
-abbrev pub answer_of : Outcome → Planned
-answer_of (planned marks) = Repeaters (marked_count marks)
-answer_of (unplanned number detail) = Refused number detail
+abbrev pub answer_of : Outcome → Result ℕ Refused
+answer_of (planned marks) = Ok (marked_count marks)
+answer_of (unplanned number detail) = Err (record { number = number; detail = detail })
 
 abbrev pub number_for : Outcome → ℕ
 number_for (planned marks) = done_number
@@ -147,6 +144,6 @@ lent_after o B = record {
 }
 
 -- the promise of `plan_net`
-pub record Promise (N : Net) (B : Lent) (r : Planned) (B' : Lent) : Type 0 where
+pub record Promise (N : Net) (B : Lent) (r : Result ℕ Refused) (B' : Lent) : Type 0 where
   pub answer : r ≡ answer_of (outcome_of N B)
   pub lent_is : B' ≡ lent_after (outcome_of N B) B

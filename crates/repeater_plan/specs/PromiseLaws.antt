@@ -1,12 +1,14 @@
 -- The promise of `plan_net` determines everything.
+use Rattle.std.specs.Prelude as prelude
+use Rattle.std.specs.Prelude.{ℕ}
 use Rattle.std.proofs.Common.{sym, ◌∙◌}
 use Rattle.basics.specs.Promises.{Determines}
-use Rattle.repeater_plan.specs.declared.Planned.{Planned}
+use Rattle.repeater_plan.specs.declared.Refused.{Refused}
 use Rattle.repeater_plan.specs.Plan.{Net, Lent, Promise}
 
 -- two results that keep the promise coincide: the answer, and every byte of lent memory
 pub record Result : Type 0 where
-  pub answer : Planned
+  pub answer : prelude.Result ℕ Refused
   pub lent : Lent
 
 module _ (N : Net) (B : Lent) where

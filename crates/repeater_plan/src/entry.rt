@@ -1,64 +1,58 @@
 // The public call: the order of judgement, and what is lent.
-ghost use Rattle.std.specs.Prelude.{◌≡◌};
+ghost use Rattle.std.specs.Prelude.{◌≡◌, Ok};
+ghost use Rattle.std.specs.Result.{result_err};
 ghost use Rattle.lent.specs.Lent.{Cleared};
 ghost use Rattle.room.specs.Room.{Good};
 ghost use Rattle.branches.specs.Branches.{branches_of};
 ghost use Rattle.repeaters.specs.NetEnds.{net_repeaters};
-ghost use Rattle.ends.specs.declared.Fault.{Fault};
+ghost use Rattle.ends.specs.declared.Ends.{Ends};
 ghost use Rattle.repeater_plan.specs.Plan.{net, lent, lent_good, outcome_by, unplanned, answer_of, Promise};
-ghost use Rattle.repeater_plan.specs.Entry.{Frontable, FrontPlaced, PlacedBy, Lendable, Settled};
+ghost use Rattle.repeater_plan.specs.Entry.{Frontable, FrontPlaced, PlacedBy, marks_with, Lendable, Settled};
 
 use crate::judge::{counts_good, judge};
-use crate::{Lengths, Planned};
+use crate::{Lengths, Refused};
 use branches::BranchLengths;
 use ends::{Ends, Fault, Taps};
 use job_sheet::{Endpoint, Sinks};
 use room::Room;
 
 // A refusal carries no repeaters.
-fn refuse(number: u32, detail: usize) -> Planned
+fn refuse(number: u32, detail: usize) -> Result<usize, Refused>
     ensures { result ≡ answer_of (unplanned number detail) }
 {
-    Planned::Refused { number, detail }
+    Err(Refused { number, detail })
 }
 
 // Whether marks and work memory suffice for each cell.
+#[tactic(auto, unfolding(crate::specs::Plan::lent_good))]
 fn lent_good(room: Room, lent: Lengths) -> bool
     requires { Good room }
     ensures { result ≡ lent_good room lent }
 {
     let cells = room.volume();
-    if lent.repeaters < cells {
-        return false;
-    }
-    if lent.forbidden < cells {
-        return false;
-    }
-    if lent.links < cells {
-        return false;
-    }
-    if lent.parents < cells {
-        return false;
-    }
-    cells <= lent.line
+    cells <= lent.repeaters
+        && cells <= lent.forbidden
+        && cells <= lent.links
+        && cells <= lent.parents
+        && cells <= lent.line
 }
 
 // The marks are cleared, to their very end.
 fn clear_marks(repeaters: &mut [u8], forbidden: &mut [u8])
     ensures { Cleared repeaters.old repeaters.new × Cleared forbidden.old forbidden.new }
 {
-    lent::clear_bytes(repeaters);
-    lent::clear_bytes(forbidden);
+    lent::clear(repeaters);
+    lent::clear(forbidden);
 }
 
 // Work memory is cleared, to its very end.
 fn clear_work(forbidden: &mut [u8], links: &mut [u32], parents: &mut [u32], line: &mut [u32])
     ensures { Cleared forbidden.old forbidden.new × Cleared links.old links.new × Cleared parents.old parents.new × Cleared line.old line.new }
 {
-    lent::clear_bytes(forbidden);
-    lent::clear_words(links);
-    lent::clear_words(parents);
-    lent::clear_words(line);
+    lent::clear(forbidden);
+    lent::clear(links);
+    lent::clear(parents);
+    lent::clear(line);
 }
 
 // The repeaters, marked in front of cleared memory, and counted.
@@ -99,7 +93,7 @@ fn place_front(
 fn place_or_refuse(
     room: Room,
     run: usize,
-    ends: Ends,
+    ends: Result<Ends, Fault>,
     branches: &[u32],
     lengths: BranchLengths,
     repeaters: &mut [u8],
@@ -107,13 +101,12 @@ fn place_or_refuse(
     links: &mut [u32],
     parents: &mut [u32],
     line: &mut [u32],
-) -> Planned
-    requires { ends.fault ≡ Fault.Good → Frontable room ends.source ends.taps lengths branches.now (lent repeaters.old forbidden.old links.old parents.old line.old) }
-    ensures { PlacedBy ends.fault (net_repeaters room run ends.source ends.taps (branches_of lengths branches.now)) room repeaters.old result repeaters.new }
+) -> Result<usize, Refused>
+    requires { (e : Ends) → ends ≡ Ok e → Frontable room e.source e.taps lengths branches.now (lent repeaters.old forbidden.old links.old parents.old line.old) }
+    ensures { PlacedBy (result_err ends) (marks_with room run (branches_of lengths branches.now) ends) room repeaters.old result repeaters.new }
 {
-    let fault = ends.fault;
-    match fault {
-        Fault::Good => Planned::Repeaters(place_front(
+    match ends {
+        Ok(ends) => Ok(place_front(
             room,
             run,
             ends.source,
@@ -126,8 +119,7 @@ fn place_or_refuse(
             parents,
             line,
         )),
-        Fault::NoFacing(place) => refuse(numbers::PORT_FACING_NUMBER, place),
-        Fault::Outside(place) => refuse(numbers::END_OUTSIDE_NUMBER, place),
+        Err(fault) => refuse(fault.number(), fault.place),
     }
 }
 
@@ -135,7 +127,7 @@ fn place_or_refuse(
 fn plan_lent(
     room: Room,
     run: usize,
-    ends: Ends,
+    ends: Result<Ends, Fault>,
     branches: &[u32],
     lengths: BranchLengths,
     repeaters: &mut [u8],
@@ -143,9 +135,9 @@ fn plan_lent(
     links: &mut [u32],
     parents: &mut [u32],
     line: &mut [u32],
-) -> Planned
-    requires { ends.fault ≡ Fault.Good → Lendable room ends.source ends.taps lengths branches.now (lent repeaters.old forbidden.old links.old parents.old line.old) }
-    ensures { Settled (outcome_by (net_repeaters room run ends.source ends.taps (branches_of lengths branches.now)) ends.fault) (lent repeaters.old forbidden.old links.old parents.old line.old) result (lent repeaters.new forbidden.new links.new parents.new line.new) }
+) -> Result<usize, Refused>
+    requires { (e : Ends) → ends ≡ Ok e → Lendable room e.source e.taps lengths branches.now (lent repeaters.old forbidden.old links.old parents.old line.old) }
+    ensures { Settled (outcome_by (marks_with room run (branches_of lengths branches.now) ends) (result_err ends)) (lent repeaters.old forbidden.old links.old parents.old line.old) result (lent repeaters.new forbidden.new links.new parents.new line.new) }
 {
     clear_marks(repeaters, forbidden);
     let planned = place_or_refuse(
@@ -170,7 +162,7 @@ pub fn plan_net(
     links: &mut [u32],
     parents: &mut [u32],
     line: &mut [u32],
-) -> Planned
+) -> Result<usize, Refused>
     ensures { Promise (net room run source sinks branches.now lengths) (lent repeaters.old forbidden.old links.old parents.old line.old) result (lent repeaters.new forbidden.new links.new parents.new line.new) }
 {
     let judgement = judge(room, run, source, sinks, branches, lengths);

@@ -5,28 +5,26 @@ ghost use Rattle.job_sheet.specs.Sheet.{max_sinks, first_fault, sink_fault};
 ghost use Rattle.ends.specs.Ends.{sinks_in};
 ghost use Rattle.branches.specs.Branches.{lengths_in, branches_of, sum};
 ghost use Rattle.repeater_plan.specs.Plan.{is_move, head_good, branch_fault, net, judged};
-ghost use Rattle.repeater_plan.specs.Judging.{held, shorter};
+ghost use Rattle.repeater_plan.specs.Judging.{held};
 
 use branches::BranchLengths;
 use job_sheet::faults::{endpoint_fault, limit_fault, sink_fault};
 use job_sheet::{Endpoint, Judgement, MAX_SINKS, Sinks};
-use room::{Neighbour, Room, as_index};
+use room::{Room, as_index};
 
 // How many of sixteen places a count takes, which may be too high.
+#[tactic(auto, unfolding(crate::specs::Judging::shorter))]
 fn held(count: usize) -> usize
     ensures { (result ≡ held count) × (result ≤ max_sinks) }
 {
-    if count < MAX_SINKS { count } else { MAX_SINKS }
+    count.min(MAX_SINKS)
 }
 
 // Whether this is the place of that cell.
-fn is_at(place: Neighbour, cell: usize) -> bool
+fn is_at(place: Option<usize>, cell: usize) -> bool
     ensures { result ≡ holds_at (eqb cell) place }
 {
-    match place {
-        Neighbour::Inside(v) => cell == v,
-        Neighbour::Outside => false,
-    }
+    place == Some(cell)
 }
 
 // Whether one of the twelve moves leads from cell a to cell b, by their positions.
@@ -35,12 +33,10 @@ fn is_move(room: Room, a: usize, b: usize) -> bool
     requires a_bound { a < volume room }
     ensures { result ≡ is_move room a b }
 {
-    let mut k: usize = 0;
-    while k < 12 {
+    for k in 0..Room::MOVES.len() {
         if is_at(room.neighbour(a, Room::move_at(k)), b) {
             return true;
         }
-        k += 1;
     }
     false
 }
@@ -55,10 +51,7 @@ fn place_good(room: Room, branch: &[u32], i: usize) -> bool
     if room.volume() <= cell {
         return false;
     }
-    if branch.len() <= i + 1 {
-        return true;
-    }
-    is_move(room, cell, as_index(branch[i + 1]))
+    branch.len() <= i + 1 || is_move(room, cell, as_index(branch[i + 1]))
 }
 
 // What is wrong with a branch: "4 also for a branch step that isn't one of the twelve moves".
@@ -66,12 +59,10 @@ fn branch_fault(room: Room, branch: &[u32]) -> Judgement
     requires { Good room }
     ensures { result ≡ branch_fault room branch.now }
 {
-    let mut i: usize = 0;
-    while i < branch.len() {
+    for i in 0..branch.len() {
         if !place_good(room, branch, i) {
             return Judgement::Position;
         }
-        i += 1;
     }
     Judgement::Good
 }
@@ -82,25 +73,14 @@ fn first_sink(found: Judgement, room: Room, sinks: Sinks) -> Judgement
     ensures { result ≡ first_fault (found ∷ map (sink_fault room) (sinks_in sinks)) }
 {
     let count = held(sinks.count);
-    let ends = sinks.ends;
     let mut fault = found;
-    let mut k: usize = 0;
-    while k < count {
+    for sink in &sinks.ends[..count] {
         if !fault.is_good() {
             return fault;
         }
-        let sink = ends[k];
-        fault = sink_fault(room, sink);
-        k += 1;
+        fault = sink_fault(room, *sink);
     }
     fault
-}
-
-// So much of a length as is there.
-fn shorter(a: usize, b: usize) -> usize
-    ensures { result ≡ shorter a b }
-{
-    if a < b { a } else { b }
 }
 
 // The fault found so far or, where there is none, the first of the branches; of a length that goes too far, what is there.
@@ -110,18 +90,16 @@ fn first_branch(found: Judgement, room: Room, branches: &[u32], lengths: BranchL
     ensures { result ≡ first_fault (found ∷ map (branch_fault room) (branches_of lengths branches.now)) }
 {
     let count = held(lengths.count);
-    let each = lengths.each;
     let mut fault = found;
     let mut from: usize = 0;
-    let mut k: usize = 0;
-    while k < count {
+    for length in &lengths.each[..count] {
         if !fault.is_good() {
             return fault;
         }
-        let to = from + shorter(each[k], branches.len() - from);
+        let held = (*length).min(branches.len() - from);
+        let to = from + held;
         fault = branch_fault(room, &branches[from..to]);
         from = to;
-        k += 1;
     }
     fault
 }
@@ -156,16 +134,12 @@ fn add_up_within(lengths: BranchLengths, cells: usize) -> bool
     requires { (length lengths.each ≡ max_sinks) × (lengths.count ≤ max_sinks) }
     ensures { result ≡ leb (sum (lengths_in lengths)) cells }
 {
-    let count = lengths.count;
-    let each = lengths.each;
     let mut left = cells;
-    let mut k: usize = 0;
-    while k < count {
-        if left < each[k] {
+    for length in &lengths.each[..lengths.count] {
+        if left < *length {
             return false;
         }
-        left -= each[k];
-        k += 1;
+        left -= *length;
     }
     true
 }
@@ -175,11 +149,5 @@ pub fn counts_good(sinks: usize, lengths: BranchLengths, cells: usize) -> bool
     requires { length lengths.each ≡ max_sinks }
     ensures { result ≡ leb sinks max_sinks && (leb lengths.count max_sinks && leb (sum (lengths_in lengths)) cells) }
 {
-    if MAX_SINKS < sinks {
-        return false;
-    }
-    if MAX_SINKS < lengths.count {
-        return false;
-    }
-    add_up_within(lengths, cells)
+    sinks <= MAX_SINKS && lengths.count <= MAX_SINKS && add_up_within(lengths, cells)
 }

@@ -7,11 +7,11 @@ mod judge; // judge.rt: numbers 2 to 6
 
 pub use entry::plan_net;
 
-// What comes of it: how many repeaters are marked, or a number with its detail.
+// Why a net has no plan: a number with its detail.
 #[derive(Clone, Copy)]
-pub enum Planned {
-    Repeaters(usize),
-    Refused { number: u32, detail: usize },
+pub struct Refused {
+    pub number: u32,
+    pub detail: usize,
 }
 
 // How long the lent slices are.

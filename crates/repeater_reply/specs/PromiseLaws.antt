@@ -1,5 +1,5 @@
 -- The promise of `plan_and_tell`, which is that of `dustroute_place_repeaters`, determines everything.
-use Rattle.std.specs.Prelude.{◌≡◌, Bool, List, ℕ}
+use Rattle.std.specs.Prelude.{Bool, List, ℕ}
 use Rattle.std.proofs.Common.{sym, ◌∙◌}
 use Rattle.basics.specs.Promises.{Determines}
 use Rattle.repeater_plan.specs.Plan.{Net, Lent}

@@ -1,18 +1,17 @@
 -- Laws of the telling: what the numbers hold, and that a plan that isn't well told touches nothing.
-use Rattle.std.specs.Prelude.{◌≡◌, Bool, true, false, ◌&&◌, List, [], ◌∷◌, ◌++◌, ℕ, ◌+◌, ◌-◌, ◌*◌, ◌/◌, ◌≤◌, ◌<◌, eqb, leb, get_or, drop, set}
+use Rattle.std.specs.Prelude.{Result, Ok, Err, ◌≡◌, Bool, true, false, List, [], ◌∷◌, ◌++◌, ℕ, ◌+◌, ◌-◌, ◌*◌, ◌/◌, ◌≤◌, ◌<◌, eqb, get_or, drop, set, min}
 use Rattle.std.proofs.Math.Path.{refl, ap}
-use Rattle.std.proofs.Common.{sym, subst, ◌∙◌, append-nil, add-one, arith, drop_of_length-le, take-suc, length-take-le}
-use Rattle.std.proofs.Math.Nat.{mul-div-le}
+use Rattle.std.proofs.Common.{sym, subst, ◌∙◌, append-nil, add-one, arith, take-suc, length-take-le}
+use Rattle.std.proofs.Math.Nat.{mul-div-le, min_comm}
 use Rattle.std.proofs.Math.ListN.{length, take, replicate}
 use Rattle.std.proofs.Math.Seq.{take_all, take-length, drop-length}
 use borrow.Author.Tests.{eq-eqb, ne_eqb, leb-true, lt-leb}
-use Rattle.numbers.specs.Refusals.{done_number, buffer_number}
-use Rattle.basics.specs.Tests.{either, ask, ask_less, and_left, and_right, never}
-use Rattle.basics.specs.Lists.{every}
+use Rattle.numbers.specs.Refusals.{done_number}
+use Rattle.basics.specs.Tests.{either, ask, ask_less, and_right, never}
 use Rattle.basics.specs.Padding.{padded_next}
 use Rattle.lent.specs.Lent.{touches, filled, output_after}
 use Rattle.room.specs.declared.Room.{Room}
-use Rattle.room.specs.Room.{Good, volume}
+use Rattle.room.specs.Room.{volume}
 use Rattle.room.specs.RoomLaws.{cell_in}
 use Rattle.job_sheet.specs.declared.Endpoint.{Endpoint}
 use Rattle.job_sheet.specs.declared.Sinks.{Sinks}
@@ -22,26 +21,25 @@ use Rattle.job_sheet.specs.Sheet.{max_sinks, no_endpoint, is_good, number_of}
 use Rattle.sheet_writer.specs.Writer.{whole}
 use Rattle.sheet_writer.specs.Export.{end_numbers, end_from, sink_numbers, sinks_from}
 use Rattle.branches.specs.declared.BranchLengths.{BranchLengths}
-use Rattle.repeater_plan.specs.declared.Planned.{Planned}
-use Rattle.repeater_plan.specs.declared.Planned.TheVariants.{Repeaters, Refused}
+use Rattle.repeater_plan.specs.declared.Refused.{Refused}
 use Rattle.repeater_plan.specs.Plan.{Net, net, judged, Lent, lent, lengths_of, lent_good, counts_good, Outcome, planned, unplanned, outcome_of, answer_of, number_for, lent_after, Promise}
 use Rattle.repeater_plan.specs.Judging.{shorter}
-use Rattle.repeater_plan.specs.JudgeLaws.{shorter-left, shorter_right, shorter-most, shorter_take}
+use Rattle.repeater_plan.specs.JudgeLaws.{shorter-min, shorter-most, shorter_take}
 use Rattle.repeater_plan.specs.EntryLaws.{no_fault}
 use Rattle.repeater_reply.specs.Reply.{source_told, sinks_told, lengths_told, value_count, well_told, lent_told, told_outcome, values_for, PlanTold}
 
 -- ---- what the contracts cite
 
-abbrev pub planned_number : Planned → ℕ
-planned_number (Repeaters count) = done_number
-planned_number (Refused number detail) = number
+abbrev pub planned_number : Result ℕ Refused → ℕ
+planned_number (Ok count) = done_number
+planned_number (Err why) = why.number
 
-abbrev pub planned_values : Planned → List ℕ
-planned_values (Repeaters count) = 0 ∷ count ∷ []
-planned_values (Refused number detail) = detail ∷ 0 ∷ []
+abbrev pub planned_values : Result ℕ Refused → List ℕ
+planned_values (Ok count) = 0 ∷ count ∷ []
+planned_values (Err why) = why.detail ∷ 0 ∷ []
 
 -- values enough for an answer that touches them
-abbrev pub Fit : Planned → List ℕ → Type 0
+abbrev pub Fit : Result ℕ Refused → List ℕ → Type 0
 Fit answer values = touches (planned_number answer) ≡ true → value_count ≤ length values
 
 -- ---- the source, the sinks, the lengths
@@ -56,7 +54,10 @@ module _ (l : List ℕ) where
   source-none h q = rw (ne_eqb _ _ h) q
 
   -- the first sixteen records
-  module _ {most : ℕ} (m : most ≡ shorter (sink_numbers * max_sinks) (length l)) where
+  module _ {most : ℕ} (least : most ≡ min (length l) (sink_numbers * max_sinks)) where
+    m : most ≡ shorter (sink_numbers * max_sinks) (length l)
+    m = least ∙ min_comm (length l) (sink_numbers * max_sinks) ∙ shorter-min (sink_numbers * max_sinks) (length l)
+
     front : take most l ≡ take (sink_numbers * max_sinks) l
     front = rw m (shorter_take (sink_numbers * max_sinks) l)
 
@@ -82,12 +83,11 @@ module _ {l : List ℕ} where
   pub lengths_none : LengthsGathered l (replicate max_sinks 0) 0
   lengths_none = record { same = refl; so_far = omega arith; there = omega arith }
 
-  module _ {each : List ℕ} {k held : ℕ} (I : LengthsGathered l each k) (m : held ≡ shorter max_sinks (length l)) where
+  module _ {each : List ℕ} {k held : ℕ} (I : LengthsGathered l each k) (m : held ≡ min (length l) max_sinks) where
     pub lengths-next : k < held → {x : ℕ} → x ≡ get_or l k 0 → LengthsGathered l (set each k x) (k + 1)
     lengths-next h {x} e =
-        let a = shorter-most max_sinks (length l) in
-        let few : k < max_sinks = omega (arith, h, m, a.0) in
-        let some : k < length l = omega (arith, h, m, a.1) in
+        let few : k < max_sinks = omega (arith, h, m) in
+        let some : k < length l = omega (arith, h, m) in
         let one_more : take k l ++ (x ∷ []) ≡ take (k + 1) l = rw (e, add-one k) (sym (take-suc l k 0 some)) in
         record {
           same =
@@ -106,29 +106,16 @@ module _ {l : List ℕ} where
         whole-list =
             ask_less max_sinks (length l)
             (λ q.
-            let z : k ≡ max_sinks = omega (arith, h, m, shorter-left max_sinks (length l) q, I.so_far) in
+            let z : k ≡ max_sinks = omega (arith, h, m, q, I.so_far) in
             let n : max_sinks - length l ≡ max_sinks - max_sinks = omega (arith, q) in
             rw (z, n) refl)
             (λ q.
-            let z : k ≡ length l = omega (arith, h, m, shorter_right max_sinks (length l) q, I.there) in
+            let z : k ≡ length l = omega (arith, h, m, q, I.there) in
             rw (z, take-length l, take_all max_sinks l q) refl)
 
 -- ---- what isn't well told
 
 module _ (source sinks values : ℕ) where
-  pub told-short : (source ≡ end_numbers → ⊥) → false ≡ well_told source sinks values
-  unfolding well_told
-  told-short h = rw (ne_eqb _ _ h) refl
-
-  module _ (a : source ≡ end_numbers) where
-    pub told_ragged : whole sink_numbers sinks ≡ false → false ≡ well_told source sinks values
-    unfolding well_told
-    told_ragged f = rw (eq-eqb _ _ a, f) refl
-
-    pub told-values : whole sink_numbers sinks ≡ true → leb value_count values ≡ well_told source sinks values
-    unfolding well_told
-    told-values t = rw (eq-eqb _ _ a, t) refl
-
   pub values-enough : well_told source sinks values ≡ true → value_count ≤ values
   unfolding well_told
   values-enough t = leb-true _ _ (and_right (whole sink_numbers sinks) _ (and_right (eqb source end_numbers) _ t))
@@ -195,14 +182,14 @@ lent-kept false N B B₁ l m =
 -- what is handed on is what the numbers tell
 pub told_promise : (R : Room) (cells : List ℕ) (well : Bool) (B : Lent) (source sinks lengths : List ℕ) {run run' : ℕ} → run' ≡ run → {e : Endpoint} → e ≡ source_told source
     → {k : Sinks} → k ≡ sinks_told sinks → {L : BranchLengths} → L ≡ lengths_told lengths
-    → {marks : ℕ} → marks ≡ either well (length B.repeaters) 0 → {r : Planned} {B₁ : Lent}
+    → {marks : ℕ} → marks ≡ either well (length B.repeaters) 0 → {r : Result ℕ Refused} {B₁ : Lent}
     → Promise (net R run' e k cells L) (lent (take marks B.repeaters) B.forbidden B.links B.parents B.line) r B₁
     → Promise (net R run (source_told source) (sinks_told sinks) cells (lengths_told lengths)) (lent_told well B) r B₁
 told_promise R cells well B source sinks lengths {run} a b c d {marks} m {r} {B₁} P =
     subst (λ x. Promise (net R run (source_told source) (sinks_told sinks) cells (lengths_told lengths)) x r B₁) (marks-lent well B m)
     (subst (λ (x : Net). Promise x (lent (take marks B.repeaters) B.forbidden B.links B.parents B.line) r B₁) (λ i. net R (a i) (b i) (c i) cells (d i)) P)
 
-module _ (N : Net) (well : Bool) (B : Lent) {r : Planned} {B₁ : Lent} (P : Promise N (lent_told well B) r B₁) where
+module _ (N : Net) (well : Bool) (B : Lent) {r : Result ℕ Refused} {B₁ : Lent} (P : Promise N (lent_told well B) r B₁) where
   number_is : planned_number r ≡ number_for (told_outcome N well B)
   number_is = ap planned_number P.answer ∙ answer-number (told_outcome N well B)
 

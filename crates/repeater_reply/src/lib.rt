@@ -2,18 +2,16 @@
 // name.
 #![tactic(auto)]
 
-ghost use Rattle.std.specs.Prelude.{◌≡◌, [], ◌∷◌, ◌≤◌, length};
+ghost use Rattle.std.specs.Prelude.{◌≡◌, Err, [], ◌∷◌, ◌≤◌, length};
 ghost use Rattle.basics.specs.Tests.{either};
-ghost use Rattle.lent.specs.Lent.{filled, output_after};
-ghost use Rattle.repeater_plan.specs.declared.Planned.{Planned};
+ghost use Rattle.lent.specs.Lent.{output_after};
 ghost use Rattle.repeater_plan.specs.Plan.{lent};
-ghost use Rattle.repeater_plan.specs.Judging.{shorter};
 ghost use Rattle.repeater_reply.specs.Reply.{source_told, sinks_told, lengths_told, net_told, value_count, well_told, PlanTold};
 ghost use Rattle.repeater_reply.specs.ReplyLaws.{planned_number, planned_values, Fit};
 
 use branches::BranchLengths;
 use job_sheet::{Endpoint, MAX_SINKS, Sinks};
-use repeater_plan::Planned;
+use repeater_plan::Refused;
 use room::{Room, as_index};
 
 // How many numbers tell an end, and a sink with its tail limit.
@@ -24,21 +22,15 @@ const SINK_NUMBERS: usize = 6;
 // How many values a plan comes to: its detail, and how many repeaters there are.
 const VALUES: usize = 2;
 
-// So many as are there.
-fn at_most(most: usize, there: usize) -> usize
-    ensures { result ≡ shorter most there }
-{
-    if most < there { most } else { there }
-}
-
 // The source, if so many numbers tell it.
 fn source_told(numbers: &[u16]) -> Endpoint
     ensures { result ≡ source_told numbers.now }
 {
     if numbers.len() == END_NUMBERS {
-        return sheet_writer::end_from(numbers, 0);
+        sheet_writer::end_from(numbers, 0)
+    } else {
+        job_sheet::no_endpoint()
     }
-    job_sheet::no_endpoint()
 }
 
 // The sinks: how many whole records there are, and the first sixteen.
@@ -46,7 +38,7 @@ fn sinks_told(numbers: &[u16]) -> Sinks
     ensures { result ≡ sinks_told numbers.now }
 {
     let count = numbers.len() / SINK_NUMBERS;
-    let most = at_most(SINK_NUMBERS * MAX_SINKS, numbers.len());
+    let most = numbers.len().min(SINK_NUMBERS * MAX_SINKS);
     let held = sheet_writer::sinks_of(&numbers[..most]);
     let ends = held.ends;
     Sinks { count, ends }
@@ -57,27 +49,20 @@ fn lengths_told(numbers: &[u32]) -> BranchLengths
     ensures { result ≡ lengths_told numbers.now }
 {
     let count = numbers.len();
-    let held = at_most(MAX_SINKS, count);
+    let held = count.min(MAX_SINKS);
     let mut each = [0; MAX_SINKS];
-    let mut k: usize = 0;
-    while k < held {
-        each[k] = as_index(numbers[k]);
-        k += 1;
+    for (k, number) in numbers[..held].iter().enumerate() {
+        each[k] = as_index(*number);
     }
     BranchLengths { count, each }
 }
 
 // Number 6 is due where this is false: of how many numbers tell the source and the sinks, and how many values are lent.
+#[tactic(auto, unfolding(crate::specs::Reply::well_told))]
 fn well_told(source: usize, sinks: usize, values: usize) -> bool
     ensures { result ≡ well_told source sinks values }
 {
-    if source != END_NUMBERS {
-        return false;
-    }
-    if sinks % SINK_NUMBERS != 0 {
-        return false;
-    }
-    VALUES <= values
+    source == END_NUMBERS && sinks % SINK_NUMBERS == 0 && VALUES <= values
 }
 
 // So much of the output is lent: none where what is told isn't well told.
@@ -87,40 +72,30 @@ fn lent_marks(well: bool, marks: usize) -> usize
     if well { marks } else { 0 }
 }
 
-// The values of an answer, and zeros behind them.
-fn write_two(values: &mut [u64], detail: usize, count: usize)
-    requires { value_count ≤ length values.old }
-    ensures { values.new ≡ filled (detail ∷ count ∷ []) values.old }
-{
-    lent::clear_longs(values);
-    values[0] = detail as u64;
-    values[1] = count as u64;
-}
-
 // A refusal's number; by 2 to 6 it writes nothing.
-fn tell_refusal(number: u32, detail: usize, values: &mut [u64]) -> u32
-    requires { Fit (Planned.Refused number detail) values.old }
-    ensures value { result ≡ number }
-    ensures values_after { values.new ≡ output_after number (detail ∷ 0 ∷ []) values.old }
+fn tell_refusal(refused: Refused, values: &mut [u64]) -> u32
+    requires { Fit (Err refused) values.old }
+    ensures value { result ≡ refused.number }
+    ensures values_after { values.new ≡ output_after refused.number (refused.detail ∷ 0 ∷ []) values.old }
 {
-    if lent::touches(number) {
-        write_two(values, detail, 0);
+    if lent::touches(refused.number) {
+        lent::write_two(values, refused.detail as u64, 0);
     }
-    number
+    refused.number
 }
 
 // Writes the values and returns the number.
-fn tell(answer: Planned, values: &mut [u64]) -> u32
+fn tell(answer: Result<usize, Refused>, values: &mut [u64]) -> u32
     requires { Fit answer values.old }
     ensures value { result ≡ planned_number answer }
     ensures values_after { values.new ≡ output_after (planned_number answer) (planned_values answer) values.old }
 {
     match answer {
-        Planned::Repeaters(count) => {
-            write_two(values, 0, count);
+        Ok(count) => {
+            lent::write_two(values, 0, count as u64);
             numbers::DONE_NUMBER
         }
-        Planned::Refused { number, detail } => tell_refusal(number, detail, values),
+        Err(refused) => tell_refusal(refused, values),
     }
 }
 

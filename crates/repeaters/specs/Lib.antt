@@ -7,6 +7,7 @@ pub mod AdjacencyLaws
 pub mod NeighbourLaws
 pub mod CandidateLaws
 pub mod Roots
+pub mod Searches
 pub mod RootLaws
 pub mod Strides
 pub mod StrideLaws

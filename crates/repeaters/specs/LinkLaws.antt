@@ -1,12 +1,12 @@
 -- Laws of the masks: what each move is, and how a loop over the bits goes.
-use Rattle.std.specs.Prelude.{◌≡◌, true, false, List, [], ℕ, ◌+◌, ◌/◌, ◌%◌, ◌≤◌, ◌<◌, eqb, length, drop}
+use Rattle.std.specs.Prelude.{◌≡◌, Bool, true, false, is_some, List, [], ℕ, ◌+◌, ◌/◌, ◌%◌, ◌≤◌, ◌<◌, eqb, length, drop, Option, Some, None}
 use Rattle.std.proofs.Common.{sym, ap, ◌∙◌}
 use native.Mathlib.Omega.{arith}
+use mir.Val.{bool_byte}
 use Rattle.basics.specs.Tests.{ask, never}
 use Rattle.basics.specs.Lists.{drop_next}
 use Rattle.room.specs.declared.Room.{Room}
 use Rattle.room.specs.declared.Pos.{Pos}
-use Rattle.room.specs.declared.Neighbour.{Neighbour}
 use Rattle.room.specs.Room.{volume, pos_of, by, moves, neighbour_at, neighbour}
 use Rattle.room.specs.MoveLaws.{leads, small}
 use Rattle.repeaters.specs.Links.{ordered_moves, ordered_move, linked_place, cons_place, inside_count, cells_by}
@@ -28,13 +28,18 @@ module _ (R : Room) (p : Pos) (rest k : ℕ) where
   unfolding cells_by ordered_moves moves
   cells-none h l = let e : k ≡ 12 = omega arith in rw e
 
-cons_length : (place : Neighbour) (vs : List ℕ) → length (cons_place place vs) ≡ inside_count place + length vs
-cons_length (Neighbour.Inside v) vs = omega arith
-cons_length Neighbour.Outside vs = omega arith
+cons_length : (place : Option ℕ) (vs : List ℕ) → length (cons_place place vs) ≡ inside_count place + length vs
+cons_length (Some v) vs = omega arith
+cons_length None vs = omega arith
 
-pub inside_one : (place : Neighbour) → inside_count place ≤ 1
-inside_one (Neighbour.Inside v) = omega arith
-inside_one Neighbour.Outside = omega arith
+-- one more where there is a cell
+pub counted : (place : Option ℕ) (s : Bool) (n : ℕ) → s ≡ is_some place → n ≡ bool_byte s → n ≡ inside_count place
+counted (Some v) s n e f = f ∙ ap bool_byte e
+counted None s n e f = f ∙ ap bool_byte e
+
+pub inside_one : (place : Option ℕ) → inside_count place ≤ 1
+inside_one (Some v) = omega arith
+inside_one None = omega arith
 
 -- the loop that counts: those that are left and those counted make all
 pub record LinksCounted (R : Room) (p : Pos) (mask rest count k : ℕ) : Type 0 where
@@ -58,8 +63,8 @@ module _ {R : Room} {p : Pos} {mask : ℕ} where
     links-all h = omega (arith, I.same, ap length (cells-none R p rest k I.within h))
 
 -- a linked place is a cell of the room
-pub linked_in : (R : Room) (n : ℕ) (p : Pos) (mask k : ℕ) → p ≡ pos_of R n → (place : Neighbour) → place ≡ linked_place R p mask (ordered_move k)
-    → (v : ℕ) → place ≡ Neighbour.Inside v → v < volume R
+pub linked_in : (R : Room) (n : ℕ) (p : Pos) (mask k : ℕ) → p ≡ pos_of R n → (place : Option ℕ) → place ≡ linked_place R p mask (ordered_move k)
+    → (v : ℕ) → place ≡ Some v → v < volume R
 unfolding neighbour
 linked_in R n p mask k f place e v g =
     ask (eqb (mask % 2) 1)
@@ -70,4 +75,4 @@ linked_in R n p mask k f place e v g =
     led t = rw (t, f) at e
 
     out : eqb (mask % 2) 1 ≡ false → ◌≡◌ {A = ℕ} 0 1
-    out n = let q : place ≡ Neighbour.Outside = rw n at e in cc
+    out n = let q : place ≡ None = rw n at e in cc

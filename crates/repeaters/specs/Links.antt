@@ -1,11 +1,10 @@
 -- Tree neighbours as the code holds them: a mask of twelve bits a cell. Bit k says that the cell where the k-th move leads is a tree neighbour; the moves
 -- stand in the number order of the cells that they lead to.
-use Rattle.std.specs.Prelude.{◌≡◌, Bool, List, [], ◌∷◌, map, ℕ, ◌/◌, ◌%◌, eqb, length, get_or}
+use Rattle.std.specs.Prelude.{◌≡◌, Bool, List, [], ◌∷◌, map, ℕ, ◌/◌, ◌%◌, eqb, length, get_or, Option, Some, None}
 use Rattle.basics.specs.Tests.{either}
 use Rattle.room.specs.declared.Room.{Room}
 use Rattle.room.specs.declared.Pos.{Pos}
 use Rattle.room.specs.declared.Move.{Move}
-use Rattle.room.specs.declared.Neighbour.{Neighbour}
 use Rattle.room.specs.Room.{Good, volume, pos_of, by, move_at, neighbour_at}
 use Rattle.repeaters.specs.Repeaters.{fits}
 use Rattle.routing_resources.specs.Marks.{AllCells}
@@ -21,16 +20,16 @@ abbrev pub ordered_move : ℕ → Move
 ordered_move k = get_or ordered_moves k (by 0 0 0)
 
 -- the cell that a move leads to, if the mask's lowest bit is set
-abbrev pub linked_place : Room → Pos → ℕ → Move → Neighbour
-linked_place R p mask m = either (eqb (mask % 2) 1) (neighbour_at R p m) Neighbour.Outside
+abbrev pub linked_place : Room → Pos → ℕ → Move → Option ℕ
+linked_place R p mask m = either (eqb (mask % 2) 1) (neighbour_at R p m) None
 
-abbrev pub cons_place : Neighbour → List ℕ → List ℕ
-cons_place (Neighbour.Inside v) vs = v ∷ vs
-cons_place Neighbour.Outside vs = vs
+abbrev pub cons_place : Option ℕ → List ℕ → List ℕ
+cons_place (Some v) vs = v ∷ vs
+cons_place None vs = vs
 
-abbrev pub inside_count : Neighbour → ℕ
-inside_count (Neighbour.Inside v) = 1
-inside_count Neighbour.Outside = 0
+abbrev pub inside_count : Option ℕ → ℕ
+inside_count (Some v) = 1
+inside_count None = 0
 
 -- the cells that the set bits lead to
 unfoldable pub cells_by : Room → Pos → ℕ → List Move → List ℕ

@@ -1,5 +1,5 @@
 -- Laws of the masks: their bits, and that linking cells adds to the relation that they hold.
-use Rattle.std.specs.Prelude.{◌≡◌, refl, Bool, true, false, ◌&&◌, ◌||◌, List, ℕ, zero, suc, ◌+◌, ◌-◌, ◌/◌, ◌%◌, ◌^◌, ◌≤◌, ◌<◌, ltb, get_or, set, replicate}
+use Rattle.std.specs.Prelude.{◌≡◌, refl, Bool, true, false, ◌&&◌, ◌||◌, List, ℕ, zero, suc, ◌+◌, ◌-◌, ◌/◌, ◌%◌, ◌^◌, ◌≤◌, ◌<◌, ltb, get_or, set, replicate, Option, Some, None}
 use Rattle.std.proofs.Math.Path.{sym}
 use Rattle.std.proofs.Common.{ap, ◌∙◌, suc-le-suc, le_of_suc-le-suc, not-suc-le-zero, pow-suc, div-one, arith, length-set, get_or-set_same, get_or-set_other, eq-eqb, ne_eqb, eqb-true, ltb-true}
 use Rattle.std.proofs.Math.Bool.{or_assoc, or_comm}
@@ -14,7 +14,6 @@ use Rattle.basics.specs.Counts.{bit, bit-small}
 use Rattle.room.specs.declared.Room.{Room}
 use Rattle.room.specs.declared.Pos.{Pos}
 use Rattle.room.specs.declared.Move.{Move}
-use Rattle.room.specs.declared.Neighbour.{Neighbour}
 use Rattle.room.specs.Room.{max_side, Good, volume, pos_of, by, moves, move_at, holds_at, neighbour, Step, move_between}
 use Rattle.room.specs.RoomLaws.{small_pos}
 use Rattle.room.specs.MoveLaws.{Moved, leads, small, symmetric, opposite, opposite_in, same_move, same_move_lem, between_is}
@@ -134,7 +133,7 @@ module _ {R : Room} {a b : ℕ} (s : Step R a b) where
   pub step_in : step_index R a b < 12
   step_in = rw step_move (index_in s.move s.listed)
 
-  pub step-ordered : neighbour R a (ordered_move (step_index R a b)) ≡ Neighbour.Inside b
+  pub step-ordered : neighbour R a (ordered_move (step_index R a b)) ≡ Some b
   step-ordered = rw (step_move, ordered-index s.move s.listed) s.leads
 
   pub step_back : Good R → Step R b a
@@ -146,7 +145,7 @@ module _ {R : Room} {a b : ℕ} (s : Step R a b) where
   }
 
 -- the k-th move leads from a to b only where k is the step's number
-only_step : (R : Room) (a b k : ℕ) → k < 12 → neighbour R a (ordered_move k) ≡ Neighbour.Inside b → step_index R a b ≡ k
+only_step : (R : Room) (a b k : ℕ) → k < 12 → neighbour R a (ordered_move k) ≡ Some b → step_index R a b ≡ k
 only_step R a b k h e = rw (between_is (pos_of R a) (pos_of R b) (ordered_move k) (leads R a (ordered_move k) b e).moved) (index-ordered k h)
 
 -- ---- the relation that the masks hold
@@ -157,9 +156,9 @@ masks-same {R} {p} {q} s M = record {
   bits = λ u h. M.bits u h ∙ mask_same 12 (is_link R p u) (is_link R q u) (λ k l. one u (neighbour R u (ordered_move k)));
 }
   where
-    one : (u : ℕ) (place : Neighbour) → holds_at (p u) place ≡ holds_at (q u) place
-    one u (Neighbour.Inside v) = s u v
-    one u Neighbour.Outside = refl
+    one : (u : ℕ) (place : Option ℕ) → holds_at (p u) place ≡ holds_at (q u) place
+    one u (Some v) = s u v
+    one u None = refl
 
 pub masks-none : (R : Room) → Masks R (λ u v. false) (replicate (volume R) 0)
 masks-none R = record {
@@ -169,9 +168,9 @@ masks-none R = record {
       ∙ sym (mask_same 12 (is_link R (λ a b. false) u) (λ k. false) (λ k l. one (neighbour R u (ordered_move k))) ∙ mask_none 12);
 }
   where
-    one : (place : Neighbour) → holds_at (λ b. false) place ≡ false
-    one (Neighbour.Inside v) = refl
-    one Neighbour.Outside = refl
+    one : (place : Option ℕ) → holds_at (λ b. false) place ≡ false
+    one (Some v) = refl
+    one None = refl
 
 module _ {R : Room} {a b : ℕ} (s : Step R a b) (p : ℕ → ℕ → Bool) where
   abbrev index : ℕ
@@ -188,20 +187,20 @@ module _ {R : Room} {a b : ℕ} (s : Step R a b) (p : ℕ → ℕ → Bool) wher
       yes_step : eqb index k ≡ true → (eqb index k || is_link R p a k) ≡ is_link R (with_link a b p) a k
       yes_step t = let e : index ≡ k = eqb-true index k t in rw (t, ← e, step-ordered s, eq-eqb a a refl, eq-eqb b b refl)
 
-      no_step : eqb index k ≡ false → (place : Neighbour) → neighbour R a (ordered_move k) ≡ place
+      no_step : eqb index k ≡ false → (place : Option ℕ) → neighbour R a (ordered_move k) ≡ place
           → (eqb index k || is_link R p a k) ≡ is_link R (with_link a b p) a k
-      no_step f (Neighbour.Inside v) e =
+      no_step f (Some v) e =
           let n : eqb b v ≡ false = ne_eqb b v (λ q. eqb-false index k f (only_step R a b k h (rw q e))) in
           rw (f, e, eq-eqb a a refl, n)
-      no_step f Neighbour.Outside e = rw (f, e)
+      no_step f None e = rw (f, e)
 
   -- at any other, nothing changes
   same_bits : (u k : ℕ) → (a ≡ u → ⊥) → is_link R p u k ≡ is_link R (with_link a b p) u k
   same_bits u k n = one (neighbour R u (ordered_move k))
     where
-      one : (place : Neighbour) → holds_at (p u) place ≡ holds_at (with_link a b p u) place
-      one (Neighbour.Inside v) = rw (ne_eqb a u n)
-      one Neighbour.Outside = refl
+      one : (place : Option ℕ) → holds_at (p u) place ≡ holds_at (with_link a b p u) place
+      one (Some v) = rw (ne_eqb a u n)
+      one None = refl
 
   module _ {links : List ℕ} (M : Masks R p links) where
     link-bit : get_or links a 0 / 2 ^ index % 2 ≡ bit (p a b)

@@ -1,5 +1,5 @@
 -- The cells that the masks of a tree lead to are its tree neighbours, in number order.
-use Rattle.std.specs.Prelude.{◌≡◌, refl, ◌⊎◌, Bool, false, ◌&&◌, ◌||◌, ltb, length, get_or, replicate}
+use Rattle.std.specs.Prelude.{◌≡◌, refl, ◌⊎◌, Bool, false, ◌&&◌, ◌||◌, ltb, length, get_or, replicate, Option, Some, None}
 use Rattle.std.proofs.Common.{sym, ap, ◌∙◌, inl, inr, le_of_suc-le-suc, not-suc-le-zero, arith, eqb-true, ltb-true}
 use Rattle.std.proofs.Math.Path.{fun_ext}
 use Rattle.std.proofs.Math.Logic.{⊎_elim}
@@ -14,7 +14,6 @@ use Rattle.basics.specs.Counts.{bit}
 use Rattle.room.specs.declared.Room.{Room}
 use Rattle.room.specs.declared.Pos.{Pos}
 use Rattle.room.specs.declared.Move.{Move}
-use Rattle.room.specs.declared.Neighbour.{Neighbour}
 use Rattle.room.specs.Room.{Good, volume, pos_of, by, moves, neighbour_at, neighbour, Step}
 use Rattle.room.specs.RoomLaws.{Before, order, cell_pos}
 use Rattle.room.specs.MoveLaws.{Moved, leads}
@@ -80,7 +79,7 @@ module _ (p : ℕ → Bool) where
 -- those where the k-th move is picked by f k
 abbrev picked : Room → Pos → (ℕ → Bool) → List Move → List ℕ
 picked R p f [] = []
-picked R p f (m ∷ ms) = cons_place (either (f zero) (neighbour_at R p m) Neighbour.Outside) (picked R p (λ k. f (suc k)) ms)
+picked R p f (m ∷ ms) = cons_place (either (f zero) (neighbour_at R p m) None) (picked R p (λ k. f (suc k)) ms)
 
 bit-one : (b : Bool) → eqb (bit b) 1 ≡ b
 bit-one true = refl
@@ -96,39 +95,39 @@ unfolding cells_by
 by-nothing R p [] = refl
 by-nothing R p (m ∷ ms) = by-nothing R p ms
 
-cons_in : (w : ℕ) (place : Neighbour) (vs : List ℕ) → In w (cons_place place vs) → (place ≡ Neighbour.Inside w) ⊎ In w vs
-cons_in w (Neighbour.Inside v) vs (inl e) = inl (ap Neighbour.Inside (sym e))
-cons_in w (Neighbour.Inside v) vs (inr i) = inr i
-cons_in w Neighbour.Outside vs i = inr i
+cons_in : (w : ℕ) (place : Option ℕ) (vs : List ℕ) → In w (cons_place place vs) → (place ≡ Some w) ⊎ In w vs
+cons_in w (Some v) vs (inl e) = inl (ap Some (sym e))
+cons_in w (Some v) vs (inr i) = inr i
+cons_in w None vs i = inr i
 
-in_cons : (w : ℕ) (place : Neighbour) (vs : List ℕ) → (place ≡ Neighbour.Inside w) ⊎ In w vs → In w (cons_place place vs)
-in_cons w (Neighbour.Inside v) vs (inl e) = inl (cc)
-in_cons w (Neighbour.Inside v) vs (inr i) = inr i
-in_cons w Neighbour.Outside vs (inl e) = never (cc)
-in_cons w Neighbour.Outside vs (inr i) = i
+in_cons : (w : ℕ) (place : Option ℕ) (vs : List ℕ) → (place ≡ Some w) ⊎ In w vs → In w (cons_place place vs)
+in_cons w (Some v) vs (inl e) = inl (cc)
+in_cons w (Some v) vs (inr i) = inr i
+in_cons w None vs (inl e) = never (cc)
+in_cons w None vs (inr i) = i
 
 -- a place that is picked
 record Picked (R : Room) (p : Pos) (f : ℕ → Bool) (ms : List Move) (w : ℕ) : Type 0 where
   pub k : ℕ
   pub within : k < length ms
   pub set : f k ≡ true
-  pub there : neighbour_at R p (get_or ms k (by 0 0 0)) ≡ Neighbour.Inside w
+  pub there : neighbour_at R p (get_or ms k (by 0 0 0)) ≡ Some w
 
 picked_in : (R : Room) (p : Pos) (ms : List Move) (f : ℕ → Bool) (w : ℕ) → In w (picked R p f ms) → Picked R p f ms w
 picked_in R p [] f w i = absurd i
 picked_in R p (m ∷ ms) f w i = go (picked_in R p ms (λ k. f (suc k)) w) (cons_in w _ _ i)
   where
     go : (In w (picked R p (λ k. f (suc k)) ms) → Picked R p (λ k. f (suc k)) ms w)
-        → (either (f zero) (neighbour_at R p m) Neighbour.Outside ≡ Neighbour.Inside w) ⊎ In w (picked R p (λ k. f (suc k)) ms) → Picked R p f (m ∷ ms) w
+        → (either (f zero) (neighbour_at R p m) None ≡ Some w) ⊎ In w (picked R p (λ k. f (suc k)) ms) → Picked R p f (m ∷ ms) w
     go ih (inl e) = ask (f zero) (λ t. record { k = zero; within = omega arith; set = t; there = rw t at e }) (λ n. never (cc (rw n at e)))
     go ih (inr j) = let r = ih j in record { k = suc r.k; within = omega (arith, r.within); set = r.set; there = r.there }
 
 in_picked : (R : Room) (p : Pos) (ms : List Move) (f : ℕ → Bool) (w k : ℕ) → k < length ms → f k ≡ true
-    → neighbour_at R p (get_or ms k (by 0 0 0)) ≡ Neighbour.Inside w → In w (picked R p f ms)
+    → neighbour_at R p (get_or ms k (by 0 0 0)) ≡ Some w → In w (picked R p f ms)
 in_picked R p [] f w k h t e = absurd (not-suc-le-zero h)
 in_picked R p (m ∷ ms) f w zero h t e = rw t (in_cons w (neighbour_at R p m) (picked R p (λ j. f (suc j)) ms) (inl e))
 in_picked R p (m ∷ ms) f w (suc k) h t e =
-    in_cons w (either (f zero) (neighbour_at R p m) Neighbour.Outside) (picked R p (λ j. f (suc j)) ms)
+    in_cons w (either (f zero) (neighbour_at R p m) None) (picked R p (λ j. f (suc j)) ms)
     (inr (in_picked R p ms (λ j. f (suc j)) w k (le_of_suc-le-suc h) t e))
 
 -- ---- the moves stand in number order
@@ -160,7 +159,7 @@ earlier-before p q r a b v w e = go (or_cases _ _ e)
         )
 
 module _ (R : Room) (u : ℕ) where
-  led-order : (a b : Move) (v w : ℕ) → neighbour_at R (pos_of R u) a ≡ Neighbour.Inside v → neighbour_at R (pos_of R u) b ≡ Neighbour.Inside w
+  led-order : (a b : Move) (v w : ℕ) → neighbour_at R (pos_of R u) a ≡ Some v → neighbour_at R (pos_of R u) b ≡ Some w
       → earlier a b ≡ true → v < w
   unfolding neighbour
   led-order a b v w e f l =
@@ -172,19 +171,19 @@ module _ (R : Room) (u : ℕ) where
   picked_ascend : (ms : List Move) (f : ℕ → Bool) → in_order ms ≡ true → Ascending (picked R (pos_of R u) f ms)
   picked_ascend [] f o = tt
   picked_ascend (m ∷ ms) f o =
-      cons (picked_ascend ms (λ k. f (suc k)) (and_right (every (earlier m) ms) (in_order ms) o)) (either (f zero) (neighbour_at R (pos_of R u) m) Neighbour.Outside) refl
+      cons (picked_ascend ms (λ k. f (suc k)) (and_right (every (earlier m) ms) (in_order ms) o)) (either (f zero) (neighbour_at R (pos_of R u) m) None) refl
     where
-      above : (v : ℕ) → either (f zero) (neighbour_at R (pos_of R u) m) Neighbour.Outside ≡ Neighbour.Inside v → (w : ℕ)
+      above : (v : ℕ) → either (f zero) (neighbour_at R (pos_of R u) m) None ≡ Some v → (w : ℕ)
           → In w (picked R (pos_of R u) (λ k. f (suc k)) ms) → v < w
       above v e w i =
           let r = picked_in R (pos_of R u) ms (λ k. f (suc k)) w i in
           let l = every_in (earlier m) ms (and_left (every (earlier m) ms) (in_order ms) o) (get_or ms r.k (by 0 0 0)) (in_at ms r.k (by 0 0 0) r.within) in
           ask (f zero) (λ t. led-order m (get_or ms r.k (by 0 0 0)) v w (rw t at e) r.there l) (λ n. never (cc (rw n at e)))
 
-      cons : Ascending (picked R (pos_of R u) (λ k. f (suc k)) ms) → (place : Neighbour)
-          → either (f zero) (neighbour_at R (pos_of R u) m) Neighbour.Outside ≡ place → Ascending (cons_place place (picked R (pos_of R u) (λ k. f (suc k)) ms))
-      cons rest (Neighbour.Inside v) e = (above v e, rest)
-      cons rest Neighbour.Outside e = rest
+      cons : Ascending (picked R (pos_of R u) (λ k. f (suc k)) ms) → (place : Option ℕ)
+          → either (f zero) (neighbour_at R (pos_of R u) m) None ≡ place → Ascending (cons_place place (picked R (pos_of R u) (λ k. f (suc k)) ms))
+      cons rest (Some v) e = (above v e, rest)
+      cons rest None e = rest
 
 -- ---- what holds both ways of each two cells that stand next to each other on a branch holds of tree neighbours
 

@@ -1,5 +1,5 @@
 -- Laws of the breadth-first search in a line, and of the path by parents.
-use Rattle.std.specs.Prelude.{◌≡◌, ◌≢◌, ℕ, zero, suc, ◌+◌, ◌-◌, ◌/◌, ◌≤◌, ◌<◌, ltb, get_or, take, drop, replicate}
+use Rattle.std.specs.Prelude.{◌≡◌, ◌≢◌, ℕ, zero, suc, ◌+◌, ◌-◌, ◌/◌, ◌≤◌, ◌<◌, ltb, get_or, take, drop, replicate, Option, Some, None}
 use Rattle.std.proofs.Math.Path.{refl, sym, ap}
 use Rattle.std.proofs.Common.{◌∙◌, not-suc-le-zero, add-one, arith, take-suc-set, get_or-set_same, get_or-set_other, length-take-le, take_at}
 use mathlib.Core.List.{List, [], ◌∷◌, ◌++◌}
@@ -13,7 +13,6 @@ use Rattle.basics.specs.Folds.{along}
 use Rattle.basics.specs.Zeros.{zeros}
 use Rattle.room.specs.declared.Room.{Room}
 use Rattle.room.specs.declared.Pos.{Pos}
-use Rattle.room.specs.declared.Neighbour.{Neighbour}
 use Rattle.room.specs.Room.{volume}
 use Rattle.best_first.specs.ListsAfterSet.{nonzeros, nonzeros-none, nonzeros-new}
 use Rattle.trace.specs.Traces.{PreviousInside}
@@ -30,6 +29,15 @@ use Rattle.routing_resources.specs.Marks.{AllCells}
 -- a cell that is not reached is one more to come
 nonzeros-less : (ps : List ℕ) (v : ℕ) → v < length ps → get_or ps v 0 ≡ 0 → nonzeros ps < length ps
 nonzeros-less ps v h e = omega (arith, nonzeros-new ps v 0 h e, times-most (ltb 0) (set ps v 1), length-set ps v 1)
+
+-- before any cell is reached, the line holds none
+pub held-none : (n : ℕ) (line : List ℕ) → length line ≡ n → LineHeld (replicate n 0) line 0
+held-none n line e = record {
+  line-long = e ∙ sym (length-replicate {A = ℕ} n 0);
+  counted = nonzeros-none n;
+  cells = λ i h. absurd (omega (arith, h));
+  parents-inside = λ v. rw (zeros n v) (omega arith);
+}
 
 -- ---- one cell is met
 
@@ -49,6 +57,15 @@ waiting-more line head reached v h k =
 module _ {parents line : List ℕ} {reached : ℕ} (H : LineHeld parents line reached) where
   pub held-most : reached ≤ length parents
   held-most = omega (arith, H.counted, times-most (ltb 0) parents)
+
+  -- what is written at the line's end is no part of it yet
+  pub line-put : (v : ℕ) → LineHeld parents (set line reached v) reached
+  line-put v = record {
+    line-long = length-set line reached v ∙ H.line-long;
+    counted = H.counted;
+    cells = λ i h. rw (get_or-set_other line reached i v 0 (λ e. absurd (omega (arith, h, e)))) (H.cells i h);
+    parents-inside = H.parents-inside;
+  }
 
   pub met-before : (from v : ℕ) → get_or parents v 0 ≢ 0 → Met from (v ∷ []) parents line reached parents line reached
   met-before from v n = record { held = H; long = refl; on = omega arith; goes = λ head h. meet-before from v parents (slice head reached line) n }
@@ -88,10 +105,10 @@ module _ {parents line : List ℕ} {reached : ℕ} (H : LineHeld parents line re
 
 -- ---- the loop over the bits of a mask
 
-meet-more : (from : ℕ) (place : Neighbour) (vs : List ℕ) (w : Wave) → meet_all from (cons_place place vs) w ≡ meet_all from vs (meet_all from (cons_place place []) w)
+meet-more : (from : ℕ) (place : Option ℕ) (vs : List ℕ) (w : Wave) → meet_all from (cons_place place vs) w ≡ meet_all from vs (meet_all from (cons_place place []) w)
 unfolding along
-meet-more from (Neighbour.Inside v) vs w = refl
-meet-more from Neighbour.Outside vs w = refl
+meet-more from (Some v) vs w = refl
+meet-more from None vs w = refl
 
 pub record Visiting (R : Room) (p : Pos) (from mask : ℕ) (parents₀ line₀ : List ℕ) (reached₀ : ℕ) (parents line : List ℕ) (reached rest k : ℕ) : Type 0 where
   pub within : k ≤ 12
@@ -107,7 +124,7 @@ module _ {R : Room} {p : Pos} {from mask : ℕ} {parents₀ line₀ : List ℕ} 
   visiting_none H = record { within = omega arith; held = H; long = refl; on = omega arith; goes = λ head h. refl }
 
   module _ {parents line : List ℕ} {reached rest k : ℕ} (I : Visiting R p from mask parents₀ line₀ reached₀ parents line reached rest k) where
-    pub visiting_next : k < 12 → (place : Neighbour) → place ≡ linked_place R p rest (ordered_move k) → {parents' line' : List ℕ} {reached' : ℕ}
+    pub visiting_next : k < 12 → (place : Option ℕ) → place ≡ linked_place R p rest (ordered_move k) → {parents' line' : List ℕ} {reached' : ℕ}
         → Met from (cons_place place []) parents line reached parents' line' reached'
         → Visiting R p from mask parents₀ line₀ reached₀ parents' line' reached' (rest / 2) (k + 1)
     visiting_next h place e {parents'} {line'} {reached'} M = record {
@@ -119,7 +136,7 @@ module _ {R : Room} {p : Pos} {from mask : ℕ} {parents₀ line₀ : List ℕ} 
           ap (meet_all from (cells_left R p (rest / 2) (k + 1))) (M.goes head (omega (arith, I.on)))
           ∙ sym (meet-more from place (cells_left R p (rest / 2) (k + 1)) (wave parents (slice head reached line)))
           ∙ ap (λ (vs : List ℕ). meet_all from vs (wave parents (slice head reached line)))
-          (ap (λ (q : Neighbour). cons_place q (cells_left R p (rest / 2) (k + 1))) e ∙ sym (cells-more R p rest k h))
+          (ap (λ (q : Option ℕ). cons_place q (cells_left R p (rest / 2) (k + 1))) e ∙ sym (cells-more R p rest k h))
           ∙ I.goes head q;
     }
 
@@ -143,38 +160,18 @@ pub record Spreading (R : Room) (source : ℕ) (links parents line : List ℕ) (
       ≡ spread (volume R) (linked_cells R links) (wave (first_parents (volume R) source) (source ∷ []))
 
 module _ {R : Room} {source : ℕ} {links : List ℕ} where
-  pub spreading_first : (line : List ℕ) → source < volume R → length line ≡ volume R
-      → Spreading R source links (first_parents (volume R) source) (set line 0 source) 0 1
-  spreading_first line h e = record {
-    held = record {
-      line-long = length-set line 0 source ∙ e ∙ sym long;
-      counted = rw add-one (nonzeros-new (replicate (volume R) 0) source source (rw (length-replicate {A = ℕ} (volume R) 0) h) (get_or-replicate {A = ℕ} (volume R) source 0 0 h) ∙ ap suc (nonzeros-none (volume R)));
-      cells = λ i k. rw long (first i k);
-      parents-inside = λ v. rw long (parent v);
-    };
-    long = long;
+  -- the source counts as met from itself, before any other cell
+  pub spreading_first : {line parents' line' : List ℕ} {reached' : ℕ} → source < volume R
+      → Met source (source ∷ []) (replicate (volume R) 0) line 0 parents' line' reached' → Spreading R source links parents' line' 0 reached'
+  spreading_first {line} h M = record {
+    held = M.held;
+    long = M.long ∙ length-replicate {A = ℕ} (volume R) 0;
     within = omega arith;
-    same = rw sub-zero (ap (λ (ws : List ℕ). spread (volume R) (linked_cells R links) (wave (first_parents (volume R) source) ws)) (one line e));
+    same = rw sub-zero (ap (spread (volume R) (linked_cells R links)) (M.goes 0 (omega arith) ∙ sym first));
   }
     where
-      long : length (first_parents (volume R) source) ≡ volume R
-      long = length-set (replicate (volume R) 0) source (source + 1) ∙ length-replicate {A = ℕ} (volume R) 0
-
-      some : 0 < length line
-      some = omega arith
-
-      first : (i : ℕ) → i < 1 → get_or (set line 0 source) i 0 < volume R
-      first i k = let z : i ≡ 0 = omega arith in rw (z, get_or-set_same line 0 source 0 some) h
-
-      parent : (v : ℕ) → get_or (first_parents (volume R) source) v 0 ≤ volume R
-      parent v =
-          ask_same v source
-          (λ q. rw (q, get_or-set_same (replicate (volume R) 0) source (source + 1) 0 (rw (length-replicate {A = ℕ} (volume R) 0) h)) (omega arith))
-          (λ d. rw (get_or-set_other (replicate (volume R) 0) source v (source + 1) 0 d, zeros (volume R) v) (omega arith))
-
-      one : (l : List ℕ) → length l ≡ volume R → slice 0 1 (set l 0 source) ≡ source ∷ []
-      one [] q = absurd (omega arith)
-      one (x ∷ xs) q = refl
+      first : wave (first_parents (volume R) source) (source ∷ []) ≡ meet_all source (source ∷ []) (wave (replicate (volume R) 0) (slice 0 0 line))
+      first = rw (slice_empty 0 line) (meet-now source source (replicate (volume R) 0) [] (get_or-replicate {A = ℕ} (volume R) source 0 0 h))
 
   module _ {parents line : List ℕ} {head reached : ℕ} (I : Spreading R source links parents line head reached) where
     pub spreading_most : reached ≤ volume R

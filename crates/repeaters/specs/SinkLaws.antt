@@ -41,6 +41,11 @@ pub tree-ready : {R : Room} {source : ℕ} {T : Taps} {L : BranchLengths} {cells
     → {links' parents' : List ℕ} → length links' ≡ length links → Rooted R source links' parents' → TreeReady R links' parents' forbidden
 tree-ready P e r = record { good = P.good; links-long = e ∙ P.links-long; parents-long = r.long; parents-inside = r.parents-inside; forbidden-long = P.forbidden-long }
 
+-- each sink in use has its terminal in the room
+pub terminal-inside : {R : Room} {T : Taps} → TapsInside R T → (i : ℕ) → i < length (taps_in T) → (get_or (taps_in T) i no_tap).terminal < volume R
+terminal-inside {T = T} f i h =
+    let k : i < T.count = rw (taps-long f) at h in rw (← tap-is T i k) (f.terminal_in_lem i k)
+
 -- the walk over the sinks in use, whose marks keep their length
 pub record Sown (put : Tap → List ℕ → List ℕ) (T : Taps) (start marks : List ℕ) (k : ℕ) : Type 0 where
   pub long : length marks ≡ length start
@@ -51,15 +56,15 @@ module _ {put : Tap → List ℕ → List ℕ} {T : Taps} {start : List ℕ} whe
   sown_none = record { long = refl; walk = fold_first put (taps_in T) start }
 
   module _ {marks : List ℕ} {k : ℕ} (I : Sown put T start marks k) where
-    pub sown_next : {R : Room} → TapsInside R T → k < T.count → (tap : Tap) → tap ≡ get_or T.taps k no_tap → {marks' : List ℕ} → length marks' ≡ length marks
+    pub sown_next : k < length (taps_in T) → (tap : Tap) → tap ≡ get_or (taps_in T) k no_tap → {marks' : List ℕ} → length marks' ≡ length marks
         → marks' ≡ put tap marks → Sown put T start marks' (k + 1)
-    sown_next f h tap t e g = record {
+    sown_next h tap t e g = record {
       long = e ∙ I.long;
-      walk = fold_next put (taps_in T) I.walk no_tap (rw (taps-long f) h) _ (g ∙ ap (λ (x : Tap). put x marks) (t ∙ tap-is T k h));
+      walk = fold_next put (taps_in T) I.walk no_tap h _ (g ∙ ap (λ (x : Tap). put x marks) t);
     }
 
-    pub sown_all : {R : Room} → TapsInside R T → T.count ≤ k → marks ≡ along put (taps_in T) start
-    sown_all f h = fold_last put (taps_in T) I.walk (rw (taps-long f) h)
+    pub sown_all : length (taps_in T) ≤ k → marks ≡ along put (taps_in T) start
+    sown_all h = fold_last put (taps_in T) I.walk h
 
 module _ (R : Room) (limit source : ℕ) (taps : List Tap) (branches : List (List ℕ)) (forbidden links parents : List ℕ) where
   pub placed : linked_cells R links ≡ tree_neighbours branches (volume R) → parents ≡ parents_from (linked_cells R links) (volume R) source

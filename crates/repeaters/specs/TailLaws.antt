@@ -1,15 +1,16 @@
 -- Laws of the tails: the loops for the last repeater and the earliest place, and the cases of what is put there.
-use Rattle.std.specs.Prelude.{◌≡◌, ◌⊎◌, Bool, true, false, List, eqb, length, get_or, set}
+use Rattle.std.specs.Prelude.{◌≡◌, ◌⊎◌, Bool, true, false, List, eqb, length, get_or, set, Option, Some, None}
 use Rattle.std.proofs.Math.Path.{refl}
 use Rattle.std.proofs.Common.{sym, ap, ◌∙◌, ⊎_elim}
 use Rattle.std.proofs.Math.Logic.{inl, inr}
 use Prim.Native.Nat.{ℕ, zero, suc, ◌+◌, ◌-◌, ◌≤◌, ◌<◌}
 use native.Mathlib.Omega.{arith}
 use borrow.Author.Tests.{lt-ltb, le-ltb, eq-eqb, ne_eqb}
-use Rattle.basics.specs.Tests.{either, ask, passed}
+use Rattle.basics.specs.Tests.{either, ask, and_left, passed}
 use Rattle.room.specs.declared.Room.{Room}
 use Rattle.repeaters.specs.Repeaters.{path_cell, fits, latest, earliest, repeater_at, with_repeater, end, last_reset, tail_fit, tail_place, reinforced}
-use Rattle.repeaters.specs.StrideLaws.{latest-is, latest-next}
+use Rattle.repeaters.specs.StrideLaws.{latest-is, latest-next, place-some, place-none}
+use Rattle.repeaters.specs.Strides.{place_of}
 
 -- a place that fits has a cell before it and one behind it
 module _ (R : Room) (next : ℕ → List ℕ) (forbidden path : List ℕ) (i : ℕ) (e : fits R next forbidden path i ≡ true) where
@@ -20,6 +21,10 @@ module _ (R : Room) (next : ℕ → List ℕ) (forbidden path : List ℕ) (i : �
   pub fit-more : i + 1 < length path
   unfolding fits
   fit-more = search passed
+
+-- and so has one where the tail's repeater may stand
+pub tail-later : (R : Room) (next : ℕ → List ℕ) (forbidden path marks : List ℕ) (i : ℕ) → tail_fit (fits R next forbidden path) path marks i ≡ true → 0 < i
+tail-later R next forbidden path marks i e = fit-later R next forbidden path i (and_left (fits R next forbidden path i) _ e)
 
 -- ---- the loops
 
@@ -54,8 +59,9 @@ module _ (p : ℕ → Bool) where
       ask (p from) (λ t. rw t (inr (omega arith)))
       (λ f. rw f (⊎_elim {C = (earliest p n (from + 1) ≡ 0) ⊎ (earliest p n (from + 1) < from + suc n)} (λ e. inl e) (λ h. inr (omega arith)) (earliest-is n (from + 1))))
 
-  pub earliest_in : (n from place : ℕ) → place ≡ earliest p n from → (place ≡ 0 → ⊥) → place < from + n
-  earliest_in n from place e k = ⊎_elim {C = place < from + n} (λ z. absurd (k (e ∙ z))) (λ h. rw e h) (earliest-is n from)
+  pub earliest_in : (n from place : ℕ) → Some place ≡ place_of (earliest p n from) → place < from + n
+  earliest_in n from place e =
+      let k = place-some (earliest p n from) place e in ⊎_elim {C = place < from + n} (λ z. absurd (k.1 (k.0 ∙ z))) (λ h. rw k.0 h) (earliest-is n from)
 
 -- the earliest of the places left is the earliest of all
 pub record Seeking (p : ℕ → Bool) (start end i : ℕ) : Type 0 where
@@ -92,15 +98,17 @@ module _ (limit : ℕ) (fit : ℕ → Bool) (path marks : List ℕ) (last : ℕ)
   unfolding reinforced
   reinforced-near h = rw (← l, le-ltb (last + limit) (end path) h)
 
-  module _ (far : limit < end path - last) (place : ℕ)
-      (e : place ≡ earliest (tail_fit fit path marks) (end path - (end path - limit)) (end path - limit)) where
-    is_tail : place ≡ tail_place limit fit path marks
-    is_tail = let n : end path - (end path - limit) ≡ limit = omega arith in e ∙ ap (λ m. earliest (tail_fit fit path marks) m (end path - limit)) n
+  module _ (far : limit < end path - last) (place : Option ℕ)
+      (e : place ≡ place_of (earliest (tail_fit fit path marks) (end path - (end path - limit)) (end path - limit))) where
+    is_tail : place ≡ place_of (tail_place limit fit path marks)
+    is_tail = let n : end path - (end path - limit) ≡ limit = omega arith in e ∙ ap (λ m. place_of (earliest (tail_fit fit path marks) m (end path - limit))) n
 
-    pub reinforced-none : place ≡ 0 → marks ≡ reinforced limit fit path marks
+    pub reinforced-none : place ≡ None → marks ≡ reinforced limit fit path marks
     unfolding reinforced with_repeater
-    reinforced-none z = rw (← l, lt-ltb (last + limit) (end path) (omega arith), ← is_tail, eq-eqb place 0 z)
+    reinforced-none z =
+        rw (← l, lt-ltb (last + limit) (end path) (omega arith), eq-eqb (tail_place limit fit path marks) 0 (place-none (tail_place limit fit path marks) (sym z ∙ is_tail)))
 
-    pub reinforced-put : (place ≡ 0 → ⊥) → set marks (path_cell path place) 1 ≡ reinforced limit fit path marks
+    pub reinforced-put : (i : ℕ) → place ≡ Some i → set marks (path_cell path i) 1 ≡ reinforced limit fit path marks
     unfolding reinforced with_repeater
-    reinforced-put n = rw (← l, lt-ltb (last + limit) (end path) (omega arith), ← is_tail, ne_eqb place 0 n)
+    reinforced-put i n =
+        let k = place-some (tail_place limit fit path marks) i (sym n ∙ is_tail) in rw (← l, lt-ltb (last + limit) (end path) (omega arith), ← k.0, ne_eqb i 0 k.1)

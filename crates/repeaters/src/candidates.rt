@@ -2,8 +2,9 @@
 ghost use Rattle.std.specs.Prelude.{◌≡◌, ◌<◌, length};
 ghost use Rattle.room.specs.Room.{max_side, Good, SmallPos, volume};
 ghost use Rattle.repeaters.specs.Repeaters.{steps_by, facing_by, facing_of, straight, fits};
-ghost use Rattle.repeaters.specs.Links.{linked_cells, PathReady};
+ghost use Rattle.repeaters.specs.Links.{linked_cells};
 
+use crate::Path;
 use crate::links::count_links;
 use room::{EAST, NO_FACING, NORTH, Pos, Room, SOUTH, WEST, as_index};
 use routing_resources::MARKED;
@@ -13,10 +14,7 @@ fn steps_by(a: usize, b: usize, c: usize, d: usize) -> bool
     requires { a < max_side }
     ensures { result ≡ steps_by a b c d }
 {
-    if a + 1 != b {
-        return false;
-    }
-    c == d
+    a + 1 == b && c == d
 }
 
 // The facing of a step between two positions: none unless it is a flat one.
@@ -64,32 +62,27 @@ fn goes_straight(room: Room, a: usize, b: usize, c: usize) -> bool
     ensures { result ≡ straight room a b c }
 {
     let into = facing(room, a, b);
-    if into == NO_FACING {
-        return false;
-    }
-    let out = facing(room, b, c);
-    into == out
+    into != NO_FACING && into == facing(room, b, c)
 }
 
-// Whether a repeater may stand at a place of the path: "not a terminal or approach of this net, has a next cell, two tree
-// neighbours and equal flat facing in and out".
-pub fn may_stand(room: Room, links: &[u32], forbidden: &[u8], path: &[u32], i: usize) -> bool
-    requires path_ready { PathReady room links.now forbidden.now path.now }
-    requires i_in_bounds { i < length path.now }
-    ensures { result ≡ fits room (linked_cells room links.now) forbidden.now path.now i }
-{
-    if i == 0 {
-        return false;
+impl Path<'_> {
+    // Whether a repeater may stand at a place of the path: "not a terminal or approach of this net, has a next cell, two
+    // tree neighbours and equal flat facing in and out".
+    pub fn may_stand(&self, i: usize) -> bool
+        requires { i < length self.now.cells.now }
+        ensures { result ≡ fits self.now.room (linked_cells self.now.room self.now.links.now) self.now.forbidden.now self.now.cells.now i }
+    {
+        if i == 0 || self.cells.len() <= i + 1 {
+            return false;
+        }
+        let cell = as_index(self.cells[i]);
+        self.forbidden[cell] != MARKED
+            && count_links(self.room, self.links[cell], cell) == 2
+            && goes_straight(
+                self.room,
+                as_index(self.cells[i - 1]),
+                cell,
+                as_index(self.cells[i + 1]),
+            )
     }
-    if path.len() <= i + 1 {
-        return false;
-    }
-    let cell = as_index(path[i]);
-    if forbidden[cell] == MARKED {
-        return false;
-    }
-    if count_links(room, links[cell], cell) != 2 {
-        return false;
-    }
-    goes_straight(room, as_index(path[i - 1]), cell, as_index(path[i + 1]))
 }

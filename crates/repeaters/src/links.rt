@@ -1,13 +1,13 @@
 // The tree neighbours of each cell, as a mask of twelve bits.
 ghost use Rattle.std.specs.Prelude.{◌≡◌, ◌&&◌, ◌≤◌, ◌<◌, ◌^◌, eqb, length, replicate};
 ghost use Rattle.room.specs.Room.{Good, Within, volume, pos_of, Step};
-ghost use Rattle.repeaters.specs.Links.{ordered_moves, ordered_move, linked_place, inside_count, cells_by, linked_cells};
+ghost use Rattle.repeaters.specs.Links.{ordered_moves, ordered_move, linked_place, cells_by, linked_cells};
 ghost use Rattle.branches.specs.Branches.{branches_of};
 ghost use Rattle.repeaters.specs.Repeaters.{is_step, beside_on, tree_neighbours};
 ghost use Rattle.repeaters.specs.Masks.{Steps, BranchesReady, Masked, NowLinked, move_index, step_index};
 
 use branches::BranchLengths;
-use room::{Move, Neighbour, Pos, Room, as_index};
+use room::{Move, Pos, Room, as_index};
 
 // The places of the moves among Room::MOVES, in the number order of the cells that they lead to.
 const NUMBER_ORDER: [usize; 12] = [3, 4, 5, 9, 6, 10, 7, 11, 8, 0, 1, 2];
@@ -21,25 +21,16 @@ fn ordered_move(k: usize) -> Move
 }
 
 // The cell that the k-th move leads to, if the mask's lowest bit is set.
-pub fn linked_place(room: Room, p: Pos, mask: u32, k: usize) -> Neighbour
+pub fn linked_place(room: Room, p: Pos, mask: u32, k: usize) -> Option<usize>
     requires good { Good room }
     requires within { Within room p }
     requires k_bound { k < 12 }
     ensures { result ≡ linked_place room p mask (ordered_move k) }
 {
     if mask % 2 == 1 {
-        return room.neighbour_at(p, ordered_move(k));
-    }
-    Neighbour::Outside
-}
-
-// 1 for a cell, 0 for none.
-fn one_inside(place: Neighbour) -> usize
-    ensures { result ≡ inside_count place }
-{
-    match place {
-        Neighbour::Inside(_) => 1,
-        Neighbour::Outside => 0,
+        room.neighbour_at(p, ordered_move(k))
+    } else {
+        None
     }
 }
 
@@ -52,12 +43,10 @@ pub fn count_links(room: Room, mask: u32, cell: usize) -> usize
     let p = room.pos(cell);
     let mut rest = mask;
     let mut count: usize = 0;
-    let mut k: usize = 0;
-    while k < 12 {
+    for k in 0..NUMBER_ORDER.len() {
         let place = linked_place(room, p, rest, k);
-        count += one_inside(place);
+        count += usize::from(place.is_some());
         rest /= 2;
-        k += 1;
     }
     count
 }
@@ -133,10 +122,8 @@ fn link_branch(room: Room, branch: &[u32], links: &mut [u32])
     requires masked { Masked room links.old }
     ensures { NowLinked room (beside_on branch.now) links.old links.new }
 {
-    let mut i: usize = 0;
-    while i + 1 < branch.len() {
-        link_both(room, links, as_index(branch[i]), as_index(branch[i + 1]));
-        i += 1;
+    for step in branch.windows(2) {
+        link_both(room, links, as_index(step[0]), as_index(step[1]));
     }
 }
 
@@ -147,13 +134,10 @@ pub fn tree_adjacency(room: Room, branches: &[u32], lengths: BranchLengths, link
     requires links_value { links.old ≡ replicate (volume room) 0 }
     ensures { linked_cells room links.new ≡ tree_neighbours (branches_of lengths branches.now) (volume room) }
 {
-    let count = lengths.count;
     let mut from: usize = 0;
-    let mut k: usize = 0;
-    while k < count {
-        let to = from + lengths.each[k];
+    for length in &lengths.each[..lengths.count] {
+        let to = from + *length;
         link_branch(room, &branches[from..to], links);
         from = to;
-        k += 1;
     }
 }

@@ -20,9 +20,7 @@ pub fn mark_net_ends(source: usize, taps: Taps, marks: &mut [u8])
     ensures { marks.new ≡ marked_by (is_net_end source taps) marks.old }
 {
     routing_resources::mark(marks, source);
-    let mut i: usize = 0;
-    while i < taps.count {
-        mark_tap(marks, taps.taps[i]);
-        i += 1;
+    for tap in &taps.taps[..taps.count] {
+        mark_tap(marks, *tap);
     }
 }

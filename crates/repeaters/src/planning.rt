@@ -5,9 +5,9 @@ ghost use Rattle.branches.specs.Branches.{branches_of};
 ghost use Rattle.repeaters.specs.Repeaters.{repeater_marks};
 ghost use Rattle.repeaters.specs.Sinks.{Plannable};
 
+use crate::Tree;
 use crate::links::tree_adjacency;
 use crate::roots::rooted_parent;
-use crate::sinks::{plan_repeaters, reinforce_wire_sink_tails};
 use branches::BranchLengths;
 use ends::Taps;
 use room::Room;
@@ -29,10 +29,16 @@ pub fn plan_tree(
     requires { Plannable room source taps lengths branches.now forbidden.now repeaters.old links.old parents.old line.old }
     ensures { repeaters.new ≡ repeater_marks room run source (taps_in taps) (branches_of lengths branches.now) forbidden.now }
 {
-    lent::clear_words(links);
+    lent::clear(links);
     tree_adjacency(room, branches, lengths, links);
-    lent::clear_words(parents);
+    lent::clear(parents);
     rooted_parent(room, source, links, parents, line);
-    plan_repeaters(room, links, parents, forbidden, taps, repeaters, line, run);
-    reinforce_wire_sink_tails(room, links, parents, forbidden, taps, repeaters, line);
+    let tree = Tree {
+        room,
+        links,
+        parents,
+        forbidden,
+    };
+    tree.plan_repeaters(taps, repeaters, line, run);
+    tree.reinforce_wire_sink_tails(taps, repeaters, line);
 }

@@ -5,106 +5,81 @@ ghost use Rattle.ends.specs.Ends.{taps_in, TapsInside};
 ghost use Rattle.room.specs.Room.{volume};
 ghost use Rattle.repeaters.specs.Repeaters.{run_of, tail_of};
 ghost use Rattle.repeaters.specs.Links.{linked_cells};
-ghost use Rattle.repeaters.specs.Sinks.{TreeReady};
+ghost use Rattle.repeaters.specs.Roots.{Traced};
 ghost use Rattle.basics.specs.Folds.{along};
 
-use crate::roots::root_path;
-use crate::strides::plan_path;
-use crate::tails::reinforce_path;
+use crate::{Path, Tree};
 use ends::{Tap, Taps};
-use room::Room;
 
-// The run to one sink.
-fn plan_sink(
-    room: Room,
-    links: &[u32],
-    parents: &[u32],
-    forbidden: &[u8],
-    tap: Tap,
-    repeaters: &mut [u8],
-    line: &mut [u32],
-    limit: usize,
-)
-    requires tree_ready { TreeReady room links.now parents.now forbidden.now }
-    requires terminal_bound { tap.terminal < volume room }
-    requires repeaters_len { length repeaters.old ≡ volume room }
-    requires line_len { length line.old ≡ volume room }
-    ensures { repeaters.new ≡ run_of room (linked_cells room links.now) parents.now forbidden.now limit tap repeaters.old }
-{
-    let count = root_path(parents, tap.terminal, line);
-    plan_path(room, links, forbidden, &line[..count], repeaters, limit);
-}
-
-// The runs to all sinks.
-pub fn plan_repeaters(
-    room: Room,
-    links: &[u32],
-    parents: &[u32],
-    forbidden: &[u8],
-    taps: Taps,
-    repeaters: &mut [u8],
-    line: &mut [u32],
-    limit: usize,
-)
-    requires tree_ready { TreeReady room links.now parents.now forbidden.now }
-    requires taps_inside { TapsInside room taps }
-    requires repeaters_len { length repeaters.old ≡ volume room }
-    requires line_len { length line.old ≡ volume room }
-    ensures { repeaters.new ≡ along (run_of room (linked_cells room links.now) parents.now forbidden.now limit) (taps_in taps) repeaters.old }
-{
-    let count = taps.count;
-    let mut k: usize = 0;
-    while k < count {
-        let tap = taps.taps[k];
-        plan_sink(room, links, parents, forbidden, tap, repeaters, line, limit);
-        k += 1;
+// The marks and the line stay two parameters. No plainer: behind a struct, each function would have to promise too that they
+// are still the lent slices.
+impl Tree<'_> {
+    // Writes the path from the source to a cell to the front of the line, and gives its length.
+    fn root_path(&self, cell: usize, line: &mut [u32]) -> usize
+        requires cell_bound { cell < volume self.now.room }
+        requires line_len { length line.old ≡ volume self.now.room }
+        ensures { Traced self.now.parents.now cell line.new result }
+    {
+        trace::path_to(self.parents, cell, line)
     }
-}
 
-// The tail of one sink, if it is a Wire sink.
-fn reinforce_sink(
-    room: Room,
-    links: &[u32],
-    parents: &[u32],
-    forbidden: &[u8],
-    tap: Tap,
-    repeaters: &mut [u8],
-    line: &mut [u32],
-)
-    requires tree_ready { TreeReady room links.now parents.now forbidden.now }
-    requires terminal_bound { tap.terminal < volume room }
-    requires repeaters_len { length repeaters.old ≡ volume room }
-    requires line_len { length line.old ≡ volume room }
-    ensures { repeaters.new ≡ tail_of room (linked_cells room links.now) parents.now forbidden.now tap repeaters.old }
-{
-    if !tap.wire {
-        return;
+    // The run to one sink.
+    fn plan_sink(&self, tap: Tap, repeaters: &mut [u8], line: &mut [u32], limit: usize)
+        requires terminal_bound { tap.terminal < volume self.now.room }
+        requires repeaters_len { length repeaters.old ≡ volume self.now.room }
+        requires line_len { length line.old ≡ volume self.now.room }
+        ensures { repeaters.new ≡ run_of self.now.room (linked_cells self.now.room self.now.links.now) self.now.parents.now self.now.forbidden.now limit tap repeaters.old }
+    {
+        let count = self.root_path(tap.terminal, line);
+        let path = Path {
+            room: self.room,
+            links: self.links,
+            forbidden: self.forbidden,
+            cells: &line[..count],
+        };
+        path.plan_path(repeaters, limit);
     }
-    let count = root_path(parents, tap.terminal, line);
-    reinforce_path(room, links, forbidden, &line[..count], repeaters, tap.tail);
-}
 
-// The tails of all Wire sinks.
-pub fn reinforce_wire_sink_tails(
-    room: Room,
-    links: &[u32],
-    parents: &[u32],
-    forbidden: &[u8],
-    taps: Taps,
-    repeaters: &mut [u8],
-    line: &mut [u32],
-)
-    requires tree_ready { TreeReady room links.now parents.now forbidden.now }
-    requires taps_inside { TapsInside room taps }
-    requires repeaters_len { length repeaters.old ≡ volume room }
-    requires line_len { length line.old ≡ volume room }
-    ensures { repeaters.new ≡ along (tail_of room (linked_cells room links.now) parents.now forbidden.now) (taps_in taps) repeaters.old }
-{
-    let count = taps.count;
-    let mut k: usize = 0;
-    while k < count {
-        let tap = taps.taps[k];
-        reinforce_sink(room, links, parents, forbidden, tap, repeaters, line);
-        k += 1;
+    // The runs to all sinks.
+    pub fn plan_repeaters(&self, taps: Taps, repeaters: &mut [u8], line: &mut [u32], limit: usize)
+        requires taps_inside { TapsInside self.now.room taps }
+        requires repeaters_len { length repeaters.old ≡ volume self.now.room }
+        requires line_len { length line.old ≡ volume self.now.room }
+        ensures { repeaters.new ≡ along (run_of self.now.room (linked_cells self.now.room self.now.links.now) self.now.parents.now self.now.forbidden.now limit) (taps_in taps) repeaters.old }
+    {
+        for tap in &taps.taps[..taps.count] {
+            self.plan_sink(*tap, repeaters, line, limit);
+        }
+    }
+
+    // The tail of one sink, if it is a Wire sink.
+    fn reinforce_sink(&self, tap: Tap, repeaters: &mut [u8], line: &mut [u32])
+        requires terminal_bound { tap.terminal < volume self.now.room }
+        requires repeaters_len { length repeaters.old ≡ volume self.now.room }
+        requires line_len { length line.old ≡ volume self.now.room }
+        ensures { repeaters.new ≡ tail_of self.now.room (linked_cells self.now.room self.now.links.now) self.now.parents.now self.now.forbidden.now tap repeaters.old }
+    {
+        if tap.wire {
+            let count = self.root_path(tap.terminal, line);
+            let path = Path {
+                room: self.room,
+                links: self.links,
+                forbidden: self.forbidden,
+                cells: &line[..count],
+            };
+            path.reinforce_path(repeaters, tap.tail);
+        }
+    }
+
+    // The tails of all Wire sinks.
+    pub fn reinforce_wire_sink_tails(&self, taps: Taps, repeaters: &mut [u8], line: &mut [u32])
+        requires taps_inside { TapsInside self.now.room taps }
+        requires repeaters_len { length repeaters.old ≡ volume self.now.room }
+        requires line_len { length line.old ≡ volume self.now.room }
+        ensures { repeaters.new ≡ along (tail_of self.now.room (linked_cells self.now.room self.now.links.now) self.now.parents.now self.now.forbidden.now) (taps_in taps) repeaters.old }
+    {
+        for tap in &taps.taps[..taps.count] {
+            self.reinforce_sink(*tap, repeaters, line);
+        }
     }
 }

@@ -4,25 +4,24 @@
 ghost use Rattle.std.specs.Prelude.{◌≡◌, ◌+◌, ◌-◌, ◌≤◌, ◌<◌, length};
 ghost use Rattle.room.specs.Room.{volume};
 ghost use Rattle.repeaters.specs.Repeaters.{earliest, last_reset, alone, tail_fit, reinforced};
-ghost use Rattle.repeaters.specs.Links.{fit_by, PathReady};
+ghost use Rattle.repeaters.specs.Links.{fit_by};
+ghost use Rattle.repeaters.specs.Strides.{place_of};
 ghost use Rattle.routing_resources.specs.Marks.{CellsBelow};
 
-use crate::candidates::may_stand;
-use crate::strides::later;
-use room::{Room, as_index};
+use crate::Path;
+use room::as_index;
 use routing_resources::MARKED;
 
-// The place of the last repeater on the path, 0 for none: the source.
+// The place of the last repeater on the path, or else of the source, which is 0.
 fn last_reset(path: &[u32], repeaters: &[u8]) -> usize
     requires { CellsBelow (length repeaters.now) path.now }
     ensures { result ≡ last_reset path.now repeaters.now }
 {
     let mut last: usize = 0;
-    let mut i: usize = 0;
-    while i < path.len() {
-        let cell = as_index(path[i]);
-        last = later(repeaters[cell] == MARKED, i, last);
-        i += 1;
+    for (i, cell) in path.iter().enumerate() {
+        if repeaters[as_index(*cell)] == MARKED {
+            last = i;
+        }
     }
     last
 }
@@ -35,82 +34,50 @@ fn stands_alone(path: &[u32], repeaters: &[u8], i: usize) -> bool
     ensures { result ≡ alone path.now repeaters.now i }
 {
     let before = as_index(path[i - 1]);
-    if repeaters[before] == MARKED {
-        return false;
-    }
     let behind = as_index(path[i + 1]);
-    repeaters[behind] != MARKED
+    repeaters[before] != MARKED && repeaters[behind] != MARKED
 }
 
-// Whether a repeater may stand at this place with none next to it.
-fn may_reinforce(
-    room: Room,
-    links: &[u32],
-    forbidden: &[u8],
-    path: &[u32],
-    repeaters: &[u8],
-    i: usize,
-) -> bool
-    requires path_ready { PathReady room links.now forbidden.now path.now }
-    requires repeaters_len { length repeaters.now ≡ volume room }
-    requires i_in_bounds { i < length path.now }
-    ensures { result ≡ tail_fit (fit_by room links.now forbidden.now path.now) path.now repeaters.now i }
-{
-    if !may_stand(room, links, forbidden, path, i) {
-        return false;
+impl Path<'_> {
+    // Whether a repeater may stand at this place with none next to it.
+    fn may_reinforce(&self, repeaters: &[u8], i: usize) -> bool
+        requires repeaters_len { length repeaters.now ≡ volume self.now.room }
+        requires i_in_bounds { i < length self.now.cells.now }
+        ensures { result ≡ tail_fit (fit_by self.now.room self.now.links.now self.now.forbidden.now self.now.cells.now) self.now.cells.now repeaters.now i }
+    {
+        self.may_stand(i) && stands_alone(self.cells, repeaters, i)
     }
-    stands_alone(path, repeaters, i)
-}
 
-// The earliest such place from `start` to the end, 0 for none.
-fn tail_place(
-    room: Room,
-    links: &[u32],
-    forbidden: &[u8],
-    path: &[u32],
-    repeaters: &[u8],
-    start: usize,
-    end: usize,
-) -> usize
-    requires path_ready { PathReady room links.now forbidden.now path.now }
-    requires repeaters_len { length repeaters.now ≡ volume room }
-    requires start_le_end { (start ≤ end) × (end ≤ length path.now) }
-    ensures { result ≡ earliest (tail_fit (fit_by room links.now forbidden.now path.now) path.now repeaters.now) (end - start) start }
-{
-    let mut i = start;
-    while i < end {
-        if may_reinforce(room, links, forbidden, path, repeaters, i) {
-            return i;
+    // The earliest such place from `start` to the end.
+    fn tail_place(&self, repeaters: &[u8], start: usize, end: usize) -> Option<usize>
+        requires repeaters_len { length repeaters.now ≡ volume self.now.room }
+        requires start_le_end { (start ≤ end) × (end ≤ length self.now.cells.now) }
+        ensures { result ≡ place_of (earliest (tail_fit (fit_by self.now.room self.now.links.now self.now.forbidden.now self.now.cells.now) self.now.cells.now repeaters.now) (end - start) start) }
+    {
+        for i in start..end {
+            if self.may_reinforce(repeaters, i) {
+                return Some(i);
+            }
         }
-        i += 1;
+        None
     }
-    0
-}
 
-// Puts one repeater near the end of a path whose last one is too far from it.
-pub fn reinforce_path(
-    room: Room,
-    links: &[u32],
-    forbidden: &[u8],
-    path: &[u32],
-    repeaters: &mut [u8],
-    limit: usize,
-)
-    requires path_ready { PathReady room links.now forbidden.now path.now }
-    requires repeaters_len { length repeaters.old ≡ volume room }
-    ensures { repeaters.new ≡ reinforced limit (fit_by room links.now forbidden.now path.now) path.now repeaters.old }
-{
-    let last = last_reset(path, repeaters);
-    if path.len() <= last + 1 {
-        return;
-    }
-    let end = path.len() - 1;
-    if end - last <= limit {
-        return;
-    }
-    let place = tail_place(room, links, forbidden, path, repeaters, end - limit, end);
-    if place != 0 {
-        let cell = as_index(path[place]);
-        repeaters[cell] = MARKED;
+    // Puts one repeater near the end of a path whose last one is too far from it.
+    pub fn reinforce_path(&self, repeaters: &mut [u8], limit: usize)
+        requires { length repeaters.old ≡ volume self.now.room }
+        ensures { repeaters.new ≡ reinforced limit (fit_by self.now.room self.now.links.now self.now.forbidden.now self.now.cells.now) self.now.cells.now repeaters.old }
+    {
+        let last = last_reset(self.cells, repeaters);
+        if self.cells.len() <= last + 1 {
+            return;
+        }
+        let end = self.cells.len() - 1;
+        if end - last <= limit {
+            return;
+        }
+        let place = self.tail_place(repeaters, end - limit, end);
+        if let Some(place) = place {
+            repeaters[as_index(self.cells[place])] = MARKED;
+        }
     }
 }

@@ -1,11 +1,9 @@
 // One search, run over memory full of rubbish and held to the stored answer.
 use crate::searches::{Stored, Told};
 use reply::{detail_of, number_of, route_of};
-use routing::Answer;
+use routing::{Route, Unrouted};
 use stored::file_places::{part, read_cells};
-use stored::memory::{
-    OWN_LENGTH, bytes_hold, longs_hold, spoil_bytes, spoil_longs, spoil_words, words_hold,
-};
+use stored::memory::{OWN_LENGTH, hold, spoil};
 use stored::runs::{Verdict, expected_length};
 
 // The lengths at which buffers are lent: those of a number a cell, and the queue.
@@ -15,133 +13,87 @@ pub struct LentLengths {
     pub queue: usize,
 }
 
+// All memory that a search is lent to write to.
+#[derive(Drop)]
+struct Memory<'a> {
+    path: &'a mut [u32],
+    known: &'a mut [u32],
+    previous: &'a mut [u32],
+    classes: &'a mut [u8],
+    queue: &'a mut [u64],
+}
+
 // Of an answer other than a route, cost, expanded count and length are 0.
-fn same_answer(answer: Answer, told: Told) -> bool {
-    if number_of(answer) != told.number {
-        return false;
-    }
-    if detail_of(answer) != told.detail {
-        return false;
-    }
+fn same_answer(answer: Result<Route, Unrouted>, told: Told) -> bool {
     let route = route_of(answer);
-    if route.cost.0 != told.cost {
-        return false;
-    }
-    if route.expanded.0 != told.expanded {
-        return false;
-    }
-    route.length == told.length
+    number_of(answer) == told.number
+        && detail_of(answer) == told.detail
+        && route.cost.0 == told.cost
+        && route.expanded.0 == told.expanded
+        && route.length == told.length
 }
 
 // A queue may be found full at any of the cells that the stored search expanded. A refusal tells how many as its detail, a
 // route as its expanded count, and the other of the two is 0.
-fn full_early(answer: Answer, told: Told) -> bool {
-    if number_of(answer) != 13 {
-        return false;
-    }
-    let expanded = detail_of(answer);
-    if expanded <= told.detail {
-        return true;
-    }
-    expanded <= told.expanded as usize
+fn full_early(answer: Result<Route, Unrouted>, told: Told) -> bool {
+    let most = told.detail.max(told.expanded as usize);
+    number_of(answer) == 13 && detail_of(answer) <= most
 }
 
 // The answer, held to what is stored, or to what a full queue gives.
-fn verdict_by(answer: Answer, told: Told) -> Verdict {
+fn verdict_by(answer: Result<Route, Unrouted>, told: Told) -> Verdict {
     if same_answer(answer, told) {
-        return Verdict::Same;
+        Verdict::Same
+    } else if full_early(answer, told) {
+        Verdict::Full
+    } else {
+        Verdict::Other
     }
-    if full_early(answer, told) {
-        return Verdict::Full;
-    }
-    Verdict::Other
 }
 
-// "Numbers 1 to 6 touch nothing; 7 to 15 leave every lent writable buffer zero. A success writes the answer, zeros behind it, and zeroes work memory."
-fn memory_holds(
-    kept: bool,
-    cells: &[u32],
-    path: &[u32],
-    known: &[u32],
-    previous: &[u32],
-    classes: &[u8],
-    queue: &[u64],
-) -> bool {
-    if !words_hold(kept, cells, path) {
-        return false;
+impl Memory<'_> {
+    fn spoil(&mut self) {
+        spoil(self.path);
+        spoil(self.known);
+        spoil(self.previous);
+        spoil(self.classes);
+        spoil(self.queue);
     }
-    if !words_hold(kept, &known[..0], known) {
-        return false;
-    }
-    if !words_hold(kept, &known[..0], previous) {
-        return false;
-    }
-    if !bytes_hold(kept, &classes[..0], classes) {
-        return false;
-    }
-    longs_hold(kept, queue)
-}
 
-// The answer and all memory, held to what is stored, or to what a full queue leaves.
-fn verdict_of(
-    answer: Answer,
-    told: Told,
-    cells: &[u32],
-    path: &[u32],
-    known: &[u32],
-    previous: &[u32],
-    classes: &[u8],
-    queue: &[u64],
-) -> Verdict {
-    let verdict = verdict_by(answer, told);
-    let kept = !lent::touches(number_of(answer));
-    let count = expected_length(verdict, cells.len());
-    if memory_holds(kept, &cells[..count], path, known, previous, classes, queue) {
-        return verdict;
+    // "Numbers 1 to 6 touch nothing; 7 to 15 leave every lent writable buffer zero. A success writes the answer, zeros behind
+    // it, and zeroes work memory."
+    fn holds(&self, kept: bool, cells: &[u32]) -> bool {
+        hold(kept, cells, self.path)
+            && hold(kept, &[], self.known)
+            && hold(kept, &[], self.previous)
+            && hold(kept, &[], self.classes)
+            && hold(kept, &[], self.queue)
     }
-    Verdict::Other
-}
 
-fn spoil(
-    path: &mut [u32],
-    known: &mut [u32],
-    previous: &mut [u32],
-    classes: &mut [u8],
-    queue: &mut [u64],
-) {
-    spoil_words(path);
-    spoil_words(known);
-    spoil_words(previous);
-    spoil_bytes(classes);
-    spoil_longs(queue);
-}
-
-// The search, and its answer and memory held to what is stored.
-fn run_judged(
-    stored: Stored,
-    kinds: &[u8],
-    cells: &[u32],
-    path: &mut [u32],
-    known: &mut [u32],
-    previous: &mut [u32],
-    classes: &mut [u8],
-    queue: &mut [u64],
-) -> Verdict {
-    spoil(path, known, previous, classes, queue);
-    let answer = routing::astar_route(
-        stored.room,
-        stored.config,
-        kinds,
-        stored.start,
-        stored.goal,
-        path,
-        known,
-        previous,
-        classes,
-        queue,
-    );
-    let told = stored.told;
-    verdict_of(answer, told, cells, path, known, previous, classes, queue)
+    // The search, and its answer and all memory held to what is stored, or to what a full queue leaves.
+    fn judge(&mut self, stored: Stored, kinds: &[u8], cells: &[u32]) -> Verdict {
+        self.spoil();
+        let answer = routing::astar_route(
+            stored.room,
+            stored.config,
+            kinds,
+            stored.start,
+            stored.goal,
+            self.path,
+            self.known,
+            self.previous,
+            self.classes,
+            self.queue,
+        );
+        let verdict = verdict_by(answer, stored.told);
+        let kept = !lent::touches(number_of(answer));
+        let count = expected_length(verdict, cells.len());
+        if self.holds(kept, &cells[..count]) {
+            verdict
+        } else {
+            Verdict::Other
+        }
+    }
 }
 
 // A stored search, run in memory of its own but for the queue, in the front of each buffer. Lengths that a buffer doesn't have would
@@ -153,11 +105,7 @@ pub(crate) fn run_stored(
     queue: &mut [u64],
 ) -> Verdict {
     let count = lent.cells;
-    let longs = lent.queue;
-    if OWN_LENGTH < count {
-        return Verdict::Other;
-    }
-    if queue.len() < longs {
+    if OWN_LENGTH < count || queue.len() < lent.queue {
         return Verdict::Other;
     }
     let mut cells = [0u32; OWN_LENGTH];
@@ -165,16 +113,13 @@ pub(crate) fn run_stored(
     let mut known = [0u32; OWN_LENGTH];
     let mut previous = [0u32; OWN_LENGTH];
     let mut classes = [0u8; OWN_LENGTH];
-    let mut unmarked = [0u8; 0];
-    read_cells(file, stored.told.path_at, 0, &mut cells, &mut unmarked);
-    run_judged(
-        stored,
-        part(file, stored.from, stored.count),
-        &cells,
-        &mut path[..count],
-        &mut known[..count],
-        &mut previous[..count],
-        &mut classes[..count],
-        &mut queue[..longs],
-    )
+    read_cells(file, stored.told.path_at, 0, &mut cells, &mut []);
+    let mut memory = Memory {
+        path: &mut path[..count],
+        known: &mut known[..count],
+        previous: &mut previous[..count],
+        classes: &mut classes[..count],
+        queue: &mut queue[..lent.queue],
+    };
+    memory.judge(stored, part(file, stored.from, stored.count), &cells)
 }

@@ -5,47 +5,24 @@ mod compare;
 mod replay;
 mod searches;
 
-ghost use Rattle.std.specs.Prelude.{◌≤◌, length, IfOk};
-
 use crate::replay::{Stand, replay};
-use std::io::Read;
+use input_bytes::read_full;
 use std::{fs, io};
 use stored::memory::{FILE_LENGTH, QUEUE_LENGTH, file_buffer};
 
-// Reads on until the input ends or the buffer is full, however the input comes in pieces, and answers how many bytes were read.
-fn read_full(input: &mut impl Read, buffer: &mut [u8]) -> io::Result<usize>
-    ensures { IfOk result (λ bytes. bytes ≤ length buffer.new) }
-{
-    let mut done: usize = 0;
-    while done < buffer.len() {
-        let bytes = input.read(&mut buffer[done..])?;
-        if bytes == 0 {
-            break;
-        }
-        done += bytes;
-    }
-    Ok(done)
-}
-
-// A line for each number that is met.
-fn print_number(rt: &impl Print, number: u32, count: u32) -> io::Result<()> {
-    if count == 0 {
-        return Ok(());
-    }
-    println!(rt; "number {number}: {count}")
-}
-
+// A line for each number that is met. Both programs have it: no clause can say what it prints, so no crate gives it out.
 fn print_numbers(rt: &impl Print, met: [u32; 16]) -> io::Result<()> {
-    for number in 0..16 {
-        print_number(rt, number, met[number as usize])?;
+    for (number, count) in met.iter().enumerate() {
+        if *count != 0 {
+            println!(rt; "number {number}: {count}")?;
+        }
     }
     Ok(())
 }
 
 fn print_agreed(rt: &impl Print, stand: Stand) -> io::Result<()> {
     println!(rt; "searches {}", stand.searches)?;
-    let met = stand.met;
-    print_numbers(rt, met)?;
+    print_numbers(rt, stand.met)?;
     println!(rt; "comparisons {}", stand.runs)?;
     println!(rt; "all agree")
 }

@@ -3,14 +3,7 @@ use crate::compare::{LentLengths, run_stored};
 use crate::searches::{LETTERS, Stored, stored_at};
 use std::num::wrapping_add_u32;
 use stored::file_places::{FIRST_PLACE, count_in};
-use stored::runs::{Verdict, longer_queue, longer_unless};
-
-// How many runs of one search agreed, and whether all did.
-#[derive(Clone, Copy)]
-struct Agreement {
-    runs: u32,
-    agreed: bool,
-}
+use stored::runs::{Verdict, least_queue, longer_queue, longer_unless};
 
 // How far the file has been replayed: to which place, how many searches and runs agreed, how many of the searches have each number,
 // and whether all agreed. A file of a million bytes has far too few of them for a count to wrap.
@@ -25,12 +18,7 @@ pub struct Stand {
 
 // Whether the stored answer comes at these lengths.
 fn same_at(file: &[u8], stored: Stored, lent: LentLengths, queue: &mut [u64]) -> bool {
-    let verdict = run_stored(file, stored, lent, queue);
-    match verdict {
-        Verdict::Same => true,
-        Verdict::Full => false,
-        Verdict::Other => false,
-    }
+    run_stored(file, stored, lent, queue) == Verdict::Same
 }
 
 // Exactly the stored lengths.
@@ -50,65 +38,34 @@ fn longer_lengths(stored: Stored) -> LentLengths {
     }
 }
 
-// Looks for the least queue that gives the stored answer: with one place less the queue is full. Tells how many runs it took.
-fn narrow(file: &[u8], stored: Stored, queue: &mut [u64]) -> Agreement {
-    let mut full: u32 = 0;
-    let mut enough = stored.places;
-    let mut runs: u32 = 0;
-    while 1 < enough - full {
-        let places = full + (enough - full) / 2;
-        let verdict = run_stored(file, stored, stored_lengths(stored, places), queue);
-        match verdict {
-            Verdict::Same => enough = places,
-            Verdict::Full => full = places,
-            Verdict::Other => return Agreement {
-                runs,
-                agreed: false,
-            },
-        }
-        runs = wrapping_add_u32(runs, 1);
-    }
-    Agreement { runs, agreed: true }
-}
-
 // Small rooms whose search came to an end of its own: a route, no route, or the node limit passed.
 fn is_narrowed(stored: Stored) -> bool {
-    if 200 < stored.lent {
-        return false;
-    }
-    let number = stored.told.number;
-    match number {
-        0 | 11 | 12 => true,
-        _ => false,
-    }
+    stored.lent <= 200 && matches!(stored.told.number, 0 | 11 | 12)
 }
 
-// The stored lengths, longer ones, and the least queue.
-fn replay_one(file: &[u8], stored: Stored, queue: &mut [u64]) -> Agreement {
-    if !same_at(file, stored, stored_lengths(stored, stored.places), queue) {
-        return Agreement {
-            runs: 0,
-            agreed: false,
-        };
+// The stored lengths, longer ones, and the least queue: how many runs agreed, or none where one did not.
+fn replay_one(file: &[u8], stored: Stored, queue: &mut [u64]) -> Option<u32> {
+    let exact = stored_lengths(stored, stored.places);
+    if !same_at(file, stored, exact, queue)
+        || !same_at(file, stored, longer_lengths(stored), queue)
+    {
+        return None;
     }
-    let agreed = same_at(file, stored, longer_lengths(stored), queue);
     if !is_narrowed(stored) {
-        return Agreement { runs: 2, agreed };
+        return Some(2);
     }
-    let narrowed = narrow(file, stored, queue);
-    Agreement {
-        runs: wrapping_add_u32(2, narrowed.runs),
-        agreed: agreed && narrowed.agreed,
-    }
+    let narrowed = least_queue(stored.places, |places| {
+        run_stored(file, stored, stored_lengths(stored, places), queue)
+    })?;
+    Some(wrapping_add_u32(2, narrowed))
 }
 
-fn one_more(met: [u32; 16], number: u32) -> [u32; 16] {
-    let mut counts = met;
+fn one_more(mut met: [u32; 16], number: u32) -> [u32; 16] {
     let place = number as usize;
     if place < 16 {
-        counts[place] = wrapping_add_u32(counts[place], 1);
+        met[place] = wrapping_add_u32(met[place], 1);
     }
-    counts
+    met
 }
 
 // The next search, unless one has differed.
@@ -117,23 +74,18 @@ fn replay_next(file: &[u8], stand: Stand, queue: &mut [u64]) -> Stand {
         return stand;
     }
     let stored = stored_at(file, stand.at);
-    let agreement = replay_one(file, stored, queue);
-    let met = stand.met;
-    if !agreement.agreed {
-        return Stand {
-            at: stand.at,
-            searches: stand.searches,
-            runs: stand.runs,
-            met,
+    match replay_one(file, stored, queue) {
+        None => Stand {
             agreed: false,
-        };
-    }
-    Stand {
-        at: stored.next,
-        searches: wrapping_add_u32(stand.searches, 1),
-        runs: wrapping_add_u32(stand.runs, agreement.runs),
-        met: one_more(met, stored.told.number),
-        agreed: true,
+            ..stand
+        },
+        Some(runs) => Stand {
+            at: stored.next,
+            searches: wrapping_add_u32(stand.searches, 1),
+            runs: wrapping_add_u32(stand.runs, runs),
+            met: one_more(stand.met, stored.told.number),
+            agreed: true,
+        },
     }
 }
 
@@ -146,7 +98,7 @@ pub(crate) fn replay(file: &[u8], queue: &mut [u64]) -> Stand {
         met: [0; 16],
         agreed: true,
     };
-    for passed in 0..count_in(file, LETTERS) {
+    for _ in 0..count_in(file, LETTERS) {
         stand = replay_next(file, stand, queue);
     }
     stand

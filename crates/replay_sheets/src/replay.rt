@@ -1,25 +1,11 @@
 // Every stored sheet is run several times, and each run is held to the stored answer.
-ghost use Rattle.std.specs.Prelude.{◌<◌};
-
 use crate::judging::Shortage;
 use crate::running::{LentLengths, run_sheet};
-use crate::sheets::{Asked, LETTERS, Told, answer_at, asked_at};
-use crate::tallies::{Tally, nothing_yet, one_comparison_more, one_sheet_more};
+use crate::sheets::{Asked, Expected, LETTERS, Told, answer_at, asked_at};
+use crate::tallies::{Comparison, Tally};
 use stored::file_places::{FIRST_PLACE, count_in, part, past, word_at};
 use stored::memory::OWN_LENGTH;
-use stored::runs::{Verdict, longer_queue, longer_unless, smaller};
-
-// The kinds of comparison: buffers of exactly V cells, longer ones, a branch buffer exactly full, one that is one cell short, and
-// the least queue.
-pub const EXACT: usize = 0;
-
-pub const LONGER: usize = 1;
-
-pub const BRANCH_FULL: usize = 2;
-
-pub const BRANCH_SHORT: usize = 3;
-
-pub const QUEUE: usize = 4;
+use stored::runs::{Verdict, least_queue, longer_queue, longer_unless};
 
 // How far the file has been replayed: where the next record stands, and what has come of those before it.
 #[derive(Clone, Copy)]
@@ -46,139 +32,94 @@ fn size_of(sheet: &[u8], lent: usize) -> Size {
     }
     let job = reading.job;
     Size {
-        cells: smaller(lent, job.room.volume()),
+        cells: lent.min(job.room.volume()),
         limit: job.config.limit.0 as usize,
     }
 }
 
 // The lengths of a comparison. Longer buffers change no answer: numbers 6, 13 and 15 hang on lengths.
-fn lengths_for(comparison: usize, asked: Asked, cells: usize, told: Told) -> LentLengths {
-    if comparison == LONGER {
-        return LentLengths {
+fn lengths_for(comparison: Comparison, asked: Asked, cells: usize, told: Told) -> LentLengths {
+    let exact = LentLengths {
+        cells,
+        branches: asked.branches,
+        queue: asked.places as usize * 2,
+    };
+    match comparison {
+        Comparison::Exact | Comparison::Queue => exact,
+        Comparison::Longer => LentLengths {
             cells: longer_unless(6, asked.lent, told.number),
             branches: longer_unless(15, asked.branches, told.number),
             queue: longer_queue(asked.places, told.number),
-        };
-    }
-    let mut branches = asked.branches;
-    if comparison == BRANCH_FULL {
-        branches = told.total;
-    }
-    if comparison == BRANCH_SHORT && 0 < told.total {
-        branches = told.total - 1;
-    }
-    LentLengths {
-        cells,
-        branches,
-        queue: asked.places as usize * 2,
+        },
+        Comparison::BranchFull => LentLengths {
+            branches: told.total,
+            ..exact
+        },
+        Comparison::BranchShort => LentLengths {
+            branches: told.total.saturating_sub(1),
+            ..exact
+        },
     }
 }
 
 // A buffer that is one cell short gives its number, any other the stored answer.
-fn agreed_by(comparison: usize, verdict: Verdict) -> bool {
-    match verdict {
-        Verdict::Same => comparison != BRANCH_SHORT,
-        Verdict::Full => comparison == BRANCH_SHORT,
-        Verdict::Other => false,
-    }
+fn agreed_by(comparison: Comparison, verdict: Verdict) -> bool {
+    let due = if comparison == Comparison::BranchShort {
+        Verdict::Full
+    } else {
+        Verdict::Same
+    };
+    verdict == due
 }
 
-// Looks for the least queue that gives the stored answer: with one place less the queue is full.
+// Whether the least queue gives the stored answer, and one place less a full queue.
 fn narrows(
     sheet: &[u8],
     asked: Asked,
     size: Size,
     told: Told,
-    cells: &[u32],
-    covered: &[u8],
-    marks: &[u8],
+    expected: Expected,
     queue: &mut [u64],
 ) -> bool {
-    let mut full: u32 = 0;
-    let mut enough = asked.places;
-    while 1 < enough - full {
-        let places = full + (enough - full) / 2;
+    let shortage = Shortage {
+        number: 13,
+        most: size.limit,
+    };
+    let narrowed = least_queue(asked.places, |places| {
         let lent = LentLengths {
             cells: size.cells,
             branches: asked.branches,
             queue: places as usize * 2,
         };
-        let shortage = Shortage {
-            number: 13,
-            most: size.limit,
-        };
-        let verdict = run_sheet(sheet, told, lent, shortage, cells, covered, marks, queue);
-        match verdict {
-            Verdict::Same => enough = places,
-            Verdict::Full => full = places,
-            Verdict::Other => return false,
-        }
-    }
-    true
+        run_sheet(sheet, told, lent, shortage, expected, queue)
+    });
+    narrowed.is_some()
 }
 
 fn agrees_in(
-    comparison: usize,
+    comparison: Comparison,
     sheet: &[u8],
     asked: Asked,
     told: Told,
-    cells: &[u32],
-    covered: &[u8],
-    marks: &[u8],
+    expected: Expected,
     queue: &mut [u64],
 ) -> bool {
     let size = size_of(sheet, asked.lent);
-    if comparison == QUEUE {
-        return narrows(sheet, asked, size, told, cells, covered, marks, queue);
+    if comparison == Comparison::Queue {
+        return narrows(sheet, asked, size, told, expected, queue);
     }
     let lent = lengths_for(comparison, asked, size.cells, told);
     let shortage = Shortage {
         number: 15,
         most: told.lengths.count,
     };
-    let verdict = run_sheet(sheet, told, lent, shortage, cells, covered, marks, queue);
+    let verdict = run_sheet(sheet, told, lent, shortage, expected, queue);
     agreed_by(comparison, verdict)
 }
 
-// A sheet in one comparison: every sheet in the first two kinds, a tree with a branch in the others.
-fn replay_comparison(
-    tally: Tally,
-    comparison: usize,
-    sheet: &[u8],
-    asked: Asked,
-    told: Told,
-    cells: &[u32],
-    covered: &[u8],
-    marks: &[u8],
-    queue: &mut [u64],
-) -> Tally
-    requires { comparison < 5 }
-{
-    if LONGER < comparison && told.total == 0 {
-        return tally;
-    }
-    let agreed = agrees_in(comparison, sheet, asked, told, cells, covered, marks, queue);
-    one_comparison_more(tally, comparison, agreed)
-}
-
-// A sheet in each comparison.
-fn replay_comparisons(
-    tally: Tally,
-    sheet: &[u8],
-    asked: Asked,
-    told: Told,
-    cells: &[u32],
-    covered: &[u8],
-    marks: &[u8],
-    queue: &mut [u64],
-) -> Tally {
-    let mut now = one_sheet_more(tally, told.number);
-    for comparison in 0..5 {
-        now = replay_comparison(
-            now, comparison, sheet, asked, told, cells, covered, marks, queue,
-        );
-    }
-    now
+// Whether a sheet is put to this comparison: every sheet to the first two kinds, a tree with a branch to the others.
+fn is_compared(comparison: Comparison, told: Told) -> bool {
+    0 < told.total || matches!(comparison, Comparison::Exact | Comparison::Longer)
 }
 
 // The record that stands there: its sheet in each comparison. The next one stands where it ends. A sheet that the file
@@ -187,25 +128,36 @@ fn replay_next(file: &[u8], stand: Stand, queue: &mut [u64]) -> Stand {
     let mut cells = [0u32; OWN_LENGTH];
     let mut covered = [0u8; OWN_LENGTH];
     let mut marks = [0u8; OWN_LENGTH];
-    let tally = stand.tally;
     let length = word_at(file, stand.at, 12);
     let from = past(stand.at, 16);
-    let end = past(from, length);
-    let answered = answer_at(file, end, &mut cells, &mut covered, &mut marks);
-    let told = answered.told;
-    let after = replay_comparisons(
-        tally,
-        part(file, from, length),
-        asked_at(file, stand.at),
-        told,
-        &cells,
-        &covered,
-        &marks,
-        queue,
+    let sheet = part(file, from, length);
+    let asked = asked_at(file, stand.at);
+    let answered = answer_at(
+        file,
+        past(from, length),
+        &mut cells,
+        &mut covered,
+        &mut marks,
     );
+    let told = answered.told;
+    let expected = Expected {
+        cells: &cells,
+        covered: &covered,
+        marks: &marks,
+    };
+    let mut tally = stand.tally;
+    tally.add_sheet(told.number);
+    for comparison in Comparison::ALL {
+        if is_compared(comparison, told) {
+            tally.add_comparison(
+                comparison,
+                agrees_in(comparison, sheet, asked, told, expected, queue),
+            );
+        }
+    }
     Stand {
         at: answered.end,
-        tally: after,
+        tally,
     }
 }
 
@@ -213,9 +165,9 @@ fn replay_next(file: &[u8], stand: Stand, queue: &mut [u64]) -> Stand {
 pub(crate) fn replay(file: &[u8], queue: &mut [u64]) -> Stand {
     let mut stand = Stand {
         at: FIRST_PLACE,
-        tally: nothing_yet(),
+        tally: Tally::nothing_yet(),
     };
-    for passed in 0..count_in(file, LETTERS) {
+    for _ in 0..count_in(file, LETTERS) {
         stand = replay_next(file, stand, queue);
     }
     stand

@@ -2,10 +2,10 @@
 ghost use Rattle.std.specs.Prelude.{◌≡◌, ◌≤◌, length};
 ghost use Rattle.stored.specs.Memory.{own_length};
 
-use crate::judging::{Shortage, verdict_of};
-use crate::sheets::Told;
+use crate::judging::Shortage;
+use crate::sheets::{Expected, Told};
 use ground::Mode;
-use stored::memory::{OWN_LENGTH, spoil_bytes, spoil_longs, spoil_words};
+use stored::memory::{Number, OWN_LENGTH, spoil};
 use stored::runs::Verdict;
 
 // The lengths at which buffers are lent: those of a number a cell, the branch buffer, and the queue.
@@ -16,53 +16,59 @@ pub struct LentLengths {
     pub queue: usize,
 }
 
-// Buffers of the program's own, full of rubbish.
-fn rubbish_words() -> [u32; OWN_LENGTH]
-    ensures { own_length ≡ length result }
-{
-    let mut words = [0u32; OWN_LENGTH];
-    spoil_words(&mut words);
-    words
+// All memory that a tree is lent to write to.
+#[derive(Drop)]
+pub struct Memory<'a> {
+    pub branches: &'a mut [u32],
+    pub occupied: &'a mut [u8],
+    pub repeaters: &'a mut [u8],
+    pub kinds: &'a mut [u8],
+    pub blocked: &'a mut [u8],
+    pub classes: &'a mut [u8],
+    pub joinable: &'a mut [u8],
+    pub known: &'a mut [u32],
+    pub previous: &'a mut [u32],
+    pub path: &'a mut [u32],
+    pub best: &'a mut [u32],
+    pub queue: &'a mut [u64],
 }
 
-fn rubbish_bytes() -> [u8; OWN_LENGTH]
+// A buffer of the program's own, full of rubbish.
+fn rubbish_buffer<N: Number>() -> [N; OWN_LENGTH]
     ensures { own_length ≡ length result }
 {
-    let mut bytes = [0u8; OWN_LENGTH];
-    spoil_bytes(&mut bytes);
-    bytes
+    let mut buffer = [N::of_byte(0); OWN_LENGTH];
+    spoil(&mut buffer);
+    buffer
 }
 
-// The answer over memory full of rubbish, and all memory behind it, held to what is stored.
-fn run_judged(
-    sheet: &[u8],
-    told: Told,
-    shortage: Shortage,
-    cells: &[u32],
-    covered: &[u8],
-    marks: &[u8],
-    branches: &mut [u32],
-    occupied: &mut [u8],
-    repeaters: &mut [u8],
-    kinds: &mut [u8],
-    blocked: &mut [u8],
-    classes: &mut [u8],
-    joinable: &mut [u8],
-    known: &mut [u32],
-    previous: &mut [u32],
-    path: &mut [u32],
-    best: &mut [u32],
-    queue: &mut [u64],
-) -> Verdict {
-    let mode = Mode::Published;
-    let answer = net_tree::route_net_tree(
-        mode, sheet, branches, occupied, repeaters, kinds, blocked, classes, joinable, known,
-        previous, path, best, queue,
-    );
-    verdict_of(
-        answer, told, shortage, cells, covered, marks, branches, occupied, repeaters, kinds,
-        blocked, classes, joinable, known, previous, path, best, queue,
-    )
+impl Memory<'_> {
+    // The answer over memory full of rubbish, and all memory behind it, held to what is stored.
+    fn judge(
+        &mut self,
+        sheet: &[u8],
+        told: Told,
+        shortage: Shortage,
+        expected: Expected,
+    ) -> Verdict {
+        let answer = net_tree::route_net_tree(
+            Mode::Published,
+            sheet,
+            self.branches,
+            self.occupied,
+            self.repeaters,
+            self.kinds,
+            self.blocked,
+            self.classes,
+            self.joinable,
+            self.known,
+            self.previous,
+            self.path,
+            self.best,
+            self.queue,
+        );
+        self.verdict_of(answer, told, shortage, expected)
+    }
 }
 
 // The run in the front of each buffer; that of the queue is full of rubbish already.
@@ -71,18 +77,14 @@ fn run_lent(
     told: Told,
     lent: LentLengths,
     shortage: Shortage,
-    cells: &[u32],
-    covered: &[u8],
-    marks: &[u8],
+    expected: Expected,
     queue: &mut [u64],
 ) -> Verdict
     requires { (lent.branches ≤ own_length) × (lent.cells ≤ own_length) × (lent.queue ≤ length queue.old) }
 {
-    let branch = lent.branches;
     let count = lent.cells;
-    let longs = lent.queue;
-    let words = rubbish_words();
-    let bytes = rubbish_bytes();
+    let words = rubbish_buffer::<u32>();
+    let bytes = rubbish_buffer::<u8>();
     let mut branches = words;
     let mut occupied = bytes;
     let mut repeaters = bytes;
@@ -94,26 +96,21 @@ fn run_lent(
     let mut previous = words;
     let mut path = words;
     let mut best = words;
-    run_judged(
-        sheet,
-        told,
-        shortage,
-        cells,
-        covered,
-        marks,
-        &mut branches[..branch],
-        &mut occupied[..count],
-        &mut repeaters[..count],
-        &mut kinds[..count],
-        &mut blocked[..count],
-        &mut classes[..count],
-        &mut joinable[..count],
-        &mut known[..count],
-        &mut previous[..count],
-        &mut path[..count],
-        &mut best[..count],
-        &mut queue[..longs],
-    )
+    let mut memory = Memory {
+        branches: &mut branches[..lent.branches],
+        occupied: &mut occupied[..count],
+        repeaters: &mut repeaters[..count],
+        kinds: &mut kinds[..count],
+        blocked: &mut blocked[..count],
+        classes: &mut classes[..count],
+        joinable: &mut joinable[..count],
+        known: &mut known[..count],
+        previous: &mut previous[..count],
+        path: &mut path[..count],
+        best: &mut best[..count],
+        queue: &mut queue[..lent.queue],
+    };
+    memory.judge(sheet, told, shortage, expected)
 }
 
 // The run at these lengths, the queue filled with rubbish first. Lengths that a buffer doesn't have would be no run.
@@ -122,21 +119,13 @@ pub(crate) fn run_sheet(
     told: Told,
     lent: LentLengths,
     shortage: Shortage,
-    cells: &[u32],
-    covered: &[u8],
-    marks: &[u8],
+    expected: Expected,
     queue: &mut [u64],
 ) -> Verdict {
     let longs = lent.queue;
-    if OWN_LENGTH < lent.branches {
+    if OWN_LENGTH < lent.branches || OWN_LENGTH < lent.cells || queue.len() < longs {
         return Verdict::Other;
     }
-    if OWN_LENGTH < lent.cells {
-        return Verdict::Other;
-    }
-    if queue.len() < longs {
-        return Verdict::Other;
-    }
-    spoil_longs(&mut queue[..longs]);
-    run_lent(sheet, told, lent, shortage, cells, covered, marks, queue)
+    spoil(&mut queue[..longs]);
+    run_lent(sheet, told, lent, shortage, expected, queue)
 }

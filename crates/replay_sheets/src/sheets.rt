@@ -5,7 +5,6 @@ ghost use Rattle.job_sheet.specs.Sheet.{max_sinks};
 use branches::BranchLengths;
 use job_sheet::MAX_SINKS;
 use stored::file_places::{byte_at, past, read_cells, word_at};
-use stored::runs::smaller;
 
 // The letters that the file begins with: DRT1.
 pub const LETTERS: usize = 0x44525431;
@@ -28,6 +27,14 @@ pub struct Told {
     pub total: usize,
     pub occupied: usize,
     pub repeaters: usize,
+}
+
+// What is expected of the outputs: a tree's cells, in sheet order; marks on those cells; marks on its repeaters.
+#[derive(Clone, Copy)]
+pub struct Expected<'a> {
+    pub cells: &'a [u32],
+    pub covered: &'a [u8],
+    pub marks: &'a [u8],
 }
 
 // A stored answer, and where its record ends.
@@ -84,7 +91,7 @@ fn tree_at(
     marks: &mut [u8],
 ) -> Answered {
     let count = byte_at(file, at, 5);
-    let branches = branches_at(file, past(at, 6), smaller(count, MAX_SINKS), cells, covered);
+    let branches = branches_at(file, past(at, 6), count.min(MAX_SINKS), cells, covered);
     let each = branches.each;
     let behind = branches.end;
     let end = read_cells(file, past(behind, 4), 0, &mut cells[..0], marks);

@@ -6,9 +6,9 @@ ghost use Rattle.routing.specs.Answers.{refusal_number, number_of, detail_of};
 ghost use Rattle.reply.specs.Replies.{route_of};
 
 use room::{Cost, Nodes};
-use routing::{Answer, Refusal, Route};
+use routing::{Refusal, Route, Unrouted};
 
-// The number of a refusal.
+// The number of a refusal. No `From`: the type is crate `routing`'s and the number std's, so that none may be written here.
 pub fn refusal_number(why: Refusal) -> u32
     ensures { result ≡ refusal_number why }
 {
@@ -22,51 +22,44 @@ pub fn refusal_number(why: Refusal) -> u32
 }
 
 // The number of a search's answer, 0 for a route.
-pub fn number_of(answer: Answer) -> u32
+pub fn number_of(answer: Result<Route, Unrouted>) -> u32
     ensures { result ≡ number_of answer }
 {
     match answer {
-        Answer::Routed(_) => numbers::DONE_NUMBER,
-        Answer::Refused(why) => refusal_number(why),
-        Answer::NotRouteable(_) => numbers::NOT_ROUTEABLE_NUMBER,
-        Answer::NoRoute(_) => numbers::NO_ROUTE_NUMBER,
-        Answer::LimitPassed(_) => numbers::LIMIT_PASSED_NUMBER,
-        Answer::QueueFull(_) => numbers::QUEUE_FULL_NUMBER,
+        Ok(_) => numbers::DONE_NUMBER,
+        Err(Unrouted::Refused(why)) => refusal_number(why),
+        Err(Unrouted::NotRouteable(_)) => numbers::NOT_ROUTEABLE_NUMBER,
+        Err(Unrouted::NoRoute(_)) => numbers::NO_ROUTE_NUMBER,
+        Err(Unrouted::LimitPassed(_)) => numbers::LIMIT_PASSED_NUMBER,
+        Err(Unrouted::QueueFull(_)) => numbers::QUEUE_FULL_NUMBER,
     }
 }
 
 // The detail of a search's answer: the cell that is not routeable, or the expanded count; else 0.
-pub fn detail_of(answer: Answer) -> usize
+pub fn detail_of(answer: Result<Route, Unrouted>) -> usize
     ensures { result ≡ detail_of answer }
 {
     match answer {
-        Answer::Routed(_) => 0,
-        Answer::Refused(_) => 0,
-        Answer::NotRouteable(cell) => cell,
-        Answer::NoRoute(expanded) => expanded.0 as usize,
-        Answer::LimitPassed(expanded) => expanded.0 as usize,
-        Answer::QueueFull(expanded) => expanded.0 as usize,
+        Ok(_) | Err(Unrouted::Refused(_)) => 0,
+        Err(Unrouted::NotRouteable(cell)) => cell,
+        Err(
+            Unrouted::NoRoute(expanded)
+            | Unrouted::LimitPassed(expanded)
+            | Unrouted::QueueFull(expanded),
+        ) => expanded.0 as usize,
     }
 }
 
 // The route of a search's answer, all zero where there is none.
-pub fn route_of(answer: Answer) -> Route
+pub fn route_of(answer: Result<Route, Unrouted>) -> Route
     ensures { result ≡ route_of answer }
 {
-    let none = Route {
+    answer.unwrap_or(Route {
         length: 0,
         cost: Cost(0),
         expanded: Nodes(0),
         steps: Cost(0),
         supports: Cost(0),
         laid: 0,
-    };
-    match answer {
-        Answer::Routed(route) => route,
-        Answer::Refused(_) => none,
-        Answer::NotRouteable(_) => none,
-        Answer::NoRoute(_) => none,
-        Answer::LimitPassed(_) => none,
-        Answer::QueueFull(_) => none,
-    }
+    })
 }

@@ -1,17 +1,16 @@
 -- The cell right above and the cell right beneath are each other's inverse.
-use Rattle.std.specs.Prelude.{◌≡◌, ℕ, ◌+◌, ◌-◌, ◌≤◌, ◌<◌, leb, ltb}
+use Rattle.std.specs.Prelude.{◌≡◌, ℕ, ◌+◌, ◌-◌, ◌≤◌, ◌<◌, leb, ltb, Some}
 use Rattle.std.proofs.Math.Path.{sym}
 use Rattle.std.proofs.Common.{◌∙◌}
 use native.Mathlib.Omega.{arith}
 use borrow.Author.Tests.{leb-true, le-leb, lt-ltb}
 use Rattle.room.specs.declared.Room.{Room}
 use Rattle.room.specs.declared.Pos.{Pos}
-use Rattle.room.specs.declared.Neighbour.TheVariants.{Inside}
 use Rattle.room.specs.Room.{Good, Within, volume, at, cell_of, pos_of, beneath, above}
 use Rattle.room.specs.RoomLaws.{cell_pos, pos_cell_y, pos_in, deep_enough, inside-passed, up, up-number, up-within}
 
 module _ (R : Room) (G : Good R) where
-  pub above-beneath : (n v : ℕ) → n < volume R → above R n ≡ Inside v → beneath R v ≡ Inside n
+  pub above-beneath : (n v : ℕ) → n < volume R → above R n ≡ Some v → beneath R v ≡ Some n
   unfolding above beneath
   above-beneath n v h e =
       let q = inside-passed (ltb ((pos_of R n).y + 1) R.high) (n + R.deep) v e in
@@ -20,7 +19,7 @@ module _ (R : Room) (G : Good R) where
       let back : v - R.deep ≡ n = omega (arith, q.0) in
       rw (le-leb 1 (pos_of R v).y (omega arith), back)
 
-  pub beneath-above : (v n : ℕ) → v < volume R → beneath R v ≡ Inside n → above R n ≡ Inside v
+  pub beneath-above : (v n : ℕ) → v < volume R → beneath R v ≡ Some n → above R n ≡ Some v
   unfolding above beneath
   beneath-above v n h e =
       let q = inside-passed (leb 1 (pos_of R v).y) (v - R.deep) n e in
@@ -37,7 +36,7 @@ module _ (R : Room) (G : Good R) where
       rw (lt-ltb ((pos_of R n).y + 1) R.high (omega (arith, w.y_in)), back)
 
 -- the cell beneath has a lower number
-pub beneath_lt : (R : Room) → Good R → (v n : ℕ) → beneath R v ≡ Inside n → n < v
+pub beneath_lt : (R : Room) → Good R → (v n : ℕ) → beneath R v ≡ Some n → n < v
 unfolding beneath
 beneath_lt R G v n e =
     let q = inside-passed (leb 1 (pos_of R v).y) (v - R.deep) n e in

@@ -1,13 +1,12 @@
 -- Laws of the moves: a neighbour is inside exactly when its position is, moves are symmetric, one move leads between two positions that are a step
 -- apart, a facing's flat move is one of them, and a flat step lowers a distance by at most 1, a stair by at most 2.
-use Rattle.std.specs.Prelude.{◌≡◌, refl, Bool, true, false, ◌&&◌, List, [], ◌∷◌, ℕ, zero, suc, ◌+◌, ◌-◌, ◌≤◌, ◌<◌, leb, eqb}
+use Rattle.std.specs.Prelude.{◌≡◌, refl, Bool, true, false, ◌&&◌, List, [], ◌∷◌, ℕ, zero, suc, ◌+◌, ◌-◌, ◌≤◌, ◌<◌, leb, eqb, Some, None}
 use Rattle.std.proofs.Common.{sym, ap, ◌∙◌, inl, inr, sub-add_cancel, arith, eqb-true, le-leb, eq-eqb}
 use Rattle.basics.specs.Tests.{either, ask, and_both, passed, never}
 use Rattle.basics.specs.Lists.{In, every, any, every_in, in_at}
 use Rattle.room.specs.declared.Room.{Room}
 use Rattle.room.specs.declared.Pos.{Pos}
 use Rattle.room.specs.declared.Move.{Move}
-use Rattle.room.specs.declared.Neighbour.TheVariants.{Inside, Outside}
 use Rattle.room.specs.Room.{Good, Within, by, volume, cell_of, pos_of, moves, move_between, move_at, flat, between, stays, shifted, neighbour_at, neighbour, apart, distance_at, distance}
 use Rattle.room.specs.Units.{north, east, south, facing_horizontal, facing_move, ahead}
 use Rattle.room.specs.RoomLaws.{cell_in, cell_pos, pos_cell, pos_in}
@@ -57,21 +56,21 @@ pub record Leads (R : Room) (n : ℕ) (m : Move) (v : ℕ) : Type 0 where
   pub there : Within R (pos_of R v)
   pub moved : Moved (pos_of R n) m (pos_of R v)
 
-pub leads : (R : Room) (n : ℕ) (m : Move) (v : ℕ) → neighbour R n m ≡ Inside v → Leads R n m v
+pub leads : (R : Room) (n : ℕ) (m : Move) (v : ℕ) → neighbour R n m ≡ Some v → Leads R n m v
 unfolding neighbour
 leads R n m v e = ask (stays R (pos_of R n) m) (λ t. yes_in t (rw t at e)) (λ f. no_out (rw f at e))
   where
-    yes_in : stays R (pos_of R n) m ≡ true → Inside (cell_of R (shifted (pos_of R n) m)) ≡ Inside v → Leads R n m v
+    yes_in : stays R (pos_of R n) m ≡ true → Some (cell_of R (shifted (pos_of R n) m)) ≡ Some v → Leads R n m v
     yes_in t q =
         let r = reached R (pos_of R n) m t in
         let c : cell_of R (shifted (pos_of R n) m) ≡ v = cc in
         let b : pos_of R v ≡ shifted (pos_of R n) m = ap (pos_of R) (sym c) ∙ pos_cell R (shifted (pos_of R n) m) r.1 in
         record { inside = rw c at (cell_in R (shifted (pos_of R n) m) r.1); there = rw b r.1; moved = rw b r.0 }
 
-    no_out : Outside ≡ Inside v → Leads R n m v
+    no_out : None ≡ Some v → Leads R n m v
     no_out q = never (cc)
 
-pub leads-to : (R : Room) (n : ℕ) (m : Move) (q : Pos) → Moved (pos_of R n) m q → Within R q → neighbour R n m ≡ Inside (cell_of R q)
+pub leads-to : (R : Room) (n : ℕ) (m : Move) (q : Pos) → Moved (pos_of R n) m q → Within R q → neighbour R n m ≡ Some (cell_of R q)
 unfolding neighbour
 leads-to R n m q v w =
     let t = stays_by R (pos_of R n) m q v w in
@@ -79,26 +78,26 @@ leads-to R n m q v w =
     rw (t, e)
 
 -- the move leads to a cell of the room where it does so by positions
-pub leads-cell : (R : Room) → Good R → (n : ℕ) (m : Move) (v : ℕ) → v < volume R → Moved (pos_of R n) m (pos_of R v) → neighbour R n m ≡ Inside v
-leads-cell R G n m v h moved = leads-to R n m (pos_of R v) moved (pos_in R G v h) ∙ ap Inside (cell_pos R v)
+pub leads-cell : (R : Room) → Good R → (n : ℕ) (m : Move) (v : ℕ) → v < volume R → Moved (pos_of R n) m (pos_of R v) → neighbour R n m ≡ Some v
+leads-cell R G n m v h moved = leads-to R n m (pos_of R v) moved (pos_in R G v h) ∙ ap Some (cell_pos R v)
 
-pub not_stays : (R : Room) (n : ℕ) (m : Move) → stays R (pos_of R n) m ≡ false → neighbour R n m ≡ Outside
+pub not_stays : (R : Room) (n : ℕ) (m : Move) → stays R (pos_of R n) m ≡ false → neighbour R n m ≡ None
 unfolding neighbour
 not_stays R n m e = rw e
 
 -- the tests one by one, as the code makes them
 module _ (R : Room) (p : Pos) (m : Move) where
-  pub out_x : between 1 (p.x + m.x) R.wide ≡ false → Outside ≡ neighbour_at R p m
+  pub out_x : between 1 (p.x + m.x) R.wide ≡ false → None ≡ neighbour_at R p m
   unfolding stays
   out_x e = rw e
 
   module _ (x_in : between 1 (p.x + m.x) R.wide ≡ true) where
-    pub out_y : between 1 (p.y + m.y) R.high ≡ false → Outside ≡ neighbour_at R p m
+    pub out_y : between 1 (p.y + m.y) R.high ≡ false → None ≡ neighbour_at R p m
     unfolding stays
     out_y e = rw (x_in, e)
 
     module _ (y_in : between 1 (p.y + m.y) R.high ≡ true) where
-      pub out_z : between 1 (p.z + m.z) R.deep ≡ false → Outside ≡ neighbour_at R p m
+      pub out_z : between 1 (p.z + m.z) R.deep ≡ false → None ≡ neighbour_at R p m
       unfolding stays
       out_z e = rw (x_in, y_in, e)
 
@@ -110,7 +109,7 @@ module _ (R : Room) (p : Pos) (m : Move) where
         pub shifted_in : Within R (shifted p m)
         shifted_in = (reached R p m all_in).1
 
-        pub in_all : (v : ℕ) → v ≡ cell_of R (shifted p m) → Inside v ≡ neighbour_at R p m
+        pub in_all : (v : ℕ) → v ≡ cell_of R (shifted p m) → Some v ≡ neighbour_at R p m
         in_all v f = rw (f, all_in)
 
 -- ---- moves are symmetric
@@ -195,7 +194,7 @@ moved_back p m q s v = record {
   z_by = omega (arith, s.z_small, v.z_by);
 }
 
-pub symmetric : (R : Room) → Good R → (n : ℕ) (m : Move) (v : ℕ) → n < volume R → In m moves → neighbour R n m ≡ Inside v → neighbour R v (opposite m) ≡ Inside n
+pub symmetric : (R : Room) → Good R → (n : ℕ) (m : Move) (v : ℕ) → n < volume R → In m moves → neighbour R n m ≡ Some v → neighbour R v (opposite m) ≡ Some n
 symmetric R G n m v h i e = leads-cell R G v (opposite m) n h (moved_back (pos_of R n) m (pos_of R v) (small m i) (leads R n m v e).moved)
 
 -- ---- the move between two positions
@@ -237,7 +236,7 @@ facing_in facing =
     (λ n. ask (eqb facing east) (λ e. rw (n, e) (among-is (by 2 1 1) moves refl))
     (λ m. ask (eqb facing south) (λ e. rw (n, m, e) (among-is (by 1 1 2) moves refl)) (λ k. rw (n, m, k) (among-is (by 0 1 1) moves refl))))
 
-pub ahead_in : (R : Room) (n facing v : ℕ) → ahead R n facing ≡ Inside v → v < volume R
+pub ahead_in : (R : Room) (n facing v : ℕ) → ahead R n facing ≡ Some v → v < volume R
 unfolding ahead
 ahead_in R n facing v e =
     ask (facing_horizontal facing) (λ t. (leads R n (facing_move facing) v (rw t at e)).inside) (λ f. never (cc (rw f at e)))
@@ -266,6 +265,6 @@ unfolding most
 change m s =
     ask (flat m) (λ t. rw t (omega (arith, s.aside, eqb-true m.y 1 t))) (λ f. rw f (omega (arith, s.aside, s.y_small)))
 
-pub nearer : (R : Room) (n : ℕ) (m : Move) (v g : ℕ) → In m moves → neighbour R n m ≡ Inside v → distance R n g ≤ distance R v g + most m
+pub nearer : (R : Room) (n : ℕ) (m : Move) (v g : ℕ) → In m moves → neighbour R n m ≡ Some v → distance R n g ≤ distance R v g + most m
 unfolding distance
 nearer R n m v g i e = omega (arith, shifts (pos_of R n) m (pos_of R v) (pos_of R g) (leads R n m v e).moved, change m (small m i))

@@ -1,11 +1,9 @@
 -- docs/RULES.md, The room: sides, cell numbers, the twelve moves, the cells beneath and above, distances. Definitions alone; their laws are
 -- in the files named Laws.
-use Rattle.std.specs.Prelude.{◌≡◌, Bool, true, false, ◌&&◌, List, [], ◌∷◌, ℕ, zero, suc, ◌+◌, ◌-◌, ◌*◌, ◌/◌, ◌%◌, ◌≤◌, ◌<◌, leb, ltb, eqb, get_or}
+use Rattle.std.specs.Prelude.{◌≡◌, Bool, true, false, ◌&&◌, List, [], ◌∷◌, ℕ, zero, suc, ◌+◌, ◌-◌, ◌*◌, ◌/◌, ◌%◌, ◌≤◌, ◌<◌, leb, ltb, eqb, get_or, Option, Some, None}
 use Rattle.room.specs.declared.Room.{Room}
 use Rattle.room.specs.declared.Pos.{Pos}
 use Rattle.room.specs.declared.Move.{Move}
-use Rattle.room.specs.declared.Neighbour.{Neighbour}
-use Rattle.room.specs.declared.Neighbour.TheVariants.{Inside, Outside}
 use Rattle.basics.specs.Lists.{In}
 
 -- "Sides rise to 300, V to 65,536": sides X, Y, Z are 1 to 300; the room has V = XYZ cells, at most 65,536
@@ -86,23 +84,23 @@ abbrev pub flat : Move → Bool
 flat m = eqb m.y 1
 
 -- cell n where the test passes, else no cell of the room
-abbrev pub in_or_out : Bool → ℕ → Neighbour
-in_or_out true n = Inside n
-in_or_out false n = Outside
+abbrev pub in_or_out : Bool → ℕ → Option ℕ
+in_or_out true n = Some n
+in_or_out false n = None
 
 -- what the test says of the cell at a place; a place outside the room has none
-abbrev pub holds_at : (ℕ → Bool) → Neighbour → Bool
-holds_at test (Inside v) = test v
-holds_at test Outside = false
+abbrev pub holds_at : (ℕ → Bool) → Option ℕ → Bool
+holds_at test (Some v) = test v
+holds_at test None = false
 
 -- the first place, and where that is outside the other one
-abbrev pub or_else : Neighbour → Neighbour → Neighbour
-or_else (Inside v) other = Inside v
-or_else Outside other = other
+abbrev pub or_else : Option ℕ → Option ℕ → Option ℕ
+or_else (Some v) other = Some v
+or_else None other = other
 
--- of the numbers below n, the least that passes the test; `Outside` where none does
-unfoldable pub first_below : ℕ → (ℕ → Bool) → Neighbour
-first_below zero test = Outside
+-- of the numbers below n, the least that passes the test; `None` where none does
+unfoldable pub first_below : ℕ → (ℕ → Bool) → Option ℕ
+first_below zero test = None
 first_below (suc n) test = or_else (first_below n test) (in_or_out (test n) n)
 
 -- the move m from p stays in the room
@@ -114,11 +112,11 @@ stays R p m =
 abbrev pub shifted : Pos → Move → Pos
 shifted p m = at (p.x + m.x - 1) (p.y + m.y - 1) (p.z + m.z - 1)
 
--- the cell that the move m leads to from position p, and from cell n; `Outside` where that is not in the room
-abbrev pub neighbour_at : Room → Pos → Move → Neighbour
+-- the cell that the move m leads to from position p, and from cell n; `None` where that is not in the room
+abbrev pub neighbour_at : Room → Pos → Move → Option ℕ
 neighbour_at R p m = in_or_out (stays R p m) (cell_of R (shifted p m))
 
-unfoldable pub neighbour : Room → ℕ → Move → Neighbour
+unfoldable pub neighbour : Room → ℕ → Move → Option ℕ
 neighbour R n m = neighbour_at R (pos_of R n) m
 
 -- one of the twelve moves leads from cell a to cell b
@@ -126,13 +124,13 @@ pub record Step (R : Room) (a b : ℕ) : Type 0 where
   pub from_in : a < volume R
   pub move : Move
   pub listed : In move moves
-  pub leads : neighbour R a move ≡ Inside b
+  pub leads : neighbour R a move ≡ Some b
 
 -- the cell right beneath cell n, and right above it
-unfoldable pub beneath : Room → ℕ → Neighbour
+unfoldable pub beneath : Room → ℕ → Option ℕ
 beneath R n = in_or_out (leb 1 (pos_of R n).y) (n - R.deep)
 
-unfoldable pub above : Room → ℕ → Neighbour
+unfoldable pub above : Room → ℕ → Option ℕ
 above R n = in_or_out (ltb ((pos_of R n).y + 1) R.high) (n + R.deep)
 
 -- |dx|+|dy|+|dz|

@@ -1,6 +1,6 @@
 -- Laws of the room: what its tests say, that numbering is a bijection between the positions inside and the numbers below V that keeps the order of
 -- (x, y, z), and that the cells right above and beneath a cell are in the room.
-use Rattle.std.specs.Prelude.{◌≡◌, refl, ◌⊎◌, Bool, true, false, ℕ, ◌+◌, ◌-◌, ◌*◌, ◌/◌, ◌≤◌, ◌<◌, leb, ltb}
+use Rattle.std.specs.Prelude.{◌≡◌, refl, ◌⊎◌, Bool, true, false, ℕ, ◌+◌, ◌-◌, ◌*◌, ◌/◌, ◌≤◌, ◌<◌, leb, ltb, Some}
 use Rattle.std.proofs.Common.{ap, inl, inr, add_assoc, add-mul, div-add-mod', mod-lt, div-lt_iff_lt-mul, arith, ltb-true}
 use Rattle.std.proofs.Math.Bool.{and-false}
 use Rattle.std.proofs.Math.Nat.{mul-le-mul_left, mul-le-mul_right, mod-le, div-mul-le_self}
@@ -9,7 +9,6 @@ use Rattle.std.proofs.lemmas.Bool.{lt-leb}
 use Rattle.basics.specs.Tests.{passed, never}
 use Rattle.room.specs.declared.Room.{Room}
 use Rattle.room.specs.declared.Pos.{Pos}
-use Rattle.room.specs.declared.Neighbour.TheVariants.{Inside}
 use Rattle.room.specs.Room.{Good, Within, SmallPos, max_volume, volume, between, sides_good, at, cell_of, pos_of, within, in_or_out, beneath, above}
 
 -- a room that passes the test of number 2 is good
@@ -85,11 +84,11 @@ order R p q v w (inr b) = go b.1
 -- ---- the cells right above and beneath a cell
 
 -- a cell is no other
-pub same-cell : (u v : ℕ) → Inside u ≡ Inside v → u ≡ v
+pub same-cell : (u v : ℕ) → Some u ≡ Some v → u ≡ v
 same-cell u v e = cc
 
 -- a cell that there is passed the test
-pub inside-passed : (b : Bool) (n v : ℕ) → in_or_out b n ≡ Inside v → (n ≡ v) × (b ≡ true)
+pub inside-passed : (b : Bool) (n v : ℕ) → in_or_out b n ≡ Some v → (n ≡ v) × (b ≡ true)
 inside-passed true n v e = (cc, refl)
 inside-passed false n v e = never (cc)
 
@@ -104,14 +103,14 @@ up-number R p = omega (arith, ap (λ (k : ℕ). k * R.deep) (add_assoc (p.x * R.
 pub up-within : (R : Room) (p : Pos) → Within R p → ltb (p.y + 1) R.high ≡ true → Within R (up p)
 up-within R p w t = record { x_in = w.x_in; y_in = ltb-true _ _ t; z_in = w.z_in }
 
-pub above_in : (R : Room) → Good R → (n v : ℕ) → n < volume R → above R n ≡ Inside v → v < volume R
+pub above_in : (R : Room) → Good R → (n v : ℕ) → n < volume R → above R n ≡ Some v → v < volume R
 unfolding above
 above_in R G n v h e =
     let q = inside-passed (ltb ((pos_of R n).y + 1) R.high) (n + R.deep) v e in
     omega (arith, q.0, up-number R (pos_of R n), cell_pos R n, cell_in R _ (up-within R (pos_of R n) (pos_in R G n h) q.1))
 
 -- the cell beneath a cell of the room is in the room
-pub beneath_in : (R : Room) (n b : ℕ) → n < volume R → beneath R n ≡ Inside b → b < volume R
+pub beneath_in : (R : Room) (n b : ℕ) → n < volume R → beneath R n ≡ Some b → b < volume R
 unfolding beneath
 beneath_in R n b h e = omega (arith, (inside-passed (leb 1 (pos_of R n).y) (n - R.deep) b e).0)
 

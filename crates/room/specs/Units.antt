@@ -1,11 +1,9 @@
 -- Kinds, facings with the cell ahead, port kinds, and the config with its ranges, as docs/RULES.md, The room, has them.
-use Rattle.std.specs.Prelude.{Bool, ◌&&◌, ℕ, ◌+◌, ◌*◌, ◌≤◌, max, leb, eqb}
+use Rattle.std.specs.Prelude.{Bool, ◌&&◌, ℕ, ◌+◌, ◌*◌, ◌≤◌, max, leb, eqb, Option, None}
 use Rattle.basics.specs.Tests.{either}
 use Rattle.room.specs.Room.{volume, between, by, neighbour}
 use Rattle.room.specs.declared.Room.{Room}
 use Rattle.room.specs.declared.Move.{Move}
-use Rattle.room.specs.declared.Neighbour.{Neighbour}
-use Rattle.room.specs.declared.Neighbour.TheVariants.{Outside}
 use Rattle.room.specs.declared.RouterConfig.{RouterConfig}
 
 -- "Kinds 0 to 12 follow the order of BlockKind". Those that a rule names:
@@ -72,8 +70,8 @@ facing_move facing =
     either (eqb facing north) (by 1 1 0) (either (eqb facing east) (by 2 1 1) (either (eqb facing south) (by 1 1 2) (by 0 1 1)))
 
 -- cell n plus its facing: none unless that is horizontal and the cell in the room
-unfoldable pub ahead : Room → ℕ → ℕ → Neighbour
-ahead R n facing = either (facing_horizontal facing) (neighbour R n (facing_move facing)) Outside
+unfoldable pub ahead : Room → ℕ → ℕ → Option ℕ
+ahead R n facing = either (facing_horizontal facing) (neighbour R n (facing_move facing)) None
 
 -- "Port kind: 0 Wire, 1 BlockPower."
 abbrev pub wire : ℕ

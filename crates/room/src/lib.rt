@@ -17,7 +17,8 @@ const MAX_NODES: u32 = 800000;
 // The most that V times the dearest step with a new support may come to.
 const MAX_PRODUCT: u64 = 3300000000;
 
-// The kinds of a block, in the order of DustRoute's BlockKind: all of them, though some are named by no rule.
+// The kinds of a block, in the order of DustRoute's BlockKind: all of them, though some are named by no rule. Kinds,
+// facings and port kinds are bytes and no enums: C lends rooms of such bytes, and a sheet holds them, also unknown ones.
 pub const AIR: u8 = 0;
 
 pub const SOLID: u8 = 1;
@@ -65,15 +66,15 @@ pub const WIRE: u8 = 0;
 pub const BLOCK_POWER: u8 = 1;
 
 // A cost, in tenths. A struct of its own, so that it can't be mixed with a count.
-#[derive(Clone, Copy)]
+#[derive(Clone, Copy, Debug, PartialEq, Eq)]
 pub struct Cost(pub u32);
 
 // A count of cells expanded.
-#[derive(Clone, Copy)]
+#[derive(Clone, Copy, Debug, PartialEq, Eq)]
 pub struct Nodes(pub u32);
 
 // What a search pays for its steps, and how many cells it may expand.
-#[derive(Clone, Copy)]
+#[derive(Clone, Copy, Debug, PartialEq, Eq)]
 pub struct RouterConfig {
     pub limit: Nodes,
     pub horizontal: Cost,
@@ -81,44 +82,36 @@ pub struct RouterConfig {
     pub support: Cost,
 }
 
-// A room by its sides X, Y and Z. Everything outside is Solid.
-#[derive(Clone, Copy)]
+// A room by its sides X, Y and Z. Everything outside is Solid. No ghost field says that the sides are good: `astar_route`
+// and all that judge number 2 take a room of any sides, and definitions as `sides_good` and `room_in` speak of such rooms.
+#[derive(Clone, Copy, Debug, PartialEq, Eq)]
 pub struct Room {
     pub wide: usize,
     pub high: usize,
     pub deep: usize,
 }
 
-#[derive(Clone, Copy)]
+#[derive(Clone, Copy, Debug, PartialEq, Eq)]
 pub struct Pos {
     pub x: usize,
     pub y: usize,
     pub z: usize,
 }
 
-// A move. Each part is one more than its change: 0, 1 and 2 stand for -1, 0 and 1.
-#[derive(Clone, Copy)]
+// A move. Each part is one more than its change: 0, 1 and 2 stand for -1, 0 and 1, as in the definitions `moves` and `shifted`.
+#[derive(Clone, Copy, Debug, PartialEq, Eq)]
 pub struct Move {
     pub x: usize,
     pub y: usize,
     pub z: usize,
 }
 
-// A cell, or none: where a move leads, a clearance, a conflict. `Outside` says that there is none.
-#[derive(Clone, Copy)]
-pub enum Neighbour {
-    Inside(usize),
-    Outside,
-}
-
 // Whether a is from low to high.
+#[tactic(auto, unfolding(crate::specs::Room::between))]
 fn in_range(low: usize, a: usize, high: usize) -> bool
     ensures { result ≡ between low a high }
 {
-    if a < low {
-        return false;
-    }
-    a <= high
+    low <= a && a <= high
 }
 
 // Number 5 is due where this is false.
@@ -142,19 +135,16 @@ pub fn facing_horizontal(facing: u8) -> bool
 }
 
 // The flat move of a horizontal facing.
+#[tactic(auto, unfolding(crate::specs::Units::facing_move))]
 fn facing_move(facing: u8) -> Move
     ensures { result ≡ facing_move facing }
 {
-    if facing == NORTH {
-        return Move { x: 1, y: 1, z: 0 };
+    match facing {
+        NORTH => Move { x: 1, y: 1, z: 0 },
+        EAST => Move { x: 2, y: 1, z: 1 },
+        SOUTH => Move { x: 1, y: 1, z: 2 },
+        _ => Move { x: 0, y: 1, z: 1 },
     }
-    if facing == EAST {
-        return Move { x: 2, y: 1, z: 1 };
-    }
-    if facing == SOUTH {
-        return Move { x: 1, y: 1, z: 2 };
-    }
-    Move { x: 0, y: 1, z: 1 }
 }
 
 // Number 5 is due where this is false.
@@ -166,45 +156,36 @@ pub fn port_known(port: u8) -> bool
 
 impl RouterConfig {
     // Whether the node limit and each cost are in their single ranges.
+    #[tactic(auto, unfolding(crate::specs::Units::ranges_good))]
     fn ranges_good(self) -> bool
         ensures { result ≡ ranges_good self }
     {
-        if MAX_NODES < self.limit.0 {
-            return false;
-        }
-        if MAX_COST < self.horizontal.0 {
-            return false;
-        }
-        if MAX_COST < self.stair.0 {
-            return false;
-        }
-        self.support.0 <= MAX_COST
+        self.limit.0 <= MAX_NODES
+            && self.horizontal.0 <= MAX_COST
+            && self.stair.0 <= MAX_COST
+            && self.support.0 <= MAX_COST
     }
 
     // The dearest step, with a new support.
+    #[tactic(auto, unfolding(crate::specs::Units::dearest))]
     fn dearest(self) -> u32
         requires { GoodRanges self }
         ensures { result ≡ dearest self }
     {
-        if self.horizontal.0 < self.stair.0 {
-            return self.stair.0 + self.support.0;
-        }
-        self.horizontal.0 + self.support.0
+        self.horizontal.0.max(self.stair.0) + self.support.0
     }
 
     // Number 3 is due where this is false: the single ranges, then the product, which takes 64 bits.
+    #[tactic(auto, unfolding(crate::specs::Units::config_good))]
     pub fn good(self, room: Room) -> bool
         requires { Good room }
         ensures { result ≡ config_good room self }
     {
-        if !self.ranges_good() {
-            return false;
-        }
-        room.volume() as u64 * as_long(self.dearest()) <= MAX_PRODUCT
+        self.ranges_good() && room.volume() as u64 * u64::from(self.dearest()) <= MAX_PRODUCT
     }
 }
 
-// A number kept in four bytes, as an index.
+// A number kept in four bytes, as an index. No `From`: a `usize` has none of a `u32`.
 pub fn as_index(number: u32) -> usize
     ensures { (result ≡ number) × (result < 2 ^ 32) }
 {
@@ -222,7 +203,7 @@ pub fn as_long(number: u32) -> u64
 pub fn apart(a: usize, b: usize) -> usize
     ensures { result ≡ apart a b }
 {
-    if a < b { b - a } else { a - b }
+    a.abs_diff(b)
 }
 
 // The distance |dx|+|dy|+|dz| of two positions, of which each part is below the longest side that a room may have.
@@ -252,19 +233,14 @@ impl Room {
     ];
 
     // Number 2 is due where this is false.
+    #[tactic(auto, unfolding(crate::specs::Room::sides_good, crate::specs::Room::between))]
     pub fn good(self) -> bool
         ensures { result ≡ sides_good self }
     {
-        if !in_range(1, self.wide, MAX_SIDE) {
-            return false;
-        }
-        if !in_range(1, self.high, MAX_SIDE) {
-            return false;
-        }
-        if !in_range(1, self.deep, MAX_SIDE) {
-            return false;
-        }
-        self.wide * self.high * self.deep <= MAX_VOLUME
+        in_range(1, self.wide, MAX_SIDE)
+            && in_range(1, self.high, MAX_SIDE)
+            && in_range(1, self.deep, MAX_SIDE)
+            && self.wide * self.high * self.deep <= MAX_VOLUME
     }
 
     // V, the number of cells.
@@ -276,19 +252,15 @@ impl Room {
     }
 
     // Whether a position is in the room.
+    #[tactic(auto, unfolding(crate::specs::Room::within))]
     pub fn within(self, p: Pos) -> bool
         ensures { result ≡ within self p }
     {
-        if self.wide <= p.x {
-            return false;
-        }
-        if self.high <= p.y {
-            return false;
-        }
-        p.z < self.deep
+        p.x < self.wide && p.y < self.high && p.z < self.deep
     }
 
     // The number of the cell at a position.
+    #[tactic(auto, unfolding(crate::specs::Room::cell_of))]
     pub fn cell(self, p: Pos) -> usize
         requires good { Good self }
         requires within { Within self p }
@@ -298,6 +270,7 @@ impl Room {
     }
 
     // The position of a cell.
+    #[tactic(auto, unfolding(crate::specs::Room::pos_of))]
     pub fn pos(self, cell: usize) -> Pos
         requires { Good self }
         ensures { result ≡ pos_of self cell }
@@ -311,6 +284,7 @@ impl Room {
     }
 
     // The k-th of the moves.
+    #[tactic(auto, unfolding(crate::specs::Room::moves))]
     pub fn move_at(k: usize) -> Move
         requires { k < 12 }
         ensures { result ≡ move_at k }
@@ -319,7 +293,8 @@ impl Room {
     }
 
     // Where a move leads from a position.
-    pub fn neighbour_at(self, p: Pos, m: Move) -> Neighbour
+    #[tactic(auto, unfolding(crate::specs::Room::stays, crate::specs::Room::between))]
+    pub fn neighbour_at(self, p: Pos, m: Move) -> Option<usize>
         requires good { Good self }
         requires within { Within self p }
         requires x_bound { (m.x ≤ 2) × (m.y ≤ 2) × (m.z ≤ 2) }
@@ -328,24 +303,19 @@ impl Room {
         let x = p.x + m.x;
         let y = p.y + m.y;
         let z = p.z + m.z;
-        if !in_range(1, x, self.wide) {
-            return Neighbour::Outside;
+        if in_range(1, x, self.wide) && in_range(1, y, self.high) && in_range(1, z, self.deep) {
+            Some(self.cell(Pos {
+                x: x - 1,
+                y: y - 1,
+                z: z - 1,
+            }))
+        } else {
+            None
         }
-        if !in_range(1, y, self.high) {
-            return Neighbour::Outside;
-        }
-        if !in_range(1, z, self.deep) {
-            return Neighbour::Outside;
-        }
-        Neighbour::Inside(self.cell(Pos {
-            x: x - 1,
-            y: y - 1,
-            z: z - 1,
-        }))
     }
 
     // Where a move leads from a cell.
-    pub fn neighbour(self, cell: usize, m: Move) -> Neighbour
+    pub fn neighbour(self, cell: usize, m: Move) -> Option<usize>
         requires good { Good self }
         requires cell_bound { cell < volume self }
         requires x_bound { (m.x ≤ 2) × (m.y ≤ 2) × (m.z ≤ 2) }
@@ -355,41 +325,45 @@ impl Room {
     }
 
     // The cell ahead of a cell in a facing's direction: none unless the facing is horizontal.
-    pub fn ahead(self, cell: usize, facing: u8) -> Neighbour
+    #[tactic(auto, using(crate::specs::MoveLaws::small, crate::specs::MoveLaws::facing_in), unfolding(crate::specs::Units::ahead))]
+    pub fn ahead(self, cell: usize, facing: u8) -> Option<usize>
         requires good { Good self }
         requires cell_bound { cell < volume self }
         ensures { result ≡ ahead self cell facing }
     {
-        if !facing_horizontal(facing) {
-            return Neighbour::Outside;
+        if facing_horizontal(facing) {
+            self.neighbour(cell, facing_move(facing))
+        } else {
+            None
         }
-        self.neighbour(cell, facing_move(facing))
     }
 
     // The cell right beneath a cell.
-    pub fn beneath(self, cell: usize) -> Neighbour
+    #[tactic(auto, using(crate::specs::RoomLaws::deep_enough), unfolding(crate::specs::Room::beneath))]
+    pub fn beneath(self, cell: usize) -> Option<usize>
         requires { Good self }
         ensures { result ≡ beneath self cell }
     {
         let p = self.pos(cell);
-        if p.y < 1 {
-            Neighbour::Outside
+        if 0 < p.y {
+            Some(cell - self.deep)
         } else {
-            Neighbour::Inside(cell - self.deep)
+            None
         }
     }
 
     // The cell right above a cell.
-    pub fn above(self, cell: usize) -> Neighbour
+    #[tactic(auto, using(crate::specs::RoomLaws::small_pos), unfolding(crate::specs::Room::above))]
+    pub fn above(self, cell: usize) -> Option<usize>
         requires good { Good self }
         requires cell_bound { cell < volume self }
         ensures { result ≡ above self cell }
     {
         let p = self.pos(cell);
         if p.y + 1 < self.high {
-            Neighbour::Inside(cell + self.deep)
+            Some(cell + self.deep)
         } else {
-            Neighbour::Outside
+            None
         }
     }
 

@@ -1,57 +1,58 @@
 -- Moves tried one after another: the invariant of the loops over a column's moves and over the columns.
-use Rattle.std.specs.Prelude.{◌≡◌, refl, false, List, [], ◌∷◌, ◌++◌, ℕ, zero, suc, ◌+◌, ◌-◌, ◌*◌, ◌≤◌, ◌<◌, length, take, drop}
+use Rattle.std.specs.Prelude.{◌≡◌, refl, false, List, [], ◌∷◌, ◌++◌, ℕ, zero, suc, ◌+◌, ◌-◌, ◌*◌, ◌≤◌, ◌<◌, length, take, drop, None, Ok, Err}
 use Rattle.std.proofs.Common.{sym, ap, ◌∙◌, sub-add_cancel, arith, length-take, take-append-drop}
 use Rattle.std.proofs.Math.Bool.{and-false}
 use Rattle.room.specs.declared.Room.{Room}
 use Rattle.room.specs.declared.Move.{Move}
-use Rattle.room.specs.declared.RouterConfig.{RouterConfig}
-use Rattle.room.specs.declared.Neighbour.TheVariants.{Outside}
 use Rattle.room.specs.Room.{Good, Within, at, by, moves, cell_of, pos_of, between, stays, neighbour, move_at}
 use Rattle.room.specs.RoomLaws.{cell_in, pos_cell, pos_in}
 use Rattle.room.specs.MoveLaws.{not_stays, one_less_in, move-small}
-use Rattle.room_search.specs.declared.Line.{Line}
 use Rattle.room_search.specs.declared.Spot.{Spot}
-use Rattle.room_search.specs.declared.MovesTried.TheVariants.{On, Full}
-use Rattle.room_search.specs.TriedMoves.{HeapReady, Placed, Able, Aside, MovesCame, setting, column}
-use Rattle.room_search.specs.TryLaws.{tried-out, tried-none, tried_then, tried-full}
+use Rattle.room_search.specs.declared.Reached.{Reached}
+use Rattle.room_search.specs.declared.Field.{Field}
+use Rattle.room_search.specs.declared.Work.{Work}
+use Rattle.room_search.specs.declared.QueueFull.{QueueFull}
+use Rattle.room_search.specs.Fields.{Placed}
+use Rattle.room_search.specs.TriedMoves.{HeapReady, Kept, Able, Aside, out, MovesCame, setting, column}
+use Rattle.room_search.specs.TryLaws.{tried-no-step, tried-none, tried_then, tried-full}
 
-module _ (R : Room) (C : RouterConfig) (classes : List ℕ) (goal from : Spot) (cost : ℕ) (known₀ previous₀ queue₀ : List ℕ) (line₀ : Line) where
+-- ---- the same memory
+
+pub kept-same : {s : Work} → Kept s s
+kept-same = record { known-is = refl; previous-is = refl; queue-is = refl; known-long = refl; previous-long = refl; queue-long = refl }
+
+pub kept_then : {s t u : Work} → Kept s t → Kept t u → Kept s u
+kept_then K L = record {
+  known-is = L.known-is ∙ K.known-is;
+  previous-is = L.previous-is ∙ K.previous-is;
+  queue-is = L.queue-is ∙ K.queue-is;
+  known-long = L.known-long ∙ K.known-long;
+  previous-long = L.previous-long ∙ K.previous-long;
+  queue-long = L.queue-long ∙ K.queue-long;
+}
+
+module _ (F : Field) (from : Reached) (s₀ : Work) where
   -- the moves `done` are tried, and the search goes on
-  pub record TriedAlong (done : List Move) (known previous queue : List ℕ) (line : Line) : Type 0 where
-    pub tried : MovesCame (setting R C classes goal queue₀ from cost) done known₀ previous₀ queue₀ line₀ (On line) known previous queue
-    pub known_kept : length known ≡ length known₀
-    pub previous-kept : length previous ≡ length previous₀
-    pub queue-kept : length queue ≡ length queue₀
+  pub record TriedAlong (done : List Move) (s : Work) : Type 0 where
+    pub tried : MovesCame (setting F s₀ from) done s₀ (Ok tt) s
+    pub kept : Kept s₀ s
 
-  pub along-start : HeapReady queue₀ line₀ → TriedAlong [] known₀ previous₀ queue₀ line₀
-  along-start r = record { tried = tried-none r; known_kept = refl; previous-kept = refl; queue-kept = refl }
+  pub along-start : HeapReady s₀ → TriedAlong [] s₀
+  along-start r = record { tried = tried-none r; kept = kept-same }
 
-  module _ {done : List Move} {known previous queue : List ℕ} {line : Line} (I : TriedAlong done known previous queue line) (more : List Move)
-      {known' previous' queue' : List ℕ} where
-    pub along-next : {l : Line} → MovesCame (setting R C classes goal queue from cost) more known previous queue line (On l) known' previous' queue'
-        → length known' ≡ length known → length previous' ≡ length previous → length queue' ≡ length queue
-        → TriedAlong (done ++ more) known' previous' queue' l
-    along-next T a b c = record {
-      tried = tried_then more I.tried (rw I.queue-kept at T);
-      known_kept = a ∙ I.known_kept;
-      previous-kept = b ∙ I.previous-kept;
-      queue-kept = c ∙ I.queue-kept;
-    }
+  module _ {done : List Move} {s : Work} (I : TriedAlong done s) (more : List Move) {t : Work} where
+    pub along-next : {x : Unit {0}} → Kept s t → MovesCame (setting F s from) more s (Ok x) t → TriedAlong (done ++ more) t
+    along-next K T = record { tried = tried_then more I.tried (rw I.kept.queue-long at T); kept = kept_then I.kept K }
 
-    pub along-stop : (rest : List Move) → MovesCame (setting R C classes goal queue from cost) more known previous queue line Full known' previous' queue'
-        → MovesCame (setting R C classes goal queue₀ from cost) ((done ++ more) ++ rest) known₀ previous₀ queue₀ line₀ Full known' previous' queue'
-    along-stop rest T = tried-full rest (tried_then more I.tried (rw I.queue-kept at T))
+    pub along-stop : (rest : List Move) {e d : QueueFull} → MovesCame (setting F s from) more s (Err e) t
+        → MovesCame (setting F s₀ from) ((done ++ more) ++ rest) s₀ (Err d) t
+    along-stop rest T = tried-full rest (tried_then more I.tried (rw I.kept.queue-long at T))
 
   -- what is asked to try more moves
-  pub able-along : {n : ℕ} (k : ℕ) {done : List Move} {known previous queue : List ℕ} {line : Line} → Able n R C classes goal from cost known₀ previous₀ queue₀ line₀
-      → TriedAlong done known previous queue line → length done + k ≤ n → Able k R C classes goal from cost known previous queue line
+  pub able-along : {n : ℕ} (k : ℕ) {done : List Move} {s : Work} → Able n F from s₀ → TriedAlong done s → length done + k ≤ n → Able k F from s
   able-along k A I h = record {
-    good = A.good;
-    config-good = A.config-good;
-    classes-long = A.classes-long;
-    known-long = I.known_kept ∙ A.known-long;
-    previous-long = I.previous-kept ∙ A.previous-long;
-    goal-placed = A.goal-placed;
+    known-long = I.kept.known-long ∙ A.known-long;
+    previous-long = I.kept.previous-long ∙ A.previous-long;
     from-placed = A.from-placed;
     cost-most = A.cost-most;
     serial-most = omega (arith, A.serial-most, I.tried.readied.1);
@@ -81,26 +82,22 @@ column-all m y e = rw e
 
 -- ---- a column's level cell, if it is in the room
 
-module _ (R : Room) (C : RouterConfig) (classes : List ℕ) (goal from : Spot) (cost : ℕ) (known previous queue : List ℕ) (line : Line) (ready : HeapReady queue line)
-    (m : Move) where
-  all-out : ((y : ℕ) → neighbour R from.cell (by m.x y m.z) ≡ Outside)
-      → MovesCame (setting R C classes goal queue from cost) (column m) known previous queue line (On line) known previous queue
-  all-out out = tried_then (by m.x 1 m.z ∷ by m.x 2 m.z ∷ []) (one 0) (tried_then (by m.x 2 m.z ∷ []) (one 1) (one 2))
-    where
-      one : (y : ℕ) → MovesCame (setting R C classes goal queue from cost) (by m.x y m.z ∷ []) known previous queue line (On line) known previous queue
-      one y = tried-out R C classes goal from cost known previous queue line ready (by m.x y m.z) (out y)
+pub column-out : (F : Field) (from : Reached) (s : Work) (m : Move) → HeapReady s → ((y : ℕ) → neighbour F.room from.spot.cell (by m.x y m.z) ≡ None)
+    → {x : Unit {0}} → MovesCame (setting F s from) (column m) s (Ok x) s
+column-out F from s m ready none = tried_then (by m.x 1 m.z ∷ by m.x 2 m.z ∷ []) (one 0) (tried_then (by m.x 2 m.z ∷ []) (one 1) (one 2))
+  where
+    one : (y : ℕ) {x : Unit {0}} → MovesCame (setting F s from) (by m.x y m.z ∷ []) s (Ok x) s
+    one y = tried-no-step F from s (by m.x y m.z) ready (out (none y))
 
-  module _ (P : Placed R from) where
-    pub column_out_x : between 1 (from.at.x + m.x) R.wide ≡ false
-        → MovesCame (setting R C classes goal queue from cost) (column m) known previous queue line (On line) known previous queue
-    unfolding stays
-    column_out_x e = all-out (λ y. not_stays R from.cell (by m.x y m.z) (rw (← P.is, e)))
+module _ (R : Room) (from : Spot) (m : Move) (P : Placed R from) where
+  pub column_out_x : between 1 (from.at.x + m.x) R.wide ≡ false → (y : ℕ) → neighbour R from.cell (by m.x y m.z) ≡ None
+  unfolding stays
+  column_out_x e y = not_stays R from.cell (by m.x y m.z) (rw (← P.is, e))
 
-    pub column_out_z : between 1 (from.at.z + m.z) R.deep ≡ false
-        → MovesCame (setting R C classes goal queue from cost) (column m) known previous queue line (On line) known previous queue
-    unfolding stays
-    column_out_z e = all-out (λ y. not_stays R from.cell (by m.x y m.z) (rw (← P.is, e, and-false (between 1 (from.at.y + y) R.high))
-        (and-false (between 1 (from.at.x + m.x) R.wide))))
+  pub column_out_z : between 1 (from.at.z + m.z) R.deep ≡ false → (y : ℕ) → neighbour R from.cell (by m.x y m.z) ≡ None
+  unfolding stays
+  column_out_z e y = not_stays R from.cell (by m.x y m.z) (rw (← P.is, e, and-false (between 1 (from.at.y + y) R.high))
+      (and-false (between 1 (from.at.x + m.x) R.wide)))
 
 -- the level cell of a column that is in the room
 module _ (R : Room) (G : Good R) (from : Spot) (P : Placed R from) (m : Move) (x-low : 1 ≤ from.at.x + m.x) (x-high : from.at.x + m.x ≤ R.wide)

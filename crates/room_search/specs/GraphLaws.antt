@@ -1,11 +1,11 @@
 -- The graph of a room is fit for the search: its moves stay inside and are at most twelve and not dearer than the dearest step with a new
 -- support; and no move lowers the estimate by more than its cost where a flat step costs at least 10 and a stair at least 20.
-use Rattle.std.specs.Prelude.{◌≡◌, eqb}
+use Rattle.std.specs.Prelude.{◌≡◌, eqb, Option, Some, None}
 use Rattle.std.proofs.Math.Path.{refl}
 use Rattle.std.proofs.Common.{sym, ap, ◌∙◌, inr}
 use Rattle.std.proofs.Math.Logic.{inl}
 use mathlib.Core.List.{List, [], ◌∷◌, ◌++◌}
-use Prim.Native.Nat.{ℕ, suc, ◌+◌, ◌*◌, ◌≤◌, ◌<◌, max, zero-le}
+use Prim.Native.Nat.{ℕ, suc, ◌+◌, ◌≤◌, ◌<◌, max, zero-le}
 use native.Mathlib.Omega.{arith}
 use Rattle.std.proofs.Math.ListN.{length}
 use Rattle.std.proofs.lemmas.Bool.{eqb-false}
@@ -14,8 +14,6 @@ use Rattle.basics.specs.Lists.{In}
 use Rattle.room.specs.declared.Room.{Room}
 use Rattle.room.specs.declared.Move.{Move}
 use Rattle.room.specs.declared.RouterConfig.{RouterConfig}
-use Rattle.room.specs.declared.Neighbour.{Neighbour}
-use Rattle.room.specs.declared.Neighbour.TheVariants.{Inside, Outside}
 use Rattle.room.specs.Room.{volume, moves, neighbour, distance, flat}
 use Rattle.room.specs.MoveLaws.{most, leads, nearer}
 use Rattle.best_first.specs.Search
@@ -28,7 +26,7 @@ pub record Made (R : Room) (C : RouterConfig) (class : ℕ → ℕ) (u : ℕ) (m
   pub by : Move
   pub listed : In by ms
   pub into : ℕ
-  pub leads_in : neighbour R u by ≡ Inside into
+  pub leads_in : neighbour R u by ≡ Some into
   pub entered : class into ≡ 0 → ⊥
   pub is : g ≡ record { to = into; cost = total (price_of C by (class into)) }
 
@@ -41,15 +39,15 @@ module _ (R : Room) (C : RouterConfig) (class : ℕ → ℕ) (u : ℕ) where
   made [] g i = absurd i
   made (m ∷ ms) g i = go (neighbour R u m) refl i (made ms g)
     where
-      first : (v : ℕ) → neighbour R u m ≡ Inside v → (class v ≡ 0 → ⊥) → In g (record { to = v; cost = total (price_of C m (class v)) } ∷ moves_by R C class u ms)
+      first : (v : ℕ) → neighbour R u m ≡ Some v → (class v ≡ 0 → ⊥) → In g (record { to = v; cost = total (price_of C m (class v)) } ∷ moves_by R C class u ms)
           → (In g (moves_by R C class u ms) → Made R C class u ms g) → Made R C class u (m ∷ ms) g
       first v e n (inl q) ih = record { by = m; listed = inl refl; into = v; leads_in = e; entered = n; is = q }
       first v e n (inr j) ih = later m ms g (ih j)
 
-      go : (w : Neighbour) → neighbour R u m ≡ w → In g (move_into C class m w ++ moves_by R C class u ms)
+      go : (w : Option ℕ) → neighbour R u m ≡ w → In g (move_into C class m w ++ moves_by R C class u ms)
           → (In g (moves_by R C class u ms) → Made R C class u ms g) → Made R C class u (m ∷ ms) g
-      go Outside e j ih = later m ms g (ih j)
-      go (Inside v) e j ih =
+      go None e j ih = later m ms g (ih j)
+      go (Some v) e j ih =
           ask (eqb (class v) 0) (λ t. later m ms g (ih (rw t at j))) (λ f. first v e (eqb-false _ _ f) (rw f at j) ih)
 
   -- each of the room's moves makes at most one
@@ -58,15 +56,15 @@ module _ (R : Room) (C : RouterConfig) (class : ℕ → ℕ) (u : ℕ) where
   few-moves [] = zero-le
   few-moves (m ∷ ms) = go (neighbour R u m) (few-moves ms)
     where
-      go : (w : Neighbour) → length (moves_by R C class u ms) ≤ length ms → length (move_into C class m w ++ moves_by R C class u ms) ≤ suc (length ms)
-      go Outside h = omega arith
-      go (Inside v) h = ask (eqb (class v) 0) (λ t. rw t (omega arith)) (λ f. rw f (omega arith))
+      go : (w : Option ℕ) → length (moves_by R C class u ms) ≤ length ms → length (move_into C class m w ++ moves_by R C class u ms) ≤ suc (length ms)
+      go None h = omega arith
+      go (Some v) h = ask (eqb (class v) 0) (λ t. rw t (omega arith)) (λ f. rw f (omega arith))
 
 -- a step of the search's graph goes by one of the room's moves, into a cell that can be entered, and costs what that takes
 pub record StepBy (T : Task) (u v c : ℕ) : Type 0 where
   pub by : Move
   pub listed : In by moves
-  pub leads_in : neighbour T.room u by ≡ Inside v
+  pub leads_in : neighbour T.room u by ≡ Some v
   pub entered : entering T v ≡ 0 → ⊥
   pub cost-is : total (price_of T.config by (entering T v)) ≡ c
 

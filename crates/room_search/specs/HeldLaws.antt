@@ -1,11 +1,11 @@
 -- What a push and a taking of either heap are to the waiting entries.
-use Rattle.std.specs.Prelude.{◌≡◌, refl, ◌≢◌, length, get_or}
-use Rattle.std.proofs.Common.{◌∙◌, inl, inr, eq-eqb, ne_eqb}
+use Rattle.std.specs.Prelude.{◌≡◌, refl, length, get_or}
+use Rattle.std.proofs.Common.{◌∙◌, inl, inr}
 use mathlib.Core.List.{List, [], ◌∷◌, map}
 use Prim.Native.Nat.{ℕ, zero, suc, ◌-◌, ◌/◌, ◌%◌, ◌^◌, ◌≤◌, ◌<◌}
 use native.Mathlib.Omega.{arith}
 use Rattle.std.proofs.lemmas.List.{length-map}
-use Rattle.basics.specs.Tests.{ask_same, ask_less}
+use Rattle.basics.specs.Tests.{ask_less}
 use Rattle.basics.specs.Lists.{In}
 use Rattle.best_first.specs.Search.{Entry}
 use Rattle.best_first.proofs.Entries.{Late, by_key, by-serial, Same, same_refl, same_trans, same-cons, same-swap, TakenOut}
@@ -13,29 +13,30 @@ use Rattle.queue.specs.Queue.{as_one, insert, bag, entry, EntryPushed, EntryTake
 use Rattle.queue.specs.BagLaws.{insert_nil, insert_le, insert_gt, bag_zero, bag_suc, length_bag}
 use Rattle.queue.specs.HeapLaws.{heap-empty}
 use Rattle.packed_queue.specs.PackedQueue.{one, NumberPushed, NumberTaken}
+use Rattle.room_search.specs.declared.Width.{Width}
+use Rattle.room_search.specs.declared.Width.TheVariants.{One, Two}
 use Rattle.room_search.specs.Held.{packed, unpacked, in_one, out_of_one, entries_in, HeapIn, Holdable, Joined, Left}
 
 -- ---- by how many numbers hold an entry
 
-entries-of-one : (width : ℕ) (h : List ℕ) (n : ℕ) → width ≡ 1 → entries_in width h n ≡ map out_of_one (bag (one h) n)
+entries-of-one : (width : Width) (h : List ℕ) (n : ℕ) → width ≡ One → entries_in width h n ≡ map out_of_one (bag (one h) n)
 unfolding entries_in
-entries-of-one width h n e = rw (eq-eqb width 1 e)
+entries-of-one width h n e = rw e
 
-entries-of-two : (width : ℕ) (h : List ℕ) (n : ℕ) → width ≢ 1 → entries_in width h n ≡ map unpacked (bag (entry h) n)
+entries-of-two : (width : Width) (h : List ℕ) (n : ℕ) → width ≡ Two → entries_in width h n ≡ map unpacked (bag (entry h) n)
 unfolding entries_in
-entries-of-two width h n e = rw (ne_eqb width 1 e)
+entries-of-two width h n e = rw e
 
-pub entries_none : (width : ℕ) (h : List ℕ) → entries_in width h 0 ≡ []
-entries_none width h = ask_same width 1 (λ e. entries-of-one width h 0 e ∙ rw bag_zero) (λ e. entries-of-two width h 0 e ∙ rw bag_zero)
+pub entries_none : (width : Width) (h : List ℕ) → entries_in width h 0 ≡ []
+entries_none One h = entries-of-one One h 0 refl ∙ rw bag_zero
+entries_none Two h = entries-of-two Two h 0 refl ∙ rw bag_zero
 
-pub heap_in_empty : (width : ℕ) (h : List ℕ) → HeapIn width h 0
+pub heap_in_empty : (width : Width) (h : List ℕ) → HeapIn width h 0
 heap_in_empty width h = record { of_one = λ e. heap-empty (one h); of_two = λ e. heap-empty (entry h) }
 
-pub length_entries : (width : ℕ) (h : List ℕ) (n : ℕ) → length (entries_in width h n) ≡ n
-length_entries width h n =
-    ask_same width 1
-    (λ e. rw (entries-of-one width h n e) (length-map (bag (one h) n) out_of_one ∙ length_bag (one h) n))
-    (λ e. rw (entries-of-two width h n e) (length-map (bag (entry h) n) unpacked ∙ length_bag (entry h) n))
+pub length_entries : (width : Width) (h : List ℕ) (n : ℕ) → length (entries_in width h n) ≡ n
+length_entries One h n = rw (entries-of-one One h n refl) (length-map (bag (one h) n) out_of_one ∙ length_bag (one h) n)
+length_entries Two h n = rw (entries-of-two Two h n refl) (length-map (bag (entry h) n) unpacked ∙ length_bag (entry h) n)
 
 -- ---- packing
 
@@ -133,15 +134,18 @@ module _ (meant : ℕ → Entry) (late : (a b : ℕ) → a ≤ b → Late (meant
 
 -- ---- a push
 
-module _ (width : ℕ) (h : List ℕ) (n key serial cell : ℕ) (h' : List ℕ) (F : Holdable width key serial cell) where
-  pub joined-one : width ≡ 1 → NumberPushed h n (in_one key serial cell) h' → Joined width h n key serial cell h'
+one_or_two : {width : Width} → width ≡ One → width ≡ Two → ⊥
+one_or_two e f = cc
+
+module _ (width : Width) (h : List ℕ) (n key serial cell : ℕ) (h' : List ℕ) (F : Holdable width key serial cell) where
+  pub joined-one : width ≡ One → NumberPushed h n (in_one key serial cell) h' → Joined width h n key serial cell h'
   joined-one e P = record {
     same = rw (entries-of-one width h n e, entries-of-one width h' (suc n) e, P.holds, ← out_in_one key serial cell F.serial-most F.cell-most)
         (same-insert out_of_one late-out-of-one (in_one key serial cell) (bag (one h) n));
-    order = record { of_one = λ _. P.order; of_two = λ d. absurd (d e) };
+    order = record { of_one = λ _. P.order; of_two = λ d. absurd (one_or_two e d) };
   }
 
-  pub joined-two : width ≢ 1 → EntryPushed h n (packed key serial cell) h' → Joined width h n key serial cell h'
+  pub joined-two : width ≡ Two → EntryPushed h n (packed key serial cell) h' → Joined width h n key serial cell h'
   joined-two d P = record {
     same = rw (
       entries-of-two width h n d,
@@ -150,22 +154,22 @@ module _ (width : ℕ) (h : List ℕ) (n key serial cell : ℕ) (h' : List ℕ) 
       ← unpacked-packed key serial cell (omega (arith, F.serial-most)) (omega (arith, F.cell-most)),
     )
         (same-insert unpacked late-unpacked (packed key serial cell) (bag (entry h) n));
-    order = record { of_one = λ e. absurd (d e); of_two = λ _. P.order };
+    order = record { of_one = λ e. absurd (one_or_two e d); of_two = λ _. P.order };
   }
 
 -- ---- a taking
 
-module _ (width : ℕ) (h : List ℕ) (n : ℕ) (h' : List ℕ) where
-  pub left_one : (e : ℕ) → width ≡ 1 → NumberTaken h n e h' → Left width h n (e % 2 ^ 16) h'
+module _ (width : Width) (h : List ℕ) (n : ℕ) (h' : List ℕ) where
+  pub left_one : (e : ℕ) → width ≡ One → NumberTaken h n e h' → Left width h n (e % 2 ^ 16) h'
   unfolding out_of_one
   left_one e w T = record {
     key = e / 2 ^ 40;
     serial = e / 2 ^ 16 % 2 ^ 24;
     out = rw (entries-of-one width h n w, entries-of-one width h' (n - 1) w) (first_out out_of_one late-out-of-one (one h) (one h') n (n - 1) e T.holds);
-    order = record { of_one = λ _. T.order; of_two = λ d. absurd (d w) };
+    order = record { of_one = λ _. T.order; of_two = λ d. absurd (one_or_two w d) };
   }
 
-  pub left-two : (cell : ℕ) → cell < 2 ^ 64 → width ≢ 1 → EntryTaken h n cell h' → Left width h n cell h'
+  pub left-two : (cell : ℕ) → cell < 2 ^ 64 → width ≡ Two → EntryTaken h n cell h' → Left width h n cell h'
   unfolding unpacked
   left-two cell c d T =
       let first : ℕ = as_one (get_or h 0 0) cell in
@@ -177,5 +181,5 @@ module _ (width : ℕ) (h : List ℕ) (n : ℕ) (h' : List ℕ) where
         serial = first / 2 ^ 64 % 2 ^ 32;
         out = rw (entries-of-two width h n d, entries-of-two width h' (n - 1) d, ← top)
             (first_out unpacked late-unpacked (entry h) (entry h') n (n - 1) first T.holds);
-        order = record { of_one = λ w. absurd (d w); of_two = λ _. T.order };
+        order = record { of_one = λ w. absurd (one_or_two w d); of_two = λ _. T.order };
       }

@@ -1,6 +1,7 @@
 pub mod Routing
 pub mod GraphLaws
 pub mod Slackness
+pub mod Fields
 pub mod Held
 pub mod HeldLaws
 pub mod TriedMoves

@@ -1,12 +1,10 @@
 -- docs/RULES.md, One search, in its order: which cells may be entered and what that costs make a graph of the room, and the search is
 -- `best_first` over that graph. Definitions alone.
-use Rattle.std.specs.Prelude.{Bool, true, false, not, ◌||◌, List, [], ◌∷◌, ◌++◌, ℕ, ◌+◌, ◌*◌, ◌/◌, eqb, get_or}
+use Rattle.std.specs.Prelude.{Bool, true, false, not, ◌||◌, List, [], ◌∷◌, ◌++◌, ℕ, ◌+◌, ◌*◌, ◌/◌, eqb, get_or, Option, Some, None}
 use Rattle.basics.specs.Tests.{either}
 use Rattle.room.specs.declared.Room.{Room}
 use Rattle.room.specs.declared.Move.{Move}
 use Rattle.room.specs.declared.RouterConfig.{RouterConfig}
-use Rattle.room.specs.declared.Neighbour.{Neighbour}
-use Rattle.room.specs.declared.Neighbour.TheVariants.{Inside, Outside}
 use Rattle.room.specs.Room.{volume, moves, neighbour, beneath, distance, flat}
 use Rattle.room.specs.Units.{air, solid, transparent, redstone_wire, redstone_block}
 use Rattle.best_first.specs.Search
@@ -28,9 +26,9 @@ pub record Task : Type 0 where
   pub places : ℕ
 
 -- "Everything outside is Solid."
-abbrev pub kind_at : List ℕ → Neighbour → ℕ
-kind_at kinds (Inside v) = get_or kinds v air
-kind_at kinds Outside = solid
+abbrev pub kind_at : List ℕ → Option ℕ → ℕ
+kind_at kinds (Some v) = get_or kinds v air
+kind_at kinds None = solid
 
 -- "A cell is routeable if Air; start and goal may also hold RedstoneWire."
 unfoldable pub routeable_kind : Bool → ℕ → Bool
@@ -75,9 +73,9 @@ abbrev pub total : Price → ℕ
 total p = p.step.0 + p.support.0
 
 -- the moves out of a cell, of a room whose cells have classes: what it takes to enter each, as above
-abbrev pub move_into : RouterConfig → (ℕ → ℕ) → Move → Neighbour → List Search.Move
-move_into C class m (Inside v) = either (eqb (class v) 0) [] (record { to = v; cost = total (price_of C m (class v)) } ∷ [])
-move_into C class m Outside = []
+abbrev pub move_into : RouterConfig → (ℕ → ℕ) → Move → Option ℕ → List Search.Move
+move_into C class m (Some v) = either (eqb (class v) 0) [] (record { to = v; cost = total (price_of C m (class v)) } ∷ [])
+move_into C class m None = []
 
 unfoldable pub moves_by : Room → RouterConfig → (ℕ → ℕ) → ℕ → List Move → List Search.Move
 moves_by R C class u [] = []

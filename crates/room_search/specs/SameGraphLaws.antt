@@ -1,15 +1,13 @@
 -- Class bytes that say what it takes to enter each cell make the task's own graph.
 use Rattle.std.proofs.Math.Path.{◌≡◌, refl, fun_ext}
 use Rattle.std.proofs.Common.{◌∙◌, arith, length-set, get_or-set_same, get_or-set_other, ne_eqb}
-use Rattle.std.specs.Prelude.{true, length, get_or}
+use Rattle.std.specs.Prelude.{true, length, get_or, Option, Some, None}
 use mathlib.Core.List.{List, [], ◌∷◌, ◌++◌}
 use Prim.Native.Nat.{ℕ, ◌<◌}
 use Rattle.basics.specs.Tests.{ask_same}
 use Rattle.room.specs.declared.Room.{Room}
 use Rattle.room.specs.declared.Move.{Move}
 use Rattle.room.specs.declared.RouterConfig.{RouterConfig}
-use Rattle.room.specs.declared.Neighbour.{Neighbour}
-use Rattle.room.specs.declared.Neighbour.TheVariants.{Inside, Outside}
 use Rattle.room.specs.Room.{volume, moves, neighbour, distance}
 use Rattle.room.specs.MoveLaws.{leads}
 use Rattle.best_first.specs.Search
@@ -23,9 +21,9 @@ module _ (R : Room) (C : RouterConfig) (f g : ℕ → ℕ) (same : (v : ℕ) →
   same-moves u [] = refl
   same-moves u (m ∷ ms) = rw (same-moves u ms) (go (neighbour R u m) refl)
     where
-      go : (w : Neighbour) → neighbour R u m ≡ w → move_into C f m w ++ moves_by R C g u ms ≡ move_into C g m w ++ moves_by R C g u ms
-      go Outside e = refl
-      go (Inside v) e = rw (same v (leads R u m v e).inside)
+      go : (w : Option ℕ) → neighbour R u m ≡ w → move_into C f m w ++ moves_by R C g u ms ≡ move_into C g m w ++ moves_by R C g u ms
+      go None e = refl
+      go (Some v) e = rw (same v (leads R u m v e).inside)
 
   pub same_graph : (start goal places : ℕ) → graph_of R C f start goal places ≡ graph_of R C g start goal places
   unfolding graph_of

@@ -1,7 +1,7 @@
 -- One move tried, as the code meets it: out of the room, into a cell that can't be entered, or offered; and moves tried one after another.
-use Rattle.std.specs.Prelude.{◌≡◌, ◌≢◌, List, [], ◌∷◌, ◌++◌, ℕ, suc, ◌+◌, ◌-◌, ◌*◌, ◌≤◌, ◌<◌}
+use Rattle.std.specs.Prelude.{◌≡◌, ◌≢◌, List, [], ◌∷◌, ◌++◌, ℕ, suc, ◌+◌, ◌-◌, ◌*◌, ◌≤◌, ◌<◌, Some, None, Ok, Err}
 use Rattle.std.proofs.Math.Path.{refl, sym, ap}
-use Rattle.std.proofs.Common.{◌∙◌, append_assoc, mul-le-mul, add-mul, suc-mul, add-zero, length-append}
+use Rattle.std.proofs.Common.{◌∙◌, append_assoc, mul-le-mul, add-mul, suc-mul, length-append}
 use Rattle.std.proofs.Math.Bool.{false, and-false}
 use Rattle.std.proofs.Math.Nat.{lt_of_lt_of_le}
 use native.Mathlib.Omega.{arith}
@@ -12,31 +12,36 @@ use Rattle.room.specs.declared.Pos.{Pos}
 use Rattle.room.specs.declared.Move.{Move}
 use Rattle.room.specs.declared.RouterConfig.{RouterConfig}
 use Rattle.room.specs.declared.Cost.{Cost}
-use Rattle.room.specs.declared.Neighbour.TheVariants.{Inside, Outside}
 use Rattle.room.specs.Room.{max_side, Good, Within, SmallPos, at, volume, pos_of, cell_of, between, stays, neighbour, distance_at, distance}
 use Rattle.room.specs.RoomLaws.{cell_pos, pos_cell, pos_in, cell_in, small_pos}
 use Rattle.room.specs.MoveLaws.{Moved, leads-to, not_stays, one_less_in}
+use Rattle.room.specs.Units.{max_cost, dearest}
+use Rattle.room.specs.UnitLaws.{dearest-most}
 use Rattle.best_first.specs.Search.{Graph}
-use Rattle.room_search.specs.declared.Line.{Line}
+use Rattle.room_search.specs.declared.Width.{Width}
 use Rattle.room_search.specs.declared.Price.{Price}
 use Rattle.room_search.specs.declared.Spot.{Spot}
-use Rattle.room_search.specs.declared.MovesTried.{MovesTried}
-use Rattle.room_search.specs.declared.MovesTried.TheVariants.{On, Full}
+use Rattle.room_search.specs.declared.Reached.{Reached}
+use Rattle.room_search.specs.declared.Field.{Field}
+use Rattle.room_search.specs.declared.Work.{Work}
+use Rattle.room_search.specs.declared.QueueFull.{QueueFull}
 use Rattle.room_search.specs.Routing.{total, price_of, moves_by, estimate_of, graph_of}
-use Rattle.room_search.specs.TriedMoves.{HeapReady, Readied, Placed, Offered, Setting, setting, due_of, MovesCame, Aside}
+use Rattle.room_search.specs.GraphLaws.{price-low}
+use Rattle.room_search.specs.Fields.{Placed}
+use Rattle.room_search.specs.TriedMoves.{HeapReady, Readied, Tried, Offered, Setting, setting, due_of, MovesCame, Aside, StepTo, NoStep, out, shut}
 
 -- ---- what one move adds to the moves due
 
 module _ (R : Room) (C : RouterConfig) (class : ℕ → ℕ) (u : ℕ) (m : Move) (ms : List Move) where
-  moves_out : neighbour R u m ≡ Outside → moves_by R C class u (m ∷ ms) ≡ moves_by R C class u ms
+  moves_out : neighbour R u m ≡ None → moves_by R C class u (m ∷ ms) ≡ moves_by R C class u ms
   unfolding moves_by
   moves_out e = rw e
 
-  moves-shut : (v : ℕ) → neighbour R u m ≡ Inside v → class v ≡ 0 → moves_by R C class u (m ∷ ms) ≡ moves_by R C class u ms
+  moves-shut : (v : ℕ) → neighbour R u m ≡ Some v → class v ≡ 0 → moves_by R C class u (m ∷ ms) ≡ moves_by R C class u ms
   unfolding moves_by
   moves-shut v e z = rw (e, eq-eqb (class v) 0 z)
 
-  moves_in : (v : ℕ) → neighbour R u m ≡ Inside v → class v ≢ 0
+  moves_in : (v : ℕ) → neighbour R u m ≡ Some v → class v ≢ 0
       → moves_by R C class u (m ∷ ms) ≡ record { to = v; cost = total (price_of C m (class v)) } ∷ moves_by R C class u ms
   unfolding moves_by
   moves_in v e z = rw (e, ne_eqb (class v) 0 z)
@@ -44,7 +49,7 @@ module _ (R : Room) (C : RouterConfig) (class : ℕ → ℕ) (u : ℕ) (m : Move
 -- ---- where the move leads
 
 module _ (R : Room) (G : Good R) (from beside : Spot) (m : Move) (P : Placed R from) (B : Aside R from beside m) where
-  pub out-level : between 1 (beside.at.y + m.y) R.high ≡ false → neighbour R from.cell m ≡ Outside
+  pub out-level : between 1 (beside.at.y + m.y) R.high ≡ false → neighbour R from.cell m ≡ None
   unfolding stays
   out-level e =
       let y : between 1 ((pos_of R from.cell).y + m.y) R.high ≡ false = rw (← P.is, ← B.level) e in
@@ -79,14 +84,14 @@ module _ (R : Room) (G : Good R) (from beside : Spot) (m : Move) (P : Placed R f
         let c : beside.cell ≡ cell_of R beside.at = sym (cell_pos R beside.cell) ∙ ap (cell_of R) (sym B.there.is) in
         omega (arith, c, row_down (beside.at.x * R.high) beside.at.y m.y R.deep low)
 
-    lands : neighbour R from.cell m ≡ Inside (cell_of R landing)
+    lands : neighbour R from.cell m ≡ Some (cell_of R landing)
     lands = leads-to R from.cell m landing landing-moved landing_in
 
     -- the number that the code computes is that of the cell that the move leads to
     pub record Landing (cell : ℕ) : Type 0 where
       pub enough : R.deep ≤ beside.cell + m.y * R.deep
       pub inside : cell < volume R
-      pub leads : neighbour R from.cell m ≡ Inside cell
+      pub leads : neighbour R from.cell m ≡ Some cell
       pub place : at beside.at.x (beside.at.y + m.y - 1) beside.at.z ≡ pos_of R cell
       pub small : SmallPos (at beside.at.x (beside.at.y + m.y - 1) beside.at.z)
 
@@ -114,55 +119,67 @@ rise-few R G k h = mul-le-mul h G.z_most
 
 -- ---- one move
 
-module _ (R : Room) (C : RouterConfig) (classes : List ℕ) (goal : Spot) (from : Spot) (cost : ℕ) (known previous queue : List ℕ) (line : Line)
-    (ready : HeapReady queue line) (m : Move) where
+-- no step costs more than the dearest, with a new support
+pub step-dearest : {F : Field} {from to : Reached} {m : Move} → StepTo F from m to → to.cost.0 ≤ from.cost.0 + dearest F.config
+step-dearest {F} {from} {to} {m} T = omega (arith, T.costs, price-low F.config m (get_or F.classes.now to.spot.cell 0))
+
+pub step-most : {F : Field} {from to : Reached} {m : Move} → StepTo F from m to → to.cost.0 ≤ from.cost.0 + 2 * max_cost
+step-most {F} T = omega (arith, step-dearest T, dearest-most F.fits.config-good.ranges)
+
+module _ (F : Field) (from : Reached) (s : Work) (m : Move) where
   abbrev S : Setting
-  S = setting R C classes goal queue from cost
+  S = setting F s from
 
-  pub tried-out : neighbour R from.cell m ≡ Outside → MovesCame S (m ∷ []) known previous queue line (On line) known previous queue
-  tried-out e = record { readied = (ready, omega arith, refl); goes = λ A F ms T. rw (moves_out R C (λ v. get_or classes v 0) from.cell m ms e) at T }
+  abbrev class : ℕ → ℕ
+  class v = get_or F.classes.now v 0
 
-  pub tried-shut : (v : ℕ) → neighbour R from.cell m ≡ Inside v → get_or classes v 0 ≡ 0
-      → MovesCame S (m ∷ []) known previous queue line (On line) known previous queue
-  tried-shut v e z = record { readied = (ready, omega arith, refl); goes = λ A F ms T. rw (moves-shut R C (λ v. get_or classes v 0) from.cell m ms v e z) at T }
+  tried-out : {x : Unit {0}} → HeapReady s → neighbour F.room from.spot.cell m ≡ None → MovesCame S (m ∷ []) s (Ok x) s
+  tried-out ready e = record { readied = (ready, omega arith, refl); goes = λ A B ms T. rw (moves_out F.room F.config class from.spot.cell m ms e) at T }
 
-  pub tried-offered : (v : ℕ) (p : Pos) → neighbour R from.cell m ≡ Inside v → get_or classes v 0 ≢ 0 → Placed R goal → p ≡ pos_of R v
-      → (r : MovesTried) (known' previous' queue' : List ℕ)
-      → Offered from.cell v (cost + total (price_of C m (get_or classes v 0))) (estimate_of (distance_at p goal.at)) known previous queue line r known' previous' queue'
-      → MovesCame S (m ∷ []) known previous queue line r known' previous' queue'
+  tried-shut : {x : Unit {0}} → HeapReady s → (v : ℕ) → neighbour F.room from.spot.cell m ≡ Some v → class v ≡ 0 → MovesCame S (m ∷ []) s (Ok x) s
+  tried-shut ready v e z = record {
+    readied = (ready, omega arith, refl);
+    goes = λ A B ms T. rw (moves-shut F.room F.config class from.spot.cell m ms v e z) at T;
+  }
+
+  pub tried-no-step : {x : Unit {0}} → HeapReady s → NoStep F from m → MovesCame S (m ∷ []) s (Ok x) s
+  tried-no-step ready (out e) = tried-out ready e
+  tried-no-step ready (shut v e z) = tried-shut ready v e z
+
+  pub tried-offered : {to : Reached} → StepTo F from m to → {r : Tried} {t : Work}
+      → Offered from.spot.cell to (estimate_of (distance_at to.spot.at F.goal.at)) s r t → MovesCame S (m ∷ []) s r t
   unfolding graph_of distance
-  tried-offered v p e z P q r known' previous' queue' O = record {
+  tried-offered {to} P O = record {
     readied = O.readied;
-    goes = λ A F ms T.
-        O.goes A (record { to = v; cost = total (price_of C m (get_or classes v 0)) }) (due_of S ms) F.cell-is refl
-        (ap (λ (d : ℕ). d + total (price_of C m (get_or classes v 0))) F.cost-is)
-        (ap (λ (g : Graph). g.estimate v) F.graph_is ∙ rw (q, P.is) refl)
-        (ap (λ (g : Graph). g.places) F.graph_is)
-        (rw (moves_in R C (λ v. get_or classes v 0) from.cell m ms v e z) at T);
+    goes = λ A B ms T.
+        O.goes A (record { to = to.spot.cell; cost = total (price_of F.config m (class to.spot.cell)) }) (due_of S ms) B.cell-is refl
+        (ap (λ (d : ℕ). d + total (price_of F.config m (class to.spot.cell))) B.cost-is ∙ sym P.costs)
+        (ap (λ (g : Graph). g.estimate to.spot.cell) B.graph_is ∙ rw (P.there.is, F.fits.goal-placed.is) refl)
+        (ap (λ (g : Graph). g.places) B.graph_is)
+        (rw (moves_in F.room F.config class from.spot.cell m ms to.spot.cell P.leads P.enterable) at T);
   }
 
 -- ---- several moves
 
-readied-more : (queue : List ℕ) {v w : ℕ} (a b : ℕ) (r : MovesTried) → v ≡ w → a ≤ b → Readied queue v a r → Readied queue w b r
-readied-more queue a b (On l) e h d = (d.0, omega (arith, d.1), d.2 ∙ e)
-readied-more queue a b Full e h d = tt
+readied-more : {v w : Width} (a b : ℕ) (r : Tried) (t : Work) → v ≡ w → a ≤ b → Readied v a r t → Readied w b r t
+readied-more a b (Ok x) t e h d = (d.0, omega (arith, d.1), d.2 ∙ e)
+readied-more a b (Err x) t e h d = tt
 
-module _ {S : Setting} {known previous queue : List ℕ} {line : Line} where
-  pub tried-none : HeapReady queue line → MovesCame S [] known previous queue line (On line) known previous queue
-  tried-none ready = record { readied = (ready, omega arith, refl); goes = λ A F ms T. T }
+module _ {S : Setting} {s : Work} where
+  pub tried-none : {x : Unit {0}} → HeapReady s → MovesCame S [] s (Ok x) s
+  tried-none ready = record { readied = (ready, omega arith, refl); goes = λ A B ms T. T }
 
-  module _ {a : List Move} {known' previous' queue' : List ℕ} (b : List Move) where
+  module _ {a : List Move} {t : Work} (b : List Move) where
     -- all went on, and then some more were tried
-    pub tried_then : {l : Line} → MovesCame S a known previous queue line (On l) known' previous' queue' → {r : MovesTried} {known'' previous'' queue'' : List ℕ}
-        → MovesCame S b known' previous' queue' l r known'' previous'' queue'' → MovesCame S (a ++ b) known previous queue line r known'' previous'' queue''
-    tried_then {l} T {r} U = record {
-      readied = readied-more _ _ _ r T.readied.2 (omega (arith, T.readied.1, length-append a b)) U.readied;
-      goes = λ A F ms D. U.goes A F ms (T.goes A F (b ++ ms) (rw (append_assoc a b ms) at D));
+    pub tried_then : {x : Unit {0}} → MovesCame S a s (Ok x) t → {r : Tried} {u : Work} → MovesCame S b t r u → MovesCame S (a ++ b) s r u
+    tried_then T {r} {u} U = record {
+      readied = readied-more _ _ r u T.readied.2 (omega (arith, T.readied.1, length-append a b)) U.readied;
+      goes = λ A B ms D. U.goes A B ms (T.goes A B (b ++ ms) (rw (append_assoc a b ms) at D));
     }
 
     -- the queue was full: what was still to be tried changes nothing
-    pub tried-full : MovesCame S a known previous queue line Full known' previous' queue' → MovesCame S (a ++ b) known previous queue line Full known' previous' queue'
-    tried-full T = record { readied = tt; goes = λ A F ms D. T.goes A F (b ++ ms) (rw (append_assoc a b ms) at D) }
+    pub tried-full : {e d : QueueFull} → MovesCame S a s (Err e) t → MovesCame S (a ++ b) s (Err d) t
+    tried-full T = record { readied = tt; goes = λ A B ms D. T.goes A B (b ++ ms) (rw (append_assoc a b ms) at D) }
 
 -- ---- the price, as the code puts it together
 

@@ -7,38 +7,31 @@ ghost use Rattle.room.specs.Room.{Good, volume, beneath};
 ghost use Rattle.room_search.specs.Routing.{kind_at, bearing, routeable_kind, class_for};
 ghost use Rattle.room_search.specs.Classes.{Plain, with_end};
 
-use room::{Neighbour, Room};
+use room::Room;
+
+// The class bytes.
+pub const SHUT: u8 = 0;
+
+pub const OPEN: u8 = 1;
+
+pub const OPEN_WITH_SUPPORT: u8 = 2;
 
 // What a block of that kind is to the cell above it: nothing that bears, a support, or air.
 fn bearing_of(kind: u8) -> u8
     ensures { result ≡ bearing kind }
 {
-    if kind == room::AIR {
-        return 2;
+    match kind {
+        room::AIR => OPEN_WITH_SUPPORT,
+        room::SOLID | room::TRANSPARENT | room::REDSTONE_BLOCK => OPEN,
+        _ => SHUT,
     }
-    if kind == room::SOLID {
-        return 1;
-    }
-    if kind == room::TRANSPARENT {
-        return 1;
-    }
-    if kind == room::REDSTONE_BLOCK {
-        return 1;
-    }
-    0
 }
 
 // A cell is routeable if Air; start and goal may also hold RedstoneWire.
 pub fn routeable_kind(endpoint: bool, kind: u8) -> bool
     ensures { result ≡ routeable_kind endpoint kind }
 {
-    if kind == room::AIR {
-        return true;
-    }
-    if endpoint {
-        return kind == room::REDSTONE_WIRE;
-    }
-    false
+    kind == room::AIR || (endpoint && kind == room::REDSTONE_WIRE)
 }
 
 // What it takes to enter a cell of that kind, by what stands beneath it.
@@ -48,7 +41,7 @@ pub fn class_for(endpoint: bool, kind: u8, below: u8) -> u8
     if routeable_kind(endpoint, kind) {
         bearing_of(below)
     } else {
-        0
+        SHUT
     }
 }
 
@@ -60,8 +53,8 @@ pub fn kind_beneath(room: Room, kinds: &[u8], cell: usize) -> u8
     ensures { result ≡ kind_at kinds.now (beneath room cell) }
 {
     match room.beneath(cell) {
-        Neighbour::Inside(below) => kinds[below],
-        Neighbour::Outside => room::SOLID,
+        Some(below) => kinds[below],
+        None => room::SOLID,
     }
 }
 
@@ -84,9 +77,10 @@ fn kind_below(kinds: &[u8], v: usize, layer: usize, deep: usize) -> u8
     ensures { result ≡ either (ltb layer deep) solid (get_or kinds.now (v - deep) 0) }
 {
     if layer < deep {
-        return room::SOLID;
+        room::SOLID
+    } else {
+        kinds[v - deep]
     }
-    kinds[v - deep]
 }
 
 // Fills in each cell's class, where no cell is an end.
@@ -96,14 +90,10 @@ pub fn fill_classes(room: Room, kinds: &[u8], classes: &mut [u8])
     requires classes_len { length classes.old ≡ volume room }
     ensures { Plain room kinds.now classes.new }
 {
-    let n = kinds.len();
     let area = room.high * room.deep;
-    let mut v: usize = 0;
-    let mut layer: usize = 0;
-    while v < n {
-        let below = kind_below(kinds, v, layer, room.deep);
-        classes[v] = class_for(false, kinds[v], below);
-        v += 1;
+    let mut layer = 0;
+    for (v, kind) in kinds.iter().enumerate() {
+        classes[v] = class_for(false, *kind, kind_below(kinds, v, layer, room.deep));
         layer += 1;
         if layer == area {
             layer = 0;

@@ -3,12 +3,12 @@ ghost use Rattle.std.specs.Prelude.{◌≡◌, ◌+◌, ◌*◌, ◌≤◌, ◌<
 ghost use Rattle.room.specs.Room.{max_volume, SmallPos, moves, distance_at};
 ghost use Rattle.room.specs.Units.{max_cost};
 ghost use Rattle.room_search.specs.Routing.{price_of, estimate_of};
-ghost use Rattle.room_search.specs.TriedMoves.{max_known, HeapReady, Offered, Able, Aside, setting, MovesCame, column};
+ghost use Rattle.room_search.specs.Fields.{Placed};
+ghost use Rattle.room_search.specs.TriedMoves.{max_known, HeapReady, Offered, Able, Aside, Beside, Stepped, Kept, setting, MovesCame, column, Offerable};
 
-use crate::idle::{next_busy, side_move};
-use crate::waiting::join;
-use crate::{Line, MovesTried, Price, Spot};
-use room::{Cost, Move, Pos, Room, RouterConfig, as_long};
+use crate::idle::side_move;
+use crate::{Field, Line, OPEN_WITH_SUPPORT, Price, QueueFull, Reached, SHUT, Spot, Work};
+use room::{Cost, Move, Pos, RouterConfig, as_long};
 
 // Ten times the distance of two positions, of which each part is below the longest side.
 pub fn estimate(p: Pos, q: Pos) -> u64
@@ -17,48 +17,6 @@ pub fn estimate(p: Pos, q: Pos) -> u64
     ensures { result ≡ estimate_of (distance_at p q) }
 {
     10 * (room::distance_at(p, q) as u64)
-}
-
-// Offers a cell at a cost, by way of `from`: it is pushed where that is lower than its known cost.
-fn offer(
-    known: &mut [u32],
-    previous: &mut [u32],
-    queue: &mut [u64],
-    line: Line,
-    from: usize,
-    cell: usize,
-    cost: Cost,
-    at: Pos,
-    goal: Pos,
-) -> MovesTried
-    requires cell_in_bounds { (cell < length known.old) × (length previous.old ≡ length known.old) × (length known.old ≤ max_volume) }
-    requires from_lt_max_volume { (from < max_volume) × (cost.0 ≤ max_known + 2 * max_cost) × (line.serial + 1 < 2 ^ 24) }
-    requires cost_bound { line.width ≡ 1 → cost.0 + 10000 ≤ 2 ^ 24 }
-    requires heap_ready { HeapReady queue.old line }
-    requires small_pos { SmallPos at }
-    requires small_pos_2 { SmallPos goal }
-    ensures { Offered from cell cost.0 (estimate_of (distance_at at goal)) known.old previous.old queue.old line result known.new previous.new queue.new }
-{
-    let old = known[cell];
-    if old != 0 {
-        if old <= cost.0 + 1 {
-            return MovesTried::On(line);
-        }
-    }
-    let waiting = line.waiting;
-    if queue.len() / 2 <= waiting {
-        return MovesTried::Full;
-    }
-    let serial = line.serial + 1;
-    let key = as_long(cost.0) + estimate(at, goal);
-    known[cell] = cost.0 + 1;
-    previous[cell] = (from + 1) as u32;
-    join(queue, line.width, waiting, key, serial, cell as u64);
-    MovesTried::On(Line {
-        waiting: waiting + 1,
-        serial: serial,
-        width: line.width,
-    })
 }
 
 // What the step of a move costs: flat, or a stair.
@@ -76,186 +34,168 @@ fn step_cost(config: RouterConfig, m: Move) -> Cost
 pub fn price(config: RouterConfig, m: Move, class: u8) -> Price
     ensures { result ≡ price_of config m class }
 {
-    let step = step_cost(config, m);
-    let support = config.support;
-    if class == 2 {
-        return Price {
-            step: step,
-            support: support,
-        };
-    }
+    let support = if class == OPEN_WITH_SUPPORT {
+        config.support
+    } else {
+        Cost(0)
+    };
     Price {
-        step: step,
-        support: Cost(0),
+        step: step_cost(config, m),
+        support,
     }
 }
 
-// Tries the move m, which goes aside to `beside` and from there up or down.
-fn try_move(
-    room: Room,
-    config: RouterConfig,
-    classes: &[u8],
-    known: &mut [u32],
-    previous: &mut [u32],
-    queue: &mut [u64],
-    line: Line,
-    from: Spot,
-    cost: Cost,
-    beside: Spot,
-    goal: Spot,
-    m: Move,
-) -> MovesTried
-    requires able { Able 1 room config classes.now goal from cost.0 known.old previous.old queue.old line }
-    requires aside { Aside room from beside m }
-    requires y_bound { m.y ≤ 2 }
-    ensures { MovesCame (setting room config classes.now goal queue.old from cost.0) (m ∷ []) known.old previous.old queue.old line result known.new previous.new queue.new }
-{
-    let y = beside.at.y + m.y;
-    if y < 1 {
-        return MovesTried::On(line);
-    }
-    if room.high < y {
-        return MovesTried::On(line);
-    }
-    let cell = beside.cell + m.y * room.deep - room.deep;
-    let class = classes[cell];
-    if class == 0 {
-        return MovesTried::On(line);
-    }
-    let at = Pos {
-        x: beside.at.x,
-        y: y - 1,
-        z: beside.at.z,
-    };
-    let paid = price(config, m, class);
-    offer(
-        known,
-        previous,
-        queue,
-        line,
-        from.cell,
-        cell,
-        Cost(cost.0 + (paid.step.0 + paid.support.0)),
-        at,
-        goal.at,
-    )
-}
-
-// Tries the three moves that go aside to `beside`: down, level, up.
-fn try_beside(
-    room: Room,
-    config: RouterConfig,
-    classes: &[u8],
-    known: &mut [u32],
-    previous: &mut [u32],
-    queue: &mut [u64],
-    line: Line,
-    from: Spot,
-    cost: Cost,
-    beside: Spot,
-    goal: Spot,
-    m: Move,
-) -> MovesTried
-    requires able { Able 3 room config classes.now goal from cost.0 known.old previous.old queue.old line }
-    requires aside { Aside room from beside m }
-    ensures { MovesCame (setting room config classes.now goal queue.old from cost.0) (column m) known.old previous.old queue.old line result known.new previous.new queue.new }
-{
-    let mut now_at = line;
-    let mut y: usize = 0;
-    while y < 3 {
-        let rising = Move {
-            x: m.x,
-            y: y,
-            z: m.z,
-        };
-        let MovesTried::On(next) = try_move(
-            room, config, classes, known, previous, queue, now_at, from, cost, beside, goal, rising,
-        ) else {
-            return MovesTried::Full;
-        };
-        now_at = next;
-        y += 1;
-    }
-    MovesTried::On(now_at)
-}
-
-// Tries the three moves that go aside as m does, where that stays in the room.
-fn try_column(
-    room: Room,
-    config: RouterConfig,
-    classes: &[u8],
-    known: &mut [u32],
-    previous: &mut [u32],
-    queue: &mut [u64],
-    line: Line,
-    from: Spot,
-    cost: Cost,
-    goal: Spot,
-    m: Move,
-) -> MovesTried
-    requires able { Able 3 room config classes.now goal from cost.0 known.old previous.old queue.old line }
-    requires x_bound { (m.x ≤ 2) × (m.z ≤ 2) }
-    ensures { MovesCame (setting room config classes.now goal queue.old from cost.0) (column m) known.old previous.old queue.old line result known.new previous.new queue.new }
-{
-    let x = from.at.x + m.x;
-    if x < 1 {
-        return MovesTried::On(line);
-    }
-    if room.wide < x {
-        return MovesTried::On(line);
-    }
-    let z = from.at.z + m.z;
-    if z < 1 {
-        return MovesTried::On(line);
-    }
-    if room.deep < z {
-        return MovesTried::On(line);
-    }
-    let at = Pos {
-        x: x - 1,
-        y: from.at.y,
-        z: z - 1,
-    };
-    let beside = Spot {
-        cell: room.cell(at),
-        at: at,
-    };
-    try_beside(
-        room, config, classes, known, previous, queue, line, from, cost, beside, goal, m,
-    )
-}
-
-// Tries the twelve moves of a cell in their order, a column at a time; those of which nothing comes are passed over.
-pub fn expand(
-    room: Room,
-    config: RouterConfig,
-    classes: &[u8],
-    known: &mut [u32],
-    previous: &mut [u32],
-    queue: &mut [u64],
-    line: Line,
-    from: Spot,
-    cost: Cost,
-    goal: Spot,
-) -> MovesTried
-    requires { Able 12 room config classes.now goal from cost.0 known.old previous.old queue.old line }
-    ensures { MovesCame (setting room config classes.now goal queue.old from cost.0) moves known.old previous.old queue.old line result known.new previous.new queue.new }
-{
-    let mut now_at = line;
-    let mut side: usize = 0;
-    while side < 4 {
-        side = next_busy(room, config, classes, known, from, cost, side);
-        if 4 <= side {
-            break;
+impl Field<'_> {
+    // The cell aside on the same level, as m goes, where that is in the room.
+    pub fn beside(&self, from: Spot, m: Move) -> Option<Spot>
+        requires placed { Placed self.now.room from }
+        requires x_bound { (m.x ≤ 2) × (m.z ≤ 2) }
+        ensures { Beside self.now.room from m result }
+    {
+        let x = from.at.x + m.x;
+        let z = from.at.z + m.z;
+        if x < 1 || self.room.wide < x || z < 1 || self.room.deep < z {
+            return None;
         }
-        let m = side_move(side);
-        let MovesTried::On(next) = try_column(
-            room, config, classes, known, previous, queue, now_at, from, cost, goal, m,
-        ) else {
-            return MovesTried::Full;
+        let at = Pos {
+            x: x - 1,
+            y: from.at.y,
+            z: z - 1,
         };
-        now_at = next;
-        side += 1;
+        Some(Spot {
+            cell: self.room.cell(at),
+            at,
+        })
     }
-    MovesTried::On(now_at)
+
+    // Where the move m, which goes aside to `beside` and from there up or down, leads and at what cost; None where no cell
+    // can be entered so.
+    pub fn step(&self, from: Reached, beside: Spot, m: Move) -> Option<Reached>
+        requires aside { Aside self.now.room from.spot beside m }
+        requires from_fits { (Placed self.now.room from.spot) × (from.cost.0 ≤ max_known) × (m.y ≤ 2) }
+        ensures { Stepped self.now from m result }
+    {
+        let y = beside.at.y + m.y;
+        if y < 1 || self.room.high < y {
+            return None;
+        }
+        let cell = beside.cell + m.y * self.room.deep - self.room.deep;
+        let class = self.classes[cell];
+        if class == SHUT {
+            return None;
+        }
+        let at = Pos {
+            x: beside.at.x,
+            y: y - 1,
+            z: beside.at.z,
+        };
+        let paid = price(self.config, m, class);
+        Some(Reached {
+            spot: Spot { cell, at },
+            cost: Cost(from.cost.0 + (paid.step.0 + paid.support.0)),
+        })
+    }
+}
+
+impl Work<'_> {
+    // Offers a cell at a cost, by way of `from`: it is pushed where that is lower than its known cost.
+    fn offer(&mut self, from: usize, to: Reached, goal: Pos) -> Result<(), QueueFull>
+        requires offerable { Offerable from to self.old }
+        requires small_pos { SmallPos to.spot.at }
+        requires small_pos_2 { SmallPos goal }
+        ensures kept { Kept self.old self.new }
+        ensures offered { Offered from to (estimate_of (distance_at to.spot.at goal)) self.old result self.new }
+    {
+        let cell = to.spot.cell;
+        let old = self.known[cell];
+        if old != 0 && old <= to.cost.0 + 1 {
+            return Ok(());
+        }
+        let waiting = self.line.waiting;
+        if self.queue.len() / 2 <= waiting {
+            return Err(QueueFull);
+        }
+        let key = as_long(to.cost.0) + estimate(to.spot.at, goal);
+        let line = Line {
+            waiting,
+            serial: self.line.serial + 1,
+            width: self.line.width,
+        };
+        self.known[cell] = to.cost.0 + 1;
+        self.previous[cell] = (from + 1) as u32;
+        line.join(self.queue, key, cell as u64);
+        self.line = Line {
+            waiting: waiting + 1,
+            serial: line.serial,
+            width: line.width,
+        };
+        Ok(())
+    }
+
+    // Tries the move m, which goes aside to `beside` and from there up or down.
+    fn try_move(
+        &mut self,
+        field: &Field,
+        from: Reached,
+        beside: Spot,
+        m: Move,
+    ) -> Result<(), QueueFull>
+        requires able { Able 1 field.now from self.old }
+        requires aside { Aside field.now.room from.spot beside m }
+        requires y_bound { m.y ≤ 2 }
+        ensures kept { Kept self.old self.new }
+        ensures came { MovesCame (setting field.now self.old from) (m ∷ []) self.old result self.new }
+    {
+        match field.step(from, beside, m) {
+            Some(to) => self.offer(from.spot.cell, to, field.goal.at),
+            None => Ok(()),
+        }
+    }
+
+    // Tries the three moves that go aside to `beside`: down, level, up.
+    fn try_beside(
+        &mut self,
+        field: &Field,
+        from: Reached,
+        beside: Spot,
+        m: Move,
+    ) -> Result<(), QueueFull>
+        requires able { Able 3 field.now from self.old }
+        requires aside { Aside field.now.room from.spot beside m }
+        ensures kept { Kept self.old self.new }
+        ensures came { MovesCame (setting field.now self.old from) (column m) self.old result self.new }
+    {
+        for y in 0..3 {
+            self.try_move(field, from, beside, Move { x: m.x, y, z: m.z })?;
+        }
+        Ok(())
+    }
+
+    // Tries the three moves that go aside as m does, where that stays in the room.
+    fn try_column(&mut self, field: &Field, from: Reached, m: Move) -> Result<(), QueueFull>
+        requires able { Able 3 field.now from self.old }
+        requires x_bound { (m.x ≤ 2) × (m.z ≤ 2) }
+        ensures kept { Kept self.old self.new }
+        ensures came { MovesCame (setting field.now self.old from) (column m) self.old result self.new }
+    {
+        match field.beside(from.spot, m) {
+            Some(beside) => self.try_beside(field, from, beside, m),
+            None => Ok(()),
+        }
+    }
+
+    // Tries the twelve moves of a cell in their order, a column at a time; those of which nothing comes are passed over.
+    pub fn expand(&mut self, field: &Field, from: Reached) -> Result<(), QueueFull>
+        requires { Able 12 field.now from self.old }
+        ensures kept { Kept self.old self.new }
+        ensures came { MovesCame (setting field.now self.old from) moves self.old result self.new }
+    {
+        for side in 0..4 {
+            let m = side_move(side);
+            if !self.side_idle(field, from, m) {
+                self.try_column(field, from, m)?;
+            }
+        }
+        Ok(())
+    }
 }

@@ -6,6 +6,7 @@ ghost use Rattle.room.specs.Units.{GoodRanges};
 ghost use Rattle.room_search.specs.Held.{HeapIn, Holdable, Joined, Left};
 ghost use Rattle.room_search.specs.TriedMoves.{WidthFits};
 
+use crate::{Line, Width};
 use room::{Room, RouterConfig, as_long};
 
 // A rank is its key times this, plus its serial, which fits 32 bits.
@@ -20,41 +21,47 @@ const SERIAL_UNIT: u64 = 65536;
 const MOST_IN_ONE: u64 = 16767216;
 
 // How many numbers hold an entry: one where every key fits. No cost is more than V times the sum of the three.
-pub fn width_for(room: Room, config: RouterConfig) -> usize
+pub fn width_for(room: Room, config: RouterConfig) -> Width
     requires good { Good room }
     requires good_ranges { GoodRanges config }
     ensures { WidthFits room config result }
 {
     let sum = as_long(config.horizontal.0 + config.stair.0 + config.support.0);
     if (room.volume() as u64) * sum <= MOST_IN_ONE {
-        return 1;
+        Width::One
+    } else {
+        Width::Two
     }
-    2
 }
 
-// One more entry waits behind the first n.
-pub fn join(queue: &mut [u64], width: usize, n: usize, key: u64, serial: u64, cell: u64)
-    requires n_in_bounds { n + n + 1 < length queue.old }
-    requires heap_in { HeapIn width queue.old n }
-    requires holdable { Holdable width key serial cell }
-    ensures { Joined width queue.old n key serial cell queue.new }
-{
-    if width == 1 {
-        packed_queue::push(queue, n, key * KEY_UNIT + serial * SERIAL_UNIT + cell);
-        return;
+impl Line {
+    // One more entry, with the last serial, is put behind those that wait.
+    pub fn join(self, queue: &mut [u64], key: u64, cell: u64)
+        requires n_in_bounds { self.waiting + self.waiting + 1 < length queue.old }
+        requires heap_in { HeapIn self.width queue.old self.waiting }
+        requires holdable { Holdable self.width key self.serial cell }
+        ensures { Joined self.width queue.old self.waiting key self.serial cell queue.new }
+    {
+        match self.width {
+            Width::One => packed_queue::push(
+                queue,
+                self.waiting,
+                key * KEY_UNIT + self.serial * SERIAL_UNIT + cell,
+            ),
+            Width::Two => queue::push(queue, self.waiting, key * RANK_UNIT + self.serial, cell),
+        }
     }
-    queue::push(queue, n, key * RANK_UNIT + serial, cell);
-}
 
-// Of the first n, the entry that comes first leaves; its cell is returned.
-pub fn leave(queue: &mut [u64], width: usize, n: usize) -> u64
-    requires n_in_bounds { n + n ≤ length queue.old }
-    requires n_nonzero { 0 < n }
-    requires heap_in { HeapIn width queue.old n }
-    ensures { Left width queue.old n result queue.new }
-{
-    if width == 1 {
-        return packed_queue::take(queue, n) % SERIAL_UNIT;
+    // Of those that wait, the entry that comes first leaves; its cell is returned.
+    pub fn leave(self, queue: &mut [u64]) -> u64
+        requires n_in_bounds { self.waiting + self.waiting ≤ length queue.old }
+        requires n_nonzero { 0 < self.waiting }
+        requires heap_in { HeapIn self.width queue.old self.waiting }
+        ensures { Left self.width queue.old self.waiting result queue.new }
+    {
+        match self.width {
+            Width::One => packed_queue::take(queue, self.waiting) % SERIAL_UNIT,
+            Width::Two => queue::take(queue, self.waiting),
+        }
     }
-    queue::take(queue, n)
 }

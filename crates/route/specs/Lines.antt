@@ -1,12 +1,10 @@
 -- What `route` prints, byte for byte: docs/RULES.md, Program route.
-use Rattle.std.specs.Prelude.{List, [], ◌∷◌, ◌++◌, map, ℕ, zero, suc, ◌+◌, ◌/◌, ◌%◌, ltb}
+use Rattle.net_tree.specs.Answers.{Answer}
+use Rattle.std.specs.Prelude.{Ok, Err, List, [], ◌∷◌, ◌++◌, map, ℕ, zero, suc, ◌+◌, ◌/◌, ◌%◌, ltb}
 use Rattle.basics.specs.Tests.{either}
 use Rattle.basics.specs.Lists.{joined}
 use Rattle.branches.specs.Branches.{branches_of}
 use Rattle.branches.specs.declared.BranchLengths.{BranchLengths}
-use Rattle.net_tree.specs.declared.Answer.{Answer}
-use Rattle.net_tree.specs.declared.Ended.{Ended}
-use Rattle.net_tree.specs.declared.Ended.TheVariants.{Routed, Refused}
 use Rattle.route.specs.Marked.{marked}
 
 -- ---- numbers
@@ -76,9 +74,6 @@ refused_line number detail = line refused_word (number ∷ detail ∷ [])
 abbrev pub tree_text : BranchLengths → ℕ → List ℕ → List ℕ → List ℕ
 tree_text lengths occupied cells repeaters = net_line lengths.count occupied ++ (branch_lines (branches_of lengths cells) ++ repeaters_line (marked repeaters))
 
-abbrev pub ended_text : Ended → BranchLengths → List ℕ → List ℕ → List ℕ
-ended_text (Routed occupied count) lengths cells repeaters = tree_text lengths occupied cells repeaters
-ended_text (Refused number detail) lengths cells repeaters = refused_line number detail
-
 abbrev pub answer_text : Answer → List ℕ → List ℕ → List ℕ
-answer_text answer cells repeaters = ended_text answer.ended answer.lengths cells repeaters
+answer_text (Ok tree) cells repeaters = tree_text tree.lengths tree.occupied cells repeaters
+answer_text (Err refused) cells repeaters = refused_line refused.number refused.detail

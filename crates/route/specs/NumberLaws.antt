@@ -4,7 +4,7 @@ use Rattle.std.proofs.Common.{sym, ap, ◌∙◌, arith, le-leb}
 use Rattle.numbers.specs.Refusals.{sides_number, buffer_number, queue_full_number, branches_full_number}
 use Rattle.basics.specs.Tests.{either, ask, never}
 use Rattle.net_tree.specs.declared.Lengths.{Lengths}
-use Rattle.outset.specs.declared.Outset.{Outset}
+use Rattle.outset.specs.SetOut.{Outset}
 use Rattle.branches.specs.Branches.{branch_of}
 use Rattle.room.specs.declared.Room.{Room}
 use Rattle.room.specs.Room.{volume}
@@ -78,7 +78,7 @@ job-high mode J L O kinds blocked e =
     let P = plot_for mode J L O kinds in
     ask (ready O)
     (λ t. outcome-high P (growth_of P blocked) (growth-high P.taps.count P 0 (planted P blocked)) (rw t at e))
-    (λ f. let six : number_by O.placement O.ends.fault ≡ buffer_number = rw f at e in omega (arith, late O.placement O.ends.fault f, six))
+    (λ f. let six : number_by O.placement O.fault ≡ buffer_number = rw f at e in omega (arith, late O.placement O.fault f, six))
 
 -- ---- so it never says 6
 

@@ -1,5 +1,5 @@
 -- What is printed of an answer is printed of what comes; the limit of the program's own; how long the text can be.
-use Rattle.std.specs.Prelude.{◌≡◌, refl, Bool, true, false, List, [], ◌∷◌, ◌++◌, map, ℕ, zero, suc, ◌+◌, ◌-◌, ◌*◌, ◌/◌, ◌%◌, ◌^◌, ◌≤◌, ◌<◌, ltb, eqb, length, take, drop, replicate}
+use Rattle.std.specs.Prelude.{◌≡◌, Ok, Err, IfOk, refl, Bool, true, false, List, [], ◌∷◌, ◌++◌, map, ℕ, zero, suc, ◌+◌, ◌-◌, ◌*◌, ◌/◌, ◌%◌, ◌^◌, ◌≤◌, ◌<◌, ltb, eqb, length, take, drop, replicate}
 use Rattle.std.proofs.Common.{sym, ap, ◌∙◌, le_of_lt, mul-le-mul, arith, length-append, length-take, take_at, ltb-true, ltb-false}
 use Rattle.std.proofs.lemmas.List.{length-map, length-replicate}
 use Rattle.numbers.specs.Refusals.{sheet_number, sides_number}
@@ -24,12 +24,9 @@ use Rattle.branches.specs.declared.BranchLengths.{BranchLengths}
 use Rattle.branches.specs.Branches.{sum, branch_lengths, lengths_in, cut_into, branches_of, Branched}
 use Rattle.branches.specs.BranchLaws.{lengths_theirs, lengths-sum, cut-joined}
 use Rattle.net_tree.specs.declared.Lengths.{Lengths}
-use Rattle.net_tree.specs.declared.Answer.{Answer}
-use Rattle.net_tree.specs.declared.Ended.{Ended}
-use Rattle.net_tree.specs.declared.Ended.TheVariants.{Routed, Refused}
-use Rattle.net_tree.specs.Answers.{Lent, TreeOutcome, routed, no_tree, Comes, Promise, answer_of, lent_after, lengths_of, lent}
+use Rattle.net_tree.specs.Answers.{Answer, Lent, TreeOutcome, routed, no_tree, Comes, Promise, answer_of, lent_after, lengths_of, lent}
 use Rattle.net_tree.specs.PromiseLaws.{comes-one}
-use Rattle.route.specs.Lines.{decimal_within, spaced, spaced_all, line, net_word, branch_word, repeaters_word, refused_word, net_line, branch_line, branch_lines, repeaters_line, refused_line, tree_text, ended_text, answer_text}
+use Rattle.route.specs.Lines.{decimal_within, spaced, spaced_all, line, net_word, branch_word, repeaters_word, refused_word, net_line, branch_line, branch_lines, repeaters_line, refused_line, tree_text, answer_text}
 use Rattle.route.specs.Marked.{if_marked, marked_from, marked}
 use Rattle.putting.specs.Putting.{Put, Fits}
 use Rattle.route.specs.BranchCountLaws.{few-branches}
@@ -146,16 +143,14 @@ tree_length {cells} {lengths} B occupied marks =
       marked_length 0 marks,
     )
 
-answer_length : (A : Answer) {cells : List ℕ} → Branched A.lengths cells → (marks : List ℕ) → length (answer_text A cells marks) ≤ 168 + 21 * length cells + 21 * length marks
-answer_length A {cells} B marks = ended_length A.ended
-  where
-    ended_length : (e : Ended) → length (ended_text e A.lengths cells marks) ≤ 168 + 21 * length cells + 21 * length marks
-    ended_length (Routed occupied count) = tree_length B occupied marks
-    ended_length (Refused number detail) = omega (arith, refused_length number detail)
+answer_length : (A : Answer) (cells : List ℕ) → IfOk A (λ tree. Branched tree.lengths cells) → (marks : List ℕ)
+    → length (answer_text A cells marks) ≤ 168 + 21 * length cells + 21 * length marks
+answer_length (Ok tree) cells B marks = tree_length B tree.occupied marks
+answer_length (Err refused) cells B marks = omega (arith, refused_length refused.number refused.detail)
 
 -- ---- from the promise of `route_net_tree` to the lines
 
-outcome-branched : (o : TreeOutcome) {mode : Mode} {sheet : List ℕ} {L : Lengths} → Comes mode sheet L o → (B : Lent) → Branched (answer_of o).lengths (lent_after o B).branches
+outcome-branched : (o : TreeOutcome) {mode : Mode} {sheet : List ℕ} {L : Lengths} → Comes mode sheet L o → (B : Lent) → IfOk (answer_of o) (λ tree. Branched tree.lengths (lent_after o B).branches)
 unfolding sum
 outcome-branched (routed bs occupied repeaters) c B =
     let few = few-branches c in
@@ -168,15 +163,15 @@ outcome-branched (routed bs occupied repeaters) c B =
         length-append (joined bs) (replicate (length B.branches - length (joined bs)) 0),
       );
     }
-outcome-branched (no_tree code detail) c B = record { whole = refl; few = omega arith; within = omega arith }
+outcome-branched (no_tree code detail) c B = tt {0}
 
 module _ {mode : Mode} {sheet : List ℕ} {B : Lent} {r : Answer} {B' : Lent} (P : Promise mode sheet B r B') where
-  pub promise_branched : Branched r.lengths B'.branches
+  pub promise_branched : IfOk r (λ tree. Branched tree.lengths B'.branches)
   promise_branched = rw (P.lent_is, P.answer) (outcome-branched P.outcome P.comes B)
 
   pub promise_fits : {out : List ℕ} → length B'.branches ≡ max_branch_cells → length B'.repeaters ≡ max_cells → longest_text ≤ length out
       → Fits out 0 (answer_text r B'.branches B'.repeaters)
-  promise_fits b m h = record { place = omega (arith, answer_length r promise_branched B'.repeaters) }
+  promise_fits b m h = record { place = omega (arith, answer_length r B'.branches promise_branched B'.repeaters) }
 
   pub promise_shown : lengths_of B ≡ program_lengths → {out out' : List ℕ} {end : ℕ} → Fits out 0 (answer_text r B'.branches B'.repeaters)
       → Put out 0 (answer_text r B'.branches B'.repeaters) out' end → Shown (Comes mode sheet program_lengths) out' end

@@ -1,13 +1,13 @@
 // The lines that the program prints, put one after another into one buffer.
+ghost use Rattle.std.specs.Prelude.{IfOk};
 ghost use Rattle.branches.specs.Branches.{branches_of, Branched};
 ghost use Rattle.route.specs.Lines.{spaced, spaced_all, net_line, branch_line, branch_lines, repeaters_line, refused_line, tree_text, answer_text};
 ghost use Rattle.putting.specs.Putting.{Put, Fits};
 ghost use Rattle.route.specs.Marked.{if_marked, marked};
 
 use branches::BranchLengths;
-use net_tree::{Answer, Ended};
+use net_tree::{Refused, Tree};
 use putting::put_bytes;
-use room::as_long;
 
 // A space, then a number in decimal.
 fn put_number(out: &mut [u8], at: usize, n: u64) -> usize
@@ -25,10 +25,8 @@ fn put_cells(out: &mut [u8], at: usize, cells: &[u32]) -> usize
     ensures { Put out.old at (spaced_all cells.now) out.new result }
 {
     let mut end = at;
-    let mut i: usize = 0;
-    while i < cells.len() {
-        end = put_number(out, end, as_long(cells[i]));
-        i += 1;
+    for cell in cells {
+        end = put_number(out, end, u64::from(*cell));
     }
     end
 }
@@ -38,10 +36,11 @@ fn put_if_marked(out: &mut [u8], at: usize, mark: u8, cell: usize) -> usize
     requires { Fits out.old at (spaced_all (if_marked mark cell)) }
     ensures { Put out.old at (spaced_all (if_marked mark cell)) out.new result }
 {
-    if mark != routing_resources::MARKED {
-        return at;
+    if mark == routing_resources::MARKED {
+        put_number(out, at, cell as u64)
+    } else {
+        at
     }
-    put_number(out, at, cell as u64)
 }
 
 // The marked cells, ascending.
@@ -50,10 +49,8 @@ fn put_marked(out: &mut [u8], at: usize, marks: &[u8]) -> usize
     ensures { Put out.old at (spaced_all (marked marks.now)) out.new result }
 {
     let mut end = at;
-    let mut cell: usize = 0;
-    while cell < marks.len() {
-        end = put_if_marked(out, end, marks[cell], cell);
-        cell += 1;
+    for (cell, mark) in marks.iter().enumerate() {
+        end = put_if_marked(out, end, *mark, cell);
     }
     end
 }
@@ -87,12 +84,10 @@ fn put_branches(out: &mut [u8], at: usize, cells: &[u32], lengths: BranchLengths
 {
     let mut end = at;
     let mut from: usize = 0;
-    let mut k: usize = 0;
-    while k < lengths.count {
+    for k in 0..lengths.count {
         let to = from + lengths.each[k];
         end = put_branch(out, end, &cells[from..to]);
         from = to;
-        k += 1;
     }
     end
 }
@@ -135,18 +130,18 @@ fn put_tree(
 }
 
 // All lines of an answer: the branches' cells and the repeaters' marks are as `route_net_tree` leaves them.
-pub fn put_answer(out: &mut [u8], answer: Answer, cells: &[u32], repeaters: &[u8]) -> usize
-    requires branched { Branched answer.lengths cells.now }
+pub fn put_answer(
+    out: &mut [u8],
+    answer: Result<Tree, Refused>,
+    cells: &[u32],
+    repeaters: &[u8],
+) -> usize
+    requires branched { IfOk answer (λ tree. Branched tree.lengths cells.now) }
     requires fits { Fits out.old 0 (answer_text answer cells.now repeaters.now) }
     ensures { Put out.old 0 (answer_text answer cells.now repeaters.now) out.new result }
 {
-    let ended = answer.ended;
-    let lengths = answer.lengths;
-    match ended {
-        Ended::Routed {
-            occupied,
-            repeaters: _,
-        } => put_tree(out, lengths, occupied, cells, repeaters),
-        Ended::Refused { number, detail } => put_refused(out, 0, number, detail),
+    match answer {
+        Ok(tree) => put_tree(out, tree.lengths, tree.occupied, cells, repeaters),
+        Err(Refused { number, detail }) => put_refused(out, 0, number, detail),
     }
 }

@@ -5,36 +5,17 @@
 mod lines; // lines.rt: the lines that are printed
 mod printing; // printing.rt: from a sheet's bytes to the lines
 
-ghost use Rattle.std.specs.Prelude.{◌<◌, ◌≤◌, length, take, IfOk};
-ghost use Rattle.std.specs.Io.KnownBytes.{Consumes, IsAtEnd};
+ghost use Rattle.std.specs.Prelude.{◌≤◌, length};
 
 use crate::printing::put_sheet;
+use input_bytes::read_full;
 use std::io;
-use std::io::Read;
 
 // A byte more than a sheet may have, so that a longer input is seen to be longer.
 const INPUT_BYTES: usize = 60001;
 
 // The longest text: see `longest_text` in specs/Printed.antt.
 const TEXT_BYTES: usize = 430248;
-
-// Reads on until the input ends or the buffer is full, however the input comes in pieces, and answers how many bytes were
-// read: the first that the input has, and all of them unless the buffer is full.
-fn read_full<I: Read>(input: &mut I, sheet: &mut [u8]) -> io::Result<usize>
-    ensures within { IfOk result (λ bytes. bytes ≤ length sheet.new) }
-    ensures first { IfOk result (λ bytes. Consumes (I.remaining input.old) (I.remaining input.new) (take bytes sheet.new)) }
-    ensures whole { IfOk result (λ bytes. bytes < length sheet.new → IsAtEnd (I.remaining input.new)) }
-{
-    let mut done: usize = 0;
-    while done < sheet.len() {
-        let bytes = input.read(&mut sheet[done..])?;
-        if bytes == 0 {
-            return Ok(done);
-        }
-        done += bytes;
-    }
-    Ok(done)
-}
 
 // Writes a line to standard error: what failed, and the system's words for it, without the number that `io::Error` puts behind
 // them. Where that can't be written either, nothing is left to do.

@@ -1,6 +1,6 @@
 -- What `astar_route` answers, and what every lent buffer then holds, as docs/RULES.md, Numbers that come back, has it for a search. Each input determines all of
 -- it.
-use Rattle.std.specs.Prelude.{◌≡◌, Bool, ◌&&◌, List, [], ℕ, leb, ltb, eqb, length}
+use Rattle.std.specs.Prelude.{◌≡◌, Bool, ◌&&◌, List, [], ℕ, leb, ltb, eqb, length, Result, Ok, Err, ⊤}
 use Rattle.numbers.specs.Refusals.{done_number, sides_number, config_number, position_number, code_number, buffer_number, not_routeable_number, no_route_number, limit_passed_number, queue_full_number}
 use Rattle.basics.specs.Tests.{either}
 use Rattle.basics.specs.Lists.{every}
@@ -10,15 +10,13 @@ use Rattle.room.specs.declared.RouterConfig.{RouterConfig}
 use Rattle.room.specs.Room.{sides_good, volume}
 use Rattle.room.specs.Units.{config_good, kind_known}
 use Rattle.best_first.specs.Search as search
-use Rattle.routing.specs.declared.Answer.{Answer}
-use Rattle.routing.specs.declared.Answer.TheVariants.{Routed, Refused, NotRouteable, NoRoute, LimitPassed, QueueFull}
+use Rattle.routing.specs.declared.Unrouted.{Unrouted}
+use Rattle.routing.specs.declared.Unrouted.TheVariants.{Refused, NotRouteable, NoRoute, LimitPassed, QueueFull}
 use Rattle.routing.specs.declared.Refusal.{Refusal}
 use Rattle.routing.specs.declared.Refusal.TheVariants.{Sides, Config, Buffer, Code, Position}
 use Rattle.routing.specs.declared.Lengths.{Lengths}
 use Rattle.routing.specs.declared.Route.{Route}
 use Rattle.routing.specs.declared.Totals.{Totals}
-use Rattle.routing.specs.declared.Judgement.{Judgement}
-use Rattle.routing.specs.declared.Judgement.TheVariants.{Fit, Unfit}
 use Rattle.room_search.specs.Routing.{Task, places_in, routeable, searched}
 use Rattle.routing.specs.Totals.{totals_of}
 
@@ -49,14 +47,22 @@ buffers_good R kinds L =
 unfoldable pub ends_inside : Room → ℕ → ℕ → Bool
 ends_inside R start goal = ltb start (volume R) && ltb goal (volume R)
 
+-- whether an input can be searched, or why it is refused
+abbrev pub Judgement : Type 0
+Judgement = Result ⊤ Refusal
+
 -- "A search checks 2, 3, 6, 5, 4, 10 and gives 11 to 13."
 unfoldable pub judged : Input → Judgement
 judged I =
     either (sides_good I.room)
     (either (config_good I.room I.config)
     (either (buffers_good I.room I.kinds I.lengths)
-    (either (every kind_known I.kinds) (either (ends_inside I.room I.start I.goal) Fit (Unfit Position)) (Unfit Code)) (Unfit Buffer)) (Unfit Config))
-    (Unfit Sides)
+    (either (every kind_known I.kinds) (either (ends_inside I.room I.start I.goal) (Ok tt) (Err Position)) (Err Code)) (Err Buffer)) (Err Config))
+    (Err Sides)
+
+-- a route, or why there is none
+abbrev pub Answer : Type 0
+Answer = Result Route Unrouted
 
 -- a route by its numbers and its path's totals
 abbrev pub route_in : Totals → ℕ → ℕ → ℕ → Route
@@ -71,22 +77,22 @@ route_in t cells cost x = record {
 
 -- the defined search's answer, as the code gives it, with the totals of its path
 abbrev pub answered : Task → search.Answer → Answer
-answered T (search.route path cost x) = Routed (route_in (totals_of T.room T.config T.kinds path) (length path) cost x)
-answered T (search.no_route x) = NoRoute (record { 0 = x })
-answered T (search.limit-passed x) = LimitPassed (record { 0 = x })
-answered T (search.queue-full x) = QueueFull (record { 0 = x })
+answered T (search.route path cost x) = Ok (route_in (totals_of T.room T.config T.kinds path) (length path) cost x)
+answered T (search.no_route x) = Err (NoRoute (record { 0 = x }))
+answered T (search.limit-passed x) = Err (LimitPassed (record { 0 = x }))
+answered T (search.queue-full x) = Err (QueueFull (record { 0 = x }))
 
 -- number 10: "start, else goal, not routeable"
 unfoldable pub fit_answer : Input → Answer
 fit_answer I =
     either (routeable (task_of I) I.start)
-    (either (routeable (task_of I) I.goal) (answered (task_of I) (searched (task_of I))) (NotRouteable I.goal))
-    (NotRouteable I.start)
+    (either (routeable (task_of I) I.goal) (answered (task_of I) (searched (task_of I))) (Err (NotRouteable I.goal)))
+    (Err (NotRouteable I.start))
 
 -- the answer to an input, by its judgement
 abbrev pub answer_for : Judgement → Input → Answer
-answer_for Fit I = fit_answer I
-answer_for (Unfit why) I = Refused why
+answer_for (Ok _) I = fit_answer I
+answer_for (Err why) I = Err (Refused why)
 
 -- the answer that each input determines
 unfoldable pub answer_of : Input → Answer
@@ -101,37 +107,29 @@ refusal_number Code = code_number
 refusal_number Buffer = buffer_number
 
 abbrev pub number_of : Answer → ℕ
-number_of (Routed r) = done_number
-number_of (Refused why) = refusal_number why
-number_of (NotRouteable cell) = not_routeable_number
-number_of (NoRoute x) = no_route_number
-number_of (LimitPassed x) = limit_passed_number
-number_of (QueueFull x) = queue_full_number
+number_of (Ok r) = done_number
+number_of (Err (Refused why)) = refusal_number why
+number_of (Err (NotRouteable cell)) = not_routeable_number
+number_of (Err (NoRoute x)) = no_route_number
+number_of (Err (LimitPassed x)) = limit_passed_number
+number_of (Err (QueueFull x)) = queue_full_number
 
 abbrev pub detail_of : Answer → ℕ
-detail_of (Routed r) = 0
-detail_of (Refused why) = 0
-detail_of (NotRouteable cell) = cell
-detail_of (NoRoute x) = x.0
-detail_of (LimitPassed x) = x.0
-detail_of (QueueFull x) = x.0
+detail_of (Ok r) = 0
+detail_of (Err (Refused why)) = 0
+detail_of (Err (NotRouteable cell)) = cell
+detail_of (Err (NoRoute x)) = x.0
+detail_of (Err (LimitPassed x)) = x.0
+detail_of (Err (QueueFull x)) = x.0
 
 -- a route's cost, and its expanded count
 abbrev pub route_cost : Answer → ℕ
-route_cost (Routed r) = r.cost.0
-route_cost (Refused why) = 0
-route_cost (NotRouteable cell) = 0
-route_cost (NoRoute x) = 0
-route_cost (LimitPassed x) = 0
-route_cost (QueueFull x) = 0
+route_cost (Ok r) = r.cost.0
+route_cost (Err e) = 0
 
 abbrev pub route_expanded : Answer → ℕ
-route_expanded (Routed r) = r.expanded.0
-route_expanded (Refused why) = 0
-route_expanded (NotRouteable cell) = 0
-route_expanded (NoRoute x) = 0
-route_expanded (LimitPassed x) = 0
-route_expanded (QueueFull x) = 0
+route_expanded (Ok r) = r.expanded.0
+route_expanded (Err e) = 0
 
 -- ---- the lent buffers
 
@@ -144,12 +142,8 @@ cells_of (search.queue-full x) = []
 
 -- the cells that an answer writes
 abbrev pub cells_for : Answer → Input → List ℕ
-cells_for (Routed r) I = cells_of (searched (task_of I))
-cells_for (Refused why) I = []
-cells_for (NotRouteable cell) I = []
-cells_for (NoRoute x) I = []
-cells_for (LimitPassed x) I = []
-cells_for (QueueFull x) I = []
+cells_for (Ok r) I = cells_of (searched (task_of I))
+cells_for (Err e) I = []
 
 -- the promise of `astar_route`
 pub record Promise (I : Input) (path known previous classes queue : List ℕ) (r : Answer) (path' known' previous' classes' queue' : List ℕ) : Type 0 where

@@ -1,5 +1,5 @@
 -- What the contracts of the public search's parts cite.
-use Rattle.std.specs.Prelude.{◌≡◌, true, List, [], ◌++◌, ℕ, ◌≤◌, ◌<◌, pred, length, get_or, drop}
+use Rattle.std.specs.Prelude.{◌≡◌, true, List, [], ◌++◌, ℕ, ◌≤◌, ◌<◌, pred, length, get_or, drop, Result, Ok, Err, ⊤}
 use Rattle.room.specs.declared.Room.{Room}
 use Rattle.room.specs.declared.RouterConfig.{RouterConfig}
 use Rattle.room.specs.Room.{Good, volume}
@@ -7,14 +7,11 @@ use Rattle.basics.specs.Tests.{either}
 use Rattle.lent.specs.Lent.{Cleared, filled}
 use Rattle.room.specs.Units.{GoodConfig, air}
 use Rattle.room_search.specs.declared.Outcome.{Outcome}
-use Rattle.best_first.specs.Search as search
 use Rattle.best_first.specs.Search.{trace}
 use Rattle.room.specs.declared.Nodes.{Nodes}
 use Rattle.routing.specs.declared.Lengths.{Lengths}
 use Rattle.routing.specs.declared.Route.{Route}
-use Rattle.routing.specs.declared.EndsFit.{EndsFit}
-use Rattle.routing.specs.declared.EndsFit.TheVariants.{Good as EndsGood, Bad as EndsBad}
-use Rattle.routing.specs.declared.Answer.{Answer}
+use Rattle.routing.specs.Answers.{Answer}
 use Rattle.room_search.specs.Routing.{Task, places_in, routeable_kind, graph, searched}
 use Rattle.room_search.specs.Takings.{OutcomeTold, Searchable}
 use Rattle.routing.specs.Totals.{totals_of}
@@ -54,10 +51,14 @@ pub record RouteWritten (R : Room) (C : RouterConfig) (kinds : List ℕ) (goal :
   pub route-is : r ≡ route_in (totals_of R C kinds (traced previous goal)) (length (traced previous goal)) (pred (get_or known goal 0)) expanded.0
   pub path-is : path' ≡ traced previous goal ++ drop (length (traced previous goal)) path
 
+-- whether both ends are routeable, or which is not
+abbrev pub EndsFit : Type 0
+EndsFit = Result ⊤ ℕ
+
 -- which end is not routeable: the start, else the goal
 abbrev pub ends_fit : List ℕ → ℕ → ℕ → EndsFit
 ends_fit kinds start goal =
-    either (routeable_kind true (get_or kinds start air)) (either (routeable_kind true (get_or kinds goal air)) EndsGood (EndsBad goal)) (EndsBad start)
+    either (routeable_kind true (get_or kinds start air)) (either (routeable_kind true (get_or kinds goal air)) (Ok tt) (Err goal)) (Err start)
 
 -- what an input has that no number from 2 to 6 refuses
 pub record Admitted (R : Room) (C : RouterConfig) (kinds : List ℕ) (start goal : ℕ) (L : Lengths) : Type 0 where

@@ -1,5 +1,5 @@
 -- The parts of the public search put together.
-use Rattle.std.specs.Prelude.{◌≡◌, refl, ℕ, ◌-◌, ◌≤◌, pred, get_or, take}
+use Rattle.std.specs.Prelude.{◌≡◌, refl, ℕ, ◌-◌, ◌≤◌, pred, get_or, take, Ok}
 use Rattle.std.proofs.Common.{sym, ◌∙◌, arith, take_at, length-take-le}
 use Rattle.std.proofs.Math.Path.{ap}
 use mathlib.Core.List.{List, [], ◌++◌}
@@ -16,7 +16,6 @@ use Rattle.trace.specs.Traces.{PreviousInside}
 use Rattle.trace.specs.TraceLaws.{trace-short, trace-cells}
 use Rattle.room.specs.declared.Nodes.{Nodes}
 use Rattle.routing.specs.declared.Route.{Route}
-use Rattle.routing.specs.declared.Answer.TheVariants.{Routed}
 use Rattle.room_search.specs.declared.Outcome.{Outcome}
 use Rattle.room_search.specs.declared.Outcome.TheVariants.{Arrived}
 use Rattle.room_search.specs.Routing.{Task, graph_of, searched}
@@ -72,13 +71,13 @@ module _ {R : Room} {C : RouterConfig} {kinds : List ℕ} {goal : ℕ} {known pr
 
     pub shown-route : {x : Nodes} {r : Route} {path' : List ℕ} → path ≡ replicate (length path) 0 → SearchFound shown (Arrived x) known previous
         → RouteWritten R C kinds goal known previous path x r path'
-        → (Routed r ≡ answered shown (searched shown)) × (path' ≡ filled (cells_of (searched shown)) path)
+        → (Ok r ≡ answered shown (searched shown)) × (path' ≡ filled (cells_of (searched shown)) path)
     unfolding graph_of
     shown-route {x} {r} {path'} z F W =
         let cells = traced previous goal in
         let e : searched shown ≡ route cells (pred (get_or known goal 0)) x.0 = rw S.previous-long F.told.is in
         let d : drop (length cells) path ≡ replicate (length path - length cells) 0 = ap (drop (length cells)) z ∙ drop_zeros (length cells) (length path) in
-        let s : Routed r ≡ answered shown (route cells (pred (get_or known goal 0)) x.0) = ap Routed W.route-is in
+        let s : Ok r ≡ answered shown (route cells (pred (get_or known goal 0)) x.0) = ap Ok W.route-is in
         (rw e s, rw e (W.path-is ∙ ap (λ (l : List ℕ). cells ++ l) d))
 
 -- an answer that shows no cells: the buffer stays cleared

@@ -1,5 +1,5 @@
 -- The promise of the public search, by its cases; and that it determines everything.
-use Rattle.std.specs.Prelude.{◌≡◌, refl, false, ◌&&◌, List, ℕ, eqb, length, get_or}
+use Rattle.std.specs.Prelude.{◌≡◌, refl, false, ◌&&◌, List, ℕ, eqb, length, get_or, Ok, Err}
 use Rattle.std.proofs.Math.Path.{sym}
 use Rattle.std.proofs.Common.{ap, ◌∙◌}
 use Rattle.std.proofs.Math.Bool.{true}
@@ -19,10 +19,8 @@ use Rattle.best_first.specs.Search as search
 use Rattle.routing.specs.declared.Lengths.{Lengths}
 use Rattle.routing.specs.declared.Refusal.{Refusal}
 use Rattle.routing.specs.declared.Refusal.TheVariants.{Sides, Config, Buffer, Code, Position}
-use Rattle.routing.specs.declared.Judgement.TheVariants.{Fit, Unfit}
-use Rattle.routing.specs.declared.EndsFit.TheVariants.{Good as EndsGood, Bad as EndsBad}
-use Rattle.routing.specs.declared.Answer.{Answer}
-use Rattle.routing.specs.declared.Answer.TheVariants.{Refused, NotRouteable}
+use Rattle.routing.specs.Answers.{Answer}
+use Rattle.routing.specs.declared.Unrouted.TheVariants.{Refused, NotRouteable}
 use Rattle.room_search.specs.Routing.{Task, places_in, routeable_kind, routeable, searched}
 use Rattle.room_search.specs.TriedMoves.{places_of}
 use Rattle.room_search.specs.SearchEndLaws.{start-is-end, goal-is-end}
@@ -31,7 +29,7 @@ use Rattle.routing.specs.Entry.{ends_fit, Admitted, Fitted}
 
 -- ---- an input that is judged fit
 
-differ : {X : Type 0} (why : Refusal) → Unfit why ≡ Fit → X
+differ : {X : Type 0} (why : Refusal) → Err why ≡ Ok (tt {0}) → X
 differ why e = never (cc)
 
 record Passed (R : Room) (C : RouterConfig) (kinds : List ℕ) (start goal : ℕ) (L : Lengths) : Type 0 where
@@ -41,7 +39,7 @@ record Passed (R : Room) (C : RouterConfig) (kinds : List ℕ) (start goal : ℕ
   ends : ends_inside R start goal ≡ true
 
 module _ {R : Room} {C : RouterConfig} {kinds : List ℕ} {start goal : ℕ} {L : Lengths} where
-  fit_passed : judged (input R C kinds start goal L) ≡ Fit → Passed R C kinds start goal L
+  fit_passed : judged (input R C kinds start goal L) ≡ Ok tt → Passed R C kinds start goal L
   unfolding judged
   fit_passed e =
       ask (sides_good R)
@@ -56,7 +54,7 @@ module _ {R : Room} {C : RouterConfig} {kinds : List ℕ} {start goal : ℕ} {L 
       (λ n. differ Config (rw (a, n) at e)))
       (λ n. differ Sides (rw n at e))
 
-  pub admitted : judged (input R C kinds start goal L) ≡ Fit → Admitted R C kinds start goal L
+  pub admitted : judged (input R C kinds start goal L) ≡ Ok tt → Admitted R C kinds start goal L
   unfolding buffers_good ends_inside
   admitted e =
       let p = fit_passed e in
@@ -78,7 +76,7 @@ module _ {R : Room} {C : RouterConfig} {kinds : List ℕ} {start goal : ℕ} {L 
 
 -- ---- the cases
 
-other-end : {cell : ℕ} → EndsGood ≡ EndsBad cell → ⊥
+other-end : {cell : ℕ} → Ok (tt {0}) ≡ Err cell → ⊥
 other-end e = never (cc)
 
 touched : (T : Task) (a : search.Answer) → touches (number_of (answered T a)) ≡ true
@@ -99,8 +97,8 @@ module _ (R : Room) (C : RouterConfig) (kinds : List ℕ) (start goal : ℕ) (pa
   I = input R C kinds start goal (lengths_of path known previous classes queue)
 
   -- refused before anything is touched
-  pub promise_unfit : (why : Refusal) → judged I ≡ Unfit why
-      → Promise I path known previous classes queue (Refused why) path known previous classes queue
+  pub promise_unfit : (why : Refusal) → judged I ≡ Err why
+      → Promise I path known previous classes queue (Err (Refused why)) path known previous classes queue
   unfolding answer_of
   promise_unfit why e = record {
     answer = rw e;
@@ -111,7 +109,7 @@ module _ (R : Room) (C : RouterConfig) (kinds : List ℕ) (start goal : ℕ) (pa
     queue-is = rw (e, untouched why);
   }
 
-  module _ (fit : judged I ≡ Fit) where
+  module _ (fit : judged I ≡ Ok tt) where
     start_is : routeable (task_of I) start ≡ routeable_kind true (get_or kinds start air)
     unfolding routeable
     start_is = rw (start-is-end start goal)
@@ -121,9 +119,9 @@ module _ (R : Room) (C : RouterConfig) (kinds : List ℕ) (start goal : ℕ) (pa
     goal-is = rw (goal-is-end start goal)
 
     -- number 10
-    pub promise_end : (cell : ℕ) {path' known' previous' classes' queue' : List ℕ} → EndsBad cell ≡ ends_fit kinds start goal → Cleared path path' → Cleared known known' → Cleared previous previous'
+    pub promise_end : (cell : ℕ) {path' known' previous' classes' queue' : List ℕ} → Err cell ≡ ends_fit kinds start goal → Cleared path path' → Cleared known known' → Cleared previous previous'
         → Cleared classes classes' → Cleared queue queue'
-        → Promise I path known previous classes queue (NotRouteable cell) path' known' previous' classes' queue'
+        → Promise I path known previous classes queue (Err (NotRouteable cell)) path' known' previous' classes' queue'
     unfolding answer_of fit_answer
     promise_end cell e a b c d f = record {
       answer = sym is;
@@ -134,14 +132,14 @@ module _ (R : Room) (C : RouterConfig) (kinds : List ℕ) (start goal : ℕ) (pa
       queue-is = rw is f;
     }
       where
-        is : answer_of I ≡ NotRouteable cell
+        is : answer_of I ≡ Err (NotRouteable cell)
         is =
             rw (fit, start_is, goal-is)
             (ask (routeable_kind true (get_or kinds start air))
             (λ s. ask (routeable_kind true (get_or kinds goal air))
             (λ g. absurd (other-end (sym (rw (s, g) at e))))
-            (λ g. rw (s, g) (let q : EndsBad cell ≡ EndsBad goal = rw (s, g) at e in let k : cell ≡ goal = cc in rw k)))
-            (λ s. rw s (let q : EndsBad cell ≡ EndsBad start = rw s at e in let k : cell ≡ start = cc in rw k)))
+            (λ g. rw (s, g) (let q : Err cell ≡ Err goal = rw (s, g) at e in let k : cell ≡ goal = cc in rw k)))
+            (λ s. rw s (let q : Err cell ≡ Err start = rw s at e in let k : cell ≡ start = cc in rw k)))
 
     cells_are : (a : search.Answer) → searched (task_of I) ≡ a → cells_for (answered (task_of I) a) I ≡ cells_of a
     cells_are (search.route p c x) e = ap cells_of e
@@ -149,7 +147,7 @@ module _ (R : Room) (C : RouterConfig) (kinds : List ℕ) (start goal : ℕ) (pa
     cells_are (search.limit-passed x) e = refl
     cells_are (search.queue-full x) e = refl
 
-    both-free : EndsGood ≡ ends_fit kinds start goal → answer_of I ≡ answered (task_of I) (searched (task_of I))
+    both-free : Ok tt ≡ ends_fit kinds start goal → answer_of I ≡ answered (task_of I) (searched (task_of I))
     unfolding answer_of fit_answer
     both-free e =
         rw (fit, start_is, goal-is)
@@ -158,7 +156,7 @@ module _ (R : Room) (C : RouterConfig) (kinds : List ℕ) (start goal : ℕ) (pa
         (λ s. absurd (other-end (rw s at e))))
 
     -- the defined search
-    pub promise_searched : (r : Answer) {path' known' previous' classes' queue' : List ℕ} → EndsGood ≡ ends_fit kinds start goal
+    pub promise_searched : (r : Answer) {path' known' previous' classes' queue' : List ℕ} → Ok tt ≡ ends_fit kinds start goal
         → Fitted (task_in R C kinds start goal (places_of queue)) path known previous classes queue r path' known' previous' classes' queue'
         → Promise I path known previous classes queue r path' known' previous' classes' queue'
     promise_searched r e F =

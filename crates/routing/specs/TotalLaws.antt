@@ -1,5 +1,5 @@
 -- The walk along a path that counts its totals: what is left from here and what was counted make the whole; and the sums stay in 32 bits.
-use Rattle.std.specs.Prelude.{◌≡◌, refl, ◌≢◌, List, [], ◌∷◌, ℕ, ◌+◌, ◌*◌, ◌≤◌, ◌<◌, max, eqb, length, get_or, drop}
+use Rattle.std.specs.Prelude.{◌≡◌, refl, ◌≢◌, List, ℕ, ◌+◌, ◌*◌, ◌≤◌, ◌<◌, max, eqb, length, get_or, drop}
 use Rattle.std.proofs.Common.{suc-mul, mul-le-mul_left, add-one, arith, eq-eqb, ne_eqb}
 use Rattle.basics.specs.Tests.{ask}
 use Rattle.basics.specs.Folds.{ByPairs, pairs_next, pairs_end}

@@ -1,5 +1,5 @@
 // The public search, over lent memory.
-ghost use Rattle.std.specs.Prelude.{◌≡◌, ◌<◌, length, get_or, replicate};
+ghost use Rattle.std.specs.Prelude.{◌≡◌, ◌<◌, length, get_or, replicate, Err};
 ghost use Rattle.room_search.specs.Takings.{Showable};
 ghost use Rattle.lent.specs.Lent.{Cleared};
 ghost use Rattle.trace.specs.Traces.{PreviousInside};
@@ -9,7 +9,7 @@ ghost use Rattle.room_search.specs.TriedMoves.{places_of};
 
 use crate::counts::totals_of;
 use crate::judge::judge;
-use crate::{Answer, EndsFit, Judgement, Lengths, Route};
+use crate::{Lengths, Route, Unrouted};
 use room::{Cost, Nodes, Room, RouterConfig};
 use room_search::{Outcome, fill_classes, make_end, routeable_kind, search_classes};
 
@@ -74,7 +74,7 @@ fn answer_of(
     known: &[u32],
     previous: &[u32],
     path: &mut [u32],
-) -> Answer
+) -> Result<Route, Unrouted>
     requires shown { Shown room config kinds.now goal known.now previous.now path.old }
     requires path_value { path.old ≡ replicate (length path.old) 0 }
     requires showable { Showable outcome goal known.now previous.now }
@@ -82,11 +82,11 @@ fn answer_of(
 {
     match outcome {
         Outcome::Arrived(expanded) => {
-            Answer::Routed(show_route(room, config, kinds, goal, known, previous, path, expanded))
+            Ok(show_route(room, config, kinds, goal, known, previous, path, expanded))
         }
-        Outcome::NoRoute(expanded) => Answer::NoRoute(expanded),
-        Outcome::LimitPassed(expanded) => Answer::LimitPassed(expanded),
-        Outcome::QueueFull(expanded) => Answer::QueueFull(expanded),
+        Outcome::NoRoute(expanded) => Err(Unrouted::NoRoute(expanded)),
+        Outcome::LimitPassed(expanded) => Err(Unrouted::LimitPassed(expanded)),
+        Outcome::QueueFull(expanded) => Err(Unrouted::QueueFull(expanded)),
     }
 }
 
@@ -94,24 +94,24 @@ fn answer_of(
 fn clear_work(known: &mut [u32], previous: &mut [u32], classes: &mut [u8], queue: &mut [u64])
     ensures { Cleared known.old known.new × Cleared previous.old previous.new × Cleared classes.old classes.new × Cleared queue.old queue.new }
 {
-    lent::clear_words(known);
-    lent::clear_words(previous);
-    lent::clear_bytes(classes);
-    lent::clear_longs(queue);
+    lent::clear(known);
+    lent::clear(previous);
+    lent::clear(classes);
+    lent::clear(queue);
 }
 
 // The end that is not routeable: the start, else the goal.
-pub fn bad_end(kinds: &[u8], start: usize, goal: usize) -> EndsFit
+pub fn bad_end(kinds: &[u8], start: usize, goal: usize) -> Result<(), usize>
     requires { (start < length kinds.now) × (goal < length kinds.now) }
     ensures { result ≡ ends_fit kinds.now start goal }
 {
     if !routeable_kind(true, kinds[start]) {
-        return EndsFit::Bad(start);
+        return Err(start);
     }
     if !routeable_kind(true, kinds[goal]) {
-        return EndsFit::Bad(goal);
+        return Err(goal);
     }
-    EndsFit::Good
+    Ok(())
 }
 
 // The defined search, with both ends routeable: its answer, its path, and all work memory cleared.
@@ -126,7 +126,7 @@ fn answer_fit(
     previous: &mut [u32],
     classes: &mut [u8],
     queue: &mut [u64],
-) -> Answer
+) -> Result<Route, Unrouted>
     requires { Admitted room config kinds.now start goal (lengths_of path.old known.old previous.old classes.old queue.old) }
     ensures { Fitted (task_in room config kinds.now start goal (places_of queue.old)) path.old known.old previous.old classes.old queue.old result path.new known.new previous.new classes.new queue.new }
 {
@@ -142,7 +142,7 @@ fn answer_fit(
         &mut classes[..cells],
         queue,
     );
-    lent::clear_words(path);
+    lent::clear(path);
     let answer = answer_of(
         room,
         config,
@@ -165,12 +165,12 @@ fn refuse_end(
     previous: &mut [u32],
     classes: &mut [u8],
     queue: &mut [u64],
-) -> Answer
-    ensures { (result ≡ Answer.NotRouteable cell) × Cleared path.old path.new × Cleared known.old known.new × Cleared previous.old previous.new × Cleared classes.old classes.new × Cleared queue.old queue.new }
+) -> Result<Route, Unrouted>
+    ensures { (result ≡ Err (Unrouted.NotRouteable cell)) × Cleared path.old path.new × Cleared known.old known.new × Cleared previous.old previous.new × Cleared classes.old classes.new × Cleared queue.old queue.new }
 {
-    lent::clear_words(path);
+    lent::clear(path);
     clear_work(known, previous, classes, queue);
-    Answer::NotRouteable(cell)
+    Err(Unrouted::NotRouteable(cell))
 }
 
 // The search from the start to the goal over a room of kinds: a route, or the number that is due. The path goes to the front
@@ -186,7 +186,7 @@ pub fn astar_route(
     previous: &mut [u32],
     classes: &mut [u8],
     queue: &mut [u64],
-) -> Answer
+) -> Result<Route, Unrouted>
     ensures { Promise (input room config kinds.now start goal (lengths_of path.old known.old previous.old classes.old queue.old)) path.old known.old previous.old classes.old queue.old result path.new known.new previous.new classes.new queue.new }
 {
     let lengths = Lengths {
@@ -196,10 +196,8 @@ pub fn astar_route(
         classes: classes.len(),
         queue: queue.len(),
     };
-    if let Judgement::Unfit(why) = judge(room, config, kinds, start, goal, lengths) {
-        return Answer::Refused(why);
-    }
-    if let EndsFit::Bad(cell) = bad_end(kinds, start, goal) {
+    judge(room, config, kinds, start, goal, lengths)?;
+    if let Err(cell) = bad_end(kinds, start, goal) {
         return refuse_end(cell, path, known, previous, classes, queue);
     }
     answer_fit(

@@ -16,9 +16,10 @@ fn step_between(room: Room, config: RouterConfig, from: usize, to: usize) -> u32
     let here = room.pos(from);
     let there = room.pos(to);
     if here.y == there.y {
-        return config.horizontal.0;
+        config.horizontal.0
+    } else {
+        config.stair.0
     }
-    config.stair.0
 }
 
 // How many supports are new beneath a cell: one where Air stands there.
@@ -29,9 +30,10 @@ fn laid_beneath(room: Room, kinds: &[u8], cell: usize) -> usize
     ensures { result ≡ laid_at room kinds.now cell }
 {
     if kind_beneath(room, kinds, cell) == room::AIR {
-        return 1;
+        1
+    } else {
+        0
     }
-    0
 }
 
 // Along the path, each cell but the start: the step to it, and the support beneath it.
@@ -41,13 +43,11 @@ pub fn totals_of(room: Room, config: RouterConfig, kinds: &[u8], path: &[u32]) -
 {
     let mut steps: u32 = 0;
     let mut laid: usize = 0;
-    let mut i: usize = 0;
-    while i + 1 < path.len() {
-        let from = as_index(path[i]);
-        let to = as_index(path[i + 1]);
+    for i in 1..path.len() {
+        let from = as_index(path[i - 1]);
+        let to = as_index(path[i]);
         steps += step_between(room, config, from, to);
         laid += laid_beneath(room, kinds, to);
-        i += 1;
     }
     Totals {
         steps: Cost(steps),

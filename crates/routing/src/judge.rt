@@ -5,23 +5,18 @@ ghost use Rattle.room.specs.Room.{Good};
 ghost use Rattle.room.specs.Units.{kind_known};
 ghost use Rattle.routing.specs.Answers.{input, buffers_good, ends_inside, judged};
 
-use crate::{Judgement, Lengths, Refusal};
+use crate::{Lengths, Refusal};
 use room::{Room, RouterConfig};
 
 // Whether every kind is known. All are looked at, even behind a strange one: the loop then takes many at a time.
 pub fn all_known(kinds: &[u8]) -> bool
     ensures { result ≡ every kind_known kinds.now }
 {
-    let n = kinds.len();
-    let mut strange = false;
-    let mut i: usize = 0;
-    while i < n {
-        if !room::kind_known(kinds[i]) {
-            strange = true;
-        }
-        i += 1;
+    let mut known = true;
+    for kind in kinds {
+        known &= room::kind_known(*kind);
     }
-    !strange
+    known
 }
 
 // Whether the kinds are exactly V, each lent buffer has V or more, and the queue a place.
@@ -30,22 +25,12 @@ fn buffers_good(room: Room, kinds: &[u8], lengths: Lengths) -> bool
     ensures { result ≡ buffers_good room kinds.now lengths }
 {
     let v = room.volume();
-    if kinds.len() != v {
-        return false;
-    }
-    if lengths.path < v {
-        return false;
-    }
-    if lengths.known < v {
-        return false;
-    }
-    if lengths.previous < v {
-        return false;
-    }
-    if lengths.classes < v {
-        return false;
-    }
-    1 <= lengths.queue / 2
+    kinds.len() == v
+        && v <= lengths.path
+        && v <= lengths.known
+        && v <= lengths.previous
+        && v <= lengths.classes
+        && 1 <= lengths.queue / 2
 }
 
 // Whether both ends are cells of the room.
@@ -54,10 +39,7 @@ fn ends_inside(room: Room, start: usize, goal: usize) -> bool
     ensures { result ≡ ends_inside room start goal }
 {
     let v = room.volume();
-    if v <= start {
-        return false;
-    }
-    goal < v
+    start < v && goal < v
 }
 
 // Whether the input can be searched, or the first number that refuses it.
@@ -68,23 +50,23 @@ pub fn judge(
     start: usize,
     goal: usize,
     lengths: Lengths,
-) -> Judgement
+) -> Result<(), Refusal>
     ensures { result ≡ judged (input room config kinds.now start goal lengths) }
 {
     if !room.good() {
-        return Judgement::Unfit(Refusal::Sides);
+        return Err(Refusal::Sides);
     }
     if !config.good(room) {
-        return Judgement::Unfit(Refusal::Config);
+        return Err(Refusal::Config);
     }
     if !buffers_good(room, kinds, lengths) {
-        return Judgement::Unfit(Refusal::Buffer);
+        return Err(Refusal::Buffer);
     }
     if !all_known(kinds) {
-        return Judgement::Unfit(Refusal::Code);
+        return Err(Refusal::Code);
     }
     if !ends_inside(room, start, goal) {
-        return Judgement::Unfit(Refusal::Position);
+        return Err(Refusal::Position);
     }
-    Judgement::Fit
+    Ok(())
 }

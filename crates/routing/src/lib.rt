@@ -1,6 +1,9 @@
 // One search over a room of kinds: its input is judged, its memory cleared, and its answer told.
 #![tactic(auto)]
 
+ghost use Rattle.std.specs.Prelude.{◌≡◌};
+ghost use Rattle.routing.specs.declared.Unrouted.TheVariants.{Refused};
+
 mod astar; // astar.rt: the public search
 mod counts; // counts.rt: the totals of a path
 pub mod judge; // judge.rt: numbers 2, 3, 6, 5 and 4
@@ -47,28 +50,21 @@ pub enum Refusal {
     Position,
 }
 
-// Whether an input can be searched, or why it is refused.
+// Why a search gives no route: a refusal; the end that is not routeable (10); or no route (11), the node limit passed (12),
+// the queue full (13), each with the expanded count.
 #[derive(Clone, Copy)]
-pub enum Judgement {
-    Fit,
-    Unfit(Refusal),
-}
-
-// Whether both ends are routeable, or which is not: the start, else the goal.
-#[derive(Clone, Copy)]
-pub enum EndsFit {
-    Good,
-    Bad(usize),
-}
-
-// What a search answers: a route; a refusal; the end that is not routeable (10); or no route (11), the node limit passed
-// (12), the queue full (13), each with the expanded count.
-#[derive(Clone, Copy)]
-pub enum Answer {
-    Routed(Route),
+pub enum Unrouted {
     Refused(Refusal),
     NotRouteable(usize),
     NoRoute(room::Nodes),
     LimitPassed(room::Nodes),
     QueueFull(room::Nodes),
+}
+
+impl From<Refusal> for Unrouted {
+    ghost from_gives = { λ why e. e ≡ Refused why };
+
+    fn from(why: Refusal) -> Unrouted {
+        Unrouted::Refused(why)
+    }
 }

@@ -1,9 +1,8 @@
 -- A set of cells as marks: one byte a cell, 1 where the cell is marked and 0 where it is not; and lists of cells. Definitions alone; their laws are in
 -- MarkLaws.
-use Rattle.std.specs.Prelude.{Bool, List, [], ◌∷◌, ℕ, suc, ◌≤◌, ◌<◌, eqb, length, get_or, replicate}
+use Rattle.std.specs.Prelude.{Bool, List, [], ◌∷◌, ℕ, suc, ◌≤◌, ◌<◌, eqb, length, get_or, replicate, Option}
 use Rattle.basics.specs.Tests.{either}
 use Rattle.room.specs.declared.Room.{Room}
-use Rattle.room.specs.declared.Neighbour.{Neighbour}
 use Rattle.room.specs.Room.{volume, holds_at}
 
 -- the marks with this byte at each cell that passes the test; every other cell keeps its byte
@@ -32,7 +31,7 @@ pub record Marks (bytes : List ℕ) : Type 0 where
   pub small : (v : ℕ) → v < length bytes → get_or bytes v 0 ≤ 1
 
 -- cell v is the one at this place; a place outside the room has none
-abbrev pub is_cell : Neighbour → ℕ → Bool
+abbrev pub is_cell : Option ℕ → ℕ → Bool
 is_cell place v = holds_at (λ cell. eqb cell v) place
 
 -- each of these is a number below n

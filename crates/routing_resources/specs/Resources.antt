@@ -1,15 +1,21 @@
 -- What a wire keeps clear of others, as docs/RULES.md, The tree of one net, has it. Definitions alone; their laws are in ResourceLaws.
-use Rattle.std.specs.Prelude.{Bool, false, ◌||◌, List, [], ◌∷◌, ℕ, ◌+◌, ltb, eqb}
+use Rattle.std.specs.Prelude.{Bool, false, ◌||◌, List, [], ◌∷◌, ℕ, ◌+◌, ltb, eqb, Option, None}
 use Rattle.basics.specs.Tests.{either}
 use Rattle.basics.specs.Lists.{any}
 use Rattle.room.specs.declared.Room.{Room}
-use Rattle.room.specs.declared.Neighbour.{Neighbour}
 use Rattle.room.specs.Room.{pos_of, move_at, neighbour, above}
 use Rattle.room.specs.declared.Move.{Move}
+use Rattle.routing_resources.specs.declared.Rise.{Rise}
+use Rattle.routing_resources.specs.declared.Rise.TheVariants.{OneDown, SameLevel, OneUp}
 use Rattle.routing_resources.specs.Marks.{is_cell}
 
--- the four moves that end on the level of the middle part `rise`: 0, 1 and 2 stand for one down, the same and one up. The moves stand in threes, one
--- for each level
+-- which of three moves ends on a level: the moves stand in threes, one for each level
+abbrev pub part_of : Rise → ℕ
+part_of OneDown = 0
+part_of SameLevel = 1
+part_of OneUp = 2
+
+-- the four moves that end on the level of the middle part `rise`: 0, 1 and 2 stand for one down, the same and one up
 unfoldable pub directions : ℕ → List Move
 directions rise = move_at rise ∷ move_at (3 + rise) ∷ move_at (6 + rise) ∷ move_at (9 + rise) ∷ []
 
@@ -30,8 +36,8 @@ abbrev pub lower : Room → ℕ → ℕ → ℕ
 lower R a b = either (ltb (level R a) (level R b)) a b
 
 -- "the clearance (above the lower end)" of a stair between two cells; two cells of one level have none
-unfoldable pub clearance_of : Room → ℕ → ℕ → Neighbour
-clearance_of R a b = either (eqb (level R a) (level R b)) Neighbour.Outside (above R (lower R a b))
+unfoldable pub clearance_of : Room → ℕ → ℕ → Option ℕ
+clearance_of R a b = either (eqb (level R a) (level R b)) None (above R (lower R a b))
 
 -- v is the clearance of a stair along the branch
 unfoldable pub is_clearance : Room → List ℕ → ℕ → Bool

@@ -1,13 +1,13 @@
 // What a wire keeps clear of others, as marks: one byte a cell in a lent slice, 1 where the cell is marked and 0 where
-// it is not. Cells outside the room have no mark.
+// it is not. C lends them as bytes, so they are no `bool`s. Cells outside the room have no mark.
 #![tactic(auto)]
 
 ghost use Rattle.std.specs.Prelude.{◌≡◌, ℕ, ◌<◌, eqb, length};
 ghost use Rattle.room.specs.Room.{Good, volume};
 ghost use Rattle.routing_resources.specs.Marks.{with_byte, marked_by, unmarked_by, is_cell, AllCells};
-ghost use Rattle.routing_resources.specs.Resources.{is_neighbour, in_keepout, clearance_of, is_clearance};
+ghost use Rattle.routing_resources.specs.Resources.{part_of, is_neighbour, in_keepout, clearance_of, is_clearance};
 
-use room::{Neighbour, Room, as_index};
+use room::{Room, as_index};
 
 pub const UNMARKED: u8 = 0;
 
@@ -30,36 +30,49 @@ pub fn unmark(marks: &mut [u8], cell: usize)
 }
 
 // Writes a mark to the cell at a place, if there is one: a place outside the room has none.
-pub fn put_mark(marks: &mut [u8], place: Neighbour, mark: u8)
-    requires { (v : ℕ) → place ≡ Neighbour.Inside v → v < length marks.old }
+pub fn put_mark(marks: &mut [u8], place: Option<usize>, mark: u8)
+    requires { (v : ℕ) → place ≡ Some v → v < length marks.old }
     ensures { marks.new ≡ with_byte mark (is_cell place) marks.old }
 {
-    if let Neighbour::Inside(cell) = place {
+    if let Some(cell) = place {
         marks[cell] = mark;
     }
 }
 
-// A level down, the same level, a level up: the middle part of a move.
-const ONE_DOWN: usize = 0;
+// The level on which a neighbour stands.
+#[derive(Clone, Copy, Debug, PartialEq, Eq)]
+pub enum Rise {
+    OneDown,
+    SameLevel,
+    OneUp,
+}
 
-const SAME_LEVEL: usize = 1;
+impl Rise {
+    // Which of three moves ends there: the moves stand in threes, one for each level.
+    fn part(self) -> usize
+        ensures value { result ≡ part_of self }
+        ensures small { result < 3 }
+    {
+        match self {
+            Rise::OneDown => 0,
+            Rise::SameLevel => 1,
+            Rise::OneUp => 2,
+        }
+    }
+}
 
-const ONE_UP: usize = 2;
-
-// Marks the four neighbours of a cell on the level that `rise` names. The moves stand in threes, one for each level.
-pub fn horizontal_neighbors(room: Room, marks: &mut [u8], cell: usize, rise: usize)
+// Marks the four neighbours of a cell on one level.
+pub fn horizontal_neighbors(room: Room, marks: &mut [u8], cell: usize, rise: Rise)
     requires good { Good room }
     requires cell_bound { cell < volume room }
-    requires rise_bound { rise < 3 }
     requires marks_len { length marks.old ≡ volume room }
-    ensures { marks.new ≡ marked_by (is_neighbour room cell rise) marks.old }
+    ensures { marks.new ≡ marked_by (is_neighbour room cell (part_of rise)) marks.old }
 {
+    let part = rise.part();
     let p = room.pos(cell);
-    let mut k: usize = 0;
-    while k < 4 {
-        let place = room.neighbour_at(p, Room::move_at(3 * k + rise));
+    for k in 0..4 {
+        let place = room.neighbour_at(p, Room::move_at(3 * k + part));
         put_mark(marks, place, MARKED);
-        k += 1;
     }
 }
 
@@ -71,13 +84,13 @@ pub fn electrical_keepout_for_wire(room: Room, marks: &mut [u8], cell: usize)
     requires marks_len { length marks.old ≡ volume room }
     ensures { marks.new ≡ marked_by (in_keepout room cell) marks.old }
 {
-    horizontal_neighbors(room, marks, cell, SAME_LEVEL);
-    horizontal_neighbors(room, marks, cell, ONE_UP);
-    horizontal_neighbors(room, marks, cell, ONE_DOWN);
+    horizontal_neighbors(room, marks, cell, Rise::SameLevel);
+    horizontal_neighbors(room, marks, cell, Rise::OneUp);
+    horizontal_neighbors(room, marks, cell, Rise::OneDown);
 }
 
 // The clearance of a stair: the cell above its lower end. Two cells of one level have none.
-pub fn clearance(room: Room, a: usize, b: usize) -> Neighbour
+pub fn clearance(room: Room, a: usize, b: usize) -> Option<usize>
     requires good { Good room }
     requires a_bound { a < volume room }
     requires b_bound { b < volume room }
@@ -86,12 +99,12 @@ pub fn clearance(room: Room, a: usize, b: usize) -> Neighbour
     let p = room.pos(a);
     let q = room.pos(b);
     if p.y == q.y {
-        return Neighbour::Outside;
+        None
+    } else if p.y < q.y {
+        room.above(a)
+    } else {
+        room.above(b)
     }
-    if p.y < q.y {
-        return room.above(a);
-    }
-    room.above(b)
 }
 
 // Marks the clearances of all stairs along a branch.
@@ -101,10 +114,8 @@ pub fn branch_stair_clearances(room: Room, branch: &[u32], marks: &mut [u8])
     requires marks_len { length marks.old ≡ volume room }
     ensures { marks.new ≡ marked_by (is_clearance room branch.now) marks.old }
 {
-    let mut i: usize = 0;
-    while i + 1 < branch.len() {
-        let place = clearance(room, as_index(branch[i]), as_index(branch[i + 1]));
+    for i in 1..branch.len() {
+        let place = clearance(room, as_index(branch[i - 1]), as_index(branch[i]));
         put_mark(marks, place, MARKED);
-        i += 1;
     }
 }

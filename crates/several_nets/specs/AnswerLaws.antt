@@ -1,5 +1,5 @@
 -- Laws of a judged list answered over memory of exactly V cells.
-use Rattle.std.specs.Prelude.{◌≡◌, refl, ◌≢◌, true, false, ℕ, ◌-◌, ◌<◌}
+use Rattle.std.specs.Prelude.{◌≡◌, refl, ◌≢◌, true, false, ℕ, ◌-◌, ◌<◌, Option, Some, None, Result, Ok, Err}
 use Rattle.std.proofs.Math.Path.{sym, ap}
 use Rattle.std.proofs.Common.{◌∙◌, eq-eqb, ne_eqb, ltb-true}
 use mathlib.Core.List.{List, []}
@@ -14,10 +14,12 @@ use Rattle.room.specs.Room.{volume}
 use Rattle.ground.specs.declared.Mode.{Mode}
 use Rattle.routing_resources.specs.Marks.{marked_by, no_marks}
 use Rattle.routing_resources.specs.MarkLaws.{with_none}
-use Rattle.blocks.specs.declared.Placement.{Placement}
-use Rattle.blocks.specs.declared.Placement.TheVariants.{Placed, RepeatAt}
+use Rattle.blocks.specs.Blocks.{Placement}
+use Rattle.blocks.specs.Blocks.{Placed}
+use Rattle.std.specs.Prelude.{Ok, Err}
 use Rattle.laying.specs.Laying.{Net, Laid, laid_room}
 use Rattle.job_list.specs.declared.Verdict.{Verdict}
+use Rattle.job_list.specs.Told.{told_list, verdict_of, told-some}
 use Rattle.job_list.specs.Split.{first_sheet, sheets_in, sheets_of}
 use Rattle.job_list.specs.SplitLaws.{sheets_some}
 use Rattle.job_list.specs.Judged.{contents_at, repeats_in}
@@ -26,17 +28,15 @@ use Rattle.job_list.specs.GoodNets.{GoodFrom, good-list}
 use Rattle.other_nets.specs.OtherLaws.{ListReady, list-some}
 use Rattle.nets.specs.Nets.{taken_by, route_from, routed_list}
 use Rattle.laid_nets.specs.declared.Meeting.{Meeting}
-use Rattle.laid_nets.specs.declared.Meeting.TheVariants.{Nowhere, At}
 use Rattle.laid_nets.specs.LaidNets.{room_at, LaidNets, laid_so_far, unlaid, laid_nets}
 use Rattle.laid_nets.specs.CountLaws.{counted_none}
-use Rattle.list_routing.specs.declared.Step.{Step}
-use Rattle.list_routing.specs.declared.Step.TheVariants.{On, Refused}
+use Rattle.list_routing.specs.declared.Stand.{Stand}
+use Rattle.list_routing.specs.declared.NetRefused.{NetRefused}
 use Rattle.list_routing.specs.Walk.{cells_of, lengths_of, planned_by}
 use Rattle.list_routing.specs.ListLent.{ListLent, SameSizes}
 use Rattle.list_routing.specs.Walking.{room_of, at_first, Walking, WalkedTo, Walked}
 use Rattle.list_routing.specs.StepLaws.{desk-still}
-use Rattle.several_nets.specs.declared.ListAnswer.{ListAnswer}
-use Rattle.several_nets.specs.Answers.{no_list, laid_outcome, routed_outcome, repeat_cell, due, repeated, walked, answer_of}
+use Rattle.several_nets.specs.Answers.{ListAnswer, no_list, laid_outcome, routed_outcome, repeat_cell, due, repeated, walked, answer_of}
 use Rattle.several_nets.specs.Entry.{detail_for, met_answer, answer_for, FirstGood, FirstAsked, FirstSet, AnswerAsked, Holds, Answered}
 use Rattle.several_nets.specs.FirstLaws.{past_first}
 
@@ -45,19 +45,19 @@ pub number-high : (n : ℕ) → touches n ≡ true → n ≢ done_number → buf
 number-high n t d = ltb-true buffer_number n (rw (ne_eqb n done_number d) at t)
 
 placed-is : (p : Placement) → is_repeat p ≡ false → p ≡ Placed
-placed-is Placed e = refl
-placed-is (RepeatAt v) e = never (cc)
+placed-is (Ok placed) e = refl
+placed-is (Err overlap) e = never (cc)
 
 -- what comes of all nets laid
-met-answer : (R : Room) (m : Meeting) (k : ℕ) (nets : List Net) → k ≡ length nets → (S : LaidNets) → met_answer m k ≡ answer_of (laid_outcome m R nets S)
-met-answer R Nowhere k nets e S = ap (λ n. record { number = done_number; net = 0; detail = 0; nets = n }) e
-met-answer R (At net cell) k nets e S = refl
+met-answer : (R : Room) (m : Option Meeting) (k : ℕ) (nets : List Net) → k ≡ length nets → (S : LaidNets) → met_answer m k ≡ answer_of (laid_outcome m R nets S)
+met-answer R None k nets e S = ap Ok e
+met-answer R (Some meeting) k nets e S = refl
 
-met_holds : (R : Room) (m : Meeting) (nets : List Net) (S : LaidNets) (B B' : ListLent) → B'.branches ≡ filled (cells_of nets) B.branches
+met_holds : (R : Room) (m : Option Meeting) (nets : List Net) (S : LaidNets) (B B' : ListLent) → B'.branches ≡ filled (cells_of nets) B.branches
     → B'.lengths ≡ filled (lengths_of nets) B.lengths → B'.repeaters ≡ marked_by (planned_by nets) (no_marks (volume R)) → laid_room B'.kinds B'.facings ≡ S.room
     → B'.owners ≡ S.owners → Holds (laid_outcome m R nets S) B B'
-met_holds R Nowhere nets S B B' b l p r o = (b, l, o, p, ap (λ (x : Laid). x.kinds) r, ap (λ (x : Laid). x.facings) r)
-met_holds R (At net cell) nets S B B' b l p r o = omega arith
+met_holds R None nets S B B' b l p r o = (b, l, o, p, ap (λ (x : Laid). x.kinds) r, ap (λ (x : Laid). x.facings) r)
+met_holds R (Some meeting) nets S B B' b l p r o = omega arith
 
 module _ {list : List ℕ} {verdict : Verdict} {B : ListLent} (A : AnswerAsked list verdict B) where
   abbrev R : Room
@@ -176,18 +176,18 @@ module _ {list : List ℕ} {verdict : Verdict} {B : ListLent} (A : AnswerAsked l
           lengths-are = let n : length B.lengths ≡ length B.lengths - 0 = omega arith in A.clear.lengths ∙ ap (λ k. replicate k 0) n;
           repeaters-are = cleared-to A.desk.repeaters A.clear.repeaters ∙ sym (with_none 1 _ (no_marks (volume R)) (λ v h. refl));
           before-are = cleared-to A.desk.before A.clear.before ∙ sym (with_none 1 _ (no_marks (volume R)) (λ v h. refl));
-          laid-are = λ i. laid_so_far (F.set.laid placed i) (cleared-to A.desk.owners A.clear.owners i) Nowhere;
+          laid-are = λ i. laid_so_far (F.set.laid placed i) (cleared-to A.desk.owners A.clear.owners i) None;
           counted = counted_none R (cleared-to A.desk.owners A.clear.owners);
           desk = desk-still A.desk same;
         }
 
         -- ---- and has come to its end
 
-        pub answered-walk : {s : Step} {B' : ListLent} → Walked mode list set_out s B' → {r : ListAnswer} → r ≡ answer_for s → Answered mode list verdict B r B'
+        pub answered-walk : {s : Result Stand NetRefused} {B' : ListLent} → Walked mode list set_out s B' → {r : ListAnswer} → r ≡ answer_for s → Answered mode list verdict B r B'
         answered-walk {s} {B'} W a = go s a W.to
           where
-            go : (s : Step) {r : ListAnswer} → r ≡ answer_for s → WalkedTo s mode list set_out B' → Answered mode list verdict B r B'
-            go (On stand) a T =
+            go : (s : Result Stand NetRefused) {r : ListAnswer} → r ≡ answer_for s → WalkedTo s mode list set_out B' → Answered mode list verdict B r B'
+            go (Ok stand) a T =
                 let S = laid_nets R 0 T.nets (unlaid R (room_at (first_sheet list))) in
                 let met-is : stand.met ≡ S.met = ap (λ (x : LaidNets). x.met) T.laid-are in
                 record {
@@ -198,9 +198,20 @@ module _ {list : List ℕ} {verdict : Verdict} {B : ListLent} (A : AnswerAsked l
                       met_holds R S.met T.nets S B B' T.branches-are T.lengths-are T.repeaters-are (ap (λ (x : LaidNets). x.room) T.laid-are)
                       (ap (λ (x : LaidNets). x.owners) T.laid-are);
                 }
-            go (Refused net number detail) a T = record {
-              outcome = no_list number net detail;
+            go (Err why) a T = record {
+              outcome = no_list why.number why.net why.detail;
               comes = walked done (sym (ap (routed_outcome R (room_at (first_sheet list))) T.0));
               answer = a;
               holds = T.1;
             }
+
+-- a number that was told, before any net is routed
+pub answered-told : {list : List ℕ} {judged : Result Unit Verdict} {B : ListLent} → AnswerAsked list (verdict_of judged) B → judged ≡ told_list (verdict_of judged)
+    → {p : Placement} {kinds facings : List ℕ} → FirstSet list p kinds facings → (mode : Mode) → {v : Verdict} → judged ≡ Err v → {d : ℕ} → d ≡ detail_for v p → {B' : ListLent}
+    → Answered mode list (verdict_of judged) B (Err (record { net = v.net; number = v.number; detail = d })) B'
+answered-told {list} {judged} A t {p} F mode {v} is {d} e =
+    let same : verdict_of judged ≡ v = ap verdict_of is in
+    answered-due A F mode
+    (λ z. told-some (verdict_of judged) (sym is ∙ t) (sym (ap (λ (x : Verdict). x.number) same) ∙ z))
+    (e ∙ ap (λ (x : Verdict). detail_for x p) (sym same))
+    (ap (λ (x : Verdict). answer_of (no_list x.number x.net d)) (sym same))

@@ -1,5 +1,5 @@
 -- The promise of `route_nets`: what a job list comes to, and what every lent byte then holds. Definitions alone; each input determines all of it.
-use Rattle.std.specs.Prelude.{◌≡◌, ◌≢◌, List, [], ◌∷◌, ℕ, ltb, length}
+use Rattle.std.specs.Prelude.{◌≡◌, ◌≢◌, List, [], ◌∷◌, ℕ, ltb, length, Option, Some, None, Result}
 use Rattle.numbers.specs.Refusals.{done_number, overlap_number, nets_overlap_number}
 use Rattle.basics.specs.Tests.{either}
 use Rattle.lent.specs.Lent.{output_after, work_after}
@@ -8,8 +8,8 @@ use Rattle.room.specs.Room.{volume}
 use Rattle.room_search.specs.TriedMoves.{places_of}
 use Rattle.ground.specs.declared.Mode.{Mode}
 use Rattle.routing_resources.specs.Marks.{marked_by, no_marks}
-use Rattle.blocks.specs.declared.Placement.{Placement}
-use Rattle.blocks.specs.declared.Placement.TheVariants.{Placed, RepeatAt}
+use Rattle.blocks.specs.Blocks.{Placement}
+use Rattle.std.specs.Prelude.{Ok, Err}
 use Rattle.blocks.specs.Blocks.{Placing}
 use Rattle.laying.specs.Laying.{Net, Laid}
 use Rattle.job_list.specs.declared.Memory.{Memory}
@@ -18,12 +18,11 @@ use Rattle.job_list.specs.Split.{first_sheet}
 use Rattle.job_list.specs.Judged.{contents_at, judged_list}
 use Rattle.nets.specs.Nets.{Routing, all-kept, refused-by, routed_list}
 use Rattle.laid_nets.specs.declared.Meeting.{Meeting}
-use Rattle.laid_nets.specs.declared.Meeting.TheVariants.{Nowhere, At}
 use Rattle.laid_nets.specs.LaidNets.{room_at, LaidNets, unlaid, laid_nets}
+use Rattle.list_routing.specs.declared.NetRefused.{NetRefused}
 use Rattle.list_routing.specs.Walk.{cells_of, lengths_of, planned_by}
 use Rattle.list_routing.specs.ListLent.{ListLent}
 use Rattle.list_routing.specs.Walking.{room_of}
-use Rattle.several_nets.specs.declared.ListAnswer.{ListAnswer}
 
 -- ---- number 6
 
@@ -54,9 +53,9 @@ pub data ListOutcome : Type 0 where
   no_list : (number net detail : ℕ) → ListOutcome
 
 -- "after all nets, 16 with the cell where two nets overlap"
-abbrev pub laid_outcome : Meeting → Room → List Net → LaidNets → ListOutcome
-laid_outcome Nowhere R nets S = all_laid nets (marked_by (planned_by nets) (no_marks (volume R))) S.owners S.room
-laid_outcome (At net cell) R nets S = no_list nets_overlap_number net cell
+abbrev pub laid_outcome : Option Meeting → Room → List Net → LaidNets → ListOutcome
+laid_outcome None R nets S = all_laid nets (marked_by (planned_by nets) (no_marks (volume R))) S.owners S.room
+laid_outcome (Some meeting) R nets S = no_list nets_overlap_number meeting.net meeting.cell
 
 -- all nets laid into the room of blocks, or "the first net that refuses ends the list"
 abbrev pub routed_outcome : Room → Laid → Routing → ListOutcome
@@ -65,8 +64,8 @@ routed_outcome R room (refused-by net number detail) = no_list number net detail
 
 -- the cell that number 7 tells
 abbrev pub repeat_cell : Placement → ℕ
-repeat_cell Placed = 0
-repeat_cell (RepeatAt cell) = cell
+repeat_cell (Ok placed) = 0
+repeat_cell (Err overlap) = overlap.cell
 
 -- "1 to 9 judged for all jobs in list order before any is routed", which came to this verdict; then all nets, with so many cells of the branch buffer and a queue
 -- of this length
@@ -79,9 +78,18 @@ pub data ListComes (mode : Mode) (list : List ℕ) (verdict : Verdict) (buffer q
 
 -- ---- the answer: "number, net index, detail and the count of nets"
 
+-- how many nets are laid; or the net that refuses, its number and its detail
+abbrev pub ListAnswer : Type 0
+ListAnswer = Result ℕ NetRefused
+
 abbrev pub answer_of : ListOutcome → ListAnswer
-answer_of (all_laid nets planned owners room) = record { number = done_number; net = 0; detail = 0; nets = length nets }
-answer_of (no_list number net detail) = record { number = number; net = net; detail = detail; nets = 0 }
+answer_of (all_laid nets planned owners room) = Ok (length nets)
+answer_of (no_list number net detail) = Err (record { net = net; number = number; detail = detail })
+
+-- the number that comes back for it, 0 where all nets are laid
+abbrev pub number_told : ListAnswer → ℕ
+number_told (Ok nets) = done_number
+number_told (Err why) = why.number
 
 -- ---- the lent buffers
 
@@ -112,24 +120,24 @@ facings_for (no_list number net detail) = []
 -- "1 to 6 touch nothing; from 7 on all is zero [..]; a success writes the answers, zeros behind, and zeroes work memory"
 abbrev pub lent_after : ListOutcome → ListLent → ListLent
 lent_after o B = record {
-  branches = output_after (answer_of o).number (branches_for o) B.branches;
-  lengths = output_after (answer_of o).number (lengths_for o) B.lengths;
-  owners = output_after (answer_of o).number (owners_for o) B.owners;
-  repeaters = output_after (answer_of o).number (repeaters_for o) B.repeaters;
-  kinds = output_after (answer_of o).number (kinds_for o) B.kinds;
-  facings = output_after (answer_of o).number (facings_for o) B.facings;
-  occupied = work_after (answer_of o).number B.occupied;
-  planned = work_after (answer_of o).number B.planned;
-  before = work_after (answer_of o).number B.before;
-  room = work_after (answer_of o).number B.room;
-  blocked = work_after (answer_of o).number B.blocked;
-  classes = work_after (answer_of o).number B.classes;
-  joinable = work_after (answer_of o).number B.joinable;
-  known = work_after (answer_of o).number B.known;
-  previous = work_after (answer_of o).number B.previous;
-  path = work_after (answer_of o).number B.path;
-  best = work_after (answer_of o).number B.best;
-  queue = work_after (answer_of o).number B.queue;
+  branches = output_after (number_told (answer_of o)) (branches_for o) B.branches;
+  lengths = output_after (number_told (answer_of o)) (lengths_for o) B.lengths;
+  owners = output_after (number_told (answer_of o)) (owners_for o) B.owners;
+  repeaters = output_after (number_told (answer_of o)) (repeaters_for o) B.repeaters;
+  kinds = output_after (number_told (answer_of o)) (kinds_for o) B.kinds;
+  facings = output_after (number_told (answer_of o)) (facings_for o) B.facings;
+  occupied = work_after (number_told (answer_of o)) B.occupied;
+  planned = work_after (number_told (answer_of o)) B.planned;
+  before = work_after (number_told (answer_of o)) B.before;
+  room = work_after (number_told (answer_of o)) B.room;
+  blocked = work_after (number_told (answer_of o)) B.blocked;
+  classes = work_after (number_told (answer_of o)) B.classes;
+  joinable = work_after (number_told (answer_of o)) B.joinable;
+  known = work_after (number_told (answer_of o)) B.known;
+  previous = work_after (number_told (answer_of o)) B.previous;
+  path = work_after (number_told (answer_of o)) B.path;
+  best = work_after (number_told (answer_of o)) B.best;
+  queue = work_after (number_told (answer_of o)) B.queue;
 }
 
 -- the promise of `route_nets`

@@ -1,44 +1,48 @@
 -- What the contracts of the entry's parts cite.
-use Rattle.std.specs.Prelude.{◌≡◌, true, List, ◌++◌, ℕ, ◌≤◌, ◌<◌, eqb, length, take, drop, replicate}
-use Rattle.numbers.specs.Refusals.{done_number, buffer_number, overlap_number, nets_overlap_number}
+use Rattle.std.specs.Prelude.{◌≡◌, true, List, ◌++◌, ℕ, ◌≤◌, ◌<◌, eqb, length, take, drop, replicate, Option, Some, None, Result, Ok, Err}
+use Rattle.numbers.specs.Refusals.{buffer_number, overlap_number, nets_overlap_number}
 use Rattle.basics.specs.Tests.{either}
 use Rattle.lent.specs.Lent.{touches, filled}
 use Rattle.room.specs.Room.{Good, volume}
 use Rattle.room_search.specs.TriedMoves.{places_of}
 use Rattle.ground.specs.declared.Mode.{Mode}
 use Rattle.job_sheet.specs.declared.Judgement.{Judgement}
-use Rattle.blocks.specs.declared.Placement.{Placement}
+use Rattle.blocks.specs.Blocks.{Placement}
 use Rattle.job_list.specs.declared.Memory.{Memory}
 use Rattle.job_list.specs.declared.Verdict.{Verdict}
 use Rattle.job_list.specs.Split.{first_sheet}
 use Rattle.job_list.specs.Judged.{contents_at, net_judgement, judged_list}
 use Rattle.laid_nets.specs.declared.Meeting.{Meeting}
-use Rattle.laid_nets.specs.declared.Meeting.TheVariants.{Nowhere, At}
 use Rattle.laid_nets.specs.Layings.{RoomSet}
-use Rattle.list_routing.specs.declared.Step.{Step}
-use Rattle.list_routing.specs.declared.Step.TheVariants.{On, Refused}
+use Rattle.list_routing.specs.declared.Stand.{Stand}
+use Rattle.list_routing.specs.declared.NetRefused.{NetRefused}
 use Rattle.list_routing.specs.Walk.{cells_of, lengths_of}
 use Rattle.list_routing.specs.ListLent.{ListLent, Desk}
 use Rattle.list_routing.specs.Walking.{room_of}
-use Rattle.several_nets.specs.declared.ListAnswer.{ListAnswer}
-use Rattle.several_nets.specs.Answers.{ListOutcome, all_laid, no_list, repeat_cell, ListComes, answer_of, lent_after}
+use Rattle.several_nets.specs.Answers.{ListAnswer, ListOutcome, all_laid, no_list, repeat_cell, ListComes, answer_of, lent_after}
 
 -- the detail of a number that is due before any net is routed
 abbrev pub detail_for : Verdict → Placement → ℕ
 detail_for verdict p = either (eqb verdict.number overlap_number) (repeat_cell p) verdict.detail
 
 -- what a walk comes to
-abbrev pub met_answer : Meeting → ℕ → ListAnswer
-met_answer Nowhere nets = record { number = done_number; net = 0; detail = 0; nets = nets }
-met_answer (At net cell) nets = answer_of (no_list nets_overlap_number net cell)
+abbrev pub met_answer : Option Meeting → ℕ → ListAnswer
+met_answer None nets = Ok nets
+met_answer (Some meeting) nets = answer_of (no_list nets_overlap_number meeting.net meeting.cell)
 
-abbrev pub answer_for : Step → ListAnswer
-answer_for (On stand) = met_answer stand.met stand.net
-answer_for (Refused net number detail) = answer_of (no_list number net detail)
+abbrev pub answer_for : Result Stand NetRefused → ListAnswer
+answer_for (Ok stand) = met_answer stand.met stand.net
+answer_for (Err why) = answer_of (no_list why.number why.net why.detail)
 
--- an output that a number leaves all zero
-abbrev pub settled_by : ℕ → List ℕ → List ℕ
-settled_by number buffer = either (eqb number done_number) buffer (replicate (length buffer) 0)
+-- what numbers 1 to 6 refuse
+abbrev pub refused_untouched : Result Unit Verdict → Result Unit NetRefused
+refused_untouched (Ok good) = Ok tt
+refused_untouched (Err verdict) = either (touches verdict.number) (Ok tt) (Err (record { net = verdict.net; number = verdict.number; detail = verdict.detail }))
+
+-- an output that a refusal leaves all zero
+abbrev pub settled_by : ListAnswer → List ℕ → List ℕ
+settled_by (Ok nets) buffer = buffer
+settled_by (Err why) buffer = replicate (length buffer) 0
 
 -- ---- the first sheet
 

@@ -1,7 +1,8 @@
 -- Laws of a list whose verdict touches lent memory: its first sheet is good, and what is lent suffices; and of the least of some numbers.
-use Rattle.std.specs.Prelude.{◌≡◌, refl, List, [], ◌∷◌, ℕ, zero, suc, ◌+◌, ◌≤◌, ◌<◌, eqb, ltb, leb, length, get_or, take, drop}
+use Rattle.std.specs.Prelude.{◌≡◌, refl, List, [], ◌∷◌, ℕ, zero, suc, ◌+◌, ◌≤◌, ◌<◌, eqb, ltb, leb, length, get_or, take, drop, min}
 use Rattle.std.proofs.Common.{sym, ap, subst, ◌∙◌, arith, get_or-take, add-one, eqb-true, ltb-true, ltb-false, lt-ltb, le-ltb, leb-true}
 use Rattle.std.proofs.Math.Bool.{true, false}
+use Rattle.std.proofs.Math.Nat.{min-eq_left, min-eq_right}
 use Rattle.std.proofs.Math.ListN.{get_or-eq_default}
 use Rattle.numbers.specs.Refusals.{done_number}
 use Rattle.basics.specs.Tests.{ask, ask_less, never, and_left, and_right}
@@ -22,7 +23,7 @@ use Rattle.job_list.specs.declared.Memory.{Memory}
 use Rattle.job_list.specs.declared.Verdict.{Verdict}
 use Rattle.job_list.specs.Split.{first_sheet, sheets_of}
 use Rattle.job_list.specs.Judged.{same_ground, contents_at, net_judgement, memory_good, net_due, judged_from, judged_list}
-use Rattle.blocks.specs.declared.Placement.{Placement}
+use Rattle.blocks.specs.Blocks.{Placement}
 use Rattle.outset.specs.SetOutLaws.{good-room}
 use Rattle.job_list.specs.JudgeLaws.{judgement-is, accepted-room}
 use Rattle.job_list.specs.GoodNets.{good-net}
@@ -119,6 +120,12 @@ lesser-first a b h = rw (lt-ltb a b h)
 pub lesser-second : (a b : ℕ) → b ≤ a → b ≡ lesser a b
 unfolding lesser
 lesser-second a b h = rw (le-ltb a b h)
+
+pub min_lesser : (a b : ℕ) → min a b ≡ lesser a b
+min_lesser a b =
+    ask_less a b
+    (λ h. min-eq_left (omega arith) ∙ lesser-first a b h)
+    (λ h. min-eq_right h ∙ lesser-second a b h)
 
 below_both : (n a b : ℕ) → n ≤ lesser a b → (n ≤ a) × (n ≤ b)
 unfolding lesser

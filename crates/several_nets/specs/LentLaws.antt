@@ -1,24 +1,24 @@
 -- Laws of lent memory of any length: the first V numbers are lent on, and in the end every byte is as the promise says.
-use Rattle.std.specs.Prelude.{◌≡◌, refl, true, false, List, [], ◌++◌, ℕ, ◌+◌, ◌-◌, ◌≤◌, ◌<◌, eqb, length, take, drop, replicate}
-use Rattle.std.proofs.Common.{sym, ap, subst, ◌∙◌, arith, length-append, length-drop, length-take-le, eq-eqb, ne_eqb, lt-ltb}
+use Rattle.std.specs.Prelude.{◌≡◌, refl, true, List, [], ◌++◌, ℕ, ◌+◌, ◌-◌, ◌≤◌, ◌<◌, length, take, drop, replicate, Ok, Err}
+use Rattle.std.proofs.Common.{sym, ap, subst, ◌∙◌, arith, length-append, length-drop, length-take-le, ne_eqb, lt-ltb}
 use Rattle.numbers.specs.Refusals.{done_number, buffer_number}
 use Rattle.basics.specs.Zeros.{take_zeros, drop_zeros, zeros-long, cleared-to}
 use Rattle.lent.specs.Lent.{touches, Cleared, filled, output_after, work_after}
 use Rattle.room.specs.Room.{volume}
 use Rattle.ground.specs.declared.Mode.{Mode}
 use Rattle.job_list.specs.declared.Verdict.{Verdict}
+use Rattle.list_routing.specs.declared.NetRefused.{NetRefused}
 use Rattle.list_routing.specs.ListLent.{ListLent, SameSizes}
 use Rattle.list_routing.specs.Walk.{cells_of, lengths_of}
 use Rattle.list_routing.specs.Walking.{room_of}
-use Rattle.several_nets.specs.declared.ListAnswer.{ListAnswer}
-use Rattle.several_nets.specs.Answers.{ListOutcome, all_laid, no_list, ListComes, answer_of, lent_after}
+use Rattle.several_nets.specs.Answers.{ListAnswer, ListOutcome, all_laid, no_list, ListComes, answer_of, number_told, lent_after}
 use Rattle.several_nets.specs.FirstLaws.{past_first}
 use Rattle.several_nets.specs.Entry.{settled_by, FirstGood, AnswerAsked, Holds, Answered, front_of, FrontAsked, FrontAnswered, LentAsked, LentAnswered}
 
 high : (n : ℕ) → buffer_number < n → touches n ≡ true
 high n h = rw (ne_eqb n done_number (omega arith), lt-ltb buffer_number n h)
 
-touched : (o : ListOutcome) (F F' : ListLent) → Holds o F F' → touches (answer_of o).number ≡ true
+touched : (o : ListOutcome) (F F' : ListLent) → Holds o F F' → touches (number_told (answer_of o)) ≡ true
 touched (all_laid nets planned owners room) F F' H = refl
 touched (no_list number net detail) F F' H = high number H
 
@@ -27,16 +27,15 @@ working : (number : ℕ) (before after : List ℕ) {final : List ℕ} → length
 working number before after k t c = c ∙ rw t (ap (λ n. replicate n 0) k)
 
 -- an output after a number, and after a success
-refused : (number : ℕ) → buffer_number < number → (before after : List ℕ) {final : List ℕ} → length after ≡ length before → (k : ℕ) → k ≡ number → final ≡ settled_by k after
-    → final ≡ output_after number [] before
-refused number h before after e k q s =
+refused : (number : ℕ) → buffer_number < number → (before after : List ℕ) {final : List ℕ} → length after ≡ length before → {r : ListAnswer} {why : NetRefused} → r ≡ Err why
+    → final ≡ settled_by r after → final ≡ output_after number [] before
+refused number h before after e {r} q s =
     let z : length after ≡ length before - 0 = omega arith in
-    let ne : eqb k done_number ≡ false = ne_eqb k done_number (omega arith) in
     let t : touches number ≡ true = high number h in
-    s ∙ rw (ne, t) (ap (λ n. replicate n 0) z)
+    s ∙ ap (λ x. settled_by x after) q ∙ rw t (ap (λ n. replicate n 0) z)
 
-done : (cells before after : List ℕ) {final : List ℕ} → after ≡ filled cells before → (k : ℕ) → k ≡ done_number → final ≡ settled_by k after → final ≡ output_after done_number cells before
-done cells before after f k q s = s ∙ rw (eq-eqb k done_number q) f
+done : (cells before after : List ℕ) {final : List ℕ} → after ≡ filled cells before → {r : ListAnswer} {nets : ℕ} → r ≡ Ok nets → final ≡ settled_by r after → final ≡ output_after done_number cells before
+done cells before after f {r} q s = s ∙ ap (λ x. settled_by x after) q ∙ f
 
 -- ---- the first V numbers
 
@@ -165,9 +164,6 @@ module _ {list : List ℕ} {verdict : Verdict} {B : ListLent} (A : LentAsked lis
     abbrev o : ListOutcome
     o = F.answered.outcome
 
-    number_is : r.number ≡ (answer_of o).number
-    number_is = ap (λ (x : ListAnswer). x.number) F.answered.answer
-
     -- an output in front of a cleared buffer
     behind : (part before : List ℕ) {zeros after : List ℕ} → Cleared before zeros → volume (room_of list) ≤ length before → after ≡ part ++ drop (volume (room_of list)) zeros
         → length after ≡ length zeros → after ≡ filled part before
@@ -178,7 +174,7 @@ module _ {list : List ℕ} {verdict : Verdict} {B : ListLent} (A : LentAsked lis
         a ∙ ap (λ l. part ++ l) (ap (drop n) c ∙ drop_zeros n (length before) ∙ ap (λ x. replicate (length before - x) 0) (sym m))
 
     module _ {branches' lengths' owners' repeaters' kinds' facings' occupied' planned' before' room' blocked' classes' joinable' known' previous' path' best' queue' : List ℕ}
-        (s-branches : branches' ≡ settled_by r.number B₁.branches) (s-lengths : lengths' ≡ settled_by r.number B₁.lengths) (s-owners : owners' ≡ settled_by r.number B₁.owners) (s-repeaters : repeaters' ≡ settled_by r.number B₁.repeaters) (s-kinds : kinds' ≡ settled_by r.number B₁.kinds) (s-facings : facings' ≡ settled_by r.number B₁.facings)
+        (s-branches : branches' ≡ settled_by r B₁.branches) (s-lengths : lengths' ≡ settled_by r B₁.lengths) (s-owners : owners' ≡ settled_by r B₁.owners) (s-repeaters : repeaters' ≡ settled_by r B₁.repeaters) (s-kinds : kinds' ≡ settled_by r B₁.kinds) (s-facings : facings' ≡ settled_by r B₁.facings)
         (w-occupied : Cleared B₁.occupied occupied') (w-planned : Cleared B₁.planned planned') (w-before : Cleared B₁.before before') (w-room : Cleared B₁.room room') (w-blocked : Cleared B₁.blocked blocked') (w-classes : Cleared B₁.classes classes') (w-joinable : Cleared B₁.joinable joinable') (w_known : Cleared B₁.known known') (w-previous : Cleared B₁.previous previous') (w-path : Cleared B₁.path path') (w-best : Cleared B₁.best best') (w-queue : Cleared B₁.queue queue') where
       abbrev final : ListLent
       final = record {
@@ -205,14 +201,14 @@ module _ {list : List ℕ} {verdict : Verdict} {B : ListLent} (A : LentAsked lis
       lengths-same : (l : List ℕ) {m : List ℕ} → Cleared l m → {n : ℕ} → n ≡ length m → n ≡ length l
       lengths-same l c e = e ∙ long l c
 
-      settled : (x : ListOutcome) → r.number ≡ (answer_of x).number → touches (answer_of x).number ≡ true → Holds x (front_of (volume (room_of list)) cleared) F.front → (final ≡ lent_after x B)
+      settled : (x : ListOutcome) → r ≡ answer_of x → touches (number_told (answer_of x)) ≡ true → Holds x (front_of (volume (room_of list)) cleared) F.front → (final ≡ lent_after x B)
       settled (all_laid nets planned owners room) n t H = λ i. record {
-        branches = done (cells_of nets) B.branches B₁.branches (F.branches ∙ H.0 ∙ ap (λ k. cells_of nets ++ replicate (k - length (cells_of nets)) 0) (long B.branches c-branches)) r.number n s-branches i;
-        lengths = done (lengths_of nets) B.lengths B₁.lengths (F.lengths ∙ H.1 ∙ ap (λ k. lengths_of nets ++ replicate (k - length (lengths_of nets)) 0) (long B.lengths c-lengths)) r.number n s-lengths i;
-        owners = done owners B.owners B₁.owners (behind owners B.owners c-owners A.enough.owners (F.owners ∙ ap (λ l. l ++ drop (volume (room_of list)) cleared.owners) H.2) same.owners) r.number n s-owners i;
-        repeaters = done planned B.repeaters B₁.repeaters (behind planned B.repeaters c-repeaters A.enough.repeaters (F.repeaters ∙ ap (λ l. l ++ drop (volume (room_of list)) cleared.repeaters) H.3) same.repeaters) r.number n s-repeaters i;
-        kinds = done room.kinds B.kinds B₁.kinds (behind room.kinds B.kinds c-kinds A.enough.kinds (F.kinds ∙ ap (λ l. l ++ drop (volume (room_of list)) cleared.kinds) H.4) same.kinds) r.number n s-kinds i;
-        facings = done room.facings B.facings B₁.facings (behind room.facings B.facings c-facings A.enough.facings (F.facings ∙ ap (λ l. l ++ drop (volume (room_of list)) cleared.facings) H.5) same.facings) r.number n s-facings i;
+        branches = done (cells_of nets) B.branches B₁.branches (F.branches ∙ H.0 ∙ ap (λ k. cells_of nets ++ replicate (k - length (cells_of nets)) 0) (long B.branches c-branches)) n s-branches i;
+        lengths = done (lengths_of nets) B.lengths B₁.lengths (F.lengths ∙ H.1 ∙ ap (λ k. lengths_of nets ++ replicate (k - length (lengths_of nets)) 0) (long B.lengths c-lengths)) n s-lengths i;
+        owners = done owners B.owners B₁.owners (behind owners B.owners c-owners A.enough.owners (F.owners ∙ ap (λ l. l ++ drop (volume (room_of list)) cleared.owners) H.2) same.owners) n s-owners i;
+        repeaters = done planned B.repeaters B₁.repeaters (behind planned B.repeaters c-repeaters A.enough.repeaters (F.repeaters ∙ ap (λ l. l ++ drop (volume (room_of list)) cleared.repeaters) H.3) same.repeaters) n s-repeaters i;
+        kinds = done room.kinds B.kinds B₁.kinds (behind room.kinds B.kinds c-kinds A.enough.kinds (F.kinds ∙ ap (λ l. l ++ drop (volume (room_of list)) cleared.kinds) H.4) same.kinds) n s-kinds i;
+        facings = done room.facings B.facings B₁.facings (behind room.facings B.facings c-facings A.enough.facings (F.facings ∙ ap (λ l. l ++ drop (volume (room_of list)) cleared.facings) H.5) same.facings) n s-facings i;
         occupied = working done_number B.occupied B₁.occupied same.occupied t w-occupied i;
         planned = working done_number B.planned B₁.planned same.planned t w-planned i;
         before = working done_number B.before B₁.before (lengths-same B.before c-before same.before) t w-before i;
@@ -227,12 +223,12 @@ module _ {list : List ℕ} {verdict : Verdict} {B : ListLent} (A : LentAsked lis
         queue = working done_number B.queue B₁.queue same.queue t w-queue i;
       }
       settled (no_list number net detail) n t H = λ i. record {
-        branches = refused number H B.branches B₁.branches (lengths-same B.branches c-branches same.branches) r.number n s-branches i;
-        lengths = refused number H B.lengths B₁.lengths (lengths-same B.lengths c-lengths same.lengths) r.number n s-lengths i;
-        owners = refused number H B.owners B₁.owners (lengths-same B.owners c-owners same.owners) r.number n s-owners i;
-        repeaters = refused number H B.repeaters B₁.repeaters (lengths-same B.repeaters c-repeaters same.repeaters) r.number n s-repeaters i;
-        kinds = refused number H B.kinds B₁.kinds (lengths-same B.kinds c-kinds same.kinds) r.number n s-kinds i;
-        facings = refused number H B.facings B₁.facings (lengths-same B.facings c-facings same.facings) r.number n s-facings i;
+        branches = refused number H B.branches B₁.branches (lengths-same B.branches c-branches same.branches) n s-branches i;
+        lengths = refused number H B.lengths B₁.lengths (lengths-same B.lengths c-lengths same.lengths) n s-lengths i;
+        owners = refused number H B.owners B₁.owners (lengths-same B.owners c-owners same.owners) n s-owners i;
+        repeaters = refused number H B.repeaters B₁.repeaters (lengths-same B.repeaters c-repeaters same.repeaters) n s-repeaters i;
+        kinds = refused number H B.kinds B₁.kinds (lengths-same B.kinds c-kinds same.kinds) n s-kinds i;
+        facings = refused number H B.facings B₁.facings (lengths-same B.facings c-facings same.facings) n s-facings i;
         occupied = working number B.occupied B₁.occupied same.occupied t w-occupied i;
         planned = working number B.planned B₁.planned same.planned t w-planned i;
         before = working number B.before B₁.before (lengths-same B.before c-before same.before) t w-before i;
@@ -252,5 +248,5 @@ module _ {list : List ℕ} {verdict : Verdict} {B : ListLent} (A : LentAsked lis
         outcome = o;
         comes = subst (λ k. ListComes mode list verdict k (length B.queue) o) (long B.branches c-branches) F.answered.comes;
         answer = F.answered.answer;
-        lent_is = settled o number_is (touched o _ _ F.answered.holds) F.answered.holds;
+        lent_is = settled o F.answered.answer (touched o _ _ F.answered.holds) F.answered.holds;
       }

@@ -6,13 +6,12 @@ use Rattle.basics.specs.Promises.{Determines}
 use Rattle.ground.specs.declared.Mode.{Mode}
 use Rattle.room.specs.declared.Room.{Room}
 use Rattle.job_sheet.specs.declared.Block.{Block}
-use Rattle.blocks.specs.declared.Placement.{Placement}
+use Rattle.blocks.specs.Blocks.{Placement}
 use Rattle.blocks.specs.Blocks.{Placing, left_by, kinds_of, nodes_of}
 use Rattle.blocks.proofs.BlockLaws as blocks
 use Rattle.job_list.specs.declared.Verdict.{Verdict}
 use Rattle.list_routing.specs.ListLent.{ListLent}
-use Rattle.several_nets.specs.declared.ListAnswer.{ListAnswer}
-use Rattle.several_nets.specs.Answers.{ListOutcome, no_list, repeat_cell, ListComes, due, repeated, walked, answer_of, lent_after, Promise}
+use Rattle.several_nets.specs.Answers.{ListAnswer, ListOutcome, no_list, repeat_cell, ListComes, due, repeated, walked, answer_of, lent_after, Promise}
 
 -- what laying blocks out comes to is determined
 placing-same : (R : Room) (bs : List Block) {p q : Placement} → Placing R bs (length bs) p → Placing R bs (length bs) q → p ≡ q

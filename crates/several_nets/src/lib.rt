@@ -5,88 +5,53 @@
 ghost use Rattle.std.specs.Prelude.{◌≡◌};
 ghost use Rattle.lent.specs.Lent.{Cleared};
 ghost use Rattle.room.specs.Room.{volume};
+ghost use Rattle.job_list.specs.Told.{told_list, verdict_of};
 ghost use Rattle.list_routing.specs.ListLent.{list_lent};
 ghost use Rattle.list_routing.specs.Walking.{room_of};
-ghost use Rattle.several_nets.specs.Answers.{lesser, least_of, answer_of, no_list, Promise};
-ghost use Rattle.several_nets.specs.Entry.{detail_for, answer_for, settled_by, FirstGood, FirstAsked, FirstSet, AnswerAsked, Answered, FrontAsked, FrontAnswered, LentAsked, LentAnswered};
+ghost use Rattle.several_nets.specs.Answers.{least_of, Promise};
+ghost use Rattle.several_nets.specs.Entry.{detail_for, answer_for, refused_untouched, settled_by, FirstGood, FirstAsked, FirstSet, AnswerAsked, Answered, FrontAsked, FrontAnswered, LentAsked, LentAnswered};
 
-use blocks::Placement;
+use blocks::Overlap;
 use ground::Mode;
 use job_list::{Memory, Verdict};
-use laid_nets::Meeting;
-use list_routing::Step;
-
-// What a list comes to: the number, 0 where all nets are laid; of a number the net that it is due for, from 0, and its detail;
-// of a laid list how many nets it has.
-#[derive(Clone, Copy)]
-pub struct ListAnswer {
-    pub number: u32,
-    pub net: usize,
-    pub detail: usize,
-    pub nets: usize,
-}
-
-fn lesser(a: usize, b: usize) -> usize
-    ensures { result ≡ lesser a b }
-{
-    if a < b { a } else { b }
-}
+use list_routing::{NetRefused, Stand};
 
 // The least of the lengths of all buffers that have one entry a cell.
 fn least_of(each: [usize; 15]) -> usize
     ensures { result ≡ least_of each }
 {
-    let mut i: usize = 14;
-    let mut least = each[i];
-    while 0 < i {
-        i -= 1;
-        least = lesser(each[i], least);
+    let mut least = each[14];
+    for i in (0..14).rev() {
+        least = each[i].min(least);
     }
     least
 }
 
-fn refused(number: u32, net: usize, detail: usize) -> ListAnswer
-    ensures { result ≡ answer_of (no_list number net detail) }
-{
-    ListAnswer {
-        number,
-        net,
-        detail,
-        nets: 0,
-    }
-}
-
 // The detail of a number that is due before any net is routed: of number 7 the cell of the repeat is known only now.
-fn detail_for(verdict: Verdict, placement: Placement) -> usize
+fn detail_for(verdict: Verdict, placement: Result<(), Overlap>) -> usize
     ensures { result ≡ detail_for verdict placement }
 {
     if verdict.number != numbers::OVERLAP_NUMBER {
         return verdict.detail;
     }
     match placement {
-        Placement::Placed => 0,
-        Placement::RepeatAt(cell) => cell,
+        Ok(()) => 0,
+        Err(overlap) => overlap.cell,
     }
 }
 
 // What a walk comes to: a net that refuses, two nets that overlap, or all nets laid.
-fn answer_for(step: Step) -> ListAnswer
-    ensures { result ≡ answer_for step }
+fn answer_for(walk: Result<Stand, NetRefused>) -> Result<usize, NetRefused>
+    ensures { result ≡ answer_for walk }
 {
-    match step {
-        Step::Refused(net, number, detail) => refused(number, net, detail),
-        Step::On(stand) => {
-            let met = stand.met;
-            match met {
-                Meeting::At(net, cell) => refused(numbers::NETS_OVERLAP_NUMBER, net, cell),
-                Meeting::Nowhere => ListAnswer {
-                    number: numbers::DONE_NUMBER,
-                    net: 0,
-                    detail: 0,
-                    nets: stand.net,
-                },
-            }
-        }
+    let stand = walk?;
+    match stand.met {
+        Some(meeting) => Err(NetRefused {
+            net: meeting.net,
+            number: numbers::NETS_OVERLAP_NUMBER,
+            detail: meeting.cell,
+        }),
+        None => Ok(stand.net),
     }
 }
 
@@ -102,7 +67,12 @@ fn first_cells(list: &[u8]) -> usize
 }
 
 // Lays the blocks of the first sheet out.
-fn set_first(list: &[u8], kinds: &mut [u8], facings: &mut [u8], known: &mut [u32]) -> Placement
+fn set_first(
+    list: &[u8],
+    kinds: &mut [u8],
+    facings: &mut [u8],
+    known: &mut [u32],
+) -> Result<(), Overlap>
     requires { FirstAsked list.now kinds.old facings.old known.old }
     ensures { FirstSet list.now result kinds.new facings.new }
 {
@@ -116,7 +86,7 @@ fn set_first(list: &[u8], kinds: &mut [u8], facings: &mut [u8], known: &mut [u32
 fn answer_list(
     mode: Mode,
     list: &[u8],
-    verdict: Verdict,
+    judged: Result<(), Verdict>,
     branches: &mut [u32],
     lengths: &mut [u32],
     owners: &mut [u32],
@@ -135,26 +105,31 @@ fn answer_list(
     path: &mut [u32],
     best: &mut [u32],
     queue: &mut [u64],
-) -> ListAnswer
-    requires { AnswerAsked list.now verdict (list_lent branches.old lengths.old owners.old repeaters.old kinds.old facings.old occupied.old planned.old before.old unlaid.old blocked.old classes.old joinable.old known.old previous.old path.old best.old queue.old) }
-    ensures { Answered mode list.now verdict (list_lent branches.old lengths.old owners.old repeaters.old kinds.old facings.old occupied.old planned.old before.old unlaid.old blocked.old classes.old joinable.old known.old previous.old path.old best.old queue.old) result (list_lent branches.new lengths.new owners.new repeaters.new kinds.new facings.new occupied.new planned.new before.new unlaid.new blocked.new classes.new joinable.new known.new previous.new path.new best.new queue.new) }
+) -> Result<usize, NetRefused>
+    requires told { judged ≡ told_list (verdict_of judged) }
+    requires asked { AnswerAsked list.now (verdict_of judged) (list_lent branches.old lengths.old owners.old repeaters.old kinds.old facings.old occupied.old planned.old before.old unlaid.old blocked.old classes.old joinable.old known.old previous.old path.old best.old queue.old) }
+    ensures { Answered mode list.now (verdict_of judged) (list_lent branches.old lengths.old owners.old repeaters.old kinds.old facings.old occupied.old planned.old before.old unlaid.old blocked.old classes.old joinable.old known.old previous.old path.old best.old queue.old) result (list_lent branches.new lengths.new owners.new repeaters.new kinds.new facings.new occupied.new planned.new before.new unlaid.new blocked.new classes.new joinable.new known.new previous.new path.new best.new queue.new) }
 {
     let placement = set_first(list, kinds, facings, known);
-    if verdict.number != numbers::DONE_NUMBER {
-        return refused(verdict.number, verdict.net, detail_for(verdict, placement));
+    if let Err(verdict) = judged {
+        return Err(NetRefused {
+            net: verdict.net,
+            number: verdict.number,
+            detail: detail_for(verdict, placement),
+        });
     }
-    let step = list_routing::walk_list(
+    let walk = list_routing::walk_list(
         mode, list, branches, lengths, owners, repeaters, kinds, facings, occupied, planned,
         before, unlaid, blocked, classes, joinable, known, previous, path, best, queue,
     );
-    answer_for(step)
+    answer_for(walk)
 }
 
 // The first V numbers of each buffer are lent on; the branch buffer, the lengths and the queue whole.
 fn answer_front(
     mode: Mode,
     list: &[u8],
-    verdict: Verdict,
+    judged: Result<(), Verdict>,
     branches: &mut [u32],
     lengths: &mut [u32],
     owners: &mut [u32],
@@ -173,15 +148,16 @@ fn answer_front(
     path: &mut [u32],
     best: &mut [u32],
     queue: &mut [u64],
-) -> ListAnswer
-    requires { FrontAsked list.now verdict (list_lent branches.old lengths.old owners.old repeaters.old kinds.old facings.old occupied.old planned.old before.old unlaid.old blocked.old classes.old joinable.old known.old previous.old path.old best.old queue.old) }
-    ensures { FrontAnswered mode list.now verdict (list_lent branches.old lengths.old owners.old repeaters.old kinds.old facings.old occupied.old planned.old before.old unlaid.old blocked.old classes.old joinable.old known.old previous.old path.old best.old queue.old) result (list_lent branches.new lengths.new owners.new repeaters.new kinds.new facings.new occupied.new planned.new before.new unlaid.new blocked.new classes.new joinable.new known.new previous.new path.new best.new queue.new) }
+) -> Result<usize, NetRefused>
+    requires told { judged ≡ told_list (verdict_of judged) }
+    requires asked { FrontAsked list.now (verdict_of judged) (list_lent branches.old lengths.old owners.old repeaters.old kinds.old facings.old occupied.old planned.old before.old unlaid.old blocked.old classes.old joinable.old known.old previous.old path.old best.old queue.old) }
+    ensures { FrontAnswered mode list.now (verdict_of judged) (list_lent branches.old lengths.old owners.old repeaters.old kinds.old facings.old occupied.old planned.old before.old unlaid.old blocked.old classes.old joinable.old known.old previous.old path.old best.old queue.old) result (list_lent branches.new lengths.new owners.new repeaters.new kinds.new facings.new occupied.new planned.new before.new unlaid.new blocked.new classes.new joinable.new known.new previous.new path.new best.new queue.new) }
 {
     let cells = first_cells(list);
     answer_list(
         mode,
         list,
-        verdict,
+        judged,
         branches,
         lengths,
         &mut owners[..cells],
@@ -214,25 +190,25 @@ fn clear_outputs(
 )
     ensures { Cleared branches.old branches.new × Cleared lengths.old lengths.new × Cleared owners.old owners.new × Cleared repeaters.old repeaters.new × Cleared kinds.old kinds.new × Cleared facings.old facings.new }
 {
-    lent::clear_words(branches);
-    lent::clear_words(lengths);
-    lent::clear_words(owners);
-    lent::clear_bytes(repeaters);
-    lent::clear_bytes(kinds);
-    lent::clear_bytes(facings);
+    lent::clear(branches);
+    lent::clear(lengths);
+    lent::clear(owners);
+    lent::clear(repeaters);
+    lent::clear(kinds);
+    lent::clear(facings);
 }
 
 fn clear_marks(occupied: &mut [u8], planned: &mut [u8], before: &mut [u8])
     ensures { Cleared occupied.old occupied.new × Cleared planned.old planned.new × Cleared before.old before.new }
 {
-    lent::clear_bytes(occupied);
-    lent::clear_bytes(planned);
-    lent::clear_bytes(before);
+    lent::clear(occupied);
+    lent::clear(planned);
+    lent::clear(before);
 }
 
-// A number leaves the outputs all zero.
+// A refusal leaves the outputs all zero.
 fn settle(
-    number: u32,
+    answer: Result<usize, NetRefused>,
     branches: &mut [u32],
     lengths: &mut [u32],
     owners: &mut [u32],
@@ -240,10 +216,30 @@ fn settle(
     kinds: &mut [u8],
     facings: &mut [u8],
 )
-    ensures { (branches.new ≡ settled_by number branches.old) × (lengths.new ≡ settled_by number lengths.old) × (owners.new ≡ settled_by number owners.old) × (repeaters.new ≡ settled_by number repeaters.old) × (kinds.new ≡ settled_by number kinds.old) × (facings.new ≡ settled_by number facings.old) }
+    ensures { (branches.new ≡ settled_by answer branches.old) × (lengths.new ≡ settled_by answer lengths.old) × (owners.new ≡ settled_by answer owners.old) × (repeaters.new ≡ settled_by answer repeaters.old) × (kinds.new ≡ settled_by answer kinds.old) × (facings.new ≡ settled_by answer facings.old) }
 {
-    if number != numbers::DONE_NUMBER {
+    if answer.is_err() {
         clear_outputs(branches, lengths, owners, repeaters, kinds, facings);
+    }
+}
+
+// Numbers 1 to 6 of a judged list refuse before lent memory is touched.
+fn refuse_untouched(judged: Result<(), Verdict>) -> Result<(), NetRefused>
+    ensures { result ≡ refused_untouched judged }
+{
+    match judged {
+        Ok(()) => Ok(()),
+        Err(verdict) => {
+            if lent::touches(verdict.number) {
+                Ok(())
+            } else {
+                Err(NetRefused {
+                    net: verdict.net,
+                    number: verdict.number,
+                    detail: verdict.detail,
+                })
+            }
+        }
     }
 }
 
@@ -251,7 +247,7 @@ fn settle(
 fn answer_lent(
     mode: Mode,
     list: &[u8],
-    verdict: Verdict,
+    judged: Result<(), Verdict>,
     branches: &mut [u32],
     lengths: &mut [u32],
     owners: &mut [u32],
@@ -270,37 +266,30 @@ fn answer_lent(
     path: &mut [u32],
     best: &mut [u32],
     queue: &mut [u64],
-) -> ListAnswer
-    requires { LentAsked list.now verdict (list_lent branches.old lengths.old owners.old repeaters.old kinds.old facings.old occupied.old planned.old before.old unlaid.old blocked.old classes.old joinable.old known.old previous.old path.old best.old queue.old) }
-    ensures { LentAnswered mode list.now verdict (list_lent branches.old lengths.old owners.old repeaters.old kinds.old facings.old occupied.old planned.old before.old unlaid.old blocked.old classes.old joinable.old known.old previous.old path.old best.old queue.old) result (list_lent branches.new lengths.new owners.new repeaters.new kinds.new facings.new occupied.new planned.new before.new unlaid.new blocked.new classes.new joinable.new known.new previous.new path.new best.new queue.new) }
+) -> Result<usize, NetRefused>
+    requires told { judged ≡ told_list (verdict_of judged) }
+    requires asked { LentAsked list.now (verdict_of judged) (list_lent branches.old lengths.old owners.old repeaters.old kinds.old facings.old occupied.old planned.old before.old unlaid.old blocked.old classes.old joinable.old known.old previous.old path.old best.old queue.old) }
+    ensures { LentAnswered mode list.now (verdict_of judged) (list_lent branches.old lengths.old owners.old repeaters.old kinds.old facings.old occupied.old planned.old before.old unlaid.old blocked.old classes.old joinable.old known.old previous.old path.old best.old queue.old) result (list_lent branches.new lengths.new owners.new repeaters.new kinds.new facings.new occupied.new planned.new before.new unlaid.new blocked.new classes.new joinable.new known.new previous.new path.new best.new queue.new) }
 {
     clear_outputs(branches, lengths, owners, repeaters, kinds, facings);
-    lent::clear_bytes(before);
-    lent::clear_words(known);
+    lent::clear(before);
+    lent::clear(known);
     let answer = answer_front(
-        mode, list, verdict, branches, lengths, owners, repeaters, kinds, facings, occupied,
+        mode, list, judged, branches, lengths, owners, repeaters, kinds, facings, occupied,
         planned, before, unlaid, blocked, classes, joinable, known, previous, path, best, queue,
     );
     clear_marks(occupied, planned, before);
     net_tree::clear_work(
         unlaid, blocked, classes, joinable, known, previous, path, best, queue,
     );
-    settle(
-        answer.number,
-        branches,
-        lengths,
-        owners,
-        repeaters,
-        kinds,
-        facings,
-    );
+    settle(answer, branches, lengths, owners, repeaters, kinds, facings);
     answer
 }
 
 // A job list: whole job sheets one behind the other, over one room and its blocks. The nets' branches go to `branches`, in list
 // order, then sheet order, their lengths to `lengths`, sixteen a net; `owners` tells each cell's net, as one more than its
 // number, `repeaters` marks the planned ones, `kinds` and `facings` have the laid room; the others are work memory. See the
-// promise in specs/Answers.antt.
+// promise in specs/Answers.antt. What comes back is how many nets are laid, or the net that refuses, its number and its detail.
 pub fn route_nets(
     mode: Mode,
     list: &[u8],
@@ -322,7 +311,7 @@ pub fn route_nets(
     path: &mut [u32],
     best: &mut [u32],
     queue: &mut [u64],
-) -> ListAnswer
+) -> Result<usize, NetRefused>
     ensures { Promise mode list.now (list_lent branches.old lengths.old owners.old repeaters.old kinds.old facings.old occupied.old planned.old before.old unlaid.old blocked.old classes.old joinable.old known.old previous.old path.old best.old queue.old) result (list_lent branches.new lengths.new owners.new repeaters.new kinds.new facings.new occupied.new planned.new before.new unlaid.new blocked.new classes.new joinable.new known.new previous.new path.new best.new queue.new) }
 {
     let cells = least_of([
@@ -347,12 +336,10 @@ pub fn route_nets(
         places: queue.len() / 2,
         lengths: lengths.len(),
     };
-    let verdict = job_list::judge_list(memory, list);
-    if !lent::touches(verdict.number) {
-        return refused(verdict.number, verdict.net, verdict.detail);
-    }
+    let judged = job_list::judge_list(memory, list);
+    refuse_untouched(judged)?;
     answer_lent(
-        mode, list, verdict, branches, lengths, owners, repeaters, kinds, facings, occupied,
+        mode, list, judged, branches, lengths, owners, repeaters, kinds, facings, occupied,
         planned, before, unlaid, blocked, classes, joinable, known, previous, path, best, queue,
     )
 }

@@ -72,131 +72,125 @@ impl<'a> Reader<'a> {
     }
 
     // The byte that stands here.
-    pub fn byte(self) -> u8
-        requires { Stands self.sheet.now self.place }
-        ensures { result ≡ get_or (drop self.entry.place self.entry.sheet.now) 0 0 }
+    pub fn byte(&self) -> u8
+        requires { Stands self.now.sheet.now self.now.place }
+        ensures { result ≡ get_or (drop self.now.place self.now.sheet.now) 0 0 }
     {
         places::byte(self.sheet, self.place, 0)
     }
 
     // The number whose four bytes stand here.
-    pub fn four(self) -> u32
-        requires { Stands self.sheet.now self.place }
-        ensures { result ≡ four_in (drop self.entry.place self.entry.sheet.now) 0 }
+    pub fn four(&self) -> u32
+        requires { Stands self.now.sheet.now self.now.place }
+        ensures { result ≡ four_in (drop self.now.place self.now.sheet.now) 0 }
     {
         places::four_bytes(self.sheet, self.place, 0)
     }
 
     // "node limit, horizontal, stair, support cost (four bytes each)".
-    pub fn config(self) -> RouterConfig
-        requires { Stands self.sheet.now self.place }
-        ensures { result ≡ config_in (drop self.entry.place self.entry.sheet.now) }
+    pub fn config(&self) -> RouterConfig
+        requires { Stands self.now.sheet.now self.now.place }
+        ensures { result ≡ config_in (drop self.now.place self.now.sheet.now) }
     {
         places::config_at(self.sheet, self.place)
     }
 
     // The run limit, behind the config that begins here.
-    pub fn run(self) -> usize
-        requires { Stands self.sheet.now self.place }
-        ensures { result ≡ limit_in (version_in self.entry.sheet.now).limits usual_run (drop self.entry.place self.entry.sheet.now) config_size }
+    pub fn run(&self) -> usize
+        requires { Stands self.now.sheet.now self.now.place }
+        ensures { result ≡ limit_in (version_in self.now.sheet.now).limits usual_run (drop self.now.place self.now.sheet.now) config_size }
     {
         steps::run(self.sheet, self.place)
     }
 
     // Where the config and the run limit stand, that begin here.
-    pub fn config_list(self) -> Part
-        ensures { result ≡ config_at (version_in self.entry.sheet.now) self.entry.place }
+    pub fn config_list(&self) -> Part
+        ensures { result ≡ config_at (version_in self.now.sheet.now) self.now.place }
     {
         steps::config_list(self.sheet, self.place)
     }
 
     // "X, Y, Z" or "x, y, z".
-    pub fn position(self) -> Pos
-        requires { Stands self.sheet.now self.place }
-        ensures { result ≡ position_in (version_in self.entry.sheet.now).long (drop self.entry.place self.entry.sheet.now) 0 }
+    pub fn position(&self) -> Pos
+        requires { Stands self.now.sheet.now self.now.place }
+        ensures { result ≡ position_in (version_in self.now.sheet.now).long (drop self.now.place self.now.sheet.now) 0 }
     {
         steps::position(self.sheet, self.place)
     }
 
     // Where the sides stand, that begin here.
-    pub fn sides_list(self) -> Part
-        ensures { SidesListed (version_in self.entry.sheet.now) self.entry.place result }
+    pub fn sides_list(&self) -> Part
+        ensures { SidesListed (version_in self.now.sheet.now) self.now.place result }
     {
         steps::sides_list(self.sheet, self.place)
     }
 
     // The source.
-    pub fn endpoint(self) -> Endpoint
-        requires { Stands self.sheet.now self.place }
-        ensures { result ≡ endpoint_in (version_in self.entry.sheet.now).long (drop self.entry.place self.entry.sheet.now) }
+    pub fn endpoint(&self) -> Endpoint
+        requires { Stands self.now.sheet.now self.now.place }
+        ensures { result ≡ endpoint_in (version_in self.now.sheet.now).long (drop self.now.place self.now.sheet.now) }
     {
         steps::endpoint(self.sheet, self.place)
     }
 
     // Where the source stands, that begins here.
-    pub fn source_list(self) -> Part
-        ensures { SourceListed (version_in self.entry.sheet.now) self.entry.place result }
+    pub fn source_list(&self) -> Part
+        ensures { SourceListed (version_in self.now.sheet.now) self.now.place result }
     {
         steps::source_list(self.sheet, self.place)
     }
 
     // The list of blocks whose two-byte count stands here.
-    pub fn block_list(self) -> Part
-        requires { Stands self.sheet.now self.place }
-        ensures { Listed self.entry.sheet.now (version_in self.entry.sheet.now).long (block_size (version_in self.entry.sheet.now).long) self.entry.place result }
+    pub fn block_list(&self) -> Part
+        requires { Stands self.now.sheet.now self.now.place }
+        ensures { Listed self.now.sheet.now (version_in self.now.sheet.now).long (block_size (version_in self.now.sheet.now).long) self.now.place result }
     {
         steps::block_list(self.sheet, self.place)
     }
 
     // The list of positions whose two-byte count stands here.
-    pub fn position_list(self) -> Part
-        requires { Stands self.sheet.now self.place }
-        ensures { Listed self.entry.sheet.now (version_in self.entry.sheet.now).long (position_size (version_in self.entry.sheet.now).long) self.entry.place result }
+    pub fn position_list(&self) -> Part
+        requires { Stands self.now.sheet.now self.now.place }
+        ensures { Listed self.now.sheet.now (version_in self.now.sheet.now).long (position_size (version_in self.now.sheet.now).long) self.now.place result }
     {
         steps::position_list(self.sheet, self.place)
     }
 
     // The sinks whose one-byte count stands here: where they stand.
-    pub fn sinks_list(self) -> Part
-        requires { Stands self.sheet.now self.place }
-        ensures { SinksListed (version_in self.entry.sheet.now) self.entry.sheet.now self.entry.place result }
+    pub fn sinks_list(&self) -> Part
+        requires { Stands self.now.sheet.now self.now.place }
+        ensures { SinksListed (version_in self.now.sheet.now) self.now.sheet.now self.now.place result }
     {
         steps::sinks_list(self.sheet, self.place)
     }
 
     // The sinks whose one-byte count stands here: none where they are over sixteen, or the sheet is too short for them.
-    pub fn sinks(self) -> Sinks
-        requires { Stands self.sheet.now self.place }
-        ensures { result ≡ sinks_found self.entry.sheet.now self.entry.place }
+    pub fn sinks(&self) -> Sinks
+        requires { Stands self.now.sheet.now self.now.place }
+        ensures { result ≡ sinks_found self.now.sheet.now self.now.place }
     {
         steps::sinks(self.sheet, self.place)
     }
 
-    // Moved on by `size` bytes; off the sheet where it has too few.
-    pub fn past(self, size: usize) -> Reader<'a>
-        ensures { (result.sheet ≡ self.entry.sheet) × (result.place ≡ onward self.entry.sheet.now self.entry.place size) }
+    // Moves on by `size` bytes; off the sheet where it has too few.
+    pub fn past(&mut self, size: usize)
+        ensures { (self.new.sheet ≡ self.old.sheet) × (self.new.place ≡ onward self.old.sheet.now self.old.place size) }
     {
-        Reader {
-            sheet: self.sheet,
-            place: steps::onward(self.sheet, self.place, size),
-        }
+        self.place = steps::onward(self.sheet, self.place, size);
     }
 
-    // Moved on behind the part that stands here: its count, of `width` bytes, and its records; off the sheet where it has too
+    // Moves on behind the part that stands here: its count, of `width` bytes, and its records; off the sheet where it has too
     // few.
-    pub fn behind(self, width: usize, part: Part) -> Reader<'a>
+    pub fn behind(&mut self, width: usize, part: Part)
         requires { width + part.size * part.count < 2 ^ 64 }
-        ensures { (result.sheet ≡ self.entry.sheet) × (result.place ≡ onward self.entry.sheet.now self.entry.place (width + part.size * part.count)) }
+        ensures { (self.new.sheet ≡ self.old.sheet) × (self.new.place ≡ onward self.old.sheet.now self.old.place (width + part.size * part.count)) }
     {
-        Reader {
-            sheet: self.sheet,
-            place: steps::behind(self.sheet, self.place, width, part),
-        }
+        self.place = steps::behind(self.sheet, self.place, width, part);
     }
 
     // Whether nothing is left over and nothing was too short.
-    pub fn at_end(self) -> bool
-        ensures { result ≡ eqb self.entry.place (length self.entry.sheet.now) }
+    pub fn at_end(&self) -> bool
+        ensures { result ≡ eqb self.now.place (length self.now.sheet.now) }
     {
         steps::at_end(self.sheet, self.place)
     }
@@ -255,26 +249,26 @@ fn body_of(layout: Layout, source: Endpoint, sinks: Sinks, whole: bool) -> Body
 }
 
 // From a sheet's lists to its end, with the reader that has come to them.
-fn read_body<'a>(reader: Reader<'a>) -> Body
+fn read_body<'a>(mut reader: Reader<'a>) -> Body
     requires { reader.place ≡ onward reader.sheet.now 0 (lists_place (version_in reader.sheet.now)) }
     ensures { PartsFound reader.entry.sheet.now result }
 {
     let blocks = reader.block_list();
-    let reader = reader.behind(LIST_COUNT_SIZE, blocks);
+    reader.behind(LIST_COUNT_SIZE, blocks);
     let conductors = reader.position_list();
-    let reader = reader.behind(LIST_COUNT_SIZE, conductors);
+    reader.behind(LIST_COUNT_SIZE, conductors);
     let clearances = reader.position_list();
-    let reader = reader.behind(LIST_COUNT_SIZE, clearances);
+    reader.behind(LIST_COUNT_SIZE, clearances);
     let terminals = reader.position_list();
-    let reader = reader.behind(LIST_COUNT_SIZE, terminals);
+    reader.behind(LIST_COUNT_SIZE, terminals);
     let reserved = reader.position_list();
-    let reader = reader.behind(LIST_COUNT_SIZE, reserved);
+    reader.behind(LIST_COUNT_SIZE, reserved);
     let stands = reader.source_list();
     let source = reader.endpoint();
-    let reader = reader.behind(NO_COUNT_SIZE, stands);
+    reader.behind(NO_COUNT_SIZE, stands);
     let listed = reader.sinks_list();
     let sinks = reader.sinks();
-    let reader = reader.behind(SINKS_COUNT_SIZE, listed);
+    reader.behind(SINKS_COUNT_SIZE, listed);
     let whole = reader.at_end();
     let layout = layout_found(
         blocks, conductors, clearances, terminals, reserved, stands, listed,
@@ -293,18 +287,18 @@ fn found_of(head: Head, body: Body) -> Found
 fn read_through(sheet: &[u8]) -> Found
     ensures { AllFound sheet.now result }
 {
-    let reader = Reader::new(sheet);
+    let mut reader = Reader::new(sheet);
     let version = reader.byte();
-    let reader = reader.past(1);
+    reader.past(1);
     let rest = reader.four();
-    let reader = reader.past(4);
+    reader.past(4);
     let sides = reader.position();
     let stands = reader.sides_list();
-    let reader = reader.behind(NO_COUNT_SIZE, stands);
+    reader.behind(NO_COUNT_SIZE, stands);
     let config = reader.config();
     let run = reader.run();
     let settings = reader.config_list();
-    let reader = reader.behind(NO_COUNT_SIZE, settings);
+    reader.behind(NO_COUNT_SIZE, settings);
     let body = read_body(reader);
     let head = head_of(version, rest, sides, config, run);
     found_of(head, body)

@@ -1,12 +1,11 @@
 -- The records of a sheet copied out as numbers, and the promise of taking a sheet apart by its cases.
-use Rattle.std.specs.Prelude.{◌≡◌, refl, Bool, true, not, List, [], ◌∷◌, ℕ, zero, suc, ◌+◌, ◌*◌, ◌%◌, ◌≤◌, ◌<◌, leb, length, get_or, drop}
-use Rattle.std.proofs.Common.{sym, ap, ◌∙◌, mod-eq_of_lt, mul-zero, mul-suc, mul-le-mul_right, le_trans, add_comm, arith, length-append}
+use Rattle.std.specs.Prelude.{◌≡◌, refl, Bool, true, not, List, [], ◌∷◌, ℕ, zero, suc, ◌+◌, ◌*◌, ◌%◌, ◌≤◌, length, get_or, drop}
+use Rattle.std.proofs.Common.{sym, ◌∙◌, mod-eq_of_lt, mul-zero, mul-suc, mul-le-mul_right, le_trans, add_comm, arith, length-append}
 use Rattle.std.proofs.Math.Bool.{false}
 use Rattle.numbers.specs.Refusals.{done_number, buffer_number}
-use Rattle.basics.specs.Tests.{test_fails, test-passes, passed, never}
+use Rattle.basics.specs.Tests.{test_fails, test-passes, passed}
 use Rattle.basics.specs.Lists.{joined}
-use Rattle.lent.specs.Lent.{filled, output_after}
-use Rattle.putting.specs.Putting.{Fits}
+use Rattle.lent.specs.Lent.{filled}
 use Rattle.putting.specs.PutLaws.{putting_begun}
 use Rattle.room.specs.declared.Pos.{Pos}
 use Rattle.job_sheet.specs.declared.Block.{Block}
@@ -14,18 +13,14 @@ use Rattle.job_sheet.specs.declared.Part.{Part}
 use Rattle.job_sheet.specs.declared.Job.{Job}
 use Rattle.job_sheet.specs.declared.Reading.{Reading}
 use Rattle.job_sheet.specs.declared.Version.{Version}
-use Rattle.job_sheet.specs.declared.Judgement.{Judgement}
-use Rattle.job_sheet.specs.declared.Judgement.TheVariants.{Good, Sheet, Sides, Config, Position, Code}
 use Rattle.job_sheet.specs.Version.{version_in, width, position_size}
-use Rattle.job_sheet.specs.Sheet.{Contents, max_bytes, behind, layout_of, job_of, is_good, number_of, Read}
+use Rattle.job_sheet.specs.Sheet.{Contents, behind, layout_of, job_of, is_good, number_of, Read}
 use Rattle.job_sheet.specs.Places.{many, coordinate_in, block_in, position_in}
 use Rattle.job_sheet.specs.RecordLaws.{Bytes, coordinate-small}
-use Rattle.job_sheet.specs.Accepted.{Accepted, Usable}
+use Rattle.job_sheet.specs.Accepted.{Accepted}
 use Rattle.job_sheet.proofs.Theorems.{accepted-by, usable}
-use Rattle.sheet_writer.specs.declared.Lengths.{Lengths}
 use Rattle.sheet_writer.specs.declared.Records.{Records}
 use Rattle.sheet_writer.specs.declared.Records.TheVariants.{Blocks, Positions}
-use Rattle.sheet_writer.specs.declared.apart.Taking.{Taking}
 use Rattle.sheet_writer.specs.Writer.{block_numbers, position_numbers, numbers_for, numbers_of_block, numbers_of_position}
 use Rattle.sheet_writer.specs.TextLaws.{Recording}
 use Rattle.sheet_writer.specs.PromiseLaws.{fault_kept}

@@ -1,5 +1,5 @@
 -- What taking a sheet apart comes to: its lists are those of the sheet's contents, so that the writer gives the sheet back.
-use Rattle.std.specs.Prelude.{◌≡◌, refl, true, false, List, map, ℕ, length, drop}
+use Rattle.std.specs.Prelude.{◌≡◌, true, List, ℕ, drop}
 use Rattle.std.proofs.Common.{sym, ◌∙◌}
 use Rattle.std.proofs.Math.Path.{ap}
 use Rattle.numbers.specs.Refusals.{done_number}
@@ -7,10 +7,9 @@ use Rattle.basics.specs.Tests.{ask}
 use Rattle.basics.specs.Lists.{joined}
 use Rattle.basics.specs.Promises.{Determines}
 use Rattle.lent.specs.Lent.{filled, output_after}
-use Rattle.job_sheet.specs.declared.Job.{Job}
 use Rattle.job_sheet.specs.declared.Part.{Part}
 use Rattle.job_sheet.specs.declared.Reading.{Reading}
-use Rattle.job_sheet.specs.Sheet.{Contents, job_of, is_good, number_of, Read}
+use Rattle.job_sheet.specs.Sheet.{job_of, is_good}
 use Rattle.job_sheet.specs.Places.{block_in, position_in, blocks_in, positions_in}
 use Rattle.job_sheet.proofs.FaultLaws.{many_map}
 use Rattle.job_sheet.specs.Accepted.{Accepted}
@@ -19,7 +18,7 @@ use Rattle.sheet_writer.specs.declared.Records.TheVariants.{Blocks, Positions}
 use Rattle.sheet_writer.specs.declared.apart.Taking.{Taking}
 use Rattle.sheet_writer.specs.Writer.{numbers_of_block, numbers_of_position, block_list, position_list, parts_of}
 use Rattle.sheet_writer.specs.Theorems.{not_done}
-use Rattle.sheet_writer.specs.Apart.{list_in, Lists, lengths_lent, lists_fit, taken_number, TakesApart}
+use Rattle.sheet_writer.specs.Apart.{list_in, Lists, lengths_lent, taken_number, TakesApart}
 
 module _ (s : List ℕ) (p : Part) where
   blocks-listed : list_in Blocks s p ≡ block_list (blocks_in s p)

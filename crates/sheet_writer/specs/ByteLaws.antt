@@ -1,7 +1,7 @@
 -- Good contents have bytes below 256: what no byte holds is a fault, or one of number 1's reasons.
 use Rattle.std.specs.Prelude.{◌≡◌, Bool, false, ◌&&◌, List, [], ◌∷◌, ◌++◌, map, ℕ, zero, suc, ◌+◌, ◌*◌, ◌/◌, ◌%◌, ◌≤◌, ◌<◌, ltb, length, get_or, drop}
 use Rattle.std.proofs.Math.Path.{refl}
-use Rattle.std.proofs.Common.{sym, ap, ◌∙◌, mod-lt, mod-eq_of_lt, div-lt_iff_lt-mul, mul-le-mul_right, arith, drop-drop, get_or-drop}
+use Rattle.std.proofs.Common.{mod-lt, mod-eq_of_lt, div-lt_iff_lt-mul, mul-le-mul_right, arith, drop-drop, get_or-drop}
 use Rattle.std.proofs.Math.Bool.{true}
 use borrow.Author.Tests.{lt-ltb, ltb-true, leb-true}
 use Rattle.basics.specs.Tests.{and_left, and_right, and_both, passed}
@@ -17,11 +17,11 @@ use Rattle.job_sheet.specs.declared.Endpoint.{Endpoint}
 use Rattle.job_sheet.specs.declared.Sink.{Sink}
 use Rattle.job_sheet.specs.declared.Judgement.TheVariants.{Good, Code}
 use Rattle.job_sheet.specs.declared.Version.{Version}
-use Rattle.job_sheet.specs.Version.{position_size, block_size, sides_within, most_limit, limit_within, Searchable}
+use Rattle.job_sheet.specs.Version.{position_size, block_size, sides_within, most_limit, limit_within}
 use Rattle.job_sheet.specs.VersionLaws.{good-config}
-use Rattle.job_sheet.specs.Sheet.{Contents, max_bytes, max_sinks, layout_of, two, four, coordinate, sides, costs, position, block, endpoint, limit, sink, counted, sink_bytes, rest, bytes_by, is_good, judged, block_fault, position_fault, endpoint_fault, sink_fault}
+use Rattle.job_sheet.specs.Sheet.{Contents, max_bytes, max_sinks, layout_of, two, four, coordinate, sides, costs, position, block, endpoint, limit, sink, counted, rest, bytes_by, is_good, judged, block_fault, position_fault, endpoint_fault, sink_fault}
 use Rattle.job_sheet.proofs.FaultLaws.{good-is}
-use Rattle.job_sheet.proofs.AcceptedLaws.{NoFault, no_fault, first_good, faultless, position-within, block_within, endpoint-within, tail_within}
+use Rattle.job_sheet.proofs.AcceptedLaws.{no_fault, first_good, faultless, position-within, block_within, endpoint-within, tail_within}
 use Rattle.job_sheet.specs.Places.{many}
 use Rattle.sheet_writer.specs.Writer.{block_numbers, block_from, blocks_of, low}
 use Rattle.sheet_writer.specs.ChoiceLaws.{side_end, Writable}

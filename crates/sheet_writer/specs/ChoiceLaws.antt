@@ -1,21 +1,16 @@
 -- The version that is written: its number stands for it, a room within its ranges can be searched, its coordinates hold its sides, and it tells the job's limits.
 -- No lower version holds the job.
-use Rattle.std.specs.Prelude.{◌≡◌, refl, Bool, true, false, ◌||◌, List, ◌∷◌, ℕ, ◌+◌, ◌≤◌, ◌<◌, eqb, length, get_or, drop, take, ◌≢◌}
+use Rattle.std.specs.Prelude.{◌≡◌, refl, Bool, true, false, List, ℕ, ◌≤◌, ◌<◌, eqb, length, get_or}
 use Rattle.std.proofs.Math.Path.{sym}
-use Rattle.std.proofs.Common.{ap, ◌∙◌, arith, length-take, drop_of_length-le, get_or-take, eq-eqb, ne_eqb}
-use Rattle.std.proofs.Math.Nat.{min-le_left, min-le_right, le-min}
+use Rattle.std.proofs.Common.{ap, ◌∙◌, arith}
 use Rattle.basics.specs.Tests.{ask, and_both, and_left, and_right}
-use Rattle.basics.specs.Lists.{drop_next}
 use Rattle.room.specs.Units.{config_good}
-use Rattle.job_sheet.specs.declared.Sink.{Sink}
-use Rattle.job_sheet.specs.declared.Sinks.{Sinks}
 use Rattle.job_sheet.specs.declared.Version.{Version}
-use Rattle.job_sheet.specs.UsualLimits.{usual_tail}
 use Rattle.job_sheet.specs.Version.{first_ranges, hall_ranges, version_one, version_two, version_three, version_of, version_in, sides_within, costs_within, config_within, Searchable}
 use Rattle.job_sheet.specs.VersionLaws.{one_known, two-known, three-known, first-searchable, hall_searchable}
 use Rattle.job_sheet.specs.declared.Judgement.TheVariants.{Good}
-use Rattle.job_sheet.specs.Sheet.{Contents, max_sinks, bytes_by, usual, tells_limits, layout_of, judged, no_sink}
-use Rattle.job_sheet.proofs.AcceptedLaws.{NoFault, no_fault}
+use Rattle.job_sheet.specs.Sheet.{Contents, bytes_by, usual, tells_limits, layout_of, judged}
+use Rattle.job_sheet.proofs.AcceptedLaws.{no_fault}
 use Rattle.sheet_writer.specs.Writer.{Parts, contents_of, holds_first, version_for, written}
 use Rattle.sheet_writer.specs.Choice.{usual_tails, version_by_limits, version_by}
 use Rattle.sheet_writer.specs.SizeLaws.{bytes-end}
@@ -161,55 +156,3 @@ lowest first J t g =
 pub by_parts : (P : Parts) → version_for (contents_of P) ≡ version_by P.room P.config P.run P.sinks
 unfolding version_for holds_first usual contents_of version_by version_by_limits usual_tails
 by_parts P = refl
-
--- the sinks from the k-th on are of usual tails exactly where all are
-pub record Tested (ks : List Sink) (k : ℕ) : Type 0 where
-  pub same : usual_tails (drop k ks) ≡ usual_tails ks
-
-module _ {ks : List Sink} {k : ℕ} (I : Tested ks k) where
-  tested-over : length ks ≤ k → true ≡ usual_tails ks
-  unfolding usual_tails
-  tested-over h = sym (ap usual_tails (drop_of_length-le ks h)) ∙ I.same
-
-  module _ (h : k < length ks) where
-    tail_next : usual_tails (drop k ks) ≡ usual_tails (get_or ks k no_sink ∷ drop (k + 1) ks)
-    tail_next = ap usual_tails (drop_next ks k no_sink h)
-
-    tested-next : (get_or ks k no_sink).tail ≡ usual_tail → Tested ks (k + 1)
-    unfolding usual_tails
-    tested-next e = record { same = sym (tail_next ∙ rw (eq-eqb _ _ e)) ∙ I.same }
-
-    tested-failed : ((get_or ks k no_sink).tail ≢ usual_tail) → false ≡ usual_tails ks
-    unfolding usual_tails
-    tested-failed n = sym (tail_next ∙ rw (ne_eqb _ _ n)) ∙ I.same
-
--- of the sinks, as many as there are
-module _ (s : Sinks) (full : length s.ends ≡ max_sinks) where
-  abbrev taken : List Sink
-  taken = take s.count s.ends
-
-  most-count : length taken ≤ s.count
-  most-count = rw length-take (min-le_left s.count (length s.ends))
-
-  most-sinks : length taken ≤ max_sinks
-  most-sinks = rw (length-take, ← full) (min-le_right s.count (length s.ends))
-
-  module _ {k : ℕ} (I : Tested taken k) where
-    pub tails_counted : s.count ≤ k → true ≡ usual_tails taken
-    tails_counted h = tested-over I (omega (arith, h, most-count))
-
-    pub tails_all : max_sinks ≤ k → true ≡ usual_tails taken
-    tails_all h = tested-over I (omega (arith, h, most-sinks))
-
-    module _ (h : k < s.count) (m : k < max_sinks) {e : Sink} (is : e ≡ get_or s.ends k no_sink) where
-      within : k < length taken
-      within = rw length-take (le-min {a = s.count} {b = length s.ends} h (rw full m))
-
-      same-sink : e ≡ get_or taken k no_sink
-      same-sink = is ∙ sym (get_or-take s.count s.ends k no_sink h)
-
-      pub tails_on : e.tail ≡ usual_tail → Tested taken (k + 1)
-      tails_on t = tested-next I within (sym (ap (λ x. x.tail) same-sink) ∙ t)
-
-      pub tails_failed : (e.tail ≢ usual_tail) → false ≡ usual_tails taken
-      tails_failed n = tested-failed I within (λ q. n (ap (λ x. x.tail) same-sink ∙ q))

@@ -1,10 +1,13 @@
 -- The numbers of a writing, and the promise of the exported writer by its cases.
-use Rattle.std.specs.Prelude.{◌≡◌, Bool, false, not, List, [], ◌∷◌, ◌++◌, ℕ, zero, suc, ◌+◌, ◌-◌, ◌*◌, ◌/◌, ◌≤◌, ◌<◌, leb, eqb, length, set, drop, take, replicate}
+use Rattle.std.specs.Prelude as results
+use Rattle.std.specs.Prelude.{◌≡◌, Ok, Err, Bool, false, not, List, [], ◌∷◌, ◌++◌, ℕ, zero, suc, ◌+◌, ◌-◌, ◌*◌, ◌/◌, ◌≤◌, ◌<◌, leb, eqb, length, set, drop, take, replicate}
 use Rattle.std.proofs.Math.Path.{refl}
 use Rattle.std.proofs.Common.{sym, ap, ◌∙◌, append-nil, add-one, arith, take-append-drop, length-take-le, leb-true, le-ltb, eqb-true, ne_eqb}
+use Rattle.std.proofs.lemmas.Bool.{eqb-false}
 use Rattle.std.proofs.Math.Bool.{true}
 use Rattle.std.proofs.Math.Seq.{take-length, drop-length}
-use Rattle.numbers.specs.Refusals.{done_number, buffer_number, sheet_number}
+use Rattle.numbers.specs.declared.Refusal.{Refusal}
+use Rattle.numbers.specs.Refusals.{done_number, buffer_number, sheet_number, number_of as refusal_number}
 use Rattle.basics.specs.Tests.{either, ask, test-passes, passed}
 use Rattle.basics.specs.Padding.{padded_next}
 use Rattle.basics.specs.Promises.{Determines}
@@ -16,27 +19,25 @@ use Rattle.job_sheet.specs.declared.Judgement.TheVariants.{Good, Sheet, Sides, C
 use Rattle.job_sheet.specs.Sheet.{max_sinks, bytes_by, is_good, number_of, no_sink}
 use Rattle.job_sheet.specs.Places.{many}
 use Rattle.job_sheet.specs.RecordLaws.{many-long, many_snoc}
-use Rattle.sheet_writer.specs.declared.Writing.{Writing}
-use Rattle.sheet_writer.specs.declared.Writing.TheVariants.{Written, Refused}
-use Rattle.sheet_writer.specs.Writer.{Parts, contents_of, written, judged_parts, number_due, answer_of, Promise}
+use Rattle.sheet_writer.specs.Writer.{Parts, contents_of, written, judged_parts, number_due, refusal_of, answer_of, Promise}
 use Rattle.sheet_writer.specs.PromiseLaws.{due-six}
 use Rattle.sheet_writer.specs.Theorems.{due-judged}
 use Rattle.sheet_writer.specs.Export.{end_numbers, sink_numbers, sink_from, sinks_from, ends_good, value_count, told_number, Told}
 
 -- ---- a writing as numbers
 
-abbrev pub number_told : Writing → ℕ
-number_told (Written n) = done_number
-number_told (Refused n) = n
+abbrev pub number_told : results.Result ℕ Refusal → ℕ
+number_told (Ok n) = done_number
+number_told (Err why) = refusal_number why
 
-abbrev pub values_told : Writing → List ℕ → List ℕ
-values_told (Written n) values = filled (0 ∷ n ∷ []) values
-values_told (Refused n) values = values
+abbrev pub values_told : results.Result ℕ Refusal → List ℕ → List ℕ
+values_told (Ok n) values = filled (0 ∷ n ∷ []) values
+values_told (Err why) values = values
 
 -- a success finds place for its values
-abbrev pub Fit : Writing → List ℕ → Type 0
-Fit (Written n) values = value_count ≤ length values
-Fit (Refused n) values = 0 ≤ 0
+abbrev pub Fit : results.Result ℕ Refusal → List ℕ → Type 0
+Fit (Ok n) values = value_count ≤ length values
+Fit (Err why) values = 0 ≤ 0
 
 -- ---- the sinks gathered one by one
 
@@ -75,12 +76,6 @@ pub ends_ill : (P : Parts) (sheet values : List ℕ) (well : Bool) → well ≡ 
 unfolding told_number
 ends_ill P sheet values well f = record { number = rw f refl; sheet-is = refl; values-are = refl }
 
--- two values written to a cleared buffer
-pub two-written : (a b n : ℕ) → value_count ≤ n → set (set (replicate n 0) 0 a) 1 b ≡ (a ∷ b ∷ []) ++ replicate (n - value_count) 0
-two-written a b (suc (suc n)) h = let e : suc (suc n) - value_count ≡ n = omega arith in rw e
-two-written a b (suc zero) h = absurd (omega arith)
-two-written a b zero h = absurd (omega arith)
-
 -- every number that is due is one of 1 to 6, or none
 fault_most : (v : Judgement) → number_of v ≤ buffer_number
 fault_most Good = omega arith
@@ -108,16 +103,26 @@ due-some P e =
 kept : (d : ℕ) → d ≤ buffer_number → eqb d done_number ≡ false → (cells out : List ℕ) → output_after d cells out ≡ out
 kept d h f cells out = rw (f, le-ltb buffer_number d h) refl
 
+-- what a number stands for has that number
+refused_number : (d : ℕ) → d ≤ buffer_number → eqb d done_number ≡ false → refusal_number (refusal_of d) ≡ d
+refused_number d h f =
+    ask (eqb d 1) (λ t. rw t (sym (eqb-true d 1 t)))
+    (λ f₁. ask (eqb d 2) (λ t. rw (f₁, t) (sym (eqb-true d 2 t)))
+    (λ f₂. ask (eqb d 3) (λ t. rw (f₁, f₂, t) (sym (eqb-true d 3 t)))
+    (λ f₃. ask (eqb d 4) (λ t. rw (f₁, f₂, f₃, t) (sym (eqb-true d 4 t)))
+    (λ f₄. ask (eqb d 5) (λ t. rw (f₁, f₂, f₃, f₄, t) (sym (eqb-true d 5 t)))
+    (λ f₅. rw (f₁, f₂, f₃, f₄, f₅) (omega (arith, eqb-false d 0 f, eqb-false d 1 f₁, eqb-false d 2 f₂, eqb-false d 3 f₃, eqb-false d 4 f₄, eqb-false d 5 f₅)))))))
+
 -- what an answer tells is the number
-module _ (d n : ℕ) {w : Writing} (is : w ≡ answer_of d n) where
-  told-number : number_told w ≡ d
-  told-number = ask (eqb d done_number) (λ t. let z : d ≡ 0 = eqb-true d done_number t in rw (is, z) refl) (λ f. let q : w ≡ Refused d = is ∙ rw f refl in ap number_told q)
+module _ (d n : ℕ) {w : results.Result ℕ Refusal} (is : w ≡ answer_of d n) where
+  told-number : d ≤ buffer_number → number_told w ≡ d
+  told-number h = ask (eqb d done_number) (λ t. let z : d ≡ 0 = eqb-true d done_number t in rw (is, z) refl) (λ f. let q : w ≡ Err (refusal_of d) = is ∙ rw f refl in ap number_told q ∙ refused_number d h f)
 
   told-values : d ≤ buffer_number → (values : List ℕ) → values_told w values ≡ output_after d (0 ∷ n ∷ []) values
   told-values h values =
       ask (eqb d done_number)
       (λ t. let z : d ≡ 0 = eqb-true d done_number t in rw (is, z) refl)
-      (λ f. let q : w ≡ Refused d = is ∙ rw f refl in ap (λ x. values_told x values) q ∙ sym (kept d h f (0 ∷ n ∷ []) values))
+      (λ f. let q : w ≡ Err (refusal_of d) = is ∙ rw f refl in ap (λ x. values_told x values) q ∙ sym (kept d h f (0 ∷ n ∷ []) values))
 
 module _ (P : Parts) (sheet values : List ℕ) {well t : Bool} (e : t ≡ well) (g : not t ≡ false) {lent : ℕ} (l : lent ≡ either (leb value_count (length values)) (length sheet) 0) where
   pub lent-inside : lent ≤ length sheet
@@ -127,7 +132,7 @@ module _ (P : Parts) (sheet values : List ℕ) {well t : Bool} (e : t ≡ well) 
   unfolding told_number
   number_is = rw (test-passes e g, l) refl
 
-  module _ {w : Writing} {part : List ℕ} (p : Promise P (take lent sheet) w part) where
+  module _ {w : results.Result ℕ Refusal} {part : List ℕ} (p : Promise P (take lent sheet) w part) where
     part-due : number_due P (length (take lent sheet)) ≡ number_due P lent
     part-due = ap (number_due P) (length-take-le lent sheet lent-inside)
 
@@ -142,9 +147,9 @@ module _ (P : Parts) (sheet values : List ℕ) {well t : Bool} (e : t ≡ well) 
         (λ t. absurd (due-some P (ap (number_due P) (sym (l ∙ rw h refl)) ∙ eqb-true (number_due P lent) done_number t)))
         (λ f. rw (answer-is, f) (omega arith)))
       where
-        fits : (w : Writing) → value_count ≤ length values → Fit w values
-        fits (Written n) h = h
-        fits (Refused n) h = omega arith
+        fits : (w : results.Result ℕ Refusal) → value_count ≤ length values → Fit w values
+        fits (Ok n) h = h
+        fits (Err why) h = omega arith
 
     -- the part of the output that was lent, and what stands behind it
     sheet-told : part ++ drop lent sheet ≡ output_after (number_due P lent) (written (contents_of P)) sheet
@@ -162,7 +167,7 @@ module _ (P : Parts) (sheet values : List ℕ) {well t : Bool} (e : t ≡ well) 
 
     pub told : {r : ℕ} {values' : List ℕ} → r ≡ number_told w → values' ≡ values_told w values → Told P well sheet values r (part ++ drop lent sheet) values'
     told {r} n v =
-        let d : r ≡ number_due P lent = n ∙ told-number (number_due P lent) (length (written (contents_of P))) answer-is in
+        let d : r ≡ number_due P lent = n ∙ told-number (number_due P lent) (length (written (contents_of P))) answer-is (due-most P lent) in
         record {
           number = d ∙ sym number_is;
           sheet-is = rw d sheet-told;

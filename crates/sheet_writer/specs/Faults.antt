@@ -1,15 +1,14 @@
 -- What is wrong with the records of a list of numbers, and the first of these that the code finds.
 use Rattle.std.specs.Prelude.{◌≡◌, true, false, ℕ, suc, ◌+◌, ◌-◌, ◌*◌, ◌/◌, ◌≤◌, ◌<◌, length, get_or, drop, take}
 use Rattle.std.proofs.Math.Path.{refl, sym}
-use Rattle.std.proofs.Common.{ap, ◌∙◌, mul-suc, mul_comm, div-mul-le_self, arith, drop_of_length-le, drop-drop, length-take-le, get_or-take}
+use Rattle.std.proofs.Common.{ap, ◌∙◌, mul-suc, mul_comm, div-mul-le_self, arith, drop_of_length-le, drop-drop}
 use mathlib.Core.List.{List, [], ◌∷◌, map}
 use Rattle.basics.specs.Lists.{joined, drop_next}
 use Rattle.room.specs.declared.Room.{Room}
 use Rattle.job_sheet.specs.declared.Sink.{Sink}
-use Rattle.job_sheet.specs.declared.Sinks.{Sinks}
 use Rattle.job_sheet.specs.declared.Judgement.{Judgement}
 use Rattle.job_sheet.specs.declared.Version.{Version}
-use Rattle.job_sheet.specs.Sheet.{max_sinks, is_good, first_fault, sides_fault, config_fault, limit_fault, position_fault, block_fault, endpoint_fault, sink_fault, judged, no_sink}
+use Rattle.job_sheet.specs.Sheet.{is_good, first_fault, sides_fault, config_fault, limit_fault, position_fault, block_fault, endpoint_fault, sink_fault, judged, no_sink}
 use Rattle.job_sheet.specs.Places.{many, head_fault}
 use Rattle.job_sheet.proofs.FaultLaws.{fault_first, good-first, only-first, first_on, many_map, carried, carried-is}
 use Rattle.sheet_writer.specs.declared.Records.{Records}
@@ -90,20 +89,6 @@ module _ (fault : Sink → Judgement) (l : List Sink) (found : Judgement) where
 
     pub sinks-done : length l ≤ k → now ≡ first_fault (found ∷ map fault l)
     sinks-done h = sym (only-first now) ∙ rw (drop_of_length-le l h) at I.same
-
--- of the sinks, as many as there are
-module _ (fault : Sink → Judgement) (s : Sinks) (found : Judgement) (few : s.count ≤ max_sinks) (whole : length s.ends ≡ max_sinks) {now : Judgement} {k : ℕ} (I : SinksScanned fault (take s.count s.ends) found now k) where
-  pub sink-on : k < s.count → (next : Judgement) (e : Sink) → e ≡ get_or s.ends k no_sink → next ≡ first_fault (now ∷ fault e ∷ [])
-      → SinksScanned fault (take s.count s.ends) found next (k + 1)
-  sink-on h next e is n =
-      let long : length (take s.count s.ends) ≡ s.count = length-take-le s.count s.ends (omega (arith, few, whole)) in
-      let same : e ≡ get_or (take s.count s.ends) k no_sink = is ∙ sym (get_or-take s.count s.ends k no_sink h) in
-      sinks_on fault (take s.count s.ends) found I (omega (arith, long, h)) next (n ∙ ap (λ x. first_fault (now ∷ fault x ∷ [])) same)
-
-  pub sink-done : s.count ≤ k → now ≡ first_fault (found ∷ map fault (take s.count s.ends))
-  sink-done h =
-      let long : length (take s.count s.ends) ≡ s.count = length-take-le s.count s.ends (omega (arith, few, whole)) in
-      sinks-done fault (take s.count s.ends) found I (omega (arith, long, h))
 
 -- ---- all of it
 

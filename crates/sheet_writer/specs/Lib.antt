@@ -1,4 +1,5 @@
 pub mod Writer
+pub mod JobParts
 pub mod Choice
 pub mod Narrow
 pub mod Sizes

@@ -1,5 +1,5 @@
 -- A code of 16 bits is judged by one of 8: what no byte holds is no code.
-use Rattle.std.specs.Prelude.{◌≡◌, true, false, ℕ, ◌<◌, ltb, leb, eqb}
+use Rattle.std.specs.Prelude.{◌≡◌, ℕ, ◌<◌, ltb, leb, eqb}
 use Rattle.std.proofs.Common.{sym, ◌∙◌, arith, ltb-false, ne_eqb}
 use Rattle.std.proofs.lemmas.Bool.{lt-leb}
 use Rattle.basics.specs.Tests.{either, ask}

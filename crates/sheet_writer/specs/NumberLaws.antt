@@ -1,15 +1,15 @@
 -- Records as numbers: a list of them is read back as it was, and written as it was read.
-use Rattle.std.specs.Prelude.{◌≡◌, refl, true, List, [], ◌∷◌, ◌++◌, map, ℕ, suc, zero, ◌+◌, ◌*◌, ◌/◌, ◌%◌, ◌≤◌, ◌<◌, length, get_or, drop, take}
+use Rattle.std.specs.Prelude.{◌≡◌, refl, true, List, [], ◌++◌, map, ℕ, suc, zero, ◌+◌, ◌*◌, ◌/◌, ◌%◌, ◌≤◌, ◌<◌, length, drop, take}
 use Rattle.std.proofs.Common.{sym, ap, ◌∙◌, append_assoc, append-nil, mul-zero, mul_comm, div-add-mod', arith, length-drop, take_at, eq-eqb, eqb-true}
 use Rattle.std.proofs.Math.Nat.{mul-div_right, mul-mod_right}
 use Rattle.std.proofs.Math.Seq.{drop-length}
 use Rattle.basics.specs.Lists.{every-all, joined}
 use Rattle.room.specs.declared.Pos.{Pos}
 use Rattle.job_sheet.specs.declared.Block.{Block}
-use Rattle.job_sheet.specs.Sheet.{Contents, max_sinks, sinks_of}
+use Rattle.job_sheet.specs.Sheet.{Contents, sinks_of}
 use Rattle.job_sheet.specs.Places.{many}
 use Rattle.job_sheet.specs.RecordLaws.{Coding, span_drop, joined-long, many-back, next-size, next_drop}
-use Rattle.sheet_writer.specs.Writer.{Parts, block_numbers, position_numbers, block_from, position_from, blocks_of, positions_of, contents_of, whole, wholes, lengths_in, numbers_of_block, numbers_of_position, block_list, position_list, parts_of}
+use Rattle.sheet_writer.specs.Writer.{block_numbers, position_numbers, block_from, position_from, blocks_of, positions_of, contents_of, whole, wholes, lengths_in, numbers_of_block, numbers_of_position, block_list, position_list, parts_of}
 
 block_numbers_lem : Coding numbers_of_block block_from block_numbers
 block_numbers_lem = record { sized = λ x. refl; back = λ x t l. refl; forth = λ l b h. span_drop 6 0 l h }

@@ -1,23 +1,24 @@
 -- The promise of the writer, by its cases.
-use Rattle.std.specs.Prelude.{◌≡◌, refl, Bool, true, false, not, List, [], ◌++◌, ℕ, ◌+◌, ◌-◌, ◌%◌, ◌≤◌, ◌<◌, leb, take, drop, replicate}
+use Rattle.std.specs.Prelude.{◌≡◌, Ok, Err, refl, Bool, true, false, not, List, [], ◌++◌, ℕ, ◌-◌, ◌%◌, ◌≤◌, ◌<◌, take, drop, replicate}
 use Rattle.std.proofs.Math.Path.{sym, ap}
-use Rattle.std.proofs.Common.{◌∙◌, append-nil, zero-add, arith, length-take, length-drop, drop_of_length-le, take_all, length-take-le}
+use Rattle.std.proofs.Common.{◌∙◌, append-nil, arith, length-drop, drop_of_length-le, take_all}
 use Rattle.std.proofs.Math.ListN.{length, length-map}
 use borrow.Author.Tests.{le-leb, lt-leb}
 use borrow.Rule.Slice.PartMut.{mid_of, put_mid}
+use Rattle.numbers.specs.declared.Refusal.{Refusal}
+use Rattle.numbers.specs.declared.Refusal.TheVariants as refusal
 use Rattle.numbers.specs.Refusals.{done_number, buffer_number}
-use Rattle.basics.specs.Tests.{either, ask, test_fails, test-passes, never}
+use Rattle.basics.specs.Tests.{ask, test_fails, test-passes, never}
 use Rattle.lent.specs.Lent.{filled, output_after}
 use Rattle.putting.specs.Putting.{Put}
 use Rattle.job_sheet.specs.declared.Judgement.{Judgement}
 use Rattle.job_sheet.specs.declared.Judgement.TheVariants.{Good, Sheet, Sides, Config, Position, Code}
 use Rattle.job_sheet.specs.declared.Version.{Version}
 use Rattle.job_sheet.specs.Version.{sides_place}
-use Rattle.job_sheet.specs.Sheet.{Contents, max_bytes, max_sinks, rest, bytes_by, is_good, judged, number_of}
+use Rattle.job_sheet.specs.Sheet.{max_sinks, rest, bytes_by, is_good, judged, number_of}
 use Rattle.job_sheet.proofs.FaultLaws.{good-is}
 use Rattle.sheet_writer.specs.declared.Lengths.{Lengths}
-use Rattle.sheet_writer.specs.declared.Writing.TheVariants.{Written, Refused}
-use Rattle.sheet_writer.specs.Writer.{Parts, contents_of, version_for, written, lengths_in, formed, judged_parts, number_due, answer_of, Promise, low}
+use Rattle.sheet_writer.specs.Writer.{Parts, contents_of, version_for, written, lengths_in, formed, judged_parts, number_due, refusal_of, answer_of, Promise, low}
 use Rattle.sheet_writer.specs.ChoiceLaws.{writable}
 use Rattle.sheet_writer.specs.Sizes.{sheet_length, Few}
 use Rattle.sheet_writer.specs.SizeLaws.{formed-few, formed-sinks, formed-short, sheet-long, sinks-count}
@@ -41,7 +42,7 @@ zeros-behind bytes text out {end} {out'} {part} e h p z =
 -- ---- the number that is due
 
 -- a fault's number tells itself, and touches nothing
-fault_told : (v : Judgement) → is_good v ≡ false → (bytes : ℕ) → Refused (number_of v) ≡ answer_of (number_of v) bytes
+fault_told : (v : Judgement) → is_good v ≡ false → (bytes : ℕ) → Err (refusal_of (number_of v)) ≡ answer_of (number_of v) bytes
 fault_told Good f bytes = never (cc)
 fault_told Sheet f bytes = refl
 fault_told Sides f bytes = refl
@@ -86,12 +87,12 @@ module _ (P : Parts) (whole : length P.sinks.ends ≡ max_sinks) (out : List ℕ
   unfolding number_due
   due_fault f = rw (← j, f)
 
-  pub promise_fault : not t ≡ true → {n : ℕ} → n ≡ number_of v → Promise P out (Refused n) out
-  promise_fault h {n} is =
+  pub promise_fault : not t ≡ true → {why : Refusal} → why ≡ refusal_of (number_of v) → Promise P out (Err why) out
+  promise_fault h {why} is =
       let f : is_good v ≡ false = test_fails e h in
       let d = due_fault f in
       record {
-        answers = ap Refused is ∙ rw d (fault_told v f (length (written (contents_of P))));
+        answers = ap Err is ∙ rw d (fault_told v f (length (written (contents_of P))));
         holds = rw d (fault_kept v f (written (contents_of P)) out);
       }
 
@@ -119,7 +120,7 @@ module _ (P : Parts) (whole : length P.sinks.ends ≡ max_sinks) (out : List ℕ
       text-is : sheet_text w (bytes - sides_place) P ≡ low (written (contents_of P))
       text-is = (λ i. sheet_text (in-version i) (rest-is i) P) ∙ sheet-text P inside (version_for (contents_of P))
 
-      pub promise_short : length out < bytes → Promise P out (Refused buffer_number) out
+      pub promise_short : length out < bytes → Promise P out (Err refusal.Buffer) out
       promise_short l =
           let d = due-six P (length out) faultless (omega (arith, bytes-are, l)) in
           record { answers = rw d refl; holds = rw d refl }
@@ -132,11 +133,11 @@ module _ (P : Parts) (whole : length P.sinks.ends ≡ max_sinks) (out : List ℕ
         place = l;
       }
 
-      pub promise_written : bytes ≤ length out → Words P.blocks → {out' : List ℕ} → out' ≡ filled (sheet_text w (bytes - sides_place) P) out → Promise P out (Written bytes) out'
+      pub promise_written : bytes ≤ length out → Words P.blocks → {out' : List ℕ} → out' ≡ filled (sheet_text w (bytes - sides_place) P) out → Promise P out (Ok bytes) out'
       unfolding contents_of
       promise_written l words f =
           let J = contents_of P in
           let d = due-none P (length out) faultless (omega (arith, bytes-are, l)) in
           let all = good-bytes (version_for J) (writable J) J faultless.good (formed-short P faultless.well) (omega (arith, sinks-count P inside, few-sinks)) (nodes-held P.blocks words) in
           let text : sheet_text w (bytes - sides_place) P ≡ written J = text-is ∙ low_same (written J) all in
-          record { answers = rw d (ap Written bytes-are); holds = rw d (f ∙ ap (λ x. filled x out) text) }
+          record { answers = rw d (ap Ok bytes-are); holds = rw d (f ∙ ap (λ x. filled x out) text) }

@@ -1,10 +1,9 @@
 -- The bytes of a sheet are as many as the lengths say, so number 1 can be judged by the lengths alone.
-use Rattle.std.specs.Prelude.{◌≡◌, refl, Bool, true, false, List, map, ℕ, ◌+◌, ◌*◌, ◌/◌, ◌≤◌, ◌<◌, leb, length}
-use Rattle.std.proofs.Common.{sym, ap, ◌∙◌, add-zero, mul-le-mul_right, arith, leb-true, le-leb, leb-false}
+use Rattle.std.specs.Prelude.{◌≡◌, Bool, true, false, List, map, ℕ, ◌+◌, ◌*◌, ◌/◌, ◌≤◌, leb, length}
+use Rattle.std.proofs.Common.{sym, ◌∙◌, add-zero, mul-le-mul_right, arith, leb-true, le-leb}
 use Rattle.std.proofs.Math.Nat.{mul-one}
 use Rattle.std.proofs.lemmas.List.{length-map}
 use Rattle.std.proofs.Math.Seq.{length-take-le}
-use Rattle.std.proofs.lemmas.Bool.{lt-leb}
 use Rattle.basics.specs.Tests.{ask, passed, and_both, never}
 use Rattle.job_sheet.specs.declared.Sink.{Sink}
 use Rattle.job_sheet.specs.declared.Sinks.{Sinks}
@@ -14,7 +13,7 @@ use Rattle.job_sheet.specs.Sheet.{Contents, bytes_by, max_bytes, max_sinks, behi
 use Rattle.job_sheet.specs.RecordLaws.{many-long}
 use Rattle.job_sheet.specs.LayoutLaws.{at-end}
 use Rattle.sheet_writer.specs.declared.Lengths.{Lengths}
-use Rattle.sheet_writer.specs.Writer.{Parts, block_numbers, position_numbers, block_from, position_from, blocks_of, positions_of, contents_of, version_for, written, wholes, lengths_in, formed}
+use Rattle.sheet_writer.specs.Writer.{Parts, block_numbers, position_numbers, block_from, position_from, blocks_of, positions_of, contents_of, version_for, written, lengths_in, formed}
 use Rattle.sheet_writer.specs.Sizes.{sheet_length, few_records, Few, lengths_good}
 
 pub blocks-count : (l : List ℕ) → length (blocks_of l) ≡ length l / block_numbers

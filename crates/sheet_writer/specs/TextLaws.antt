@@ -1,7 +1,7 @@
 -- The two loops that put records and sinks one after another; and all that is put is the low bytes of the sheet.
 use Rattle.std.specs.Prelude.{◌≡◌, refl, Bool, get_or, drop, take}
 use Rattle.std.proofs.Math.Path.{sym, ap}
-use Rattle.std.proofs.Common.{◌∙◌, mul-suc, mul_comm, div-mul-le_self, arith, drop_of_length-le, drop-drop, length-take-le, get_or-take}
+use Rattle.std.proofs.Common.{◌∙◌, mul-suc, mul_comm, div-mul-le_self, arith, drop_of_length-le, drop-drop, length-take-le}
 use mathlib.Core.List.{List, [], ◌∷◌, ◌++◌, map, append_assoc, append-nil, map-append, map-map}
 use Prim.Native.Nat.{ℕ, suc, ◌+◌, ◌-◌, ◌*◌, ◌/◌, ◌%◌, ◌≤◌, ◌<◌}
 use Rattle.std.proofs.Math.ListN.{length}
@@ -12,9 +12,8 @@ use Rattle.room.specs.declared.Pos.{Pos}
 use Rattle.job_sheet.specs.declared.Block.{Block}
 use Rattle.job_sheet.specs.declared.Endpoint.{Endpoint}
 use Rattle.job_sheet.specs.declared.Sink.{Sink}
-use Rattle.job_sheet.specs.declared.Sinks.{Sinks}
 use Rattle.job_sheet.specs.declared.Version.{Version}
-use Rattle.job_sheet.specs.Sheet.{Contents, max_sinks, two, four, coordinate, sides, costs, position, block, endpoint, limit, sink, counted, sink_bytes, rest, bytes_by, no_sink}
+use Rattle.job_sheet.specs.Sheet.{two, four, coordinate, sides, costs, position, block, endpoint, limit, sink, counted, sink_bytes, rest, bytes_by, no_sink}
 use Rattle.job_sheet.specs.Places.{many}
 use Rattle.job_sheet.proofs.FaultLaws.{many_map}
 use Rattle.sheet_writer.specs.declared.Records.{Records}
@@ -88,25 +87,20 @@ ends_next : (v : Version) (es : List Sink) (k : ℕ) → k < length es → ends_
 unfolding ends_text
 ends_next v es k h = ap (λ r. joined (map (λ e. low (sink v e)) r)) (drop_next es k no_sink h)
 
-module _ (v : Version) (s : Sinks) (few : s.count ≤ max_sinks) (full : length s.ends ≡ max_sinks) {out : List ℕ} {at : ℕ} {whole : List ℕ} (k : ℕ) {out' : List ℕ} {end : ℕ} (g : PutSoFar out at whole (ends_text v (drop k (take s.count s.ends))) out' end) where
-  ends-long : length (take s.count s.ends) ≡ s.count
-  ends-long = length-take-le s.count s.ends (omega (arith, few, full))
+module _ (v : Version) (es : List Sink) {out : List ℕ} {at : ℕ} {whole : List ℕ} (k : ℕ) {out' : List ℕ} {end : ℕ} (g : PutSoFar out at whole (ends_text v (drop k es)) out' end) where
+  module _ (h : k < length es) where
+    next-end : PutSoFar out at whole (low (sink v (get_or es k no_sink)) ++ ends_text v (drop (k + 1) es)) out' end
+    next-end = rw (ends_next v es k h) at g
 
-  module _ (h : k < s.count) {e : Sink} (is : e ≡ get_or s.ends k no_sink) where
-    next-end : PutSoFar out at whole (low (sink v e) ++ ends_text v (drop (k + 1) (take s.count s.ends))) out' end
-    next-end =
-        let same : e ≡ get_or (take s.count s.ends) k no_sink = is ∙ sym (get_or-take s.count s.ends k no_sink h) in
-        rw same (rw (ends_next v (take s.count s.ends) k (omega (arith, ends-long, h))) at g)
+    pub end_fits : Fits out at whole → Fits out' end (low (sink v (get_or es k no_sink)))
+    end_fits f = putting_fits (ends_text v (drop (k + 1) es)) next-end f
 
-    pub end_fits : Fits out at whole → Fits out' end (low (sink v e))
-    end_fits f = putting_fits (ends_text v (drop (k + 1) (take s.count s.ends))) next-end f
-
-    pub ends_on : {out'' : List ℕ} {end' : ℕ} → Put out' end (low (sink v e)) out'' end' → PutSoFar out at whole (ends_text v (drop (k + 1) (take s.count s.ends))) out'' end'
+    pub ends_on : {out'' : List ℕ} {end' : ℕ} → Put out' end (low (sink v (get_or es k no_sink))) out'' end' → PutSoFar out at whole (ends_text v (drop (k + 1) es)) out'' end'
     ends_on p = putting_on next-end p
 
-  pub ends-done : s.count ≤ k → Put out at whole out' end
+  pub ends-done : length es ≤ k → Put out at whole out' end
   unfolding ends_text
-  ends-done h = let over : length (take s.count s.ends) ≤ k = omega (arith, ends-long, h) in putting_done (rw (drop_of_length-le (take s.count s.ends) over) at g)
+  ends-done over = putting_done (rw (drop_of_length-le es over) at g)
 
 -- ---- all of it
 

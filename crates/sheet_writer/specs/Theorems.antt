@@ -1,32 +1,32 @@
 -- What the writer's promise comes to. `Promise P out r out'` is what `write_sheet` promises of its answer r and of the output; `Read sheet q` is what
 -- each of the two readers promises of its answer q.
-use Rattle.std.specs.Prelude.{◌≡◌, refl, true, false, ◌&&◌, List, ◌++◌, ℕ, ◌-◌, ◌≤◌, ◌<◌, leb, eqb, length, take, replicate}
-use Rattle.std.proofs.Common.{sym, ap, ◌∙◌, arith, length-take, take_at, le-leb, leb-true, eqb-true}
+use Rattle.std.specs.Prelude as results
+use Rattle.std.specs.Prelude.{◌≡◌, Ok, Err, refl, true, false, ◌&&◌, List, ◌++◌, ℕ, ◌-◌, ◌≤◌, ◌<◌, leb, eqb, length, take, replicate}
+use Rattle.std.proofs.Common.{sym, ap, ◌∙◌, arith, length-take, take_at, le-leb, eqb-true}
 use Rattle.std.proofs.Math.Nat.{min-le_left}
-use Rattle.numbers.specs.Refusals.{done_number, buffer_number}
-use Rattle.basics.specs.Tests.{ask, either, and_left, and_right, and_both, passed, never}
+use Rattle.numbers.specs.declared.Refusal.{Refusal}
+use Rattle.numbers.specs.Refusals.{done_number}
+use Rattle.basics.specs.Tests.{ask, and_left, and_right, and_both, passed, never}
 use Rattle.basics.specs.Promises.{Determines}
-use Rattle.lent.specs.Lent.{filled, output_after}
+use Rattle.lent.specs.Lent.{filled}
 use Rattle.job_sheet.specs.declared.Job.{Job}
 use Rattle.job_sheet.specs.declared.Reading.{Reading}
 use Rattle.job_sheet.specs.declared.Judgement.{Judgement}
 use Rattle.job_sheet.specs.declared.Judgement.TheVariants.{Good, Sheet, Sides, Config, Position, Code}
 use Rattle.job_sheet.specs.Version.{version_one, version_two, version_three, version_in}
-use Rattle.job_sheet.specs.Sheet.{Contents, MeansBy, Means, max_bytes, max_sinks, usual, bytes_by, is_good, judged, number_of, accepted, Read}
+use Rattle.job_sheet.specs.Sheet.{Contents, Means, max_bytes, max_sinks, usual, bytes_by, is_good, judged, number_of, accepted, Read}
 use Rattle.job_sheet.specs.Accepted.{Accepted}
 use Rattle.job_sheet.proofs.Theorems.{answers-meaning, means-by}
-use Rattle.sheet_writer.specs.declared.Writing.{Writing}
-use Rattle.sheet_writer.specs.declared.Writing.TheVariants.{Written, Refused}
-use Rattle.sheet_writer.specs.Writer.{Parts, block_numbers, position_numbers, contents_of, holds_first, version_for, written, whole, wholes, lengths_in, formed, judged_parts, number_due, answer_of, Promise, block_list, position_list, parts_of}
+use Rattle.sheet_writer.specs.Writer.{Parts, contents_of, holds_first, version_for, written, wholes, lengths_in, formed, judged_parts, number_due, refusal_of, Promise, block_list, position_list, parts_of}
 use Rattle.sheet_writer.specs.ChoiceLaws.{writable, limits-told, written_version, for_usual, for_others, for_halls, held_first, Lowest, lowest}
 use Rattle.sheet_writer.specs.SizeLaws.{formed-sinks, formed-short}
 use Rattle.sheet_writer.specs.NumberLaws.{contents-again, parts_whole, parts-sinks, blocks-again, positions-again}
-use Rattle.sheet_writer.specs.PromiseLaws.{Faultless, no_faults, faultless-good, due-none}
+use Rattle.sheet_writer.specs.PromiseLaws.{Faultless, no_faults, due-none}
 
 -- ---- every input determines the answer and every byte of the output
 
 pub record Result : Type 0 where
-  pub answer : Writing
+  pub answer : results.Result ℕ Refusal
   pub out : List ℕ
 
 module _ (P : Parts) (out : List ℕ) where
@@ -56,11 +56,11 @@ record Success (P : Parts) (out : List ℕ) (n : ℕ) : Type 0 where
   pub done : number_due P (length out) ≡ done_number
   pub bytes : n ≡ length (written (contents_of P))
 
-success : (P : Parts) (out out' : List ℕ) (n : ℕ) → Promise P out (Written n) out' → Success P out n
+success : (P : Parts) (out out' : List ℕ) (n : ℕ) → Promise P out (Ok n) out' → Success P out n
 success P out out' n p =
     ask (eqb (number_due P (length out)) done_number)
-    (λ t. let e : Written n ≡ Written (length (written (contents_of P))) = p.answers ∙ rw t refl in record { done = eqb-true _ _ t; bytes = cc })
-    (λ f. let e : Written n ≡ Refused (number_due P (length out)) = p.answers ∙ rw f refl in never (cc))
+    (λ t. let e : Ok n ≡ Ok (length (written (contents_of P))) = p.answers ∙ rw t refl in record { done = eqb-true _ _ t; bytes = cc })
+    (λ f. let e : Ok n ≡ Err (refusal_of (number_due P (length out))) = p.answers ∙ rw f refl in never (cc))
 
 few-taken : (P : Parts) → P.sinks.count ≤ max_sinks → length (contents_of P).sinks ≤ max_sinks
 unfolding contents_of
@@ -78,7 +78,7 @@ means-written J s k = means-by (version_for J) (writable J).known (record { byte
 reads-written : (J : Contents) → Means (written J) J → judged (version_for J) J ≡ Good → (q : Reading) → Read (written J) q → q ≡ accepted (version_for J) J
 reads-written J m g q r = answers-meaning (written J) J q m r ∙ rw (written_version (written J) J refl, g) refl
 
-pub written-reads : (P : Parts) (out out' : List ℕ) (n : ℕ) → Promise P out (Written n) out' → ReadsBack P (take n out')
+pub written-reads : (P : Parts) (out out' : List ℕ) (n : ℕ) → Promise P out (Ok n) out' → ReadsBack P (take n out')
 written-reads P out out' n p =
     let J = contents_of P in
     let S = success P out out' n p in
@@ -96,7 +96,7 @@ pub record ListsBack (P : Parts) (J : Contents) : Type 0 where
   pub terminals : position_list J.terminals ≡ P.terminals
   pub reserved : position_list J.reserved ≡ P.reserved
 
-pub lists_back : (P : Parts) (out out' : List ℕ) (n : ℕ) → Promise P out (Written n) out' → ListsBack P (contents_of P)
+pub lists_back : (P : Parts) (out out' : List ℕ) (n : ℕ) → Promise P out (Ok n) out' → ListsBack P (contents_of P)
 unfolding contents_of formed
 lists_back P out out' n p =
     let S = success P out out' n p in
@@ -124,14 +124,14 @@ refuses_nothing P sheet m g k w lent h =
 
 -- ---- an accepted sheet, taken apart and written: one of its job's version gives its own bytes back, any other the same job
 
-pub record GivesBack (sheet : List ℕ) (J : Contents) (out : List ℕ) (r : Writing) (out' : List ℕ) : Type 0 where
-  pub answers : r ≡ Written (length (written J))
+pub record GivesBack (sheet : List ℕ) (J : Contents) (out : List ℕ) (r : results.Result ℕ Refusal) (out' : List ℕ) : Type 0 where
+  pub answers : r ≡ Ok (length (written J))
   pub holds : out' ≡ filled (written J) out
   pub own-bytes : version_in sheet ≡ version_for J → written J ≡ sheet
   pub same-job : (q : Reading) → Read (written J) q → q ≡ accepted (version_for J) J
 
 pub gives_back : (sheet : List ℕ) (job : Job) (A : Accepted sheet job) (out : List ℕ) → length sheet ≤ length out
-    → (r : Writing) (out' : List ℕ) → Promise (parts_of A.contents) out r out' → GivesBack sheet A.contents out r out'
+    → (r : results.Result ℕ Refusal) (out' : List ℕ) → Promise (parts_of A.contents) out r out' → GivesBack sheet A.contents out r out'
 gives_back sheet job A out h r out' p =
     let J = A.contents in
     let P = parts_of J in

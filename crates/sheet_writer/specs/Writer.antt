@@ -1,7 +1,9 @@
 -- docs/MORE-RULES.md, Writing a sheet: what the parts of a job say, which number is due, what the writer answers, and what its output then holds. Definitions
 -- alone; their laws are in the files named Laws, what they come to in Theorems.
-use Rattle.std.specs.Prelude.{◌≡◌, Bool, ◌&&◌, List, [], ◌∷◌, map, ℕ, ◌+◌, ◌/◌, ◌%◌, leb, eqb, length, get_or, take}
-use Rattle.numbers.specs.Refusals.{done_number, buffer_number}
+use Rattle.std.specs.Prelude.{◌≡◌, Result, Ok, Err, Bool, ◌&&◌, List, [], ◌∷◌, map, ℕ, ◌+◌, ◌/◌, ◌%◌, leb, eqb, length, get_or, take}
+use Rattle.numbers.specs.declared.Refusal.{Refusal}
+use Rattle.numbers.specs.declared.Refusal.TheVariants as refusal
+use Rattle.numbers.specs.Refusals.{done_number, sheet_number, sides_number, config_number, position_number, code_number, buffer_number}
 use Rattle.basics.specs.Tests.{either}
 use Rattle.basics.specs.Lists.{joined}
 use Rattle.lent.specs.Lent.{output_after}
@@ -19,8 +21,6 @@ use Rattle.job_sheet.specs.Version.{first_ranges, version_one, version_two, vers
 use Rattle.job_sheet.specs.Sheet.{Contents, max_bytes, max_sinks, bytes_by, usual, is_good, judged, number_of, sinks_of}
 use Rattle.job_sheet.specs.Places.{many}
 use Rattle.sheet_writer.specs.declared.Lengths.{Lengths}
-use Rattle.sheet_writer.specs.declared.Writing.{Writing}
-use Rattle.sheet_writer.specs.declared.Writing.TheVariants.{Written, Refused}
 use Rattle.sheet_writer.specs.declared.Records.{Records}
 use Rattle.sheet_writer.specs.declared.Records.TheVariants.{Blocks, Positions}
 
@@ -146,12 +146,19 @@ number_due P lent =
 
 -- ---- the promise
 
--- how many bytes were written, or the number
-abbrev pub answer_of : ℕ → ℕ → Writing
-answer_of number bytes = either (eqb number done_number) (Written bytes) (Refused number)
+-- what a number from 1 to 6 stands for
+abbrev pub refusal_of : ℕ → Refusal
+refusal_of n =
+    either (eqb n sheet_number) refusal.Sheet
+    (either (eqb n sides_number) refusal.Sides
+    (either (eqb n config_number) refusal.Config (either (eqb n position_number) refusal.Position (either (eqb n code_number) refusal.Code refusal.Buffer))))
+
+-- how many bytes were written, or what the number stands for
+abbrev pub answer_of : ℕ → ℕ → Result ℕ Refusal
+answer_of number bytes = either (eqb number done_number) (Ok bytes) (Err (refusal_of number))
 
 -- the promise of `write_sheet`: the sheet's bytes and zeros behind them; "none touches the output"
-pub record Promise (P : Parts) (out : List ℕ) (r : Writing) (out' : List ℕ) : Type 0 where
+pub record Promise (P : Parts) (out : List ℕ) (r : Result ℕ Refusal) (out' : List ℕ) : Type 0 where
   pub answers : r ≡ answer_of (number_due P (length out)) (length (written (contents_of P)))
   pub holds : out' ≡ output_after (number_due P (length out)) (written (contents_of P)) out
 

@@ -1,6 +1,6 @@
 // A sheet taken apart: read, and its lists copied out as 16-bit numbers, as the writer takes them.
 ghost use Rattle.std.specs.Prelude.{◌≡◌, ◌+◌, ◌*◌, ◌^◌, ◌%◌, ◌<◌, ◌≤◌, length, drop};
-ghost use Rattle.lent.specs.Lent.{Cleared, filled};
+ghost use Rattle.lent.specs.Lent.{filled};
 ghost use Rattle.putting.specs.Putting.{Put, Fits};
 ghost use Rattle.job_sheet.specs.Sheet.{behind};
 ghost use Rattle.sheet_writer.specs.Writer.{numbers_for};
@@ -10,7 +10,8 @@ use crate::{BLOCK_NUMBERS, Lengths, POSITION_NUMBERS, Records};
 use job_sheet::places::{block_from, position_from};
 use job_sheet::{Job, Part};
 
-// What comes of taking a sheet apart: the number, 0 where its lists were copied, and its job.
+// What comes of taking a sheet apart: the number, 0 where its lists were copied, and its job. No Result: `TakesApart` tells the
+// job beside number 6 too.
 #[derive(Clone, Copy)]
 pub struct Taking {
     pub number: u32,
@@ -24,29 +25,14 @@ fn short(n: usize) -> u16
     (n % 65536) as u16
 }
 
-// Zeros, to the very end.
-fn clear_numbers(s: &mut [u16])
-    ensures { Cleared s.old s.new }
-{
-    let n = s.len();
-    let mut word: usize = 0;
-    while word < n {
-        s[word] = 0;
-        word += 1;
-    }
-}
-
 // Puts numbers at a place, and answers the place behind them.
 fn put_numbers(out: &mut [u16], at: usize, numbers: &[u16]) -> usize
     requires { Fits out.old at numbers.now }
     ensures { Put out.old at numbers.now out.new result }
 {
-    let mut i: usize = 0;
-    while i < numbers.len() {
-        out[at + i] = numbers[i];
-        i += 1;
-    }
-    at + numbers.len()
+    let end = at + numbers.len();
+    out[at..end].copy_from_slice(numbers);
+    end
 }
 
 // The record that begins at a place of the sheet, with long coordinates or not.
@@ -89,15 +75,10 @@ fn copy_records(out: &mut [u16], sheet: &[u8], records: Records, part: Part) -> 
     requires fits { Fits out.old 0 (list_in records sheet.now part) }
     ensures { Put out.old 0 (list_in records sheet.now part) out.new result }
 {
-    let size = part.size;
-    let long = part.long;
     let mut end: usize = 0;
-    let mut place = part.from;
-    let mut left = part.count;
-    while 0 < left {
-        end = copy_record(out, end, sheet, records, long, place);
-        place += size;
-        left -= 1;
+    for k in 0..part.count {
+        let place = part.from + part.size * k;
+        end = copy_record(out, end, sheet, records, part.long, place);
     }
     end
 }
@@ -109,27 +90,20 @@ fn copy_list(out: &mut [u16], sheet: &[u8], records: Records, part: Part)
     ensures { out.new ≡ filled (list_in records sheet.now part) out.old }
 {
     let end = copy_records(out, sheet, records, part);
-    clear_numbers(&mut out[end..]);
+    out[end..].fill(0);
 }
 
 // Whether the lists of a job find place: 6 is due where this is false.
+#[tactic(auto, unfolding(crate::specs::Apart::lists_fit))]
 fn lists_fit(job: Job, lent: Lengths) -> bool
     requires { Inside job }
     ensures { result ≡ lists_fit job lent }
 {
-    if lent.blocks < BLOCK_NUMBERS * job.blocks.count {
-        return false;
-    }
-    if lent.conductors < POSITION_NUMBERS * job.conductors.count {
-        return false;
-    }
-    if lent.clearances < POSITION_NUMBERS * job.clearances.count {
-        return false;
-    }
-    if lent.terminals < POSITION_NUMBERS * job.terminals.count {
-        return false;
-    }
-    POSITION_NUMBERS * job.reserved.count <= lent.reserved
+    BLOCK_NUMBERS * job.blocks.count <= lent.blocks
+        && POSITION_NUMBERS * job.conductors.count <= lent.conductors
+        && POSITION_NUMBERS * job.clearances.count <= lent.clearances
+        && POSITION_NUMBERS * job.terminals.count <= lent.terminals
+        && POSITION_NUMBERS * job.reserved.count <= lent.reserved
 }
 
 // Takes a sheet apart: its job, and its lists as numbers, each to the front of its slice, with zeros behind it; or the number

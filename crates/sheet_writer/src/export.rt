@@ -1,6 +1,5 @@
 // The writer told as numbers, for other languages: all of `dustroute_write_sheet` but its exported name.
 ghost use Rattle.std.specs.Prelude.{◌≡◌, [], ◌∷◌, ◌+◌, ◌/◌, ◌≤◌, length, drop, leb};
-ghost use Rattle.lent.specs.Lent.{filled};
 ghost use Rattle.job_sheet.specs.Sheet.{max_sinks};
 ghost use Rattle.sheet_writer.specs.Writer.{Promise};
 ghost use Rattle.basics.specs.Tests.{either};
@@ -8,8 +7,9 @@ ghost use Rattle.sheet_writer.specs.Export.{room_of, config_of, end_numbers, end
 ghost use Rattle.sheet_writer.specs.ExportLaws.{number_told, values_told, Fit};
 
 use crate::listed::{code_of, number, position_from, wide};
-use crate::{ENDPOINT_NUMBERS, SINK_NUMBERS, Writing, write_sheet};
+use crate::{ENDPOINT_NUMBERS, SINK_NUMBERS, write_sheet};
 use job_sheet::{Endpoint, MAX_SINKS, Sink, Sinks};
+use numbers::Refusal;
 use room::{Cost, Nodes, Room, RouterConfig, as_index};
 
 // How many values a writing comes to: its detail, and how many bytes were written.
@@ -45,50 +45,32 @@ pub fn sinks_of(numbers: &[u16]) -> Sinks
 {
     let count = numbers.len() / SINK_NUMBERS;
     let mut ends = [job_sheet::no_sink(); MAX_SINKS];
-    let mut k: usize = 0;
-    while k < count {
-        let sink = sink_from(numbers, SINK_NUMBERS * k);
-        ends[k] = sink;
-        k += 1;
+    for k in 0..count {
+        ends[k] = sink_from(numbers, SINK_NUMBERS * k);
     }
     Sinks { count, ends }
 }
 
 // Number 1 is due where this is false: of how many numbers tell the source, and how many the sinks.
+#[tactic(auto, unfolding(crate::specs::Export::ends_good))]
 fn ends_good(source: usize, sinks: usize) -> bool
     ensures { result ≡ ends_good source sinks }
 {
-    if source != ENDPOINT_NUMBERS {
-        return false;
-    }
-    if sinks % SINK_NUMBERS != 0 {
-        return false;
-    }
-    sinks / SINK_NUMBERS <= MAX_SINKS
-}
-
-// Two values, and zeros behind them.
-fn write_two(values: &mut [u64], detail: u64, second: u64)
-    requires { value_count ≤ length values.old }
-    ensures { values.new ≡ filled (detail ∷ second ∷ []) values.old }
-{
-    lent::clear_longs(values);
-    values[0] = detail;
-    values[1] = second;
+    source == ENDPOINT_NUMBERS && sinks % SINK_NUMBERS == 0 && sinks / SINK_NUMBERS <= MAX_SINKS
 }
 
 // Writes a success' values and returns the number. A refusal writes nothing.
-fn tell(writing: Writing, values: &mut [u64]) -> u32
+fn tell(writing: Result<usize, Refusal>, values: &mut [u64]) -> u32
     requires { Fit writing values.old }
     ensures value { result ≡ number_told writing }
     ensures values_after { values.new ≡ values_told writing values.old }
 {
     match writing {
-        Writing::Written(bytes) => {
-            write_two(values, 0, bytes as u64);
+        Ok(bytes) => {
+            lent::write_two(values, 0, bytes as u64);
             numbers::DONE_NUMBER
         }
-        Writing::Refused(number) => number,
+        Err(why) => why.number(),
     }
 }
 

@@ -2,15 +2,16 @@
 ghost use Rattle.std.specs.Prelude.{◌≡◌, [], ◌∷◌, map, ◌+◌, ◌*◌, ◌^◌, ◌<◌, ◌≤◌, length, drop, take};
 ghost use Rattle.job_sheet.specs.Version.{most_size, Searchable};
 ghost use Rattle.job_sheet.specs.Sheet.{max_bytes, max_sinks, first_fault, endpoint_fault, sink_fault, judged};
-ghost use Rattle.sheet_writer.specs.Writer.{numbers_for, parts, contents_of, version_for, whole, wholes, lengths_of, judged_parts};
+ghost use Rattle.sheet_writer.specs.Writer.{numbers_for, contents_of, version_for, whole, wholes, lengths_of, judged_parts};
+ghost use Rattle.sheet_writer.specs.JobParts.{parts_in};
 ghost use Rattle.sheet_writer.specs.Sizes.{few_records, Few, BehindList, sheet_length, lengths_good};
 ghost use Rattle.sheet_writer.specs.Faults.{fault_from, faults_from};
 
 use crate::listed::{block_from, position_from};
-use crate::{BLOCK_NUMBERS, Lengths, POSITION_NUMBERS, Records};
+use crate::{BLOCK_NUMBERS, JobParts, Lengths, POSITION_NUMBERS, Records};
 use job_sheet::faults::{block_fault, endpoint_fault, position_fault, sink_fault};
 use job_sheet::{Endpoint, Judgement, MAX_BYTES, Sink, Sinks, Version, versions};
-use room::{Room, RouterConfig};
+use room::Room;
 
 // Whether so many numbers are a whole number of records.
 fn whole(numbers: usize, size: usize) -> bool
@@ -23,38 +24,23 @@ fn whole(numbers: usize, size: usize) -> bool
 fn wholes(n: Lengths) -> bool
     ensures { result ≡ wholes n }
 {
-    if !whole(n.blocks, BLOCK_NUMBERS) {
-        return false;
-    }
-    if !whole(n.conductors, POSITION_NUMBERS) {
-        return false;
-    }
-    if !whole(n.clearances, POSITION_NUMBERS) {
-        return false;
-    }
-    if !whole(n.terminals, POSITION_NUMBERS) {
-        return false;
-    }
-    whole(n.reserved, POSITION_NUMBERS)
+    whole(n.blocks, BLOCK_NUMBERS)
+        && whole(n.conductors, POSITION_NUMBERS)
+        && whole(n.clearances, POSITION_NUMBERS)
+        && whole(n.terminals, POSITION_NUMBERS)
+        && whole(n.reserved, POSITION_NUMBERS)
 }
 
 // Whether no list has more records than a sheet may have bytes: lengths are tested before they are multiplied.
+#[tactic(auto, unfolding(crate::specs::Sizes::few_records))]
 fn few_records(n: Lengths) -> bool
     ensures { result ≡ few_records n }
 {
-    if MAX_BYTES < n.blocks / BLOCK_NUMBERS {
-        return false;
-    }
-    if MAX_BYTES < n.conductors / POSITION_NUMBERS {
-        return false;
-    }
-    if MAX_BYTES < n.clearances / POSITION_NUMBERS {
-        return false;
-    }
-    if MAX_BYTES < n.terminals / POSITION_NUMBERS {
-        return false;
-    }
-    n.reserved / POSITION_NUMBERS <= MAX_BYTES
+    n.blocks / BLOCK_NUMBERS <= MAX_BYTES
+        && n.conductors / POSITION_NUMBERS <= MAX_BYTES
+        && n.clearances / POSITION_NUMBERS <= MAX_BYTES
+        && n.terminals / POSITION_NUMBERS <= MAX_BYTES
+        && n.reserved / POSITION_NUMBERS <= MAX_BYTES
 }
 
 // The place right behind a list of so many records whose count stands at a place.
@@ -123,15 +109,11 @@ fn first_fault(found: Judgement, room: Room, records: Records, numbers: &[u16]) 
 {
     let size = records.numbers();
     let mut fault = found;
-    let mut place: usize = 0;
-    let mut left = numbers.len() / size;
-    while 0 < left {
+    for k in 0..numbers.len() / size {
         if !fault.is_good() {
             return fault;
         }
-        fault = record_fault(room, records, numbers, place);
-        place += size;
-        left -= 1;
+        fault = record_fault(room, records, numbers, size * k);
     }
     fault
 }
@@ -161,91 +143,53 @@ fn sinks_fault(found: Judgement, room: Room, sinks: Sinks) -> Judgement
     requires { sinks.count ≤ max_sinks }
     ensures { result ≡ first_fault (found ∷ map (sink_fault room) (take sinks.count sinks.ends)) }
 {
-    let count = sinks.count;
-    let ends = sinks.ends;
     let mut fault = found;
-    let mut k: usize = 0;
-    while k < count {
-        let sink = ends[k];
-        fault = one_sink_fault(fault, room, sink);
-        k += 1;
+    for sink in &sinks.ends[..sinks.count] {
+        fault = one_sink_fault(fault, room, *sink);
     }
     fault
 }
 
-// Numbers 2 and 3 at the ranges of a version, then 4 and 5 "record by record".
-fn judge_records(
-    version: Version,
-    room: Room,
-    config: RouterConfig,
-    run: usize,
-    blocks: &[u16],
-    conductors: &[u16],
-    clearances: &[u16],
-    terminals: &[u16],
-    reserved: &[u16],
-    source: Endpoint,
-    sinks: Sinks,
-) -> Judgement
-    requires { (sinks.count ≤ max_sinks) × Searchable version.ranges }
-    ensures { result ≡ judged version (contents_of (parts room config run blocks.now conductors.now clearances.now terminals.now reserved.now source sinks)) }
-{
-    let mut fault = version.ranges.head_fault(room, config, run);
-    fault = first_fault(fault, room, Records::Blocks, blocks);
-    fault = first_fault(fault, room, Records::Positions, conductors);
-    fault = first_fault(fault, room, Records::Positions, clearances);
-    fault = first_fault(fault, room, Records::Positions, terminals);
-    fault = first_fault(fault, room, Records::Positions, reserved);
-    fault = end_fault(fault, room, source);
-    sinks_fault(fault, room, sinks)
-}
-
-// How long the lists of a job are, and how many sinks there are.
-pub fn lengths_of(
-    blocks: &[u16],
-    conductors: &[u16],
-    clearances: &[u16],
-    terminals: &[u16],
-    reserved: &[u16],
-    sinks: Sinks,
-) -> Lengths
-    ensures { result ≡ lengths_of blocks.now conductors.now clearances.now terminals.now reserved.now sinks }
-{
-    Lengths {
-        blocks: blocks.len(),
-        conductors: conductors.len(),
-        clearances: clearances.len(),
-        terminals: terminals.len(),
-        reserved: reserved.len(),
-        sinks: sinks.count,
+impl JobParts<'_> {
+    // Numbers 2 and 3 at the ranges of a version, then 4 and 5 "record by record".
+    fn judge_records(&self, version: Version) -> Judgement
+        requires { (self.now.sinks.count ≤ max_sinks) × Searchable version.ranges }
+        ensures { result ≡ judged version (contents_of (parts_in self.now)) }
+    {
+        let room = self.room;
+        let lists = self.lists;
+        let mut fault = version.ranges.head_fault(room, self.config, self.run);
+        fault = first_fault(fault, room, Records::Blocks, lists.blocks);
+        fault = first_fault(fault, room, Records::Positions, lists.conductors);
+        fault = first_fault(fault, room, Records::Positions, lists.clearances);
+        fault = first_fault(fault, room, Records::Positions, lists.terminals);
+        fault = first_fault(fault, room, Records::Positions, lists.reserved);
+        fault = end_fault(fault, room, self.source);
+        sinks_fault(fault, room, self.sinks)
     }
-}
 
-// Number 1, then 2 to 5, in the version that is written.
-pub fn judge(
-    version: Version,
-    room: Room,
-    config: RouterConfig,
-    run: usize,
-    blocks: &[u16],
-    conductors: &[u16],
-    clearances: &[u16],
-    terminals: &[u16],
-    reserved: &[u16],
-    source: Endpoint,
-    sinks: Sinks,
-) -> Judgement
-    requires { version ≡ version_for (contents_of (parts room config run blocks.now conductors.now clearances.now terminals.now reserved.now source sinks)) }
-    ensures { result ≡ judged_parts (parts room config run blocks.now conductors.now clearances.now terminals.now reserved.now source sinks) }
-{
-    if !formed(
-        version,
-        lengths_of(blocks, conductors, clearances, terminals, reserved, sinks),
-    ) {
-        return Judgement::Sheet;
+    // How long the lists of a job are, and how many sinks there are.
+    pub fn lengths_of(&self) -> Lengths
+        ensures { result ≡ lengths_of self.now.lists.blocks.now self.now.lists.conductors.now self.now.lists.clearances.now self.now.lists.terminals.now self.now.lists.reserved.now self.now.sinks }
+    {
+        Lengths {
+            blocks: self.lists.blocks.len(),
+            conductors: self.lists.conductors.len(),
+            clearances: self.lists.clearances.len(),
+            terminals: self.lists.terminals.len(),
+            reserved: self.lists.reserved.len(),
+            sinks: self.sinks.count,
+        }
     }
-    judge_records(
-        version, room, config, run, blocks, conductors, clearances, terminals, reserved, source,
-        sinks,
-    )
+
+    // Number 1, then 2 to 5, in the version that is written.
+    pub fn judge(&self, version: Version) -> Judgement
+        requires { version ≡ version_for (contents_of (parts_in self.now)) }
+        ensures { result ≡ judged_parts (parts_in self.now) }
+    {
+        if !formed(version, self.lengths_of()) {
+            return Judgement::Sheet;
+        }
+        self.judge_records(version)
+    }
 }

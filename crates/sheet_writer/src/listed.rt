@@ -18,7 +18,7 @@ pub fn number(numbers: &[u16], place: usize, k: usize) -> u16
 pub fn wide(number: u16) -> usize
     ensures { result ≡ number }
 {
-    number as usize
+    usize::from(number)
 }
 
 // "x, y, z", from number k on of what begins at a place.
@@ -34,10 +34,11 @@ pub fn position_from(numbers: &[u16], place: usize, k: usize) -> Pos
 }
 
 // A code in one byte. A number that no byte holds is no code; nor is 255, which stands for it.
+#[tactic(auto, unfolding(crate::specs::Narrow::code_of))]
 pub fn code_of(number: u16) -> u8
     ensures { result ≡ code_of number }
 {
-    if number < 256 { number as u8 } else { 255 }
+    u8::try_from(number).unwrap_or(255)
 }
 
 // "node, x, y, z, kind, facing", its codes in one byte each.

@@ -3,14 +3,15 @@
 ghost use Rattle.std.specs.Prelude.{◌≡◌, [], ◌∷◌, ◌+◌, ◌%◌, ◌≤◌, length, drop, take};
 ghost use Rattle.putting.specs.Putting.{Put, Fits};
 ghost use Rattle.job_sheet.specs.Sheet.{max_sinks, two, four, coordinate, sides, costs, position, block, endpoint, limit, sink};
-ghost use Rattle.sheet_writer.specs.Writer.{block_numbers, numbers_for, block_from, parts, low};
+ghost use Rattle.sheet_writer.specs.Writer.{block_numbers, numbers_for, block_from, low};
+ghost use Rattle.sheet_writer.specs.JobParts.{parts_in};
 ghost use Rattle.sheet_writer.specs.Texts.{bytes_from, records_text, list_text, ends_text, sinks_text, head_text, lists_text, sheet_text};
 
-use crate::Records;
 use crate::listed::{number, position_from, wide};
+use crate::{JobParts, Lists, Records};
 use job_sheet::{Endpoint, Sink, Sinks, Version};
 use putting::put_bytes;
-use room::{Pos, Room, RouterConfig, as_index};
+use room::{Pos, RouterConfig, as_index};
 
 // The low byte of a number.
 fn low_byte(n: usize) -> u8
@@ -144,12 +145,8 @@ fn put_records(out: &mut [u8], at: usize, long: bool, records: Records, numbers:
 {
     let size = records.numbers();
     let mut end = at;
-    let mut place: usize = 0;
-    let mut left = numbers.len() / size;
-    while 0 < left {
-        end = put_record(out, end, long, records, numbers, place);
-        place += size;
-        left -= 1;
+    for k in 0..numbers.len() / size {
+        end = put_record(out, end, long, records, numbers, size * k);
     }
     end
 }
@@ -165,24 +162,15 @@ fn put_list(out: &mut [u8], at: usize, long: bool, records: Records, numbers: &[
 }
 
 // The five lists.
-fn put_lists(
-    out: &mut [u8],
-    at: usize,
-    long: bool,
-    blocks: &[u16],
-    conductors: &[u16],
-    clearances: &[u16],
-    terminals: &[u16],
-    reserved: &[u16],
-) -> usize
-    requires { Fits out.old at (lists_text long blocks.now conductors.now clearances.now terminals.now reserved.now) }
-    ensures { Put out.old at (lists_text long blocks.now conductors.now clearances.now terminals.now reserved.now) out.new result }
+fn put_lists(out: &mut [u8], at: usize, long: bool, lists: Lists) -> usize
+    requires { Fits out.old at (lists_text long lists.blocks.now lists.conductors.now lists.clearances.now lists.terminals.now lists.reserved.now) }
+    ensures { Put out.old at (lists_text long lists.entry.blocks.now lists.entry.conductors.now lists.entry.clearances.now lists.entry.terminals.now lists.entry.reserved.now) out.new result }
 {
-    let first = put_list(out, at, long, Records::Blocks, blocks);
-    let second = put_list(out, first, long, Records::Positions, conductors);
-    let third = put_list(out, second, long, Records::Positions, clearances);
-    let fourth = put_list(out, third, long, Records::Positions, terminals);
-    put_list(out, fourth, long, Records::Positions, reserved)
+    let first = put_list(out, at, long, Records::Blocks, lists.blocks);
+    let second = put_list(out, first, long, Records::Positions, lists.conductors);
+    let third = put_list(out, second, long, Records::Positions, lists.clearances);
+    let fourth = put_list(out, third, long, Records::Positions, lists.terminals);
+    put_list(out, fourth, long, Records::Positions, lists.reserved)
 }
 
 // The sinks, one after another.
@@ -191,14 +179,9 @@ fn put_ends(out: &mut [u8], at: usize, version: Version, sinks: Sinks) -> usize
     requires fits { Fits out.old at (ends_text version (take sinks.count sinks.ends)) }
     ensures { Put out.old at (ends_text version (take sinks.count sinks.ends)) out.new result }
 {
-    let count = sinks.count;
-    let ends = sinks.ends;
     let mut end = at;
-    let mut k: usize = 0;
-    while k < count {
-        let sink = ends[k];
-        end = put_sink(out, end, version, sink);
-        k += 1;
+    for sink in &sinks.ends[..sinks.count] {
+        end = put_sink(out, end, version, *sink);
     }
     end
 }
@@ -224,65 +207,33 @@ fn put_costs(out: &mut [u8], at: usize, config: RouterConfig) -> usize
     put_four(out, third, as_index(config.support.0))
 }
 
-// "version byte, four-byte length of the rest, then X, Y, Z", the config, and the run limit.
-fn put_head(
-    out: &mut [u8],
-    version: Version,
-    rest: usize,
-    room: Room,
-    config: RouterConfig,
-    run: usize,
-) -> usize
-    requires { Fits out.old 0 (head_text version rest room config run) }
-    ensures { Put out.old 0 (head_text version rest room config run) out.new result }
-{
-    let versioned = put_one(out, 0, version.number as usize);
-    let long = put_four(out, versioned, rest);
-    let sided = put_position(
-        out,
-        long,
-        version.long,
-        Pos {
-            x: room.wide,
-            y: room.high,
-            z: room.deep,
-        },
-    );
-    let costed = put_costs(out, sided, config);
-    put_limit(out, costed, version.limits, run)
-}
+impl JobParts<'_> {
+    // "version byte, four-byte length of the rest, then X, Y, Z", the config, and the run limit.
+    fn put_head(&self, out: &mut [u8], version: Version, rest: usize) -> usize
+        requires { Fits out.old 0 (head_text version rest self.now.room self.now.config self.now.run) }
+        ensures { Put out.old 0 (head_text version rest self.now.room self.now.config self.now.run) out.new result }
+    {
+        let versioned = put_one(out, 0, version.number as usize);
+        let long = put_four(out, versioned, rest);
+        let sides = Pos {
+            x: self.room.wide,
+            y: self.room.high,
+            z: self.room.deep,
+        };
+        let sided = put_position(out, long, version.long, sides);
+        let costed = put_costs(out, sided, self.config);
+        put_limit(out, costed, version.limits, self.run)
+    }
 
-// The whole sheet, whose rest behind the length has so many bytes.
-pub fn put_sheet(
-    out: &mut [u8],
-    version: Version,
-    rest: usize,
-    room: Room,
-    config: RouterConfig,
-    run: usize,
-    blocks: &[u16],
-    conductors: &[u16],
-    clearances: &[u16],
-    terminals: &[u16],
-    reserved: &[u16],
-    source: Endpoint,
-    sinks: Sinks,
-) -> usize
-    requires count_le_max_sinks { sinks.count ≤ max_sinks }
-    requires fits { Fits out.old 0 (sheet_text version rest (parts room config run blocks.now conductors.now clearances.now terminals.now reserved.now source sinks)) }
-    ensures { Put out.old 0 (sheet_text version rest (parts room config run blocks.now conductors.now clearances.now terminals.now reserved.now source sinks)) out.new result }
-{
-    let headed = put_head(out, version, rest, room, config, run);
-    let listed = put_lists(
-        out,
-        headed,
-        version.long,
-        blocks,
-        conductors,
-        clearances,
-        terminals,
-        reserved,
-    );
-    let sourced = put_endpoint(out, listed, version.long, source);
-    put_sinks(out, sourced, version, sinks)
+    // The whole sheet, whose rest behind the length has so many bytes.
+    pub fn put_sheet(&self, out: &mut [u8], version: Version, rest: usize) -> usize
+        requires count_le_max_sinks { self.now.sinks.count ≤ max_sinks }
+        requires fits { Fits out.old 0 (sheet_text version rest (parts_in self.now)) }
+        ensures { Put out.old 0 (sheet_text version rest (parts_in self.now)) out.new result }
+    {
+        let headed = self.put_head(out, version, rest);
+        let listed = put_lists(out, headed, version.long, self.lists);
+        let sourced = put_endpoint(out, listed, version.long, self.source);
+        put_sinks(out, sourced, version, self.sinks)
+    }
 }

@@ -10,10 +10,11 @@ use Rattle.room.specs.Room.{volume}
 use Rattle.room.specs.Units.{air}
 use Rattle.routing_resources.specs.Marks.{is_marked}
 use Rattle.job_sheet.specs.Sheet.{Contents}
-use Rattle.blocks.specs.declared.Placement.{Placement}
+use Rattle.std.specs.Prelude.{Option, Ok, Err}
+use Rattle.blocks.specs.Blocks.{Placement}
 use Rattle.blocks.specs.Blocks.{left_by, kinds_of, nodes_of}
 use Rattle.ends.specs.declared.Fault.{Fault}
-use Rattle.outset.specs.declared.Outset.{Outset}
+use Rattle.outset.specs.SetOut.{Outset}
 use Rattle.outset.specs.Outset.{stands_at, block_keepout, own_cell, blocked_at_outset}
 use Rattle.outset.specs.SetOut.{ready_by, ready, OutsetOf}
 use Rattle.multinet.specs.Tree.{Plot, Tree, grown, planted, grow_from}
@@ -27,15 +28,15 @@ use Rattle.sink_claims.specs.BitLaws.{seven_bits, bit_1, bit_2, bit_4, bit_8, bi
 
 -- a job that is ready has the blocks' kinds and nodes
 module _ {J : Contents} {O : Outset} {kinds nodes blocked : List ℕ} (S : OutsetOf J O kinds nodes blocked) (t : ready O ≡ true) where
-  all_left : (p : Placement) (f : Fault) → ready_by p f ≡ true → (R : Room) (l : List ℕ) → left_by p R l ≡ l
-  all_left (Placement.RepeatAt cell) f e R l = never (cc)
-  all_left Placement.Placed f e R l = refl
+  all_left : (p : Placement) (f : Option Fault) → ready_by p f ≡ true → (R : Room) (l : List ℕ) → left_by p R l ≡ l
+  all_left (Err overlap) f e R l = never (cc)
+  all_left (Ok placed) f e R l = refl
 
   -- and what is blocked at the outset is said by these
   pub outset-is : blocked ≡ blocked_at_outset kinds nodes J O.ends.source O.ends.taps
   outset-is =
-      let k : kinds ≡ kinds_of J.room J.blocks = S.laid.kinds-are ∙ all_left O.placement O.ends.fault t J.room (kinds_of J.room J.blocks) in
-      let n : nodes ≡ nodes_of J.room J.blocks = S.laid.nodes-are ∙ all_left O.placement O.ends.fault t J.room (nodes_of J.room J.blocks) in
+      let k : kinds ≡ kinds_of J.room J.blocks = S.laid.kinds-are ∙ all_left O.placement O.fault t J.room (kinds_of J.room J.blocks) in
+      let n : nodes ≡ nodes_of J.room J.blocks = S.laid.nodes-are ∙ all_left O.placement O.fault t J.room (nodes_of J.room J.blocks) in
       rw (k, n) (rw t at S.blocked-are)
 
 module _ (kinds nodes : List ℕ) (J : Contents) (P : Plot) (room-is : P.room ≡ J.room) (turn : ℕ) (before : turn ≤ P.taps.count) (T : Tree)

@@ -22,8 +22,8 @@ use Rattle.net_tree.specs.Answers as trees
 use Rattle.net_tree.specs.Answers.{Lent, lengths_of, TreeOutcome, routed, no_tree, answer_of, number_for}
 use Rattle.net_tree.specs.JobLaws.{plot-sound}
 use Rattle.exports.specs.TreeExport.{number_told}
-use Rattle.sink_why.specs.declared.Why.{Why}
-use Rattle.sink_why.specs.SinkWhy.{StoppedAt, no_reason, reason_at, reason_of, asks_why, TellsWhy, unasked, asked, WhyComes, outputs-short, as_tree, Outputs, Promise}
+use Rattle.sink_why.specs.PromiseLaws.{answer-is, place-is, verdict-is as told-verdict}
+use Rattle.sink_why.specs.SinkWhy.{Why, answer_in, place_in, verdict_in, StoppedAt, no_reason, reason_at, reason_of, asks_why, TellsWhy, unasked, asked, WhyComes, outputs-short, as_tree, Outputs, Promise}
 use Rattle.sink_claims.specs.Statements.{WallsSay, CausesSay}
 use Rattle.sink_claims.specs.AnswerStatements.{plot_there, sink_there, approach_there, AllZero, Told, Untold, WhyMeans}
 use Rattle.sink_claims.specs.TreeWallLaws.{walls_say}
@@ -115,18 +115,18 @@ same-outputs : {U U' : Outputs} → U'.reached ≡ U.reached → U'.walls ≡ U.
 same-outputs r w c = λ i. record { reached = r i; walls = w i; causes = c i }
 
 module _ {mode : Mode} {sheet : List ℕ} {B : Lent} {U : Outputs} {r : Why} {B' : Lent} {U' : Outputs} (K : Promise mode sheet B U r B' U') where
-  number_is : number_told r.answer ≡ number_for K.outcome
-  number_is = ap number_told K.answer ∙ told-number K.outcome
+  number_is : number_told (answer_in r) ≡ number_for K.outcome
+  number_is = ap number_told (answer-is K) ∙ told-number K.outcome
 
   module _ (number detail : ℕ) (o : K.outcome ≡ no_tree number detail) (a : asks_why number ≡ true) (S : StoppedAt mode sheet (lengths_of B) number detail)
       (w : K.reason ≡ reason_of S) where
-    verdict-is : r.verdict ≡ verdict S
-    verdict-is = K.verdict-is ∙ ap (λ x. x.verdict) w ∙ verdict-of S
+    verdict-is : (verdict_in r) ≡ verdict S
+    verdict-is = told-verdict K ∙ ap (λ x. x.verdict) w ∙ verdict-of S
 
     touched : touches (number_for K.outcome) ≡ true
     touched = rw o (asked-touches number a)
 
-    walls-there : r.verdict ≡ is_shut_in → WallsSay (plot_there S) S.tree (approach_there S) U'.reached U'.walls
+    walls-there : (verdict_in r) ≡ is_shut_in → WallsSay (plot_there S) S.tree (approach_there S) U'.reached U'.walls
     walls-there z =
         let e : verdict S ≡ is_shut_in = sym verdict-is ∙ z in
         let q = written (number_for K.outcome) K.reason.reached U.reached touched K.reached-is ∙ ap (λ l. filled l U.reached) (ap (λ x. x.reached) w ∙ reached-of S e) in
@@ -135,7 +135,7 @@ module _ {mode : Mode} {sheet : List ℕ} {B : Lent} {U : Outputs} {r : Why} {B'
         (walls_say (plot_there S) S.tree (approach_there S) (sound S).good ((sound S).net.taps_in_lem.approach_in (k S) (k_in S)) _ _
         (none-reached (plot_there S) (sound S) S.tree (k S) (k_in S) number e))
 
-    causes-there : r.verdict ≡ is_shut_in → CausesSay S.kinds S.nodes S.contents (plot_there S) S.tree U'.causes
+    causes-there : (verdict_in r) ≡ is_shut_in → CausesSay S.kinds S.nodes S.contents (plot_there S) S.tree U'.causes
     causes-there z =
         let e : verdict S ≡ is_shut_in = sym verdict-is ∙ z in
         let q = written (number_for K.outcome) K.reason.causes U.causes touched K.causes-is ∙ ap (λ l. filled l U.causes) (ap (λ x. x.causes) w ∙ causes-of S e) in
@@ -144,7 +144,7 @@ module _ {mode : Mode} {sheet : List ℕ} {B : Lent} {U : Outputs} {r : Why} {B'
         (causes_say S.kinds S.nodes S.contents (plot_there S) refl S.turn before S.tree
         (rw (outset-is S.unrefused.is_set S.unrefused.is-ready) at S.there.so_far) _)
 
-    else_there : r.verdict ≢ is_shut_in → AllZero U U'
+    else_there : (verdict_in r) ≢ is_shut_in → AllZero U U'
     else_there n =
         let m : verdict S ≢ is_shut_in = λ e. n (verdict-is ∙ e) in
         record {
@@ -157,10 +157,10 @@ module _ {mode : Mode} {sheet : List ℕ} {B : Lent} {U : Outputs} {r : Why} {B'
     told-there = record {
       number = number;
       detail = detail;
-      ended_so = ap (λ x. x.ended) (K.answer ∙ ap answer_of o);
+      ended_so = answer-is K ∙ ap answer_of o;
       stopped-at = S;
       sink_in = sink_in S;
-      place_is = K.place_is ∙ ap (λ x. x.place) w ∙ place_of S;
+      place_is = place-is K ∙ ap (λ x. x.place) w ∙ place_of S;
       verdict-means = rw verdict-is (verdict_true (plot_there S) (sound S) S.tree (k S) (k_in S) number detail S.there.stops);
       verdict-exactly = λ n. rw verdict-is (verdict-exact (plot_there S) (sound S) S.tree (k S) (k_in S) number n);
       else_way = λ n x y free.
@@ -174,8 +174,8 @@ module _ {mode : Mode} {sheet : List ℕ} {B : Lent} {U : Outputs} {r : Why} {B'
   module _ (f : asks_why (number_for K.outcome) ≡ false) (w : K.reason ≡ no_reason) where
     untold-there : Untold U r U'
     untold-there = record {
-      no_place = K.place_is ∙ ap (λ x. x.place) w;
-      no_verdict = K.verdict-is ∙ ap (λ x. x.verdict) w;
+      no_place = place-is K ∙ ap (λ x. x.place) w;
+      no_verdict = told-verdict K ∙ ap (λ x. x.verdict) w;
       zero_so = λ t.
           let touched = rw number_is at t in
           record {
@@ -188,32 +188,32 @@ module _ {mode : Mode} {sheet : List ℕ} {B : Lent} {U : Outputs} {r : Why} {B'
           same-outputs (rw kept at K.reached-is) (rw kept at K.walls-is) (rw kept at K.causes-is);
     }
 
-  told-so : asks_why (number_told r.answer) ≡ true → Told mode sheet (lengths_of B) U r U'
+  told-so : asks_why (number_told (answer_in r)) ≡ true → Told mode sheet (lengths_of B) U r U'
   told-so t = go K.tells
     where
       go : TellsWhy mode sheet (lengths_of B) K.outcome K.reason → Told mode sheet (lengths_of B) U r U'
       go (unasked f w) = let t' = rw number_is at t in never (cc)
       go (asked number detail o a S w) = told-there number detail o a S w
 
-  untold-so : asks_why (number_told r.answer) ≡ false → Untold U r U'
+  untold-so : asks_why (number_told (answer_in r)) ≡ false → Untold U r U'
   untold-so f = go K.tells
     where
       go : TellsWhy mode sheet (lengths_of B) K.outcome K.reason → Untold U r U'
       go (unasked g w) = untold-there g w
       go (asked number detail o a S w) = let f' = rw (number_is, o) at f in never (cc)
 
-  as_the_tree : number_told r.answer ≢ buffer_number → trees.Promise mode sheet B r.answer B'
+  as_the_tree : number_told (answer_in r) ≢ buffer_number → trees.Promise mode sheet B (answer_in r) B'
   as_the_tree n = go K.comes
     where
-      go : WhyComes mode sheet (lengths_of B) (length U.reached) (length U.walls) (length U.causes) K.outcome → trees.Promise mode sheet B r.answer B'
+      go : WhyComes mode sheet (lengths_of B) (length U.reached) (length U.walls) (length U.causes) K.outcome → trees.Promise mode sheet B (answer_in r) B'
       go (outputs-short J m g s o) = absurd (n (number_is ∙ ap number_for o))
-      go (as_tree g c) = record { outcome = K.outcome; comes = c; answer = K.answer; lent_is = K.lent_is }
+      go (as_tree g c) = record { outcome = K.outcome; comes = c; answer = answer-is K; lent_is = K.lent_is }
 
   -- WHAT IS TOLD IS TRUE
   pub why-means : WhyMeans mode sheet B U r B' U'
   why-means = record {
     verdict-exactly = (
-      (λ n. ask (asks_why (number_told r.answer)) (λ t. t) (λ f. absurd (n (untold-so f).no_verdict))),
+      (λ n. ask (asks_why (number_told (answer_in r))) (λ t. t) (λ f. absurd (n (untold-so f).no_verdict))),
       (λ t z. omega (arith, (told-so t).verdict-means.some, z)),
     );
     told = told-so;

@@ -1,13 +1,11 @@
 -- Number 14 where a node limit is never passed: every joinable cell has its reason, however few places the queue has, as a queue that is full is number 13.
-use Rattle.std.specs.Prelude.{◌≡◌, eqb}
+use Rattle.std.specs.Prelude.{◌≡◌, eqb, Option, Some, None}
 use Rattle.std.proofs.Math.Path.{refl, sym}
 use Rattle.std.proofs.Common.{◌∙◌, arith}
 use Rattle.std.proofs.Math.Bool.{true, false}
 use mathlib.Core.List.{List}
 use Prim.Native.Nat.{ℕ, zero, suc, ◌+◌, ◌-◌, ◌*◌, ◌≤◌, ◌<◌}
 use Rattle.basics.specs.Tests.{ask, never}
-use Rattle.room.specs.declared.Neighbour.{Neighbour}
-use Rattle.room.specs.declared.Neighbour.TheVariants.{Inside, Outside}
 use Rattle.room.specs.Room.{Good, volume}
 use Rattle.best_first.specs.Search.{Answer, route, no_route, limit-passed, queue-full}
 use Rattle.room_search.specs.Routing.{Task, routeable, searched}
@@ -46,7 +44,7 @@ module _ (T : Task) (G : Good T.room) (start_in : T.start < volume T.room) (goal
 module _ (S : Site) (G : Good S.room) (start : ℕ) (start_in : start < volume S.room) (D : Priced S.config)
     (limit : 5 * (volume S.room - 1) + 1 ≤ S.config.limit.0) where
   prepend : {goal n : ℕ} {blocked path : List ℕ} {cost v : ℕ} → searched_for (site_task S blocked start goal) ≡ found path cost
-      → conflict_of S.room S.kinds S.joinable path ≡ Inside v → ends_goal blocked start goal v ≡ false
+      → conflict_of S.room S.kinds S.joinable path ≡ Some v → ends_goal blocked start goal v ≡ false
       → GoalEnds S start goal n (marked_by (eqb v) blocked) → GoalEnds S start goal (suc n) blocked
   prepend {n = n} w f g (no_way m later few r q) = no_way {attempts = suc n} (suc m) later (omega arith) (one_more w f g r) q
   prepend {n = n} w f g (conflict_stays m later path cost v few r s c e) = conflict_stays {attempts = suc n} (suc m) later path cost v (omega arith) (one_more w f g r) s c e
@@ -58,12 +56,12 @@ module _ (S : Site) (G : Good S.room) (start : ℕ) (start_in : start < volume S
   goal-ends goal h (suc n) blocked e = after (searched_for (site_task S blocked start goal)) refl e (goal-ends goal h n)
     where
       at : (p : List ℕ) (c : ℕ) → searched_for (site_task S blocked start goal) ≡ found p c
-          → (place : Neighbour) → conflict_of S.room S.kinds S.joinable p ≡ place
+          → (place : Option ℕ) → conflict_of S.room S.kinds S.joinable p ≡ place
           → at_conflict blocked start goal (attempts n S start goal) (found p c) place ≡ failed
           → ((blocked' : List ℕ) → attempts n S start goal blocked' ≡ failed → GoalEnds S start goal n blocked')
           → GoalEnds S start goal (suc n) blocked
-      at p c w Outside f q later = never (cc)
-      at p c w (Inside v) f q later =
+      at p c w None f q later = never (cc)
+      at p c w (Some v) f q later =
           ask (ends_goal blocked start goal v)
           (λ t. conflict_stays {attempts = suc n} 0 blocked p c v (omega arith) as_blocked w f t)
           (λ g. prepend w f g (later (marked_by (eqb v) blocked) (rw g at q)))

@@ -18,10 +18,10 @@ use Rattle.job_sheet.specs.declared.Block.{Block}
 use Rattle.job_sheet.specs.declared.Endpoint.{Endpoint}
 use Rattle.job_sheet.specs.Sheet.{Contents}
 use Rattle.job_sheet.specs.UsualLimits.{usual_run, usual_tail}
-use Rattle.blocks.specs.declared.Placement.{Placement}
+use Rattle.blocks.specs.Blocks.{Placed}
 use Rattle.blocks.specs.Blocks.{of_block, tabulated, kinds_of, nodes_of}
 use Rattle.ends.specs.Ends as endings
-use Rattle.outset.specs.declared.Outset.{Outset}
+use Rattle.outset.specs.SetOut.{Outset}
 use Rattle.outset.specs.Outset as outset-of
 use Rattle.geometry.specs.Geometry.{stands_in, conductor, upper_of_pair, first_pair, at_clearance, stair_conflict, conflict_among}
 use Rattle.blocked_world.specs.BlockedWorld.{blocked_air, seen_kinds}
@@ -89,7 +89,7 @@ lengths n = record {
 }
 
 abbrev outset_for : Contents → Outset
-outset_for J = record { placement = Placement.Placed; ends = endings.ends_of J.room J.source J.sinks }
+outset_for J = record { placement = Placed; fault = endings.fault_of J.room J.source J.sinks; ends = endings.ends_of J.room J.source J.sinks }
 
 abbrev plot_in : Mode → Contents → Plot
 plot_in mode J = plot_for mode J (lengths (volume J.room)) (outset_for J) (kinds_of J.room J.blocks)

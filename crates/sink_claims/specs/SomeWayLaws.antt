@@ -1,14 +1,12 @@
 -- A sink that is not shut in has a lawful way to some joinable cell in its first search: open steps up to the first joinable cell are lawful steps of the search
 -- for that cell.
-use Rattle.std.specs.Prelude.{◌≡◌, Bool, ◌&&◌, ◌||◌, List, [], ◌∷◌, ℕ, ◌<◌, eqb, get_or}
+use Rattle.std.specs.Prelude.{◌≡◌, Bool, ◌&&◌, ◌||◌, List, [], ◌∷◌, ℕ, ◌<◌, eqb, get_or, Option, Some, None}
 use Rattle.std.proofs.Math.Path.{refl}
 use Rattle.std.proofs.Common.{sym, ◌∙◌, arith, eq-eqb, ne_eqb}
 use Rattle.std.proofs.Math.Bool.{true, false, not, and-false}
 use Rattle.std.proofs.lemmas.Bool.{eqb-false}
 use Rattle.basics.specs.Tests.{ask, never}
 use Rattle.room.specs.declared.RouterConfig.{RouterConfig}
-use Rattle.room.specs.declared.Neighbour.{Neighbour}
-use Rattle.room.specs.declared.Neighbour.TheVariants.{Inside, Outside}
 use Rattle.room.specs.Room.{volume, beneath, holds_at}
 use Rattle.room.specs.Units.{air}
 use Rattle.ground.specs.declared.Mode.{Mode}
@@ -68,11 +66,11 @@ module _ (P : Plot) (S : SoundPlot P) (T : Tree) (k : ℕ) (free : JoinableUnblo
     entered e = rw the_goal e
 
   -- what bears a cell of the way
-  not_rested : (goal : ℕ) → P.mode ≡ Strict → (place : Neighbour) → holds_at (kept_free P.kinds T.blocked T.joinable a) place ≡ false
+  not_rested : (goal : ℕ) → P.mode ≡ Strict → (place : Option ℕ) → holds_at (kept_free P.kinds T.blocked T.joinable a) place ≡ false
       → blocked_in P.kinds T.blocked a goal place ≡ false
   unfolding blocked_air kept_free
-  not_rested goal strict Outside f = refl
-  not_rested goal strict (Inside u) f =
+  not_rested goal strict None f = refl
+  not_rested goal strict (Some u) f =
       ask (is_marked T.blocked u)
       (λ b. ask (is_marked T.joinable u)
       (λ j. let n = free strict u j in never (cc))

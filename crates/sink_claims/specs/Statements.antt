@@ -1,17 +1,15 @@
 -- "Why couldn't this sink be reached?" What each verdict and each byte means, at the turn of sink k, the tree being T then: definitions only, once over both
 -- modes. The theorems are in the file Theorems beside it.
-use Rattle.std.specs.Prelude.{◌≡◌, ◌≢◌, ◌↔◌, Bool, true, false, not, ◌&&◌, List, [], ◌∷◌, ℕ, ◌+◌, ◌-◌, ◌*◌, ◌/◌, ◌%◌, ◌≤◌, ◌<◌, eqb, get_or}
+use Rattle.std.specs.Prelude.{◌≡◌, ◌≢◌, ◌↔◌, Bool, true, false, not, ◌&&◌, List, [], ◌∷◌, ℕ, ◌+◌, ◌-◌, ◌*◌, ◌/◌, ◌%◌, ◌≤◌, ◌<◌, eqb, get_or, Option, Some, None, Err}
 use Rattle.numbers.specs.Refusals.{queue_full_number, no_goal_number}
 use Rattle.basics.specs.Lists.{any}
 use Rattle.room.specs.declared.RouterConfig.{RouterConfig}
-use Rattle.room.specs.declared.Neighbour.{Neighbour}
-use Rattle.room.specs.declared.Neighbour.TheVariants.{Inside, Outside}
 use Rattle.room.specs.Room.{volume, pos_of, apart, beneath, holds_at, move_at, neighbour}
 use Rattle.room.specs.Units.{air, redstone_wire}
 use Rattle.ground.specs.declared.Mode.TheVariants.{Strict}
 use Rattle.room_search.specs.Routing.{kind_at, routeable_kind, bearing}
 use Rattle.routing.specs.declared.Lengths.{Lengths}
-use Rattle.routing.specs.declared.Answer.TheVariants.{NotRouteable}
+use Rattle.routing.specs.declared.Unrouted.TheVariants.{NotRouteable}
 use Rattle.routing.specs.Answers.{input, fit_answer}
 use Rattle.routing_resources.specs.Marks.{is_marked}
 use Rattle.job_sheet.specs.Sheet.{Contents}
@@ -57,7 +55,7 @@ pub record ApproachTaken (P : Plot) (k : ℕ) : Type 0 where
   pub no_air : get_or P.kinds (sink_approach P k) air ≢ air
   pub no_wire : get_or P.kinds (sink_approach P k) air ≢ redstone_wire
   pub number_10 : (goal : ℕ) (C : RouterConfig) (blocked : List ℕ) (L : Lengths)
-      → fit_answer (input P.room C (seen_kinds P.mode P.kinds blocked (sink_approach P k) goal) (sink_approach P k) goal L) ≡ NotRouteable (sink_approach P k)
+      → fit_answer (input P.room C (seen_kinds P.mode P.kinds blocked (sink_approach P k) goal) (sink_approach P k) goal L) ≡ Err (NotRouteable (sink_approach P k))
   pub no_way : (T : Tree) (goal : ℕ) (C : RouterConfig) (places : ℕ) (blocked : List ℕ)
       → NoLawfulWay (site_task (site_with P T C places) blocked (sink_approach P k) goal)
 
@@ -134,9 +132,9 @@ pub record SaysOf (P : Plot) (T : Tree) (a v byte : ℕ) : Type 0 where
   pub no_other : byte ≤ support_kept_free
 
 -- and of a move, by where it leads
-abbrev pub SaysAt : Plot → Tree → ℕ → Neighbour → ℕ → Type 0
-SaysAt P T a (Inside v) byte = SaysOf P T a v byte
-SaysAt P T a Outside byte = byte ≡ outside
+abbrev pub SaysAt : Plot → Tree → ℕ → Option ℕ → ℕ → Type 0
+SaysAt P T a (Some v) byte = SaysOf P T a v byte
+SaysAt P T a None byte = byte ≡ outside
 
 -- a mark a cell, and twelve bytes a cell, from the approach a on
 pub record WallsSay (P : Plot) (T : Tree) (a : ℕ) (reached walls : List ℕ) : Type 0 where

@@ -1,5 +1,5 @@
 -- Laws of what `reached` and `walls` say: a move against which nothing stands is an open step, and an open step is such a move.
-use Rattle.std.specs.Prelude.{◌≡◌, ◌↔◌, Bool, List, [], ◌∷◌, ◌++◌, ℕ, ◌+◌, ◌*◌, ◌≤◌, ◌<◌, get_or}
+use Rattle.std.specs.Prelude.{◌≡◌, ◌↔◌, Bool, List, [], ◌∷◌, ◌++◌, ℕ, ◌+◌, ◌*◌, ◌≤◌, ◌<◌, get_or, Option, Some, None}
 use Rattle.std.proofs.Math.Path.{refl, ap}
 use Rattle.std.proofs.Common.{sym, ◌∙◌}
 use Rattle.std.proofs.Math.Bool.{true, false}
@@ -8,8 +8,6 @@ use Rattle.std.proofs.Math.ListN.{get_or-append}
 use Rattle.basics.specs.Tests.{either, ask, never}
 use Rattle.basics.specs.Lists.{In, below_all}
 use Rattle.basics.specs.Counts.{bit, bit-small}
-use Rattle.room.specs.declared.Neighbour.{Neighbour}
-use Rattle.room.specs.declared.Neighbour.TheVariants.{Inside, Outside}
 use Rattle.room.specs.Room.{Good, volume, beneath, move_at, neighbour, apart}
 use Rattle.room.specs.MoveLaws.{move-small, leads, apart_by}
 use Rattle.room_search.specs.Routing.{Task, kind_at, routeable_kind, routeable, bearing}
@@ -128,9 +126,9 @@ module _ (P : Plot) (T : Tree) (a : ℕ) where
   move-says : (u i : ℕ) → SaysAt P T a (neighbour P.room u (move_at i)) (reason_by P.room against u i)
   move-says u i = go (neighbour P.room u (move_at i))
     where
-      go : (place : Neighbour) → SaysAt P T a place (reason_at against place)
-      go (Inside v) = cell-says v
-      go Outside = refl
+      go : (place : Option ℕ) → SaysAt P T a place (reason_at against place)
+      go (Some v) = cell-says v
+      go None = refl
 
   -- ---- moves and steps
 
@@ -157,10 +155,10 @@ module _ (P : Plot) (T : Tree) (a : ℕ) where
   abbrev empty : ℕ → ℕ → Task
   empty u v = task_in P.room P.config [] u v 0
 
-  air-bears : (place : Neighbour) → 0 < bearing (kind_at [] place)
+  air-bears : (place : Option ℕ) → 0 < bearing (kind_at [] place)
   unfolding bearing
-  air-bears (Inside v) = omega arith
-  air-bears Outside = omega arith
+  air-bears (Some v) = omega arith
+  air-bears None = omega arith
 
   air-entered : (u v w : ℕ) → routeable (empty u v) w ≡ true
   unfolding routeable routeable_kind

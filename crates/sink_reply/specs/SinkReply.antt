@@ -4,9 +4,8 @@ use Rattle.std.specs.Prelude.{◌≡◌, List, ℕ, ◌+◌, ◌≤◌, ◌<◌,
 use Rattle.basics.specs.Tests.{either}
 use Rattle.lent.specs.Lent.{touches, filled, output_after}
 use Rattle.ground.specs.declared.Mode.{Mode}
-use Rattle.net_tree.specs.declared.Answer.{Answer}
 use Rattle.net_tree.specs.declared.Lengths.{Lengths}
-use Rattle.net_tree.specs.Answers.{Lent, lengths_of, TreeOutcome, no_tree, answer_of, number_for, lent_after}
+use Rattle.net_tree.specs.Answers.{Answer, Lent, lengths_of, TreeOutcome, no_tree, answer_of, number_for, lent_after}
 use Rattle.exports.specs.TreeExport.{value_count, number_told, tree_values, ShortNumber}
 use Rattle.sink_why.specs.SinkWhy.{Reason, TellsWhy, WhyComes, Outputs}
 

@@ -6,14 +6,12 @@ use Rattle.basics.specs.Tests.{ask, never}
 use Rattle.basics.specs.Promises.{Determines}
 use Rattle.lent.specs.Lent.{touches, filled, output_after}
 use Rattle.ground.specs.declared.Mode.{Mode}
-use Rattle.net_tree.specs.declared.Answer.{Answer}
 use Rattle.net_tree.specs.declared.Lengths.{Lengths}
-use Rattle.net_tree.specs.Answers.{Lent, lengths_of, TreeOutcome, no_tree, answer_of, number_for, lent_after}
+use Rattle.net_tree.specs.Answers.{Answer, Lent, lengths_of, TreeOutcome, no_tree, answer_of, number_for, lent_after}
 use Rattle.exports.specs.TreeExport.{number_told, tree_values, values_after, ShortNumber}
 use Rattle.exports.specs.TreeExportLaws.{short-small, short-one}
-use Rattle.sink_why.specs.declared.Why.{Why}
-use Rattle.sink_why.specs.SinkWhy.{no_reason, asks_why, TellsWhy, unasked, Outputs, Promise}
-use Rattle.sink_why.specs.PromiseLaws.{why-comes-one, tells-one}
+use Rattle.sink_why.specs.SinkWhy.{Why, answer_in, place_in, verdict_in, no_reason, asks_why, TellsWhy, unasked, Outputs, Promise}
+use Rattle.sink_why.specs.PromiseLaws.{answer-is, place-is, verdict-is, why-comes-one, tells-one}
 use Rattle.sink_reply.specs.SinkReply.{place_at, verdict_at, why_count, why_values_after, WhyTreeComes, too-few-values, enough-values, WhyTreeExported}
 
 -- ---- two values behind the tree's
@@ -62,18 +60,18 @@ module _ {mode : Mode} {sheet : List ℕ} {B : Lent} {U : Outputs} {values : Lis
 
   -- the answer, told
   pub why-told : {w : Why} {r : ℕ} {B' : Lent} {U' : Outputs} {values' : List ℕ} → why_count ≤ length values → Promise mode sheet B U w B' U'
-      → r ≡ number_told w.answer → values' ≡ why_values_after w.answer w.place w.verdict values → WhyTreeExported mode sheet B U values r B' U' values'
+      → r ≡ number_told (answer_in w) → values' ≡ why_values_after (answer_in w) (place_in w) (verdict_in w) values → WhyTreeExported mode sheet B U values r B' U' values'
   why-told h P n v = record {
     outcome = P.outcome;
     comes = enough-values h P.comes;
     reason = P.reason;
     tells = P.tells;
-    number = n ∙ ap number_told P.answer;
+    number = n ∙ ap number_told (answer-is P);
     lent_is = P.lent_is;
     reached-is = P.reached-is;
     walls-is = P.walls-is;
     causes-is = P.causes-is;
-    values-is = v ∙ (λ i. why_values_after (P.answer i) (P.place_is i) (P.verdict-is i) values);
+    values-is = v ∙ (λ i. why_values_after (answer-is P i) (place-is P i) (verdict-is P i) values);
   }
 
 -- ---- two results that keep the promise coincide: the number, the values, and every byte of lent memory

@@ -4,25 +4,54 @@
 ghost use Rattle.std.specs.Prelude.{◌≡◌, ◌≤◌, length};
 ghost use Rattle.net_tree.specs.Answers.{lent};
 ghost use Rattle.exports.specs.TreeExport.{mode_of, number_told};
-ghost use Rattle.sink_why.specs.SinkWhy.{outputs};
+ghost use Rattle.sink_why.specs.SinkWhy.{answer_in, place_in, verdict_in, outputs};
 ghost use Rattle.sink_reply.specs.SinkReply.{why_count, why_values_after, WhyTreeExported};
 
-use sink_why::Why;
+use net_tree::{Refused, Tree};
+use sink_why::{Told, Unrouted};
 
 // The tree's twenty values, the sink's place and what may be said of it.
 const VALUES: usize = 22;
 
-// Writes the values and returns the number. A refusal by 1 to 6 writes nothing.
-fn tell_why(why: Why, values: &mut [u64]) -> u32
-    requires { why_count ≤ length values.old }
-    ensures value { result ≡ number_told why.answer }
-    ensures values_after { values.new ≡ why_values_after why.answer why.place why.verdict values.old }
+// The tree's own answer.
+fn answer_in(why: Result<Tree, Unrouted>) -> Result<Tree, Refused>
+    ensures { result ≡ answer_in why }
 {
-    let answer = why.answer;
-    let number = exports::tell_tree(answer, values);
+    match why {
+        Ok(tree) => Ok(tree),
+        Err(unrouted) => Err(unrouted.refused),
+    }
+}
+
+// What is told of the sink, zeros where nothing is.
+fn told_in(why: Result<Tree, Unrouted>) -> Told
+    ensures place { result.place ≡ place_in why }
+    ensures verdict { result.verdict ≡ verdict_in why }
+{
+    let none = Told {
+        place: 0,
+        verdict: 0,
+    };
+    match why {
+        Ok(_) => none,
+        Err(unrouted) => match unrouted.told {
+            Some(told) => told,
+            None => none,
+        },
+    }
+}
+
+// Writes the values and returns the number. A refusal by 1 to 6 writes nothing.
+fn tell_why(why: Result<Tree, Unrouted>, values: &mut [u64]) -> u32
+    requires { why_count ≤ length values.old }
+    ensures value { result ≡ number_told (answer_in why) }
+    ensures values_after { values.new ≡ why_values_after (answer_in why) (place_in why) (verdict_in why) values.old }
+{
+    let number = exports::tell_tree(answer_in(why), values);
     if lent::touches(number) {
-        values[20] = why.place as u64;
-        values[21] = why.verdict as u64;
+        let told = told_in(why);
+        values[20] = told.place as u64;
+        values[21] = told.verdict as u64;
     }
     number
 }

@@ -1,12 +1,10 @@
 -- Laws of the growth again: what it asks, that it stops, and what is told of the sink that has that turn.
-use Rattle.std.specs.Prelude.{◌≡◌, Bool, true, List, [], ◌++◌, map, ℕ, ◌+◌, ◌-◌, ◌*◌, ◌≤◌, ◌<◌, eqb, leb, length, get_or, drop}
-use Rattle.std.proofs.Math.Path.{refl}
+use Rattle.std.specs.Prelude.{◌≡◌, Result, Ok, Err, true, List, [], ◌++◌, map, ℕ, ◌+◌, ◌-◌, ◌*◌, ◌≤◌, ◌<◌, eqb, leb, length, get_or, drop}
 use Rattle.std.proofs.Common.{sym, ap, subst, ◌∙◌, arith, take-append-drop, ext_get_or, get_or-take}
 use Rattle.std.proofs.Math.Numerals.{add-one}
 use Rattle.std.proofs.lemmas.List.{length-map}
 use Rattle.std.proofs.Math.ListN.{get_or-map}
 use borrow.Author.Tests.{leb-true}
-use Rattle.numbers.specs.Refusals.{no_goal_number}
 use Rattle.basics.specs.Tests.{never, and_left, and_right}
 use Rattle.basics.specs.Lists.{joined}
 use Rattle.lent.specs.Lent.{filled}
@@ -17,18 +15,14 @@ use Rattle.ground.specs.declared.Mode.{Mode}
 use Rattle.job_sheet.specs.declared.Job.{Job}
 use Rattle.job_sheet.specs.Sheet.{max_sinks}
 use Rattle.job_sheet.specs.Accepted.{Accepted}
-use Rattle.ends.specs.declared.Taps.{Taps}
 use Rattle.ends.specs.Ends.{no_tap}
-use Rattle.outset.specs.declared.Outset.{Outset}
+use Rattle.outset.specs.SetOut.{Outset}
 use Rattle.outset.specs.SetOut.{ready, OutsetAsked, SetOut}
 use Rattle.outset.specs.SetOutLaws.{use_of}
 use Rattle.branches.specs.declared.BranchLengths.{BranchLengths}
 use Rattle.branches.specs.Branches.{lengths_in, cut_into, branches_of, LengthsOf, SheetOrder}
 use Rattle.branches.specs.BranchLaws.{lengths-count, lengths-sum, cut-joined}
-use Rattle.multinet.specs.declared.Stop.{Stop}
-use Rattle.multinet.specs.declared.GrowthEnd.{GrowthEnd}
-use Rattle.multinet.specs.declared.GrowthEnd.TheVariants.{Whole, Early}
-use Rattle.multinet.specs.declared.GrownBranches.{GrownBranches}
+use Rattle.multinet.specs.declared.Early.{Early}
 use Rattle.multinet.specs.Tree.{Plot, Tree, grown, grow_from, growth_of}
 use Rattle.multinet.specs.Growing.{SoundPlot, Growing}
 use Rattle.multinet.proofs.GrowingLaws.{sink-now}
@@ -50,7 +44,7 @@ module _ {mode : Mode} {sheet : List ℕ} {job : Job} {B : Lent} (A : Regrowable
   set-asked = asked A.routable
 
   module _ {O : Outset} {kinds nodes blocked : List ℕ} (S : SetOut sheet O kinds nodes blocked) where
-    set-ready : ready O ≡ true
+    pub set-ready : ready O ≡ true
     set-ready = A.is-ready O kinds nodes blocked S
 
     abbrev plot : Plot
@@ -66,33 +60,31 @@ module _ {mode : Mode} {sheet : List ℕ} {job : Job} {B : Lent} (A : Regrowable
         → Plantable plot joinable blocked B.classes nodes B.previous B.path B.best
     plantable-again e = plantable (growable A.routable mode S set-ready) e
 
-    pub regrown : {g : GrownBranches} {joinable' blocked' branches' : List ℕ} → GrowthTold plot blocked B.branches g joinable' blocked' branches' → {r : Stopping}
-        → ((stop : Stop) (sink : ℕ) → g.end ≡ Early stop sink → r ≡ stopping_at O.ends.source O.ends.taps g stop sink)
-        → Regrown mode sheet job B.queue B.branches r kinds joinable' blocked' branches'
-    unfolding grow_from
-    regrown {g} {joinable'} {blocked'} {branches'} T {r} s = go g.end refl
-      where
-        told_as : {end : GrowthEnd} → g.end ≡ end → EndTold plot blocked B.branches g.lengths joinable' blocked' branches' end
-        told_as e = rw (← e) T.told
+    module _ {g : Result BranchLengths Early} {joinable' blocked' branches' : List ℕ} (T : GrowthTold plot blocked B.branches g joinable' blocked' branches') where
+      told_as : {end : Result BranchLengths Early} → g ≡ end → EndTold plot blocked B.branches joinable' blocked' branches' end
+      told_as e = rw (← e) T.told
 
-        whole-grown : (G : Growing plot blocked B.branches plot.taps.count joinable' blocked' branches' g.lengths.each) → growth_of plot blocked ≡ grown G.tree
-        whole-grown G = let z : plot.taps.count - plot.taps.count ≡ 0 = omega arith in sym (rw z at G.same)
+      whole-grown : (each : List ℕ) (G : Growing plot blocked B.branches plot.taps.count joinable' blocked' branches' each) → growth_of plot blocked ≡ grown G.tree
+      unfolding grow_from
+      whole-grown each G = let z : plot.taps.count - plot.taps.count ≡ 0 = omega arith in sym (rw z at G.same)
 
-        go : (end : GrowthEnd) → g.end ≡ end → Regrown mode sheet job B.queue B.branches r kinds joinable' blocked' branches'
-        go Whole e = let d = A.due O kinds nodes blocked S in never (cc (whole-grown (told_as e).1, d.stops))
-        go (Early stop sink) e = record {
-          outset = O;
-          nodes = nodes;
-          blocked-first = blocked;
-          is_set = S;
-          is-ready = set-ready;
-          sound = sound-here;
-          growth = g;
-          stop = stop;
-          sink = sink;
-          early = told_as e;
-          is = s stop sink e;
-        }
+      -- the growth is not whole
+      pub not_whole : {L : BranchLengths} → g ≡ Ok L → ⊥
+      not_whole {L} e = let d = A.due O kinds nodes blocked S in never (cc (whole-grown L.each (told_as e).1, d.stops))
+
+      pub regrown : {end : Early} → g ≡ Err end → {r : Stopping} → r ≡ stopping_at O.ends.source O.ends.taps end
+          → Regrown mode sheet job B.queue B.branches r kinds joinable' blocked' branches'
+      regrown {end} e s = record {
+        outset = O;
+        nodes = nodes;
+        blocked-first = blocked;
+        is_set = S;
+        is-ready = set-ready;
+        sound = sound-here;
+        end = end;
+        early = told_as e;
+        is = s;
+      }
 
 -- ---- the branches in the buffer
 
@@ -116,20 +108,20 @@ module _ {mode : Mode} {sheet : List ℕ} {job : Job} {queue branches : List ℕ
   abbrev here : Plot
   here = job_plot mode job R.outset kinds queue branches
 
-  abbrev growing : Growing here R.blocked-first branches R.early.turn joinable blocked branches' R.growth.lengths.each
+  abbrev growing : Growing here R.blocked-first branches R.early.turn joinable blocked branches' R.end.lengths.each
   growing = R.early.growing
 
   abbrev tree : Tree
   tree = growing.tree
 
   abbrev counted : BranchLengths
-  counted = record { count = here.taps.count; each = R.growth.lengths.each }
+  counted = record { count = here.taps.count; each = R.end.lengths.each }
 
   abbrev ground : Ground
   ground = record { room = job.room; config = job.config; mode = mode; run = job.run }
 
-  sink-here : R.sink < here.taps.count
-  sink-here = (sink-now here R.early.turn R.sink R.early.sink-is R.early.turn_in_lem).0
+  sink-here : R.end.sink < here.taps.count
+  sink-here = (sink-now here R.early.turn R.end.sink R.early.sink-is R.early.turn_in_lem).0
 
   pub sink-small : r.sink < max_sinks
   sink-small = rw R.is (omega (arith, sink-here, R.sound.net.taps_in_lem.few))
@@ -171,7 +163,7 @@ module _ {mode : Mode} {sheet : List ℕ} {job : Job} {queue branches : List ℕ
     reason-asked cl kn pa = rw R.is (record {
       sink = record {
         fits = record { good = R.sound.good; kinds-long = R.sound.kinds-long; blocked-long = blocked-long; joinable-long = joinable-long };
-        approach_in = R.sound.net.taps_in_lem.approach_in R.sink sink-here;
+        approach_in = R.sound.net.taps_in_lem.approach_in R.end.sink sink-here;
         obstacles_long = cl;
         line-long = pa;
         reached-enough = fit-reached;
@@ -189,23 +181,23 @@ module _ {mode : Mode} {sheet : List ℕ} {job : Job} {queue branches : List ℕ
     module _ {verdict : ℕ} {reached' walls' causes' : List ℕ}
         (T : ReasonTold ground sheet r (get_or r.taps.taps r.sink no_tap).approach branches' kinds blocked joinable reached walls causes verdict reached' walls' causes') where
       abbrev stopping : Stopping
-      stopping = stopping_at R.outset.ends.source R.outset.ends.taps R.growth R.stop R.sink
+      stopping = stopping_at R.outset.ends.source R.outset.ends.taps R.end
 
       -- the same, of the tree
-      of_tree : ReasonTold ground sheet stopping (sink_approach here R.sink) branches' kinds tree.blocked tree.joinable reached walls causes verdict reached' walls' causes'
+      of_tree : ReasonTold ground sheet stopping (sink_approach here R.end.sink) branches' kinds tree.blocked tree.joinable reached walls causes verdict reached' walls' causes'
       of_tree =
-          subst (λ x. ReasonTold ground sheet stopping (sink_approach here R.sink) branches' kinds tree.blocked x reached walls causes verdict reached' walls' causes') growing.joinable-is
-          (subst (λ x. ReasonTold ground sheet stopping (sink_approach here R.sink) branches' kinds x joinable reached walls causes verdict reached' walls' causes') growing.blocked-is
+          subst (λ x. ReasonTold ground sheet stopping (sink_approach here R.end.sink) branches' kinds tree.blocked x reached walls causes verdict reached' walls' causes') growing.joinable-is
+          (subst (λ x. ReasonTold ground sheet stopping (sink_approach here R.end.sink) branches' kinds x joinable reached walls causes verdict reached' walls' causes') growing.blocked-is
           (subst (λ S. ReasonTold ground sheet S (get_or S.taps.taps S.sink no_tap).approach branches' kinds blocked joinable reached walls causes verdict reached' walls' causes') R.is T))
 
       abbrev reason : Reason
-      reason = reason_at A.contents here R.nodes tree R.sink (verdict_of here tree R.sink (stop_number R.stop))
+      reason = reason_at A.contents here R.nodes tree R.end.sink (verdict_of here tree R.end.sink (stop_number R.end.stop))
 
-      told-place : R.sink + 1 ≡ reason.place
+      told-place : R.end.sink + 1 ≡ reason.place
       unfolding reason_at
-      told-place = add-one R.sink
+      told-place = add-one R.end.sink
 
-      verdict-here : verdict ≡ verdict_of here tree R.sink (stop_number R.stop)
+      verdict-here : verdict ≡ verdict_of here tree R.end.sink (stop_number R.end.stop)
       verdict-here = of_tree.verdict-is
 
       told-verdict : verdict ≡ reason.verdict
@@ -239,8 +231,8 @@ module _ {mode : Mode} {sheet : List ℕ} {job : Job} {queue branches : List ℕ
         tells = record {
           turn = R.early.turn;
           tree = tree;
-          number = stop_number R.stop;
-          detail = stop_detail R.stop;
+          number = stop_number R.end.stop;
+          detail = stop_detail R.end.stop;
           there = record { turn_in_lem = R.early.turn_in_lem; so_far = growing.so_far; stops = rw (← R.early.sink-is) R.early.stops };
           tells = rw (← R.early.sink-is) (record {
             place_is = ap (λ S. S.sink + 1) R.is ∙ told-place;
@@ -251,12 +243,3 @@ module _ {mode : Mode} {sheet : List ℕ} {job : Job} {queue branches : List ℕ
           });
         };
       }
-
--- what a growth that ended early has come to is told once
-pub stopping-early : (source : ℕ) (taps : Taps) (g : GrownBranches) {stop' : Stop} {sink' : ℕ} → g.end ≡ Early stop' sink' → {b : Bool} → b ≡ eqb (stop_number stop') no_goal_number
-    → (stop : Stop) (sink : ℕ) → g.end ≡ Early stop sink
-    → ◌≡◌ {A = Stopping} (record { source = source; taps = taps; lengths = record { count = taps.count; each = g.lengths.each }; sink = sink'; unreached = b }) (stopping_at source taps g stop sink)
-stopping-early source taps g {stop'} {sink'} d n stop sink e =
-    let s : stop' ≡ stop = cc in
-    let k : sink' ≡ sink = cc in
-    rw (n, s, k) refl

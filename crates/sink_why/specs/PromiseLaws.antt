@@ -1,22 +1,19 @@
 -- The promise of `why_no_goal` determines everything.
-use Rattle.std.specs.Prelude.{◌≡◌, refl, List, ℕ, length}
+use Rattle.std.specs.Prelude.{◌≡◌, refl, Ok, Err, true, List, ℕ}
 use Rattle.std.proofs.Common.{sym, ap, subst, ◌∙◌}
 use Rattle.basics.specs.Tests.{never}
 use Rattle.basics.specs.Promises.{Determines}
 use Rattle.lent.specs.Lent.{output_after}
 use Rattle.ground.specs.declared.Mode.{Mode}
-use Rattle.job_sheet.specs.Sheet.{Contents}
 use Rattle.job_sheet.proofs.Theorems.{one-meaning}
-use Rattle.outset.specs.declared.Outset.{Outset}
 use Rattle.outset.specs.SetOut.{OutsetOf}
 use Rattle.outset.specs.SetOutLaws.{outset-one}
-use Rattle.multinet.specs.Tree.{Plot, Tree, sink_now}
+use Rattle.multinet.specs.Tree.{Plot, sink_now}
 use Rattle.why_tree.specs.WhyTree.{verdict_of, StopsThere}
 use Rattle.net_tree.specs.declared.Lengths.{Lengths}
-use Rattle.net_tree.specs.Answers.{Lent, lengths_of, TreeOutcome, no_tree, plot_for, answer_of, number_for, lent_after}
+use Rattle.net_tree.specs.Answers.{Answer, routed, Lent, lengths_of, TreeOutcome, no_tree, plot_for, answer_of, number_for, lent_after}
 use Rattle.net_tree.specs.PromiseLaws.{comes-one}
-use Rattle.sink_why.specs.declared.Why.{Why}
-use Rattle.sink_why.specs.SinkWhy.{StoppedAt, Reason, reason_at, reason_of, asks_why, TellsWhy, unasked, asked, WhyComes, outputs-short, as_tree, Outputs, Promise}
+use Rattle.sink_why.specs.SinkWhy.{Why, why_with, told_of, answer_in, place_in, verdict_in, StoppedAt, Reason, reason_at, reason_of, asks_why, TellsWhy, unasked, asked, WhyComes, outputs-short, as_tree, Outputs, Promise}
 use Rattle.sink_why.specs.TurnLaws.{one-turn, one-tree}
 
 -- one outcome comes of a sheet
@@ -76,6 +73,35 @@ module _ {mode : Mode} {sheet : List ℕ} {L : Lengths} {o : TreeOutcome} where
   tells-one (asked n d q a S s) (unasked f e) = never (cc (sym f ∙ ap (λ x. asks_why (number_for x)) q ∙ a))
   tells-one (asked n d q a S s) (asked n' d' q' a' S' s') = s ∙ same-reason q q' S S' ∙ sym s'
 
+-- ---- what an answer holds
+
+answer-with : (a : Answer) (o : _) → answer_in (why_with a o) ≡ a
+answer-with (Ok tree) o = refl
+answer-with (Err refused) o = refl
+
+module _ {mode : Mode} {sheet : List ℕ} {L : Lengths} where
+  place-with : (o : TreeOutcome) {w : Reason} → TellsWhy mode sheet L o w → place_in (why_with (answer_of o) (told_of (number_for o) w)) ≡ w.place
+  place-with (routed bs x y) (unasked f e) = sym (ap (λ r. r.place) e)
+  place-with (routed bs x y) (asked n d q a S s) = never (cc)
+  place-with (no_tree m x) (unasked f e) = rw f (sym (ap (λ r. r.place) e))
+  place-with (no_tree m x) (asked n d q a S s) = let t : asks_why m ≡ true = ap (λ o. asks_why (number_for o)) q ∙ a in rw t refl
+
+  verdict-with : (o : TreeOutcome) {w : Reason} → TellsWhy mode sheet L o w → verdict_in (why_with (answer_of o) (told_of (number_for o) w)) ≡ w.verdict
+  verdict-with (routed bs x y) (unasked f e) = sym (ap (λ r. r.verdict) e)
+  verdict-with (routed bs x y) (asked n d q a S s) = never (cc)
+  verdict-with (no_tree m x) (unasked f e) = rw f (sym (ap (λ r. r.verdict) e))
+  verdict-with (no_tree m x) (asked n d q a S s) = let t : asks_why m ≡ true = ap (λ o. asks_why (number_for o)) q ∙ a in rw t refl
+
+module _ {mode : Mode} {sheet : List ℕ} {B : Lent} {U : Outputs} {r : Why} {B' : Lent} {U' : Outputs} (K : Promise mode sheet B U r B' U') where
+  pub answer-is : answer_in r ≡ answer_of K.outcome
+  answer-is = ap answer_in K.why-is ∙ answer-with (answer_of K.outcome) _
+
+  pub place-is : place_in r ≡ K.reason.place
+  place-is = ap place_in K.why-is ∙ place-with K.outcome K.tells
+
+  pub verdict-is : verdict_in r ≡ K.reason.verdict
+  verdict-is = ap verdict_in K.why-is ∙ verdict-with K.outcome K.tells
+
 -- ---- two results that keep the promise coincide: the answer, and every byte of lent memory
 
 pub record Result : Type 0 where
@@ -91,11 +117,9 @@ module _ (mode : Mode) (sheet : List ℕ) (B : Lent) (U : Outputs) where
   coincide x y p q =
       let e = why-comes-one p.comes q.comes in
       let w = tells-one (subst (λ o. TellsWhy mode sheet (lengths_of B) o p.reason) e p.tells) q.tells in
-      let a = p.answer ∙ ap answer_of e ∙ sym q.answer in
-      let k = p.place_is ∙ ap (λ r. r.place) w ∙ sym q.place_is in
-      let v = p.verdict-is ∙ ap (λ r. r.verdict) w ∙ sym q.verdict-is in
+      let a = p.why-is ∙ (λ i. why_with (answer_of (e i)) (told_of (number_for (e i)) (w i))) ∙ sym q.why-is in
       let b = p.lent_is ∙ ap (λ o. lent_after o B) e ∙ sym q.lent_is in
       let r = p.reached-is ∙ (λ i. output_after (number_for (e i)) (w i).reached U.reached) ∙ sym q.reached-is in
       let l = p.walls-is ∙ (λ i. output_after (number_for (e i)) (w i).walls U.walls) ∙ sym q.walls-is in
       let c = p.causes-is ∙ (λ i. output_after (number_for (e i)) (w i).causes U.causes) ∙ sym q.causes-is in
-      λ i. record { why = record { answer = a i; place = k i; verdict = v i }; lent = b i; outputs = record { reached = r i; walls = l i; causes = c i } }
+      λ i. record { why = a i; lent = b i; outputs = record { reached = r i; walls = l i; causes = c i } }

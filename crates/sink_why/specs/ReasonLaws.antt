@@ -11,7 +11,7 @@ use Rattle.job_sheet.specs.Sheet.{Contents, Means}
 use Rattle.job_sheet.specs.Accepted.{Accepted, Usable}
 use Rattle.job_sheet.proofs.Theorems.{one-meaning}
 use Rattle.ends.specs.declared.Taps.{Taps}
-use Rattle.outset.specs.declared.Outset.{Outset}
+use Rattle.outset.specs.SetOut.{Outset}
 use Rattle.outset.specs.SetOut.{OutsetOf, SetOut}
 use Rattle.outset.specs.SetOutLaws.{use_of, good-room, outset-one}
 use Rattle.branches.specs.declared.BranchLengths.{BranchLengths}

@@ -1,6 +1,6 @@
 -- "Why couldn't this sink be reached?": what `why_no_goal` answers beside the tree's own answer, and every byte of lent memory. The mode, the sheet and the
 -- lengths of the lent buffers determine all of it. Definitions alone; their laws are in the files named Laws.
-use Rattle.std.specs.Prelude.{◌≡◌, Bool, true, false, ◌&&◌, ◌||◌, List, [], ℕ, suc, ◌*◌, leb, eqb, length}
+use Rattle.std.specs.Prelude.{◌≡◌, Result, Ok, Err, Option, Some, None, Bool, true, false, ◌&&◌, ◌||◌, List, [], ℕ, suc, ◌*◌, leb, eqb, length}
 use Rattle.numbers.specs.Refusals.{buffer_number, queue_full_number, no_goal_number}
 use Rattle.basics.specs.Tests.{either}
 use Rattle.lent.specs.Lent.{output_after}
@@ -10,15 +10,17 @@ use Rattle.ground.specs.declared.Mode.{Mode}
 use Rattle.job_sheet.specs.declared.Judgement.TheVariants as judgement
 use Rattle.job_sheet.specs.Version.{version_in}
 use Rattle.job_sheet.specs.Sheet.{Contents, Means, judged}
-use Rattle.outset.specs.declared.Outset.{Outset}
+use Rattle.outset.specs.SetOut.{Outset}
 use Rattle.flood.specs.Walls.{tabled, marks_by, walls_by}
 use Rattle.multinet.specs.Tree.{Plot, Tree, sink_now}
 use Rattle.causes.specs.Causes.{cause_of}
 use Rattle.why_tree.specs.WhyTree.{tree_obstacle, is_shut_in, sink_approach, verdict_of, StopsThere}
 use Rattle.net_tree.specs.declared.Lengths.{Lengths}
-use Rattle.net_tree.specs.Answers.{Lent, lengths_of, TreeOutcome, no_tree, plot_for, Comes, answer_of, number_for, lent_after}
+use Rattle.net_tree.specs.declared.Tree as trees
+use Rattle.net_tree.specs.Answers.{Answer, Lent, lengths_of, TreeOutcome, no_tree, plot_for, Comes, answer_of, number_for, lent_after}
 use Rattle.net_tree.specs.SheetTrees.{TreeUnrefused}
-use Rattle.sink_why.specs.declared.Why.{Why}
+use Rattle.sink_why.specs.declared.Unrouted.{Unrouted}
+use Rattle.sink_why.specs.declared.Told.{Told}
 
 -- ---- where the growth stopped
 
@@ -91,6 +93,43 @@ pub data WhyComes (mode : Mode) (sheet : List ℕ) (L : Lengths) (reached walls 
   as_tree : ((J : Contents) → Means sheet J → judged (version_in sheet) J ≡ judgement.Good → outputs_good J.room reached walls causes ≡ true) → Comes mode sheet L o
       → WhyComes mode sheet L reached walls causes o
 
+-- ---- the answer
+
+-- a tree, or why there is none
+abbrev pub Why : Type 0
+Why = Result trees.Tree Unrouted
+
+-- the tree's answer, with what is told of the sink
+abbrev pub why_with : Answer → Option Told → Why
+why_with (Ok tree) told = Ok tree
+why_with (Err refused) told = Err (record { refused = refused; told = told })
+
+-- the reason, which numbers 13 and 14 alone are told with
+abbrev pub told_of : ℕ → Reason → Option Told
+told_of number w = either (asks_why number) (Some (record { place = w.place; verdict = w.verdict })) None
+
+-- the tree's own answer
+abbrev pub answer_in : Why → Answer
+answer_in (Ok tree) = Ok tree
+answer_in (Err u) = Err u.refused
+
+-- the sink's place and its verdict, 0 where nothing is told
+abbrev pub place_told : Option Told → ℕ
+place_told None = 0
+place_told (Some t) = t.place
+
+abbrev pub verdict_told : Option Told → ℕ
+verdict_told None = 0
+verdict_told (Some t) = t.verdict
+
+abbrev pub place_in : Why → ℕ
+place_in (Ok tree) = 0
+place_in (Err u) = place_told u.told
+
+abbrev pub verdict_in : Why → ℕ
+verdict_in (Ok tree) = 0
+verdict_in (Err u) = verdict_told u.told
+
 -- ---- the promise of `why_no_goal`
 
 pub record Outputs : Type 0 where
@@ -107,9 +146,7 @@ pub record Promise (mode : Mode) (sheet : List ℕ) (B : Lent) (U : Outputs) (r 
   pub comes : WhyComes mode sheet (lengths_of B) (length U.reached) (length U.walls) (length U.causes) outcome
   pub reason : Reason
   pub tells : TellsWhy mode sheet (lengths_of B) outcome reason
-  pub answer : r.answer ≡ answer_of outcome
-  pub place_is : r.place ≡ reason.place
-  pub verdict-is : r.verdict ≡ reason.verdict
+  pub why-is : r ≡ why_with (answer_of outcome) (told_of (number_for outcome) reason)
   pub lent_is : B' ≡ lent_after outcome B
   pub reached-is : U'.reached ≡ output_after (number_for outcome) reason.reached U.reached
   pub walls-is : U'.walls ≡ output_after (number_for outcome) reason.walls U.walls

@@ -1,5 +1,5 @@
 -- What the contracts of the parts cite.
-use Rattle.std.specs.Prelude.{◌≡◌, true, List, ℕ, ◌≤◌, eqb, length, replicate}
+use Rattle.std.specs.Prelude.{◌≡◌, Ok, Err, true, List, ℕ, ◌≤◌, eqb, length, replicate}
 use Rattle.numbers.specs.Refusals.{done_number, no_goal_number}
 use Rattle.basics.specs.Tests.{either}
 use Rattle.lent.specs.Lent.{filled, Cleared}
@@ -14,22 +14,21 @@ use Rattle.job_sheet.specs.Sheet.{Contents, Means, judged}
 use Rattle.job_sheet.specs.Accepted.{Accepted}
 use Rattle.ends.specs.declared.Taps.{Taps}
 use Rattle.ends.specs.Ends.{NetInside}
-use Rattle.outset.specs.declared.Outset.{Outset}
+use Rattle.outset.specs.SetOut.{Outset}
 use Rattle.outset.specs.SetOut.{ready, OutsetAsked, OutsetOf, SetOut}
 use Rattle.branches.specs.declared.BranchLengths.{BranchLengths}
 use Rattle.branches.specs.Branches.{branches_of}
 use Rattle.flood.specs.Walls.{tabled, marks_by, walls_by}
-use Rattle.multinet.specs.declared.Stop.{Stop}
-use Rattle.multinet.specs.declared.GrownBranches.{GrownBranches}
+use Rattle.multinet.specs.declared.Early.{Early}
 use Rattle.multinet.specs.Tree.{Plot, Tree, stopped, growth_of, sink_now}
 use Rattle.multinet.specs.Growing.{SoundPlot}
-use Rattle.multinet.specs.SinkTurns.{plot_of, stop_number, stop_detail, StoppedEarly}
+use Rattle.multinet.specs.SinkTurns.{plot_of, stop_number, StoppedEarly}
 use Rattle.causes.specs.Causes.{cause_of, OwnBranches}
 use Rattle.why_tree.specs.WhyTree.{tree_obstacle, verdict_for, verdict_of, cut_short, StopsThere}
 use Rattle.why_tree.specs.Telling.{SinkAsked}
-use Rattle.net_tree.specs.declared.Ended.{Ended}
-use Rattle.net_tree.specs.declared.Ended.TheVariants.{Routed, Refused}
-use Rattle.net_tree.specs.Answers.{Lent, lent, lengths_of}
+use Rattle.net_tree.specs.declared.memory.Memory.{Memory}
+use Rattle.net_tree.specs.Answers.{Answer, Lent, lent, lengths_of}
+use Rattle.net_tree.specs.Held.{lent_with}
 use Rattle.net_tree.specs.Entry.{Routable}
 use Rattle.net_tree.specs.EntryLaws.{LongEnough}
 use Rattle.sink_why.specs.declared.Stopping.{Stopping}
@@ -69,19 +68,23 @@ pub record ReasonTold (G : Ground) (sheet : List ℕ) (S : Stopping) (approach :
 -- ---- the growth again
 
 -- what a growth that ended early has come to
-abbrev pub stopping_at : ℕ → Taps → GrownBranches → Stop → ℕ → Stopping
-stopping_at source taps growth stop sink = record {
+abbrev pub stopping_at : ℕ → Taps → Early → Stopping
+stopping_at source taps early = record {
   source = source;
   taps = taps;
-  lengths = record { count = taps.count; each = growth.lengths.each };
-  sink = sink;
-  unreached = eqb (stop_number stop) no_goal_number;
+  lengths = record { count = taps.count; each = early.lengths.each };
+  sink = early.sink;
+  unreached = eqb (stop_number early.stop) no_goal_number;
 }
 
 -- the memory of a tree, its marks of what is occupied and of repeaters being clear
 abbrev pub memory_of : Job → (branches kinds blocked classes joinable known previous path best queue : List ℕ) → Lent
 memory_of job branches kinds blocked classes joinable known previous path best queue =
     lent branches (no_marks (volume job.room)) (no_marks (volume job.room)) kinds blocked classes joinable known previous path best queue
+
+-- the same, its work memory in one struct
+abbrev pub memory_with : Job → List ℕ → Memory → Lent
+memory_with job branches M = lent_with branches (no_marks (volume job.room)) (no_marks (volume job.room)) M
 
 -- what the tree of a job grows over
 abbrev pub job_plot : Mode → Job → Outset → List ℕ → List ℕ → List ℕ → Plot
@@ -108,11 +111,9 @@ pub record Regrown (mode : Mode) (sheet : List ℕ) (job : Job) (queue branches 
   pub is_set : SetOut sheet outset kinds nodes blocked-first
   pub is-ready : ready outset ≡ true
   pub sound : SoundPlot (job_plot mode job outset kinds queue branches)
-  pub growth : GrownBranches
-  pub stop : Stop
-  pub sink : ℕ
-  pub early : StoppedEarly (job_plot mode job outset kinds queue branches) blocked-first branches growth.lengths.each joinable blocked branches' stop sink
-  pub is : r ≡ stopping_at outset.ends.source outset.ends.taps growth stop sink
+  pub end : Early
+  pub early : StoppedEarly (job_plot mode job outset kinds queue branches) blocked-first branches end.lengths.each joinable blocked branches' end.stop end.sink
+  pub is : r ≡ stopping_at outset.ends.source outset.ends.taps end
 
 -- ---- the reason
 
@@ -152,9 +153,9 @@ pub record SinkReasoned (mode : Mode) (sheet : List ℕ) (job : Job) (queue bran
 -- ---- lent memory
 
 -- the number of a tree's end, 0 for a tree
-abbrev pub end_number : Ended → ℕ
-end_number (Routed occupied repeaters) = done_number
-end_number (Refused number detail) = number
+abbrev pub end_number : Answer → ℕ
+end_number (Ok tree) = done_number
+end_number (Err refused) = refused.number
 
 -- a job whose growth stops, lent memory that suffices, and a clear branch buffer
 pub record FrontAsked (mode : Mode) (sheet : List ℕ) (job : Job) (B : Lent) (reached walls causes : List ℕ) : Type 0 where

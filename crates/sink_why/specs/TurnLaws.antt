@@ -1,5 +1,5 @@
 -- The growth stops at one turn alone, and what is told of the sheet's own plot is that of the job's.
-use Rattle.std.specs.Prelude.{◌≡◌, refl, List, ℕ, zero, suc, ◌+◌, ◌-◌, ◌≤◌, ◌<◌}
+use Rattle.std.specs.Prelude.{◌≡◌, List, ℕ, zero, suc, ◌+◌, ◌-◌, ◌<◌}
 use Rattle.std.proofs.Common.{sym, ap, ◌∙◌, arith}
 use Rattle.basics.specs.Tests.{never, ask_less}
 use Rattle.multinet.specs.Tree.{Plot, Tree, Growth, grown, stopped, planted, sink_now, grow_sink, grow_on, grow_from, growth_of}

@@ -1,39 +1,35 @@
 -- Laws of the entry: outputs that suffice, what is lent on, and the promise of `why_no_goal` by its cases.
-use Rattle.std.specs.Prelude.{◌≡◌, refl, Bool, true, false, not, ◌&&◌, List, [], ◌++◌, ℕ, ◌-◌, ◌*◌, ◌≤◌, ◌<◌, eqb, leb, ltb, length, take, replicate}
+use Rattle.std.specs.Prelude.{◌≡◌, Some, None, refl, Bool, true, false, not, ◌&&◌, List, [], ℕ, ◌-◌, ◌*◌, ◌≤◌, ◌<◌, eqb, leb, length, take, replicate}
 use Rattle.std.proofs.Common.{sym, ap, subst, ◌∙◌, arith, length-take-le}
-use Rattle.std.proofs.Math.Bool.{and-false}
 use Rattle.std.proofs.lemmas.List.{length-replicate}
 use borrow.Author.Tests.{le-leb, lt-leb, eqb-true, not-true, not-false}
 use Rattle.numbers.specs.Refusals.{buffer_number, queue_full_number, no_goal_number}
-use Rattle.basics.specs.Tests.{ask, never, and_left, and_right}
+use Rattle.basics.specs.Tests.{either, ask, never, and_left, and_right}
 use Rattle.basics.specs.Zeros.{zeros-long, cleared-to}
-use Rattle.lent.specs.Lent.{touches, filled, output_after, work_after, Cleared}
+use Rattle.lent.specs.Lent.{touches, output_after, work_after, Cleared}
 use Rattle.room.specs.declared.Room.{Room}
 use Rattle.room.specs.Room.{Good, volume}
-use Rattle.routing_resources.specs.Marks.{no_marks}
 use Rattle.ground.specs.declared.Mode.{Mode}
 use Rattle.job_sheet.specs.declared.Job.{Job}
 use Rattle.job_sheet.specs.declared.Reading.{Reading}
-use Rattle.job_sheet.specs.declared.Judgement.TheVariants as judgement
-use Rattle.job_sheet.specs.Sheet.{Contents, Means, Read, judged, is_good}
+use Rattle.job_sheet.specs.Sheet.{Contents, Means, Read, is_good}
 use Rattle.job_sheet.specs.Accepted.{Accepted}
-use Rattle.job_sheet.proofs.Theorems.{one-meaning, usable, accepted-by}
-use Rattle.outset.specs.declared.Outset.{Outset}
-use Rattle.outset.specs.SetOut.{ready, OutsetOf, SetOut}
+use Rattle.job_sheet.proofs.Theorems.{one-meaning, accepted-by}
+use Rattle.outset.specs.SetOut.{Outset}
+use Rattle.outset.specs.SetOut.{ready, SetOut}
 use Rattle.outset.specs.SetOutLaws.{use_of, good-room, outset-one}
 use Rattle.room_search.specs.Routing.{places_in}
-use Rattle.multinet.specs.Tree.{Plot, stopped, growth_of}
-use Rattle.net_tree.specs.declared.Lengths.{Lengths}
-use Rattle.net_tree.specs.declared.Answer.{Answer}
-use Rattle.net_tree.specs.Answers.{Lent, lent, lengths_of, TreeOutcome, routed, no_tree, plot_for, Comes, answer_of, number_for, lent_after, Promise as TreePromise}
+use Rattle.multinet.specs.Tree.{stopped, growth_of}
+use Rattle.net_tree.specs.Answers.{Answer, Lent, lent, lengths_of, TreeOutcome, routed, no_tree, plot_for, Comes, answer_of, number_for, lent_after, Promise as TreePromise}
+use Rattle.net_tree.specs.declared.memory.Memory.{Memory}
+use Rattle.net_tree.specs.Held.{lent_with}
 use Rattle.net_tree.specs.SheetTrees.{StopOf}
 use Rattle.net_tree.specs.SheetTreeLaws.{stop-of}
 use Rattle.net_tree.specs.EntryLaws.{LongEnough, long-enough}
 use Rattle.net_tree.specs.PromiseLaws.{read-good}
 use Rattle.sink_why.specs.declared.Told.{Told}
-use Rattle.sink_why.specs.declared.Why.{Why}
-use Rattle.sink_why.specs.SinkWhy.{StoppedAt, Reason, no_reason, reason_of, asks_why, unasked, asked, outputs_good, outputs-short, as_tree, Outputs, outputs, Promise}
-use Rattle.sink_why.specs.Telling.{memory_of, job_plot, Stops, Regrowable, SinkAsks, Tells, TellsTurn, SinkReasoned, end_number, FrontAsked, StoppedTold, WhyAsked}
+use Rattle.sink_why.specs.SinkWhy.{Why, why_with, StoppedAt, no_reason, reason_of, asks_why, unasked, asked, outputs_good, outputs-short, as_tree, Outputs, outputs, Promise}
+use Rattle.sink_why.specs.Telling.{memory_of, job_plot, Regrowable, Tells, TellsTurn, SinkReasoned, end_number, FrontAsked, StoppedTold, WhyAsked}
 use Rattle.sink_why.specs.TurnLaws.{same_number}
 
 -- ---- outputs that suffice, by cases
@@ -85,11 +81,11 @@ asked-touches number e =
     (λ f. let n = eqb-true number no_goal_number (rw f at e) in rw n (refl, omega arith))
 
 -- a tree's end of that number is that number's
-stopped-end : (o : TreeOutcome) → asks_why (end_number (answer_of o).ended) ≡ true → (detail : ℕ) × (o ≡ no_tree (end_number (answer_of o).ended) detail)
+stopped-end : (o : TreeOutcome) → asks_why (end_number (answer_of o)) ≡ true → (detail : ℕ) × (o ≡ no_tree (end_number (answer_of o)) detail)
 stopped-end (routed bs occupied repeaters) e = never (cc)
 stopped-end (no_tree number detail) e = (detail, refl)
 
-pub end-number : (o : TreeOutcome) → end_number (answer_of o).ended ≡ number_for o
+pub end-number : (o : TreeOutcome) → end_number (answer_of o) ≡ number_for o
 end-number (routed bs occupied repeaters) = refl
 end-number (no_tree number detail) = refl
 
@@ -244,7 +240,7 @@ module _ {mode : Mode} {sheet : List ℕ} {job : Job} (B : Lent) {reached walls 
       told_promise : {branches' kinds' blocked' classes' joinable' known' previous' path' best' queue' : List ℕ}
           → StoppedTold (memory_of job B₁.branches B₁.kinds B₁.blocked B₁.classes B₁.joinable B₁.known B₁.previous B₁.path B₁.best B₁.queue) (memory_of job branches' kinds' blocked' classes' joinable' known' previous' path' best' queue')
           → {answer : Answer} → answer ≡ answer_of (no_tree number detail)
-          → Promise mode sheet B (outputs reached walls causes) (record { answer = answer; place = r.place; verdict = r.verdict }) (lent branches' B₁.occupied B₁.repeaters kinds' blocked' classes' joinable' known' previous' path' best' queue') (outputs reached' walls' causes')
+          → Promise mode sheet B (outputs reached walls causes) (why_with answer (Some r)) (lent branches' B₁.occupied B₁.repeaters kinds' blocked' classes' joinable' known' previous' path' best' queue') (outputs reached' walls' causes')
       told_promise {branches'} {kinds'} {blocked'} {classes'} {joinable'} {known'} {previous'} {path'} {best'} {queue'} Z e =
           let br : branches' ≡ output_after number [] B.branches = again B.branches branches_zero Z.branches-cleared ∙ as_output number t B.branches in
           let oc : B₁.occupied ≡ output_after number [] B.occupied = ap (λ x. x.occupied) l in
@@ -263,9 +259,9 @@ module _ {mode : Mode} {sheet : List ℕ} {job : Job} (B : Lent) {reached walls 
             comes = as_tree W.outputs-good C;
             reason = reason_of at_turn;
             tells = asked number detail refl a at_turn refl;
-            answer = e;
-            place_is = tells-reason.place_is;
-            verdict-is = tells-reason.verdict-is;
+            why-is =
+                (λ i. why_with (e i) (Some (record { place = tells-reason.place_is i; verdict = tells-reason.verdict-is i })))
+                ∙ ap (λ b. why_with (answer_of (no_tree number detail)) (either b (Some (record { place = (reason_of at_turn).place; verdict = (reason_of at_turn).verdict })) None)) (sym a);
             lent_is = λ i. lent (br i) (oc i) (re i) (ki i) (bl i) (cl i) (jo i) (kn i) (pr i) (pa i) (be i) (qu i);
             reached-is = rw t tells-reason.reached-is;
             walls-is = rw t tells-reason.walls-is;
@@ -275,9 +271,9 @@ module _ {mode : Mode} {sheet : List ℕ} {job : Job} (B : Lent) {reached walls 
 -- ---- from the tree's own promise
 
 module _ {mode : Mode} {sheet : List ℕ} {job : Job} {B : Lent} {reached walls causes : List ℕ} (W : WhyAsked sheet job reached walls causes) {w : Answer} {B₁ : Lent}
-    (P : TreePromise mode sheet B w B₁) {number : ℕ} (e : number ≡ end_number w.ended) where
-  number_is : number ≡ end_number (answer_of P.outcome).ended
-  number_is = e ∙ ap (λ x. end_number x.ended) P.answer
+    (P : TreePromise mode sheet B w B₁) {number : ℕ} (e : number ≡ end_number w) where
+  number_is : number ≡ end_number (answer_of P.outcome)
+  number_is = e ∙ ap end_number P.answer
 
   module _ (a : asks_why number ≡ true) where
     stopped_as : (detail : ℕ) × (P.outcome ≡ no_tree number detail)
@@ -295,22 +291,21 @@ module _ {mode : Mode} {sheet : List ℕ} {job : Job} {B : Lent} {reached walls 
     pub promise_told : {r : Told} {reached' walls' causes' : List ℕ} → SinkReasoned mode sheet job B₁.queue B₁.branches reached walls causes r reached' walls' causes'
         → {branches' kinds' blocked' classes' joinable' known' previous' path' best' queue' : List ℕ}
         → StoppedTold (memory_of job B₁.branches B₁.kinds B₁.blocked B₁.classes B₁.joinable B₁.known B₁.previous B₁.path B₁.best B₁.queue) (memory_of job branches' kinds' blocked' classes' joinable' known' previous' path' best' queue')
-        → Promise mode sheet B (outputs reached walls causes) (record { answer = w; place = r.place; verdict = r.verdict }) (lent branches' B₁.occupied B₁.repeaters kinds' blocked' classes' joinable' known' previous' path' best' queue') (outputs reached' walls' causes')
-    promise_told R Z = told_promise B W a comes-so lent-so R (tells-turn B W a comes-so lent-so R) Z (P.answer ∙ ap answer_of stopped_as.1)
+        → {y : Why} → y ≡ why_with w (Some r)
+        → Promise mode sheet B (outputs reached walls causes) y (lent branches' B₁.occupied B₁.repeaters kinds' blocked' classes' joinable' known' previous' path' best' queue') (outputs reached' walls' causes')
+    promise_told R Z y = rw y (told_promise B W a comes-so lent-so R (tells-turn B W a comes-so lent-so R) Z (P.answer ∙ ap answer_of stopped_as.1))
 
   -- any other number
   pub promise_untold : asks_why number ≡ false → {reached' walls' causes' : List ℕ} → reached' ≡ output_after number [] reached → walls' ≡ output_after number [] walls → causes' ≡ output_after number [] causes
-      → Promise mode sheet B (outputs reached walls causes) (record { answer = w; place = 0; verdict = 0 }) B₁ (outputs reached' walls' causes')
-  promise_untold f r q k =
+      → {y : Why} → y ≡ why_with w None → Promise mode sheet B (outputs reached walls causes) y B₁ (outputs reached' walls' causes')
+  promise_untold f r q k y =
       let n : number ≡ number_for P.outcome = number_is ∙ end-number P.outcome in
       record {
         outcome = P.outcome;
         comes = as_tree W.outputs-good P.comes;
         reason = no_reason;
         tells = unasked (ap asks_why (sym n) ∙ f) refl;
-        answer = P.answer;
-        place_is = refl;
-        verdict-is = refl;
+        why-is = y ∙ (λ i. why_with (P.answer i) None) ∙ ap (λ b. why_with (answer_of P.outcome) (either b (Some (record { place = 0; verdict = 0 })) None)) (sym (ap asks_why (sym n) ∙ f));
         lent_is = P.lent_is;
         reached-is = r ∙ ap (λ x. output_after x [] reached) n;
         walls-is = q ∙ ap (λ x. output_after x [] walls) n;
@@ -334,7 +329,7 @@ module _ {sheet : List ℕ} {reading : Reading} (read : Read sheet reading) (rea
       ap (λ R. outputs_good R (length reached) (length walls) (length causes)) (sym ((use_of A).room-is ∙ ap (λ K. K.room) (one-meaning sheet A.contents J A.means m)))
 
   pub promise_short : is_short ≡ true → {mode : Mode} {B : Lent} {w : Answer} → w ≡ answer_of (no_tree buffer_number 0)
-      → Promise mode sheet B (outputs reached walls causes) (record { answer = w; place = 0; verdict = 0 }) B (outputs reached walls causes)
+      → Promise mode sheet B (outputs reached walls causes) (why_with w None) B (outputs reached walls causes)
   promise_short s e =
       let g = and_left (is_good reading.judgement) _ s in
       let A = accepted-by read g in
@@ -344,9 +339,7 @@ module _ {sheet : List ℕ} {reading : Reading} (read : Read sheet reading) (rea
         comes = outputs-short A.contents A.means A.good (same-outputs g A.contents A.means ∙ f) refl;
         reason = no_reason;
         tells = unasked refl refl;
-        answer = e;
-        place_is = refl;
-        verdict-is = refl;
+        why-is = ap (λ x. why_with x None) e;
         lent_is = refl;
         reached-is = refl;
         walls-is = refl;
@@ -358,3 +351,20 @@ module _ {sheet : List ℕ} {reading : Reading} (read : Read sheet reading) (rea
     accepted = λ J m g. accepted-by read (read-good read m g);
     outputs-good = λ J m g. let h = read-good read m g in same-outputs h J m ∙ not-false (outputs_good reading.job.room (length reached) (length walls) (length causes)) (rw h at s);
   }
+
+-- ---- work memory that one struct holds
+
+pub why-held : {mode : Mode} {sheet : List ℕ} {B : Lent} {W W' : Outputs} {r : Why} {branches occupied repeaters kinds blocked classes joinable known previous path best queue : List ℕ} (M : Memory)
+    → Promise mode sheet B W r (lent_with branches occupied repeaters M) W'
+    → kinds ≡ M.kinds.now
+    → blocked ≡ M.blocked.now
+    → classes ≡ M.classes.now
+    → joinable ≡ M.joinable.now
+    → known ≡ M.known.now
+    → previous ≡ M.previous.now
+    → path ≡ M.path.now
+    → best ≡ M.best.now
+    → queue ≡ M.queue.now
+    → Promise mode sheet B W r (lent branches occupied repeaters kinds blocked classes joinable known previous path best queue) W'
+why-held {mode = mode} {sheet = sheet} {B = B} {W = W} {W' = W'} {r = r} {branches = branches} {occupied = occupied} {repeaters = repeaters} M P e0 e1 e2 e3 e4 e5 e6 e7 e8 =
+    subst (λ L. Promise mode sheet B W r L W') (sym (λ i. lent branches occupied repeaters (e0 i) (e1 i) (e2 i) (e3 i) (e4 i) (e5 i) (e6 i) (e7 i) (e8 i))) P

@@ -4,15 +4,16 @@ ghost use Rattle.lent.specs.Lent.{output_after};
 ghost use Rattle.room.specs.Room.{Good};
 ghost use Rattle.job_sheet.specs.Sheet.{is_good};
 ghost use Rattle.net_tree.specs.Answers.{lent};
-ghost use Rattle.sink_why.specs.SinkWhy.{asks_why, outputs_good, outputs, Promise};
-ghost use Rattle.sink_why.specs.Telling.{memory_of, end_number, SinkReasoned, FrontAsked, StoppedTold, WhyAsked};
+ghost use Rattle.net_tree.specs.Held.{SameBuffers, SameLengths, lent_with};
+ghost use Rattle.sink_why.specs.SinkWhy.{asks_why, why_with, outputs_good, outputs, Promise};
+ghost use Rattle.sink_why.specs.Telling.{memory_with, end_number, SinkReasoned, FrontAsked, StoppedTold, WhyAsked};
 
 use crate::growth::tell_growth;
 use crate::reason::clear_outputs;
-use crate::{Told, Why};
+use crate::{Told, Unrouted};
 use ground::Mode;
 use job_sheet::{Job, Reading};
-use net_tree::Ended;
+use net_tree::{Memory, Refused, Tree};
 use room::Room;
 
 // Whether the outputs suffice; where they don't, number 6 is due.
@@ -44,15 +45,22 @@ fn outputs_short(reading: Reading, reached: usize, walls: usize, causes: usize) 
 }
 
 // The number of a tree's end, 0 for a tree.
-fn end_number(ended: Ended) -> u32
-    ensures { result ≡ end_number ended }
+fn end_number(answer: Result<Tree, Refused>) -> u32
+    ensures { result ≡ end_number answer }
 {
-    match ended {
-        Ended::Routed {
-            occupied: _,
-            repeaters: _,
-        } => numbers::DONE_NUMBER,
-        Ended::Refused { number, detail: _ } => number,
+    match answer {
+        Ok(_) => numbers::DONE_NUMBER,
+        Err(refused) => refused.number,
+    }
+}
+
+// The tree, or its refusal with what is told of the sink.
+fn why_with(answer: Result<Tree, Refused>, told: Option<Told>) -> Result<Tree, Unrouted>
+    ensures { result ≡ why_with answer told }
+{
+    match answer {
+        Ok(tree) => Ok(tree),
+        Err(refused) => Err(Unrouted { refused, told }),
     }
 }
 
@@ -81,21 +89,15 @@ fn tell_front(
     sheet: &[u8],
     job: Job,
     branches: &mut [u32],
-    kinds: &mut [u8],
-    blocked: &mut [u8],
-    classes: &mut [u8],
-    joinable: &mut [u8],
-    known: &mut [u32],
-    previous: &mut [u32],
-    path: &mut [u32],
-    best: &mut [u32],
-    queue: &mut [u64],
+    memory: &mut Memory<'_>,
     reached: &mut [u8],
     walls: &mut [u8],
     causes: &mut [u8],
 ) -> Told
-    requires { FrontAsked mode sheet.now job (memory_of job branches.old kinds.old blocked.old classes.old joinable.old known.old previous.old path.old best.old queue.old) reached.old walls.old causes.old }
-    ensures { SinkReasoned mode sheet.now job queue.old branches.old reached.old walls.old causes.old result reached.new walls.new causes.new }
+    requires { FrontAsked mode sheet.now job (memory_with job branches.old memory.old) reached.old walls.old causes.old }
+    ensures same_buffers { SameBuffers memory.old memory.new }
+    ensures same_lengths { SameLengths memory.old memory.new }
+    ensures sink_reasoned { SinkReasoned mode sheet.now job memory.old.queue.now branches.old reached.old walls.old causes.old result reached.new walls.new causes.new }
 {
     let cells = job.room.volume();
     tell_growth(
@@ -103,15 +105,15 @@ fn tell_front(
         sheet,
         job,
         branches,
-        &mut kinds[..cells],
-        &mut blocked[..cells],
-        &mut classes[..cells],
-        &mut joinable[..cells],
-        &mut known[..cells],
-        &mut previous[..cells],
-        &mut path[..cells],
-        &mut best[..cells],
-        queue,
+        &mut memory.kinds[..cells],
+        &mut memory.blocked[..cells],
+        &mut memory.classes[..cells],
+        &mut memory.joinable[..cells],
+        &mut memory.known[..cells],
+        &mut memory.previous[..cells],
+        &mut memory.path[..cells],
+        &mut memory.best[..cells],
+        memory.queue,
         reached,
         walls,
         causes,
@@ -124,31 +126,19 @@ fn tell_stopped(
     sheet: &[u8],
     job: Job,
     branches: &mut [u32],
-    kinds: &mut [u8],
-    blocked: &mut [u8],
-    classes: &mut [u8],
-    joinable: &mut [u8],
-    known: &mut [u32],
-    previous: &mut [u32],
-    path: &mut [u32],
-    best: &mut [u32],
-    queue: &mut [u64],
+    memory: &mut Memory<'_>,
     reached: &mut [u8],
     walls: &mut [u8],
     causes: &mut [u8],
 ) -> Told
-    requires { FrontAsked mode sheet.now job (memory_of job branches.old kinds.old blocked.old classes.old joinable.old known.old previous.old path.old best.old queue.old) reached.old walls.old causes.old }
-    ensures sink_reasoned { SinkReasoned mode sheet.now job queue.old branches.old reached.old walls.old causes.old result reached.new walls.new causes.new }
-    ensures stopped_told { StoppedTold (memory_of job branches.old kinds.old blocked.old classes.old joinable.old known.old previous.old path.old best.old queue.old) (memory_of job branches.new kinds.new blocked.new classes.new joinable.new known.new previous.new path.new best.new queue.new) }
+    requires { FrontAsked mode sheet.now job (memory_with job branches.old memory.old) reached.old walls.old causes.old }
+    ensures sink_reasoned { SinkReasoned mode sheet.now job memory.old.queue.now branches.old reached.old walls.old causes.old result reached.new walls.new causes.new }
+    ensures same_buffers { SameBuffers memory.old memory.new }
+    ensures stopped_told { StoppedTold (memory_with job branches.old memory.old) (memory_with job branches.new memory.new) }
 {
-    let told = tell_front(
-        mode, sheet, job, branches, kinds, blocked, classes, joinable, known, previous, path, best,
-        queue, reached, walls, causes,
-    );
-    lent::clear_words(branches);
-    net_tree::clear_work(
-        kinds, blocked, classes, joinable, known, previous, path, best, queue,
-    );
+    let told = tell_front(mode, sheet, job, branches, memory, reached, walls, causes);
+    lent::clear(branches);
+    memory.clear();
     told
 }
 
@@ -160,45 +150,38 @@ fn why_lent(
     branches: &mut [u32],
     occupied: &mut [u8],
     repeaters: &mut [u8],
-    kinds: &mut [u8],
-    blocked: &mut [u8],
-    classes: &mut [u8],
-    joinable: &mut [u8],
-    known: &mut [u32],
-    previous: &mut [u32],
-    path: &mut [u32],
-    best: &mut [u32],
-    queue: &mut [u64],
+    memory: &mut Memory<'_>,
     reached: &mut [u8],
     walls: &mut [u8],
     causes: &mut [u8],
-) -> Why
+) -> Result<Tree, Unrouted>
     requires { WhyAsked sheet.now job reached.old walls.old causes.old }
-    ensures { Promise mode sheet.now (lent branches.old occupied.old repeaters.old kinds.old blocked.old classes.old joinable.old known.old previous.old path.old best.old queue.old) (outputs reached.old walls.old causes.old) result (lent branches.new occupied.new repeaters.new kinds.new blocked.new classes.new joinable.new known.new previous.new path.new best.new queue.new) (outputs reached.new walls.new causes.new) }
+    ensures same_buffers { SameBuffers memory.old memory.new }
+    ensures promise { Promise mode sheet.now (lent_with branches.old occupied.old repeaters.old memory.old) (outputs reached.old walls.old causes.old) result (lent_with branches.new occupied.new repeaters.new memory.new) (outputs reached.new walls.new causes.new) }
 {
     let answer = net_tree::route_net_tree(
-        mode, sheet, branches, occupied, repeaters, kinds, blocked, classes, joinable, known,
-        previous, path, best, queue,
+        mode,
+        sheet,
+        branches,
+        occupied,
+        repeaters,
+        memory.kinds,
+        memory.blocked,
+        memory.classes,
+        memory.joinable,
+        memory.known,
+        memory.previous,
+        memory.path,
+        memory.best,
+        memory.queue,
     );
-    let ended = answer.ended;
-    let number = end_number(ended);
+    let number = end_number(answer);
     if asks_why(number) {
-        let told = tell_stopped(
-            mode, sheet, job, branches, kinds, blocked, classes, joinable, known, previous, path,
-            best, queue, reached, walls, causes,
-        );
-        return Why {
-            answer,
-            place: told.place,
-            verdict: told.verdict,
-        };
+        let told = tell_stopped(mode, sheet, job, branches, memory, reached, walls, causes);
+        return why_with(answer, Some(told));
     }
     settle(number, reached, walls, causes);
-    Why {
-        answer,
-        place: 0,
-        verdict: 0,
-    }
+    why_with(answer, None)
 }
 
 // The tree of the one net that a job sheet describes, as `route_net_tree` has it; and for numbers 13 and 14 the sink whose turn
@@ -223,24 +206,21 @@ pub fn why_no_goal(
     reached: &mut [u8],
     walls: &mut [u8],
     causes: &mut [u8],
-) -> Why
+) -> Result<Tree, Unrouted>
     ensures { Promise mode sheet.now (lent branches.old occupied.old repeaters.old kinds.old blocked.old classes.old joinable.old known.old previous.old path.old best.old queue.old) (outputs reached.old walls.old causes.old) result (lent branches.new occupied.new repeaters.new kinds.new blocked.new classes.new joinable.new known.new previous.new path.new best.new queue.new) (outputs reached.new walls.new causes.new) }
 {
     let reading = sheet_reader::read_sheet(sheet);
     if outputs_short(reading, reached.len(), walls.len(), causes.len()) {
-        return Why {
-            answer: net_tree::refuse(numbers::BUFFER_NUMBER, 0),
-            place: 0,
-            verdict: 0,
+        let refused = Refused {
+            number: numbers::BUFFER_NUMBER,
+            detail: 0,
         };
+        return Err(Unrouted {
+            refused,
+            told: None,
+        });
     }
-    why_lent(
-        mode,
-        sheet,
-        reading.job,
-        branches,
-        occupied,
-        repeaters,
+    let mut memory = Memory {
         kinds,
         blocked,
         classes,
@@ -250,6 +230,15 @@ pub fn why_no_goal(
         path,
         best,
         queue,
+    };
+    why_lent(
+        mode,
+        sheet,
+        reading.job,
+        branches,
+        occupied,
+        repeaters,
+        &mut memory,
         reached,
         walls,
         causes,

@@ -7,13 +7,11 @@ mod reason; // reason.rt: what is told of the sink that had that turn
 
 pub use entry::why_no_goal;
 
-// The tree's answer; for numbers 13 and 14 also the place in the sheet, from 1, of the sink whose turn it was, and what may be
-// said of it: 1 its approach is taken, 2 it is shut in, 3 conflicts, 4 the search was cut short. Both are 0 for any other number.
+// Why there is no tree; for numbers 13 and 14 also what may be said of the sink whose turn it was.
 #[derive(Clone, Copy)]
-pub struct Why {
-    pub answer: net_tree::Answer,
-    pub place: usize,
-    pub verdict: u32,
+pub struct Unrouted {
+    pub refused: net_tree::Refused,
+    pub told: Option<Told>,
 }
 
 // The net's ends, the lengths of the branches that it has when its growth stops, the sink whose turn it is, and whether number
@@ -27,7 +25,8 @@ pub struct Stopping {
     pub unreached: bool,
 }
 
-// A sink's place in the sheet, from 1, and what may be said of it.
+// A sink's place in the sheet, from 1, and what may be said of it: 1 its approach is taken, 2 it is shut in, 3 conflicts, 4 the
+// search was cut short. The verdict is a number, as `verdict_for` has it and C reads it.
 #[derive(Clone, Copy)]
 pub struct Told {
     pub place: usize,

@@ -1,6 +1,6 @@
 -- What lent memory holds, place by place: the rubbish that it was filled with, or what is expected and zeros behind that. Definitions alone;
 -- their laws are in MemoryLaws.
-use Rattle.std.specs.Prelude.{◌≡◌, Bool, true, false, ◌&&◌, List, [], ◌∷◌, ℕ, suc, ◌+◌, ◌%◌, ◌<◌, eqb, leb, length, get_or}
+use Rattle.std.specs.Prelude.{◌≡◌, Bool, true, ◌&&◌, List, [], ◌∷◌, ℕ, suc, ◌+◌, ◌%◌, ◌<◌, length, get_or}
 use Rattle.basics.specs.Tests.{either}
 
 -- how many numbers the programs' own buffers have
@@ -15,22 +15,24 @@ file_length = 1000000
 abbrev pub rubbish : ℕ → ℕ
 rubbish i = i % 251 + 2
 
+-- ---- of numbers of any width: `of` makes one of a small number, `eq` tells whether two are the same
+
 -- full of rubbish
-abbrev pub Rubbish : List ℕ → Type 0
-Rubbish s = (i : ℕ) → i < length s → get_or s i 0 ≡ rubbish i
+abbrev pub Rubbish : {A : Type 0} → (ℕ → A) → List A → Type 0
+Rubbish of s = (i : ℕ) → i < length s → get_or s i (of 0) ≡ of (rubbish i)
 
 -- the test passes at each place, counted from i
-abbrev pub all_from : (ℕ → ℕ → Bool) → ℕ → List ℕ → Bool
+abbrev pub all_from : {A : Type 0} → (ℕ → A → Bool) → ℕ → List A → Bool
 all_from p i [] = true
 all_from p i (x ∷ xs) = p i x && all_from p (suc i) xs
 
 -- what is due at a place: the rubbish, where it is to be kept; else what is expected there, and 0 behind that
-abbrev pub due_at : Bool → List ℕ → ℕ → ℕ
-due_at kept expected i = either kept (rubbish i) (get_or expected i 0)
+abbrev pub due_at : {A : Type 0} → (ℕ → A) → Bool → List A → ℕ → A
+due_at of kept expected i = either kept (of (rubbish i)) (get_or expected i (of 0))
 
 -- each place holds what is due
-abbrev pub is_due : Bool → List ℕ → ℕ → ℕ → Bool
-is_due kept expected i x = eqb x (due_at kept expected i)
+abbrev pub is_due : {A : Type 0} → (A → A → Bool) → (ℕ → A) → Bool → List A → ℕ → A → Bool
+is_due eq of kept expected i x = eq x (due_at of kept expected i)
 
-abbrev pub holds : Bool → List ℕ → List ℕ → Bool
-holds kept expected s = all_from (is_due kept expected) 0 s
+abbrev pub holds : {A : Type 0} → (A → A → Bool) → (ℕ → A) → Bool → List A → List A → Bool
+holds eq of kept expected s = all_from (is_due eq of kept expected) 0 s

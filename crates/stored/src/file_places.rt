@@ -3,7 +3,6 @@ ghost use Rattle.std.specs.Prelude.{◌*◌, ◌^◌, ◌≤◌, ◌<◌, length
 ghost use Rattle.stored.specs.Memory.{file_length};
 
 use crate::memory::FILE_LENGTH;
-use crate::runs::smaller;
 
 // The place of the first record, behind the letters and the count of records.
 pub const FIRST_PLACE: usize = 8;
@@ -12,30 +11,14 @@ pub const FIRST_PLACE: usize = 8;
 pub fn past(at: usize, bytes: usize) -> usize
     ensures { result ≤ file_length }
 {
-    if FILE_LENGTH < at {
-        return FILE_LENGTH;
-    }
-    if FILE_LENGTH - at < bytes {
-        return FILE_LENGTH;
-    }
-    at + bytes
-}
-
-fn wide(byte: u8) -> usize
-    ensures { result < 256 }
-{
-    byte as usize
+    at.saturating_add(bytes).min(FILE_LENGTH)
 }
 
 // The byte that stands so many behind a place.
 pub fn byte_at(file: &[u8], at: usize, behind: usize) -> usize
     ensures { result < 256 }
 {
-    let place = past(at, behind);
-    if place < file.len() {
-        return wide(file[place]);
-    }
-    0
+    file.get(past(at, behind)).copied().map_or(0, usize::from)
 }
 
 // Two bytes, as a cell is stored.
@@ -59,33 +42,32 @@ pub fn count_in(file: &[u8], letters: usize) -> usize
     ensures { result < 2 ^ 32 }
 {
     if word_at(file, 0, 0) == letters {
-        return word_at(file, 0, 4);
+        word_at(file, 0, 4)
+    } else {
+        0
     }
-    0
 }
 
 // So many bytes from a place on, none where the file does not hold them all.
 pub fn part(file: &[u8], at: usize, bytes: usize) -> &[u8]
     ensures { length result.now ≤ bytes }
 {
-    if file.len() < at {
-        return &file[..0];
+    if at <= file.len() && bytes <= file.len() - at {
+        &file[at..at + bytes]
+    } else {
+        &file[..0]
     }
-    if file.len() - at < bytes {
-        return &file[..0];
-    }
-    &file[at..at + bytes]
 }
 
 fn put_cell(cells: &mut [u32], place: usize, cell: u32) {
-    if place < cells.len() {
-        cells[place] = cell;
+    if let Some(there) = cells.get_mut(place) {
+        *there = cell;
     }
 }
 
 fn mark_cell(marks: &mut [u8], cell: usize) {
-    if cell < marks.len() {
-        marks[cell] = 1;
+    if let Some(mark) = marks.get_mut(cell) {
+        *mark = 1;
     }
 }
 
@@ -103,7 +85,7 @@ pub fn read_cells(
 {
     let count = word_at(file, at, 0);
     let from = past(at, 4);
-    for k in 0..smaller(count, (FILE_LENGTH - from) / 2) {
+    for k in 0..count.min((FILE_LENGTH - from) / 2) {
         let cell = cell_at(file, from, k * 2);
         put_cell(cells, place + k, cell as u32);
         mark_cell(marks, cell);

@@ -1,5 +1,5 @@
 // Lent memory: filled with rubbish before a run, and looked through to its very end behind it.
-ghost use Rattle.std.specs.Prelude.{◌≡◌, [], ◌<◌, length};
+ghost use Rattle.std.specs.Prelude.{◌≡◌, ℕ, ◌<◌, length};
 ghost use Rattle.stored.specs.Memory.{file_length, rubbish, Rubbish, due_at, holds};
 
 // How many numbers the programs' own buffers have: those of the longest buffer that is stored, 16,484, and some more.
@@ -24,89 +24,67 @@ fn rubbish(i: usize) -> u8
     (i % 251 + 2) as u8
 }
 
-pub fn spoil_bytes(s: &mut [u8])
-    ensures { Rubbish s.new }
-{
-    for i in 0..s.len() {
-        s[i] = rubbish(i);
+// A number of lent memory: a byte, a word or a long.
+pub trait Number: Copy + PartialEq {
+    // the number of this width that is a byte's value
+    ghost of: { ℕ → Self };
+
+    fn of_byte(byte: u8) -> Self
+        ensures { result ≡ of byte };
+}
+
+impl Number for u8 {
+    ghost of = { λ n. n };
+
+    fn of_byte(byte: u8) -> u8 {
+        byte
     }
 }
 
-pub fn spoil_words(s: &mut [u32])
-    ensures { Rubbish s.new }
-{
-    for i in 0..s.len() {
-        s[i] = rubbish(i) as u32;
+impl Number for u32 {
+    ghost of = { λ n. n };
+
+    fn of_byte(byte: u8) -> u32 {
+        u32::from(byte)
     }
 }
 
-pub fn spoil_longs(s: &mut [u64])
-    ensures { Rubbish s.new }
+impl Number for u64 {
+    ghost of = { λ n. n };
+
+    fn of_byte(byte: u8) -> u64 {
+        u64::from(byte)
+    }
+}
+
+// Fills memory with rubbish.
+pub fn spoil<N: Number>(s: &mut [N])
+    ensures { Rubbish N.of s.new }
 {
     for i in 0..s.len() {
-        s[i] = rubbish(i) as u64;
+        s[i] = N::of_byte(rubbish(i));
     }
 }
 
 // What is due at a place: the rubbish, where it is to be kept; else what is expected there, and 0 behind that.
-fn byte_due(kept: bool, expected: &[u8], i: usize) -> u8
-    ensures { result ≡ due_at kept expected.now i }
+fn due<N: Number>(kept: bool, expected: &[N], i: usize) -> N
+    ensures { result ≡ due_at N.of kept expected.now i }
 {
     if kept {
-        return rubbish(i);
+        N::of_byte(rubbish(i))
+    } else if i < expected.len() {
+        expected[i]
+    } else {
+        N::of_byte(0)
     }
-    if i < expected.len() {
-        return expected[i];
-    }
-    0
 }
 
-fn word_due(kept: bool, expected: &[u32], i: usize) -> u32
-    ensures { result ≡ due_at kept expected.now i }
-{
-    if kept {
-        return rubbish(i) as u32;
-    }
-    if i < expected.len() {
-        return expected[i];
-    }
-    0
-}
-
-fn long_due(kept: bool, i: usize) -> u64
-    ensures { result ≡ due_at kept [] i }
-{
-    if kept { rubbish(i) as u64 } else { 0 }
-}
-
-pub fn bytes_hold(kept: bool, expected: &[u8], s: &[u8]) -> bool
-    ensures { result ≡ holds kept expected.now s.now }
+// Whether each place holds what is due.
+pub fn hold<N: Number>(kept: bool, expected: &[N], s: &[N]) -> bool
+    ensures { result ≡ holds N.eq N.of kept expected.now s.now }
 {
     for i in 0..s.len() {
-        if s[i] != byte_due(kept, expected, i) {
-            return false;
-        }
-    }
-    true
-}
-
-pub fn words_hold(kept: bool, expected: &[u32], s: &[u32]) -> bool
-    ensures { result ≡ holds kept expected.now s.now }
-{
-    for i in 0..s.len() {
-        if s[i] != word_due(kept, expected, i) {
-            return false;
-        }
-    }
-    true
-}
-
-// The same of longs, of which none but zeros are ever expected.
-pub fn longs_hold(kept: bool, s: &[u64]) -> bool
-    ensures { result ≡ holds kept [] s.now }
-{
-    for i in 0..s.len() {
-        if s[i] != long_due(kept, i) {
+        if s[i] != due(kept, expected, i) {
             return false;
         }
     }

@@ -1,8 +1,10 @@
 // What every stored case is put to: the verdict on a run, and longer buffers.
-ghost use Rattle.std.specs.Prelude.{◌*◌, ◌≤◌, ◌<◌};
+ghost use Rattle.std.specs.Prelude.{◌*◌, ◌≤◌, ◌<◌, IfSome};
+
+use std::num::wrapping_add_u32;
 
 // All as stored; or the number that a buffer gives that is too short, and everything is zero; or something else.
-#[derive(Clone, Copy)]
+#[derive(Clone, Copy, PartialEq, Eq)]
 pub enum Verdict {
     Same,
     Full,
@@ -15,8 +17,7 @@ pub fn expected_length(verdict: Verdict, length: usize) -> usize
 {
     match verdict {
         Verdict::Same => length,
-        Verdict::Full => 0,
-        Verdict::Other => 0,
+        Verdict::Full | Verdict::Other => 0,
     }
 }
 
@@ -24,13 +25,11 @@ pub fn expected_length(verdict: Verdict, length: usize) -> usize
 pub fn longer_unless(hanging: u32, length: usize, number: u32) -> usize
     ensures { length ≤ result }
 {
-    if number == hanging {
-        return length;
+    if number != hanging && length < 1000000 {
+        length + 100
+    } else {
+        length
     }
-    if length < 1000000 {
-        return length + 100;
-    }
-    length
 }
 
 // How many numbers a queue of so many places is lent without a change of the answer. Numbers 6 and 13 hang on its places: half a
@@ -39,17 +38,30 @@ pub fn longer_queue(places: u32, number: u32) -> usize
     ensures { places * 2 < result }
 {
     let exact = places as usize * 2;
-    if number == 6 {
-        return exact + 1;
+    match number {
+        6 | 13 => exact + 1,
+        _ => exact + 51,
     }
-    if number == 13 {
-        return exact + 1;
-    }
-    exact + 51
 }
 
-pub fn smaller(a: usize, b: usize) -> usize
-    ensures { (result ≤ a) × (result ≤ b) }
+// Looks for the least queue that gives the stored answer, by runs with fewer places than those that suffice: with one place
+// less the queue is full. Tells how many runs it took, or none where one of them gave something else.
+pub fn least_queue<F: FnMut(u32) -> Verdict>(places: u32, mut run: F) -> Option<u32>
+    requires { F.IsAlwaysCallable run }
+    ensures { IfSome result (λ runs. runs ≤ places) }
 {
-    if a < b { a } else { b }
+    let mut full: u32 = 0;
+    let mut enough = places;
+    let mut runs: u32 = 0;
+    // no `for`: each turn halves what lies between
+    while 1 < enough - full {
+        let between = full + (enough - full) / 2;
+        match run(between) {
+            Verdict::Same => enough = between,
+            Verdict::Full => full = between,
+            Verdict::Other => return None,
+        }
+        runs = wrapping_add_u32(runs, 1);
+    }
+    Some(runs)
 }

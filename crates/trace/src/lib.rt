@@ -11,18 +11,15 @@ fn trace_length(previous: &[u32], to: usize) -> usize
     requires previous_inside { PreviousInside previous.now }
     ensures { result ≡ length (trace (length previous.now) previous.now to []) }
 {
-    let most = previous.len();
     let mut cell = to;
-    let mut n: usize = 0;
-    while n < most {
-        n += 1;
+    for n in 0..previous.len() {
         let before = previous[cell];
         if before == 0 {
-            return n;
+            return n + 1;
         }
         cell = (before - 1) as usize;
     }
-    n
+    previous.len()
 }
 
 // Writes the cells that lead to a cell, of which there are `count`, to the front of the path. A cell's number fits 32 bits.
@@ -35,9 +32,7 @@ fn trace_into(previous: &[u32], to: usize, path: &mut [u32], count: usize)
     ensures { path.new ≡ trace (length previous.now) previous.now to [] ++ drop count path.old }
 {
     let mut cell = to;
-    let mut left = count;
-    while 0 < left {
-        left -= 1;
+    for left in (0..count).rev() {
         path[left] = cell as u32;
         let before = previous[cell];
         if before != 0 {

@@ -1,5 +1,5 @@
 -- What the contracts of the entry's parts cite.
-use Rattle.std.specs.Prelude.{◌≡◌, Bool, List, ℕ, ◌*◌, ◌≤◌, ◌<◌, eqb, length, get_or, replicate}
+use Rattle.std.specs.Prelude.{◌≡◌, Bool, List, ℕ, ◌*◌, ◌≤◌, ◌<◌, eqb, length, get_or, replicate, Ok, Err}
 use Rattle.basics.specs.Tests.{either}
 use Rattle.lent.specs.Lent.{output_after, filled}
 use Rattle.room.specs.declared.Room.{Room}
@@ -7,8 +7,8 @@ use Rattle.room.specs.declared.RouterConfig.{RouterConfig}
 use Rattle.room.specs.Room.{Good, volume}
 use Rattle.room.specs.Units.{air}
 use Rattle.room_search.specs.Routing.{routeable_kind, an_end}
-use Rattle.routing.specs.declared.Answer.{Answer}
-use Rattle.routing.specs.declared.Answer.TheVariants.{Routed, Refused, NotRouteable, NoRoute, LimitPassed, QueueFull}
+use Rattle.routing.specs.Answers.{Answer}
+use Rattle.routing.specs.declared.Unrouted.TheVariants.{Refused, NotRouteable, NoRoute, LimitPassed, QueueFull}
 use Rattle.routing.specs.Answers.{task_in, number_of}
 use Rattle.flood.specs.Walls.{allowed, tabled, marks_by, walls_by}
 use Rattle.why.specs.declared.Outputs.{Outputs}
@@ -49,12 +49,12 @@ pub record WhyTold (R : Room) (kinds : List ℕ) (start goal : ℕ) (path classe
 
 -- what becomes of the outputs
 abbrev pub outputs_for : Answer → Outputs
-outputs_for (Routed r) = Zero
-outputs_for (Refused why) = Kept
-outputs_for (NotRouteable cell) = Zero
-outputs_for (NoRoute x) = Told
-outputs_for (LimitPassed x) = Zero
-outputs_for (QueueFull x) = Zero
+outputs_for (Ok r) = Zero
+outputs_for (Err (Refused why)) = Kept
+outputs_for (Err (NotRouteable cell)) = Zero
+outputs_for (Err (NoRoute x)) = Told
+outputs_for (Err (LimitPassed x)) = Zero
+outputs_for (Err (QueueFull x)) = Zero
 
 -- the outputs that go with an answer, at any costs and places of the queue
 pub record Explained (a : Answer) (R : Room) (kinds : List ℕ) (start goal : ℕ) (path classes reached walls path' classes' reached' walls' : List ℕ) : Type 0 where

@@ -1,6 +1,6 @@
 -- "Why wasn't it reached?" Which cells lawful steps lead to, and what stands against each move out of them; then the answer of `why_no_route` and every byte of
 -- lent memory. Each input determines all of it. Definitions alone.
-use Rattle.std.specs.Prelude.{◌≡◌, Bool, not, ◌&&◌, List, [], ℕ, ◌*◌, leb, eqb, length, get_or}
+use Rattle.std.specs.Prelude.{◌≡◌, Bool, not, ◌&&◌, List, [], ℕ, ◌*◌, leb, eqb, length, get_or, Ok, Err}
 use Rattle.basics.specs.Tests.{either}
 use Rattle.lent.specs.Lent.{output_after, work_after}
 use Rattle.room.specs.declared.Room.{Room}
@@ -8,8 +8,8 @@ use Rattle.room.specs.declared.RouterConfig.{RouterConfig}
 use Rattle.room.specs.Room.{sides_good, volume, beneath}
 use Rattle.room.specs.Units.{config_good, air}
 use Rattle.room_search.specs.Routing.{Task, kind_at, routeable_kind, an_end, bearing}
-use Rattle.routing.specs.declared.Answer.{Answer}
-use Rattle.routing.specs.declared.Answer.TheVariants.{Routed, Refused, NotRouteable, NoRoute, LimitPassed, QueueFull}
+use Rattle.routing.specs.Answers.{Answer}
+use Rattle.routing.specs.declared.Unrouted.TheVariants.{Refused, NotRouteable, NoRoute, LimitPassed, QueueFull}
 use Rattle.routing.specs.declared.Refusal.TheVariants.{Buffer}
 use Rattle.routing.specs.Answers.{Input, task_of, answer_of, number_of, cells_for}
 use Rattle.flood.specs.Walls.{allowed, reason_by, reached_by, marks_by, walls_by}
@@ -62,24 +62,24 @@ outputs_refused R C reached walls = sides_good R && (config_good R C && not (out
 
 -- else the answer is the search's, which judges 2, 3, 6, 5, 4, 10
 unfoldable pub why_answer : Input → ℕ → ℕ → Answer
-why_answer I reached walls = either (outputs_refused I.room I.config reached walls) (Refused Buffer) (answer_of I)
+why_answer I reached walls = either (outputs_refused I.room I.config reached walls) (Err (Refused Buffer)) (answer_of I)
 
 -- what an answer writes to the two outputs: on 11 the marks and the walls, on any other number nothing
 abbrev pub reached_for : Answer → Task → List ℕ
-reached_for (Routed r) T = []
-reached_for (Refused why) T = []
-reached_for (NotRouteable cell) T = []
-reached_for (NoRoute x) T = reached_of T
-reached_for (LimitPassed x) T = []
-reached_for (QueueFull x) T = []
+reached_for (Ok r) T = []
+reached_for (Err (Refused why)) T = []
+reached_for (Err (NotRouteable cell)) T = []
+reached_for (Err (NoRoute x)) T = reached_of T
+reached_for (Err (LimitPassed x)) T = []
+reached_for (Err (QueueFull x)) T = []
 
 abbrev pub walls_for : Answer → Task → List ℕ
-walls_for (Routed r) T = []
-walls_for (Refused why) T = []
-walls_for (NotRouteable cell) T = []
-walls_for (NoRoute x) T = walls_of T
-walls_for (LimitPassed x) T = []
-walls_for (QueueFull x) T = []
+walls_for (Ok r) T = []
+walls_for (Err (Refused why)) T = []
+walls_for (Err (NotRouteable cell)) T = []
+walls_for (Err (NoRoute x)) T = walls_of T
+walls_for (Err (LimitPassed x)) T = []
+walls_for (Err (QueueFull x)) T = []
 
 -- ---- the lent memory
 

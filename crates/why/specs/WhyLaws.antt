@@ -1,5 +1,5 @@
 -- The promise of `why_no_route`, by its cases; and that it determines everything.
-use Rattle.std.specs.Prelude.{◌≡◌, refl, Bool, false, not, ◌&&◌, List, ℕ, ◌*◌, ◌≤◌, ◌<◌, ltb, length, replicate}
+use Rattle.std.specs.Prelude.{◌≡◌, refl, Bool, false, not, ◌&&◌, List, ℕ, ◌*◌, ◌≤◌, ◌<◌, ltb, length, replicate, Ok, Err}
 use Rattle.std.proofs.Common.{sym, ◌∙◌, arith}
 use Rattle.std.proofs.Math.Bool.{true}
 use Rattle.std.proofs.Math.Nat.{sub-zero}
@@ -13,14 +13,13 @@ use Rattle.room.specs.declared.RouterConfig.{RouterConfig}
 use Rattle.room.specs.declared.Nodes.{Nodes}
 use Rattle.room.specs.Room.{sides_good, volume}
 use Rattle.room.specs.Units.{config_good}
-use Rattle.routing.specs.declared.Answer.{Answer}
-use Rattle.routing.specs.declared.Answer.TheVariants.{Routed, Refused, NotRouteable, NoRoute, LimitPassed, QueueFull}
+use Rattle.routing.specs.Answers.{Answer}
+use Rattle.routing.specs.declared.Unrouted.TheVariants.{Refused, NotRouteable, NoRoute, LimitPassed, QueueFull}
 use Rattle.routing.specs.declared.Lengths.{Lengths}
+use Rattle.routing.specs.declared.Refusal.{Refusal}
 use Rattle.routing.specs.declared.Refusal.TheVariants.{Sides, Config, Buffer, Code, Position}
-use Rattle.routing.specs.declared.Judgement.{Judgement}
-use Rattle.routing.specs.declared.Judgement.TheVariants.{Fit, Unfit}
 use Rattle.routing.specs.Answers as search
-use Rattle.routing.specs.Answers.{Input, input, lengths_of, task_of, judged, answer_of}
+use Rattle.routing.specs.Answers.{Input, input, lengths_of, task_of, judged, answer_of, Judgement}
 use Rattle.routing.specs.PromiseLaws.{admitted}
 use Rattle.why.specs.declared.Outputs.TheVariants.{Kept, Told, Zero}
 use Rattle.why.specs.Why.{outputs_good, outputs_refused, why_answer, Memory, memory, MemoryAfter, Promise}
@@ -41,18 +40,18 @@ module _ (I : Input) (reached walls : ℕ) where
   unfolding why_answer
   why-same e = rw e
 
-  pub why-short : refused ≡ true → why_answer I reached walls ≡ Refused Buffer
+  pub why-short : refused ≡ true → why_answer I reached walls ≡ Err (Refused Buffer)
   unfolding why_answer
   why-short e = rw e
 
 -- on number 11 the input is fit
-pub no_route_fit : (I : Input) (x : Nodes) → answer_of I ≡ NoRoute x → judged I ≡ Fit
+pub no_route_fit : (I : Input) (x : Nodes) → answer_of I ≡ Err (NoRoute x) → judged I ≡ Ok tt
 unfolding answer_of
 no_route_fit I x e = go (judged I) refl
   where
-    go : (j : Judgement) → judged I ≡ j → judged I ≡ Fit
-    go Fit q = q
-    go (Unfit why) q = never (cc (rw q at e))
+    go : (j : Judgement) → judged I ≡ j → judged I ≡ Ok tt
+    go (Ok _) q = q
+    go (Err why) q = never (cc (rw q at e))
 
 -- the tests of the code, one by one
 module _ (R : Room) (C : RouterConfig) (reached walls : ℕ) where
@@ -87,54 +86,54 @@ module _ (R : Room) (C : RouterConfig) (reached walls : ℕ) where
 
 -- ---- the outputs that go with an answer
 
-pub told_no_route : (a : Answer) → outputs_for a ≡ Told → (x : Nodes) × (a ≡ NoRoute x)
-told_no_route (Routed r) e = never (cc)
-told_no_route (Refused why) e = never (cc)
-told_no_route (NotRouteable cell) e = never (cc)
-told_no_route (NoRoute x) e = (x, refl)
-told_no_route (LimitPassed x) e = never (cc)
-told_no_route (QueueFull x) e = never (cc)
+pub told_no_route : (a : Answer) → outputs_for a ≡ Told → (x : Nodes) × (a ≡ Err (NoRoute x))
+told_no_route (Ok r) e = never (cc)
+told_no_route (Err (Refused why)) e = never (cc)
+told_no_route (Err (NotRouteable cell)) e = never (cc)
+told_no_route (Err (NoRoute x)) e = (x, refl)
+told_no_route (Err (LimitPassed x)) e = never (cc)
+told_no_route (Err (QueueFull x)) e = never (cc)
 
 module _ {R : Room} {kinds : List ℕ} {start goal : ℕ} {path classes reached walls : List ℕ} where
   pub explained_kept : (a : Answer) → outputs_for a ≡ Kept → Explained a R kinds start goal path classes reached walls path classes reached walls
-  explained_kept (Routed r) e = never (cc)
-  explained_kept (Refused Sides) e = record { path-kept = refl; classes-kept = refl; reached-is = λ C n. refl; walls-is = λ C n. refl }
-  explained_kept (Refused Config) e = record { path-kept = refl; classes-kept = refl; reached-is = λ C n. refl; walls-is = λ C n. refl }
-  explained_kept (Refused Buffer) e = record { path-kept = refl; classes-kept = refl; reached-is = λ C n. refl; walls-is = λ C n. refl }
-  explained_kept (Refused Code) e = record { path-kept = refl; classes-kept = refl; reached-is = λ C n. refl; walls-is = λ C n. refl }
-  explained_kept (Refused Position) e = record { path-kept = refl; classes-kept = refl; reached-is = λ C n. refl; walls-is = λ C n. refl }
-  explained_kept (NotRouteable cell) e = never (cc)
-  explained_kept (NoRoute x) e = never (cc)
-  explained_kept (LimitPassed x) e = never (cc)
-  explained_kept (QueueFull x) e = never (cc)
+  explained_kept (Ok r) e = never (cc)
+  explained_kept (Err (Refused Sides)) e = record { path-kept = refl; classes-kept = refl; reached-is = λ C n. refl; walls-is = λ C n. refl }
+  explained_kept (Err (Refused Config)) e = record { path-kept = refl; classes-kept = refl; reached-is = λ C n. refl; walls-is = λ C n. refl }
+  explained_kept (Err (Refused Buffer)) e = record { path-kept = refl; classes-kept = refl; reached-is = λ C n. refl; walls-is = λ C n. refl }
+  explained_kept (Err (Refused Code)) e = record { path-kept = refl; classes-kept = refl; reached-is = λ C n. refl; walls-is = λ C n. refl }
+  explained_kept (Err (Refused Position)) e = record { path-kept = refl; classes-kept = refl; reached-is = λ C n. refl; walls-is = λ C n. refl }
+  explained_kept (Err (NotRouteable cell)) e = never (cc)
+  explained_kept (Err (NoRoute x)) e = never (cc)
+  explained_kept (Err (LimitPassed x)) e = never (cc)
+  explained_kept (Err (QueueFull x)) e = never (cc)
 
   module _ {path' classes' reached' walls' : List ℕ} where
     pub explained_told : (a : Answer) → outputs_for a ≡ Told → WhyTold R kinds start goal path classes reached walls path' classes' reached' walls'
         → Explained a R kinds start goal path classes reached walls path' classes' reached' walls'
-    explained_told (Routed r) e W = never (cc)
-    explained_told (Refused why) e W = never (cc)
-    explained_told (NotRouteable cell) e W = never (cc)
-    explained_told (NoRoute x) e W = record {
+    explained_told (Ok r) e W = never (cc)
+    explained_told (Err (Refused why)) e W = never (cc)
+    explained_told (Err (NotRouteable cell)) e W = never (cc)
+    explained_told (Err (NoRoute x)) e W = record {
       path-kept = W.path-kept;
       classes-kept = W.classes-kept;
       reached-is = λ C n. W.reached-is;
       walls-is = λ C n. W.walls-is;
     }
-    explained_told (LimitPassed x) e W = never (cc)
-    explained_told (QueueFull x) e W = never (cc)
+    explained_told (Err (LimitPassed x)) e W = never (cc)
+    explained_told (Err (QueueFull x)) e W = never (cc)
 
   module _ {reached' walls' : List ℕ} (r : reached' ≡ replicate (length reached) 0) (w : walls' ≡ replicate (length walls) 0) where
     pub explained_zero : (a : Answer) → outputs_for a ≡ Zero → Explained a R kinds start goal path classes reached walls path classes reached' walls'
-    explained_zero (Routed x) e = record { path-kept = refl; classes-kept = refl; reached-is = λ C n. rw sub-zero r; walls-is = λ C n. rw sub-zero w }
-    explained_zero (Refused why) e = never (cc)
-    explained_zero (NotRouteable cell) e = record { path-kept = refl; classes-kept = refl; reached-is = λ C n. rw sub-zero r; walls-is = λ C n. rw sub-zero w }
-    explained_zero (NoRoute x) e = never (cc)
-    explained_zero (LimitPassed x) e = record { path-kept = refl; classes-kept = refl; reached-is = λ C n. rw sub-zero r; walls-is = λ C n. rw sub-zero w }
-    explained_zero (QueueFull x) e = record { path-kept = refl; classes-kept = refl; reached-is = λ C n. rw sub-zero r; walls-is = λ C n. rw sub-zero w }
+    explained_zero (Ok x) e = record { path-kept = refl; classes-kept = refl; reached-is = λ C n. rw sub-zero r; walls-is = λ C n. rw sub-zero w }
+    explained_zero (Err (Refused why)) e = never (cc)
+    explained_zero (Err (NotRouteable cell)) e = record { path-kept = refl; classes-kept = refl; reached-is = λ C n. rw sub-zero r; walls-is = λ C n. rw sub-zero w }
+    explained_zero (Err (NoRoute x)) e = never (cc)
+    explained_zero (Err (LimitPassed x)) e = record { path-kept = refl; classes-kept = refl; reached-is = λ C n. rw sub-zero r; walls-is = λ C n. rw sub-zero w }
+    explained_zero (Err (QueueFull x)) e = record { path-kept = refl; classes-kept = refl; reached-is = λ C n. rw sub-zero r; walls-is = λ C n. rw sub-zero w }
 
 -- ---- the promise
 
-fit_sides : (R : Room) (C : RouterConfig) (kinds : List ℕ) (start goal : ℕ) (L : Lengths) → judged (input R C kinds start goal L) ≡ Fit
+fit_sides : (R : Room) (C : RouterConfig) (kinds : List ℕ) (start goal : ℕ) (L : Lengths) → judged (input R C kinds start goal L) ≡ Ok tt
     → (sides_good R ≡ true) × (config_good R C ≡ true)
 unfolding judged
 fit_sides R C kinds start goal L e =
@@ -150,7 +149,7 @@ module _ (R : Room) (C : RouterConfig) (kinds : List ℕ) (start goal : ℕ) (pa
   abbrev is_refused : Bool
   is_refused = outputs_refused R C (length reached) (length walls)
 
-  pub promise_short : is_refused ≡ true → Promise I M (Refused Buffer) M
+  pub promise_short : is_refused ≡ true → Promise I M (Err (Refused Buffer)) M
   promise_short e =
       let is = why-short I (length reached) (length walls) e in
       record {
@@ -161,9 +160,9 @@ module _ (R : Room) (C : RouterConfig) (kinds : List ℕ) (start goal : ℕ) (pa
   module _ (enough : is_refused ≡ false) {r : Answer} {path' known' previous' classes' queue' : List ℕ}
       (P : search.Promise I path known previous classes queue r path' known' previous' classes' queue') where
     -- what the outputs ask, on number 11
-    pub no_route_tellable : (x : Nodes) → r ≡ NoRoute x → Tellable R kinds start goal path' classes' reached walls
+    pub no_route_tellable : (x : Nodes) → r ≡ Err (NoRoute x) → Tellable R kinds start goal path' classes' reached walls
     no_route_tellable x e =
-        let a : answer_of I ≡ NoRoute x = sym P.answer ∙ e in
+        let a : answer_of I ≡ Err (NoRoute x) = sym P.answer ∙ e in
         let fit = no_route_fit I x a in
         let A = admitted {R = R} {C = C} {kinds = kinds} {start = start} {goal = goal} {L = lengths_of path known previous classes queue} fit in
         let s = fit_sides R C kinds start goal (lengths_of path known previous classes queue) fit in

@@ -6,7 +6,7 @@ mod why; // why.rt: the public question
 
 pub use why::why_no_route;
 
-// What becomes of the two outputs.
+// What becomes of the two outputs: three cases with nothing beside them, so neither an Option nor a Result.
 #[derive(Clone, Copy)]
 pub enum Outputs {
     Kept,

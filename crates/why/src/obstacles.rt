@@ -18,12 +18,12 @@ fn obstacle_by(endpoint: bool, kind: u8, class: u8) -> u8
     ensures { result ≡ obstacle_by endpoint kind class }
 {
     if class != 0 {
-        return flood::ALLOWED;
+        flood::ALLOWED
+    } else if routeable_kind(endpoint, kind) {
+        BAD_SUPPORT
+    } else {
+        TAKEN
     }
-    if routeable_kind(endpoint, kind) {
-        return BAD_SUPPORT;
-    }
-    TAKEN
 }
 
 // Turns each cell's class into its obstacle.
@@ -31,12 +31,9 @@ fn turn_to_obstacles(kinds: &[u8], start: usize, goal: usize, classes: &mut [u8]
     requires { length classes.old ≡ length kinds.now }
     ensures { classes.new ≡ obstacles_by kinds.now start goal classes.old }
 {
-    let n = kinds.len();
-    let mut v: usize = 0;
-    while v < n {
+    for (v, kind) in kinds.iter().enumerate() {
         let endpoint = an_end(start, goal, v);
-        classes[v] = obstacle_by(endpoint, kinds[v], classes[v]);
-        v += 1;
+        classes[v] = obstacle_by(endpoint, *kind, classes[v]);
     }
 }
 

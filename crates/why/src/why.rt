@@ -1,5 +1,5 @@
 // The public question, over lent memory.
-ghost use Rattle.std.specs.Prelude.{◌≡◌};
+ghost use Rattle.std.specs.Prelude.{◌≡◌, Err};
 ghost use Rattle.lent.specs.Lent.{Cleared};
 ghost use Rattle.room.specs.declared.Nodes.{Nodes};
 ghost use Rattle.routing.specs.Answers.{input, lengths_of};
@@ -9,31 +9,25 @@ ghost use Rattle.why.specs.Telling.{Tellable, WhyTold, outputs_for, Explained};
 use crate::Outputs;
 use crate::obstacles::fill_obstacles;
 use room::{Room, RouterConfig};
-use routing::{Answer, Refusal};
+use routing::{Refusal, Route, Unrouted};
 
 // Number 6 is due since an output is too short, and neither 2 nor 3 before it.
 fn outputs_refused(room: Room, config: RouterConfig, reached: usize, walls: usize) -> bool
     ensures { result ≡ outputs_refused room config reached walls }
 {
-    if !room.good() {
-        return false;
-    }
-    if !config.good(room) {
+    if !room.good() || !config.good(room) {
         return false;
     }
     let v = room.volume();
-    if reached < v {
-        return true;
-    }
-    walls < 12 * v
+    reached < v || walls < 12 * v
 }
 
 // Both outputs are cleared, to their very end.
 fn clear_outputs(reached: &mut [u8], walls: &mut [u8])
     ensures { Cleared reached.old reached.new × Cleared walls.old walls.new }
 {
-    lent::clear_bytes(reached);
-    lent::clear_bytes(walls);
+    lent::clear(reached);
+    lent::clear(walls);
 }
 
 // The marks and the walls, zeros behind them. Of the search's work memory, which is zero, `classes` holds the obstacles and
@@ -61,27 +55,27 @@ fn tell(
         reached,
         walls,
     );
-    lent::clear_words(path);
-    lent::clear_bytes(classes);
+    lent::clear(path);
+    lent::clear(classes);
 }
 
 // What becomes of the outputs.
-fn outputs_for(answer: Answer) -> Outputs
+fn outputs_for(answer: Result<Route, Unrouted>) -> Outputs
     ensures { result ≡ outputs_for answer }
 {
     match answer {
-        Answer::Routed(_) => Outputs::Zero,
-        Answer::Refused(_) => Outputs::Kept,
-        Answer::NotRouteable(_) => Outputs::Zero,
-        Answer::NoRoute(_) => Outputs::Told,
-        Answer::LimitPassed(_) => Outputs::Zero,
-        Answer::QueueFull(_) => Outputs::Zero,
+        Ok(_) => Outputs::Zero,
+        Err(Unrouted::Refused(_)) => Outputs::Kept,
+        Err(Unrouted::NotRouteable(_)) => Outputs::Zero,
+        Err(Unrouted::NoRoute(_)) => Outputs::Told,
+        Err(Unrouted::LimitPassed(_)) => Outputs::Zero,
+        Err(Unrouted::QueueFull(_)) => Outputs::Zero,
     }
 }
 
 // The outputs that go with an answer.
 fn explain(
-    answer: Answer,
+    answer: Result<Route, Unrouted>,
     room: Room,
     kinds: &[u8],
     start: usize,
@@ -91,7 +85,7 @@ fn explain(
     reached: &mut [u8],
     walls: &mut [u8],
 )
-    requires { (x : Nodes) → answer ≡ Answer.NoRoute x → Tellable room kinds.now start goal path.old classes.old reached.old walls.old }
+    requires { (x : Nodes) → answer ≡ Err (Unrouted.NoRoute x) → Tellable room kinds.now start goal path.old classes.old reached.old walls.old }
     ensures { Explained answer room kinds.now start goal path.old classes.old reached.old walls.old path.new classes.new reached.new walls.new }
 {
     match outputs_for(answer) {
@@ -116,11 +110,11 @@ pub fn why_no_route(
     queue: &mut [u64],
     reached: &mut [u8],
     walls: &mut [u8],
-) -> Answer
+) -> Result<Route, Unrouted>
     ensures { Promise (input room config kinds.now start goal (lengths_of path.old known.old previous.old classes.old queue.old)) (memory path.old known.old previous.old classes.old queue.old reached.old walls.old) result (memory path.new known.new previous.new classes.new queue.new reached.new walls.new) }
 {
     if outputs_refused(room, config, reached.len(), walls.len()) {
-        return Answer::Refused(Refusal::Buffer);
+        return Err(Unrouted::Refused(Refusal::Buffer));
     }
     let answer = routing::astar_route(
         room, config, kinds, start, goal, path, known, previous, classes, queue,

@@ -7,7 +7,7 @@ use Rattle.room.specs.Room.{volume, pos_of, cell_of, moves, between, sides_good,
 use Rattle.room.specs.Units.{air, solid, lever, usual_config, config_good, ranges_good, dearest}
 use Rattle.best_first.specs.Search.{sooner, least, push, offer, expand, trace, take_one, take_all, first_state, best_first}
 use Rattle.room_search.specs.Routing.{routeable_kind, routeable, bearing, class_for, price_of, moves_by, graph_of, searched}
-use Rattle.routing.specs.declared.Answer.{Answer}
+use Rattle.routing.specs.Answers.{Answer}
 use Rattle.routing.specs.Answers.{Input, task_of, buffers_good, ends_inside, judged, fit_answer, answer_of, number_of, detail_of}
 use Rattle.walk.specs.Walks.{meet, spread, parents_from, is_reached}
 use Rattle.flood.specs.Walls.{free_by, reached_by, tabled}

@@ -1,8 +1,7 @@
 -- "The reason must be true": what `why_no_route` tells on number 11, said of lawful steps. Definitions alone; the theorems are in the file Theorems beside
 -- it.
-use Rattle.std.specs.Prelude.{◌≡◌, ◌↔◌, false, List, ℕ, ◌+◌, ◌*◌, ◌≤◌, ◌<◌, get_or}
+use Rattle.std.specs.Prelude.{◌≡◌, ◌↔◌, false, List, ℕ, ◌+◌, ◌*◌, ◌≤◌, ◌<◌, get_or, Some, None}
 use Rattle.room.specs.declared.RouterConfig.{RouterConfig}
-use Rattle.room.specs.declared.Neighbour.TheVariants.{Inside, Outside}
 use Rattle.room.specs.Room.{volume, move_at, neighbour}
 use Rattle.room_search.specs.Routing.{Task, routeable, bearing}
 use Rattle.routing.specs.Answers.{Input, task_in}
@@ -21,26 +20,26 @@ pub record LawfullyReached (T : Task) (v : ℕ) : Type 0 where
 -- it is a lawful step
 pub record LawfulMove (T : Task) (u i : ℕ) : Type 0 where
   pub cell : ℕ
-  pub there : neighbour T.room u (move_at i) ≡ Inside cell
+  pub there : neighbour T.room u (move_at i) ≡ Some cell
   pub step : LawfulStep T u cell
 
 -- the cell there is taken
 pub record Taken (T : Task) (u i : ℕ) : Type 0 where
   pub cell : ℕ
-  pub there : neighbour T.room u (move_at i) ≡ Inside cell
+  pub there : neighbour T.room u (move_at i) ≡ Some cell
   pub is-taken : routeable T cell ≡ false
 
 -- what is beneath the cell there bears nothing
 pub record BadSupport (T : Task) (u i : ℕ) : Type 0 where
   pub cell : ℕ
-  pub there : neighbour T.room u (move_at i) ≡ Inside cell
+  pub there : neighbour T.room u (move_at i) ≡ Some cell
   pub bears-none : bearing (support_of T cell) ≡ 0
 
--- what a byte says of it: 0 exactly where it is a lawful step, else the least reason that holds. Outside neither of the others holds, so a bad support alone
+-- what a byte says of it: 0 exactly where it is a lawful step, else the least reason that holds. None neither of the others holds, so a bad support alone
 -- may stand behind another reason
 pub record SaysWhy (T : Task) (u i byte : ℕ) : Type 0 where
   pub as_allowed : (byte ≡ allowed) ↔ LawfulMove T u i
-  pub as_outside : (byte ≡ outside) ↔ (neighbour T.room u (move_at i) ≡ Outside)
+  pub as_outside : (byte ≡ outside) ↔ (neighbour T.room u (move_at i) ≡ None)
   pub as_taken : (byte ≡ taken) ↔ Taken T u i
   pub as_bad_support : (byte ≡ bad_support) ↔ (BadSupport T u i × (Taken T u i → ⊥))
   pub no_other : byte ≤ bad_support

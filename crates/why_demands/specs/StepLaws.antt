@@ -1,5 +1,5 @@
 -- A move against which nothing stands is a lawful step, and a lawful step is such a move.
-use Rattle.std.specs.Prelude.{◌≡◌, true, false, List, [], ◌∷◌, ℕ, suc, ◌≤◌, ◌<◌, eqb, length, get_or}
+use Rattle.std.specs.Prelude.{◌≡◌, true, false, List, [], ◌∷◌, ℕ, suc, ◌≤◌, ◌<◌, eqb, length, get_or, Option, Some, None}
 use Rattle.std.proofs.Math.Path.{refl}
 use Rattle.std.proofs.Common.{sym, inl, inr, arith}
 use borrow.Author.Tests.{eqb-true, eqb-false, eq-eqb, ne_eqb}
@@ -7,8 +7,6 @@ use Rattle.basics.specs.Tests.{ask, never}
 use Rattle.basics.specs.Lists.{In}
 use Rattle.room.specs.declared.Move.{Move}
 use Rattle.room.specs.declared.RouterConfig.{RouterConfig}
-use Rattle.room.specs.declared.Neighbour.{Neighbour}
-use Rattle.room.specs.declared.Neighbour.TheVariants.{Inside, Outside}
 use Rattle.room.specs.Room.{Good, pos_of, by, moves, move_at, neighbour, move_between, apart}
 use Rattle.room.specs.MoveLaws.{move-small, leads, leads-cell, apart_by, between-moved, between-listed}
 use Rattle.room_search.specs.Routing.{Task, routeable, bearing}
@@ -64,7 +62,7 @@ at_most_one : (o : ℕ) → o ≤ 2 → apart o 1 ≤ 1
 at_most_one o h = omega arith
 
 module _ (T : Task) where
-  move_step : (u i : ℕ) → i < 12 → (v : ℕ) → neighbour T.room u (move_at i) ≡ Inside v → routeable T v ≡ true → (bearing (support_of T v) ≡ 0 → ⊥) → LawfulStep T u v
+  move_step : (u i : ℕ) → i < 12 → (v : ℕ) → neighbour T.room u (move_at i) ≡ Some v → routeable T v ≡ true → (bearing (support_of T v) ≡ 0 → ⊥) → LawfulStep T u v
   move_step u i h v e t n =
       let l = leads T.room u (move_at i) v e in
       let s = move-small i h in
@@ -80,10 +78,10 @@ module _ (T : Task) where
   pub reason-says : (u i : ℕ) → i < 12 → SaysWhy T u i (reason_of T u i)
   reason-says u i h = go (neighbour T.room u (move_at i)) refl
     where
-      one : {v w : ℕ} → neighbour T.room u (move_at i) ≡ Inside v → neighbour T.room u (move_at i) ≡ Inside w → w ≡ v
+      one : {v w : ℕ} → neighbour T.room u (move_at i) ≡ Some v → neighbour T.room u (move_at i) ≡ Some w → w ≡ v
       one p q = cc
 
-      inside : (v : ℕ) → neighbour T.room u (move_at i) ≡ Inside v → Case T v → SaysWhy T u i (obstacle_of T v)
+      inside : (v : ℕ) → neighbour T.room u (move_at i) ≡ Some v → Case T v → SaysWhy T u i (obstacle_of T v)
       inside v e (case-taken f q) = rw q (record {
         as_allowed = ((λ z. never (cc)), (λ L. let k = one e L.there in let t : routeable T v ≡ true = rw k at L.step.enters in never (cc)));
         as_outside = ((λ z. absurd (omega arith)), (λ o. never (cc (o, e))));
@@ -109,9 +107,9 @@ module _ (T : Task) where
         no_other = omega arith;
       })
 
-      go : (place : Neighbour) → neighbour T.room u (move_at i) ≡ place → SaysWhy T u i (reason_at (obstacle_of T) place)
-      go (Inside v) e = inside v e (case T v)
-      go Outside e = record {
+      go : (place : Option ℕ) → neighbour T.room u (move_at i) ≡ place → SaysWhy T u i (reason_at (obstacle_of T) place)
+      go (Some v) e = inside v e (case T v)
+      go None e = record {
         as_allowed = ((λ z. absurd (omega arith)), (λ L. never (cc (e, L.there))));
         as_outside = ((λ z. e), (λ o. refl));
         as_taken = ((λ z. absurd (omega arith)), (λ K. never (cc (e, K.there))));

@@ -1,6 +1,6 @@
 -- "Why wasn't it reached?" What `why_no_route` tells on number 11 is so; on other numbers its outputs are zero or untouched; and it stands in for the search.
 -- All of it from its promise alone.
-use Rattle.std.specs.Prelude.{◌≡◌, refl, ◌↔◌, Bool, true, false, List, [], ◌++◌, ℕ, ◌+◌, ◌*◌, ◌<◌, length, get_or, replicate}
+use Rattle.std.specs.Prelude.{◌≡◌, refl, ◌↔◌, Bool, true, false, List, [], ◌++◌, ℕ, ◌+◌, ◌*◌, ◌<◌, length, get_or, replicate, Ok, Err}
 use Rattle.std.proofs.Common.{sym, ap, ◌∙◌, arith}
 use Rattle.std.proofs.Math.Nat.{sub-zero}
 use Rattle.std.proofs.Math.ListN.{get_or-append}
@@ -11,10 +11,9 @@ use Rattle.lent.specs.Lent.{touches, filled}
 use Rattle.room.specs.declared.Nodes.{Nodes}
 use Rattle.room.specs.Room.{volume}
 use Rattle.room_search.specs.Routing.{Task, routeable}
-use Rattle.routing.specs.declared.Answer.{Answer}
-use Rattle.routing.specs.declared.Answer.TheVariants.{Routed, Refused, NotRouteable, NoRoute, LimitPassed, QueueFull}
+use Rattle.routing.specs.Answers.{Answer}
+use Rattle.routing.specs.declared.Unrouted.TheVariants.{Refused, NotRouteable, NoRoute, LimitPassed, QueueFull}
 use Rattle.routing.specs.declared.Refusal.TheVariants.{Sides, Config, Buffer, Code, Position}
-use Rattle.routing.specs.declared.Judgement.TheVariants.{Fit}
 use Rattle.routing.specs.Answers as search
 use Rattle.routing.specs.Answers.{Input, task_of, judged, fit_answer, answer_of, number_of}
 use Rattle.routing.specs.PromiseLaws.{admitted}
@@ -96,23 +95,23 @@ module _ (T : Task) (P : Posed T) (none : NoLawfulWay T) (after-reached after-wa
 
 -- ---- of the promise
 
-number_no_route : (a : Answer) → number_of a ≡ no_route_number → (x : Nodes) × (a ≡ NoRoute x)
-number_no_route (Routed r) e = absurd (omega arith)
-number_no_route (Refused Sides) e = absurd (omega arith)
-number_no_route (Refused Config) e = absurd (omega arith)
-number_no_route (Refused Buffer) e = absurd (omega arith)
-number_no_route (Refused Code) e = absurd (omega arith)
-number_no_route (Refused Position) e = absurd (omega arith)
-number_no_route (NotRouteable cell) e = absurd (omega arith)
-number_no_route (NoRoute x) e = (x, refl)
-number_no_route (LimitPassed x) e = absurd (omega arith)
-number_no_route (QueueFull x) e = absurd (omega arith)
+number_no_route : (a : Answer) → number_of a ≡ no_route_number → (x : Nodes) × (a ≡ Err (NoRoute x))
+number_no_route (Ok r) e = absurd (omega arith)
+number_no_route (Err (Refused Sides)) e = absurd (omega arith)
+number_no_route (Err (Refused Config)) e = absurd (omega arith)
+number_no_route (Err (Refused Buffer)) e = absurd (omega arith)
+number_no_route (Err (Refused Code)) e = absurd (omega arith)
+number_no_route (Err (Refused Position)) e = absurd (omega arith)
+number_no_route (Err (NotRouteable cell)) e = absurd (omega arith)
+number_no_route (Err (NoRoute x)) e = (x, refl)
+number_no_route (Err (LimitPassed x)) e = absurd (omega arith)
+number_no_route (Err (QueueFull x)) e = absurd (omega arith)
 
-module _ (I : Input) (x : Nodes) (e : answer_of I ≡ NoRoute x) where
-  fit : judged I ≡ Fit
+module _ (I : Input) (x : Nodes) (e : answer_of I ≡ Err (NoRoute x)) where
+  fit : judged I ≡ Ok tt
   fit = no_route_fit I x e
 
-  said-fit : fit_answer I ≡ NoRoute x
+  said-fit : fit_answer I ≡ Err (NoRoute x)
   unfolding answer_of
   said-fit = rw fit at e
 
@@ -132,16 +131,16 @@ module _ (I : Input) (x : Nodes) (e : answer_of I ≡ NoRoute x) where
 module _ {I : Input} {M M' : Memory} where
   zero_after : (a : Answer) → MemoryAfter a I M M' → (number_of a ≡ no_route_number → ⊥) → touches (number_of a) ≡ true
       → (M'.reached ≡ replicate (length M.reached) 0) × (M'.walls ≡ replicate (length M.walls) 0)
-  zero_after (Routed r) A n t = (rw sub-zero at A.reached-is, rw sub-zero at A.walls-is)
-  zero_after (Refused Sides) A n t = never (cc)
-  zero_after (Refused Config) A n t = never (cc)
-  zero_after (Refused Buffer) A n t = never (cc)
-  zero_after (Refused Code) A n t = never (cc)
-  zero_after (Refused Position) A n t = never (cc)
-  zero_after (NotRouteable cell) A n t = (rw sub-zero at A.reached-is, rw sub-zero at A.walls-is)
-  zero_after (NoRoute x) A n t = absurd (n refl)
-  zero_after (LimitPassed x) A n t = (rw sub-zero at A.reached-is, rw sub-zero at A.walls-is)
-  zero_after (QueueFull x) A n t = (rw sub-zero at A.reached-is, rw sub-zero at A.walls-is)
+  zero_after (Ok r) A n t = (rw sub-zero at A.reached-is, rw sub-zero at A.walls-is)
+  zero_after (Err (Refused Sides)) A n t = never (cc)
+  zero_after (Err (Refused Config)) A n t = never (cc)
+  zero_after (Err (Refused Buffer)) A n t = never (cc)
+  zero_after (Err (Refused Code)) A n t = never (cc)
+  zero_after (Err (Refused Position)) A n t = never (cc)
+  zero_after (Err (NotRouteable cell)) A n t = (rw sub-zero at A.reached-is, rw sub-zero at A.walls-is)
+  zero_after (Err (NoRoute x)) A n t = absurd (n refl)
+  zero_after (Err (LimitPassed x)) A n t = (rw sub-zero at A.reached-is, rw sub-zero at A.walls-is)
+  zero_after (Err (QueueFull x)) A n t = (rw sub-zero at A.reached-is, rw sub-zero at A.walls-is)
 
   kept-after : (a : Answer) → MemoryAfter a I M M' → touches (number_of a) ≡ false → M' ≡ M
   kept-after a A f =
@@ -175,10 +174,10 @@ module _ {I : Input} {M : Memory} {r : Answer} {M' : Memory} (P : Promise I M r 
         queue-is = rw same at P.memory.queue-is;
       }
 
-  searched_no_route : number_of r ≡ no_route_number → (x : Nodes) × (answer ≡ NoRoute x) × (answer_of I ≡ NoRoute x) × (refused ≡ false)
+  searched_no_route : number_of r ≡ no_route_number → (x : Nodes) × (answer ≡ Err (NoRoute x)) × (answer_of I ≡ Err (NoRoute x)) × (refused ≡ false)
   searched_no_route z =
       let n = number_no_route r z in
-      let a : answer ≡ NoRoute n.0 = sym P.answer ∙ n.1 in
+      let a : answer ≡ Err (NoRoute n.0) = sym P.answer ∙ n.1 in
       ask refused
       (λ t. let b = why-short I (length M.reached) (length M.walls) t in never (cc))
       (λ f. (n.0, a, sym (why-same I (length M.reached) (length M.walls) f) ∙ a, f))

@@ -1,5 +1,5 @@
 -- What is shut in stays shut in: one flood in which every joinable cell is exempt bounds the searches for each of them, in both modes, at any costs, places and attempts.
-use Rattle.std.specs.Prelude.{◌≡◌, Bool, ◌&&◌, List, ℕ, ◌<◌, eqb, length, get_or}
+use Rattle.std.specs.Prelude.{◌≡◌, Bool, ◌&&◌, List, ℕ, ◌<◌, eqb, length, get_or, Option, Some, None}
 use Rattle.std.proofs.Math.Path.{refl}
 use Rattle.std.proofs.Common.{sym, ◌∙◌, eqb-true}
 use Rattle.std.proofs.Math.Bool.{true, false, not, and-false}
@@ -7,8 +7,6 @@ use Rattle.basics.specs.Tests.{ask, never}
 use Rattle.basics.specs.Lists.{In, below_all}
 use Rattle.room.specs.declared.Room.{Room}
 use Rattle.room.specs.declared.RouterConfig.{RouterConfig}
-use Rattle.room.specs.declared.Neighbour.{Neighbour}
-use Rattle.room.specs.declared.Neighbour.TheVariants.{Inside, Outside}
 use Rattle.room.specs.Room.{volume, beneath, holds_at}
 use Rattle.room.specs.RoomLaws.{beneath_in}
 use Rattle.room.specs.Units.{air}
@@ -125,10 +123,10 @@ module _ (mode : Mode) (R : Room) (kinds blocked later joinable : List ℕ) (sta
       by_mode Strict q = never (cc (sym strict-bears ∙ q))
 
   -- at the place beneath
-  place-free : (v : ℕ) → v < volume R → (place : Neighbour) → beneath R v ≡ place → eqb (bearing (kind_at seen place)) 0 ≡ false
+  place-free : (v : ℕ) → v < volume R → (place : Option ℕ) → beneath R v ≡ place → eqb (bearing (kind_at seen place)) 0 ≡ false
       → (eqb (bearing (kind_at kinds place)) 0 ≡ false) × (strictly mode (holds_at (kept_free kinds blocked joinable start) place) ≡ false)
-  place-free v h (Inside u) p e = below_free u (beneath_in R v u h p) e
-  place-free v h Outside p e = (e, outside mode)
+  place-free v h (Some u) p e = below_free u (beneath_in R v u h p) e
+  place-free v h None p e = (e, outside mode)
     where
       outside : (m : Mode) → strictly m false ≡ false
       outside Published = refl

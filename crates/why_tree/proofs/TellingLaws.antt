@@ -1,5 +1,5 @@
 -- Laws of what is told of a sink: obstacles by cases of their tests, a search of the marks, and what the verdict comes from.
-use Rattle.std.specs.Prelude.{◌≡◌, ◌≢◌, Bool, true, false, ◌&&◌, List, eqb, leb, ltb, length, get_or, replicate}
+use Rattle.std.specs.Prelude.{◌≡◌, ◌≢◌, Bool, true, false, ◌&&◌, List, eqb, ltb, get_or}
 use Rattle.std.proofs.Math.Path.{refl, ap}
 use Rattle.std.proofs.Common.{sym, ◌∙◌, not-suc-le-zero, arith}
 use Rattle.std.proofs.Math.Bool.{not, and-false}
@@ -7,7 +7,7 @@ use Prim.Native.Nat.{ℕ, zero, suc, ◌+◌, ◌-◌, ◌*◌, ◌≤◌, ◌<�
 use Rattle.std.proofs.Math.Numerals.{add-one}
 use Rattle.std.proofs.Math.ListN.{get_or-append}
 use borrow.Author.Tests.{eq-eqb, ne_eqb, le-leb, lt-leb}
-use Rattle.basics.specs.Tests.{either, ask, ask_same}
+use Rattle.basics.specs.Tests.{ask_same}
 use Rattle.basics.specs.Lists.{all_below}
 use Rattle.basics.specs.Counts.{bit}
 use Rattle.lent.specs.Lent.{filled}
@@ -25,8 +25,8 @@ use Rattle.flood.specs.Walls.{tabled, byte_of, reached_by, marks_by, walls_by, W
 use Rattle.flood.specs.TableLaws.{tabled-at, tabled-long}
 use Rattle.flood.specs.WallLaws.{marks-same, walls-same}
 use Rattle.why.specs.Why.{taken, bad_support, obstacle_for}
-use Rattle.why_tree.specs.WhyTree.{exempt, kept_free, blocking_for, least_of, tree_obstacle, approach_taken, is_shut_in, reaches_none, ample, reached_from, open_verdict, verdict_for}
-use Rattle.why_tree.specs.Telling.{joined_by, none_joined, SinkAsked, SinkTold}
+use Rattle.why_tree.specs.WhyTree.{exempt, kept_free, blocking_for, tree_obstacle, approach_taken, is_shut_in, reaches_none, ample, reached_from, open_verdict, verdict_for}
+use Rattle.why_tree.specs.Telling.{none_joined, SinkAsked, SinkTold}
 
 -- ---- kept free, by cases, as the code asks
 

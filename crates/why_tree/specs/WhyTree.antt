@@ -1,12 +1,11 @@
 -- "Why couldn't this sink be reached?" At the turn of a sink that no goal was found for: where wire gets to from its approach, what stands against each move
 -- out of those cells, and what may be said. Definitions alone; their laws are in the files named Laws.
-use Rattle.std.specs.Prelude.{◌≡◌, Bool, true, false, not, ◌&&◌, ◌||◌, List, [], ℕ, ◌+◌, ◌-◌, ◌*◌, ◌<◌, leb, eqb, get_or}
+use Rattle.std.specs.Prelude.{◌≡◌, Bool, true, false, not, ◌&&◌, ◌||◌, List, ℕ, ◌+◌, ◌-◌, ◌*◌, ◌<◌, leb, eqb, get_or}
 use Rattle.numbers.specs.Refusals.{no_goal_number}
 use Rattle.basics.specs.Tests.{either}
 use Rattle.basics.specs.Lists.{all_below}
 use Rattle.room.specs.declared.Room.{Room}
 use Rattle.room.specs.declared.RouterConfig.{RouterConfig}
-use Rattle.room.specs.declared.Neighbour.{Neighbour}
 use Rattle.room.specs.Room.{volume, beneath, holds_at}
 use Rattle.room.specs.Units.{air}
 use Rattle.ground.specs.declared.Ground.{Ground}

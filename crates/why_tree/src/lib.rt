@@ -6,6 +6,8 @@ mod sink; // sink.rt: what may be said of one sink
 
 pub use sink::tell_sink;
 
+// The verdicts are numbers: `verdict_for` and the theorems on it speak of them, and C reads them.
+
 // No search may begin at the approach.
 pub const APPROACH_TAKEN: u32 = 1;
 

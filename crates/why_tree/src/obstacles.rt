@@ -7,7 +7,7 @@ ghost use Rattle.why_tree.specs.WhyTree.{exempt, kept_free, blocking_for, tree_o
 ghost use Rattle.why_tree.specs.Telling.{TurnFits};
 
 use ground::{Ground, Mode};
-use room::{Neighbour, Room};
+use room::Room;
 use room_search::{class_for, kind_beneath, routeable_kind};
 use routing_resources::MARKED;
 
@@ -28,10 +28,7 @@ fn is_exempt(joinable: &[u8], approach: usize, cell: usize) -> bool
     requires { cell < length joinable.now }
     ensures { result ≡ exempt joinable.now approach cell }
 {
-    if cell == approach {
-        return true;
-    }
-    joinable[cell] == MARKED
+    cell == approach || joinable[cell] == MARKED
 }
 
 // Whether a cell is blocked Air that is not exempt.
@@ -39,13 +36,7 @@ fn kept_free(kinds: &[u8], blocked: &[u8], joinable: &[u8], approach: usize, cel
     requires { (cell < length kinds.now) × (cell < length blocked.now) × (cell < length joinable.now) }
     ensures { result ≡ kept_free kinds.now blocked.now joinable.now approach cell }
 {
-    if kinds[cell] != room::AIR {
-        return false;
-    }
-    if blocked[cell] != MARKED {
-        return false;
-    }
-    !is_exempt(joinable, approach, cell)
+    kinds[cell] == room::AIR && blocked[cell] == MARKED && !is_exempt(joinable, approach, cell)
 }
 
 // Whether the cell right beneath is; outside nothing is.
@@ -62,8 +53,8 @@ fn kept_beneath(
     ensures { result ≡ holds_at (kept_free kinds.now blocked.now joinable.now approach) (beneath room cell) }
 {
     match room.beneath(cell) {
-        Neighbour::Inside(below) => kept_free(kinds, blocked, joinable, approach, below),
-        Neighbour::Outside => false,
+        Some(below) => kept_free(kinds, blocked, joinable, approach, below),
+        None => false,
     }
 }
 
@@ -72,14 +63,11 @@ fn blocking_for(mode: Mode, free: bool, below: bool) -> u8
     ensures { result ≡ blocking_for mode free below }
 {
     if free {
-        return KEPT_FREE;
-    }
-    if !below {
-        return flood::ALLOWED;
-    }
-    match mode {
-        Mode::Published => flood::ALLOWED,
-        Mode::Strict => SUPPORT_KEPT_FREE,
+        KEPT_FREE
+    } else if below && matches!(mode, Mode::Strict) {
+        SUPPORT_KEPT_FREE
+    } else {
+        flood::ALLOWED
     }
 }
 
@@ -88,12 +76,12 @@ fn obstacle_for(end: bool, kind: u8, below: u8) -> u8
     ensures { result ≡ obstacle_for end kind below }
 {
     if !routeable_kind(end, kind) {
-        return TAKEN;
+        TAKEN
+    } else if class_for(end, kind, below) == 0 {
+        BAD_SUPPORT
+    } else {
+        flood::ALLOWED
     }
-    if class_for(end, kind, below) == 0 {
-        return BAD_SUPPORT;
-    }
-    flood::ALLOWED
 }
 
 // Of both the least.
@@ -113,12 +101,13 @@ fn obstacle_at(
     let room = ground.room;
     let below = kind_beneath(room, kinds, cell);
     let first = obstacle_for(is_exempt(joinable, approach, cell), kinds[cell], below);
-    if first != flood::ALLOWED {
-        return first;
+    if first == flood::ALLOWED {
+        let free = kept_free(kinds, blocked, joinable, approach, cell);
+        let beneath = kept_beneath(room, kinds, blocked, joinable, approach, cell);
+        blocking_for(mode, free, beneath)
+    } else {
+        first
     }
-    let free = kept_free(kinds, blocked, joinable, approach, cell);
-    let beneath = kept_beneath(room, kinds, blocked, joinable, approach, cell);
-    blocking_for(mode, free, beneath)
 }
 
 // Fills in each cell's obstacle, whatever the bytes held.
@@ -134,10 +123,7 @@ pub fn fill_obstacles(
     requires obstacles_len { length obstacles.old ≡ volume ground.room }
     ensures { obstacles.new ≡ tabled (volume ground.room) (tree_obstacle ground.mode ground.room kinds.now blocked.now joinable.now approach) }
 {
-    let n = kinds.len();
-    let mut v: usize = 0;
-    while v < n {
-        obstacles[v] = obstacle_at(ground, kinds, blocked, joinable, approach, v);
-        v += 1;
+    for (v, obstacle) in obstacles.iter_mut().enumerate() {
+        *obstacle = obstacle_at(ground, kinds, blocked, joinable, approach, v);
     }
 }

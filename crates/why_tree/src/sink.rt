@@ -15,10 +15,7 @@ use routing_resources::MARKED;
 fn is_joined(reached: u8, joinable: u8) -> bool
     ensures { result ≡ joined_by reached joinable }
 {
-    if 0 < reached {
-        return joinable == MARKED;
-    }
-    false
+    0 < reached && joinable == MARKED
 }
 
 // Whether no joinable cell is reached.
@@ -26,13 +23,10 @@ fn reaches_none(reached: &[u8], joinable: &[u8]) -> bool
     requires { length joinable.now ≤ length reached.now }
     ensures { result ≡ none_joined reached.now joinable.now }
 {
-    let n = joinable.len();
-    let mut v: usize = 0;
-    while v < n {
-        if is_joined(reached[v], joinable[v]) {
+    for (v, mark) in joinable.iter().enumerate() {
+        if is_joined(reached[v], *mark) {
             return false;
         }
-        v += 1;
     }
     true
 }
@@ -42,13 +36,8 @@ fn is_ample(room: Room, config: RouterConfig) -> bool
     requires { Good room }
     ensures { result ≡ ample room config }
 {
-    if config.horizontal.0 < 10 {
-        return false;
-    }
-    if config.stair.0 < 20 {
-        return false;
-    }
-    5 * (room.volume() - 1) < as_index(config.limit.0)
+    let estimates_hold = 10 <= config.horizontal.0 && 20 <= config.stair.0;
+    estimates_hold && 5 * (room.volume() - 1) < as_index(config.limit.0)
 }
 
 // What may be said where neither the approach nor walls are to blame.
@@ -57,9 +46,10 @@ fn open_verdict(room: Room, config: RouterConfig) -> u32
     ensures { result ≡ open_verdict room config }
 {
     if is_ample(room, config) {
-        return ONLY_CONFLICTS;
+        ONLY_CONFLICTS
+    } else {
+        CUT_SHORT
     }
-    CUT_SHORT
 }
 
 // What may be said of a sink for which number 14 is due, where these cells are joinable and these are blocked. `reached` and
@@ -81,10 +71,10 @@ pub fn tell_sink(
     fill_obstacles(ground, kinds, blocked, joinable, approach, obstacles);
     flood::tell_walls(ground.room, obstacles, approach, line, reached, walls);
     if !routeable_kind(true, kinds[approach]) {
-        return APPROACH_TAKEN;
+        APPROACH_TAKEN
+    } else if reaches_none(reached, joinable) {
+        SHUT_IN
+    } else {
+        open_verdict(ground.room, ground.config)
     }
-    if reaches_none(reached, joinable) {
-        return SHUT_IN;
-    }
-    open_verdict(ground.room, ground.config)
 }

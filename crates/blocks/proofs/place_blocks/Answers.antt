@@ -3,7 +3,6 @@ use mathlib.Core.List.{List}
 use Prim.Native.Nat.{ℕ, ◌<◌}
 use native.Mathlib.Omega.{arith}
 use lib.ListN.{length}
-use borrow.Author.Rules.{rules}
 use Rattle.room.specs.declared.Room.{Room}
 use Rattle.room.specs.Room.{Good}
 use Rattle.job_sheet.specs.declared.Part.{Part}
@@ -30,6 +29,6 @@ returns-then-found-eq0 c = kept-all (of-all _ _ _ c.place_each-found.ensures) c.
 pub returns : goal.returns
 returns c =
     let all = c.place_each-found.ensures in
-    let kinds = c.clear_bytes.ensures in
-    let nodes = c.clear_words.ensures in
+    let kinds = c.clear.ensures in
+    let nodes = c.clear-2.ensures in
     kept-refused (of-all _ _ _ all) c.if-found-eq0.false (cells-small c.requires.good c.requires.block_list) kinds nodes

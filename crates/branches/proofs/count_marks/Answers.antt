@@ -1,19 +1,12 @@
--- `count_marks` meets its contract: each round counts one cell or passes it.
+-- `count_marks` meets its contract: the filter lets the marked cells through.
 use borrow.Author.Rules.{rules}
-use Prim.Native.Nat.{◌-◌}
-use lib.ListN.{length}
-use Rattle.branches.specs.LoopLaws.{MarksCounted, counted_none, counted-marked, counted-other, counted-all}
+use Rattle.std.proofs.Common.{◌∙◌, tests, eqb}
+use Rattle.std.proofs.lemmas.Iterator.{YieldsList-from_slice}
+use Rattle.std.proofs.lemmas.Iterator.Consumers.{YieldsList-from_filter, count_from_yields_List}
+use Rattle.branches.specs.LoopLaws.{counted}
 use Rattle.branches.proofs.count_marks.Goals as goal
-use Rattle.branches.proofs.count_marks.Goals.{else-marks-i-eq-MARKED, then-marks-i-eq-MARKED}
-
-pub loop-i-init : goal.loop-i-init
-loop-i-init c = counted_none _
-
-pub loop-i-preserved : goal.loop-i-preserved
-loop-i-preserved c =
-    let round = c.loop-i.invariant in
-    let more = c.loop-i-test.true in
-    elim c.if-marks-i-eq-MARKED.branch [ then-marks-i-eq-MARKED w ↦ rw w.count-is (counted-marked round more w.if-marks-i-eq-MARKED.true) | else-marks-i-eq-MARKED w ↦ rw w.count-is (counted-other round more w.if-marks-i-eq-MARKED.false) ]
 
 pub returns : goal.returns
-returns c = counted-all c.loop-i.invariant c.loop-i-test.false
+returns c =
+    count_from_yields_List c.filter.result _ c.count.ensures.ran (YieldsList-from_filter _ (λ m. eqb m 1) (YieldsList-from_slice c.args.marks.now cc) c.filter.ensures.closure (λ x r q k. search (rules, tests)))
+    ∙ counted c.args.marks.now

@@ -3,7 +3,6 @@ use mathlib.Core.Path.{refl, sym, ◌∙◌}
 use native.Mathlib.Omega.{arith}
 use Rattle.branches.specs.Branches.{branch_of}
 use Rattle.branches.specs.WriteLaws.{branch-long, inserted-is}
-use borrow.Author.Rules.{rules}
 use Rattle.branches.proofs.insert_branch.Goals as goal
 
 pub overflow_add-end : goal.overflow_add-end
@@ -12,8 +11,8 @@ overflow_add-end c =
     let count = c.branch_length.ensures ∙ sym (branch-long args.tap args.path.now) in
     omega (arith, c.requires.path_in_bounds)
 
-pub slice_bounds-rotate-end : goal.slice_bounds-rotate-end
-slice_bounds-rotate-end c =
+pub slice_bounds-rotate_left-end : goal.slice_bounds-rotate_left-end
+slice_bounds-rotate_left-end c =
     let args = c.args in
     let count = c.branch_length.ensures ∙ sym (branch-long args.tap args.path.now) in
     omega (arith, c.requires.path_in_bounds, c.branches-1.given.1)
@@ -23,8 +22,7 @@ returns c =
     let args = c.args in
     let written = c.write_branch in
     let count = c.branch_length in
-    let rotated = c.rotate in
     inserted-is args.branches.now (branch_of args.tap args.path.now) args.at args.used c.requires.at_le_used c.requires.path_in_bounds
     c.write_branch.new.out _ c.write_branch.ensures refl
     count.result (c.branch_length.ensures ∙ sym (branch-long args.tap args.path.now))
-    c.rotate.new.cells c.rotate.ensures
+    c.rotate_left.new.self c.rotate_left.ensures.after

@@ -1,7 +1,6 @@
 -- `write_branch` meets its contract: behind the path, reversed, the terminal where it differs from the approach.
 use native.Mathlib.Omega.{arith}
 use Rattle.branches.specs.WriteLaws.{path-fits, terminal_fits, written_same, written-more}
-use borrow.Author.Rules.{rules}
 use Rattle.branches.proofs.write_branch.Goals as goal
 
 pub write_reversed-requires : goal.write_reversed-requires

@@ -1,9 +1,11 @@
--- `realize_ends` meets its contract, part by part.
-use mathlib.Core.Path.{ap, ◌∙◌}
+-- `realize_ends` meets its contract: what is wrong, or the ends part by part.
+use Rattle.std.proofs.Common.{ap, ◌∙◌}
 use Rattle.ends.specs.Ends.{terminal_in}
-use Rattle.ends.specs.EndLaws.{ends_is}
-use borrow.Author.Rules.{rules}
+use Rattle.ends.specs.EndLaws.{ends_is, realized-good, realized-fault}
 use Rattle.ends.proofs.realize_ends.Goals as goal
 
-pub returns : goal.returns
-returns c = ends_is _ _ _ c.fault_of.ensures (c.terminal_in.ensures ∙ ap terminal_in c.source_end.ensures) c.taps_of.ensures
+pub returns-in-Some : goal.returns-in-Some
+returns-in-Some c = realized-fault _ _ _ c.fault_of.ensures c.in-Some.is
+
+pub returns-in-None : goal.returns-in-None
+returns-in-None c = realized-good _ _ _ c.fault_of.ensures c.in-None.is (ends_is _ _ _ (c.terminal_in.ensures ∙ ap terminal_in c.source_end.ensures) c.taps_of.ensures)

@@ -1,6 +1,5 @@
 -- `sink_end` meets its contract: it is the definition.
 use Rattle.ends.specs.Ends.{sink_end}
-use borrow.Author.Rules.{rules}
 use Rattle.ends.proofs.sink_end.Goals as goal
 
 pub returns : goal.returns

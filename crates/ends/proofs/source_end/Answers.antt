@@ -3,14 +3,10 @@ use Rattle.ends.specs.Ends.{source_end}
 use borrow.Author.Rules.{rules}
 use Rattle.ends.proofs.source_end.Goals as goal
 
-pub returns-in-At : goal.returns-in-At
+pub returns-in_err-terminal : goal.returns-in_err-terminal
 unfolding source_end
-returns-in-At c = rw (← c.terminal_for_endpoint.ensures, c.in-At.is)
+returns-in_err-terminal c = rw (← c.terminal_for_endpoint.ensures, c.in_err-terminal.was) (search rules)
 
-pub returns-in-NoFacing : goal.returns-in-NoFacing
+pub returns : goal.returns
 unfolding source_end
-returns-in-NoFacing c = rw (← c.terminal_for_endpoint.ensures, c.in-NoFacing.is)
-
-pub returns-in-Outside : goal.returns-in-Outside
-unfolding source_end
-returns-in-Outside c = rw (← c.terminal_for_endpoint.ensures, c.in-Outside.is)
+returns c = rw (← c.terminal_for_endpoint.ensures, c.in_ok-terminal.was)

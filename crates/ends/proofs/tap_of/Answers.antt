@@ -1,16 +1,11 @@
 -- `tap_of` meets its contract: it goes by the cases of the sink's end.
 use Rattle.ends.specs.Ends.{tap_of}
-use borrow.Author.Rules.{rules}
 use Rattle.ends.proofs.tap_of.Goals as goal
 
-pub returns-in-At : goal.returns-in-At
+pub returns-in-Ok : goal.returns-in-Ok
 unfolding tap_of
-returns-in-At c = rw (← c.sink_end.ensures, c.in-At.is)
+returns-in-Ok c = rw (← c.sink_end.ensures, c.in-Ok.is)
 
-pub returns-in-NoFacing : goal.returns-in-NoFacing
+pub returns-in-Err : goal.returns-in-Err
 unfolding tap_of
-returns-in-NoFacing c = rw (← c.sink_end.ensures, c.in-NoFacing.is) c.no_tap.ensures
-
-pub returns-in-Outside : goal.returns-in-Outside
-unfolding tap_of
-returns-in-Outside c = rw (← c.sink_end.ensures, c.in-Outside.is) c.no_tap-in-Outside.ensures
+returns-in-Err c = rw (← c.sink_end.ensures, c.in-Err.is) c.no_tap.ensures

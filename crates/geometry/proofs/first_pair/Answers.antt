@@ -8,23 +8,11 @@ use Rattle.geometry.specs.PairLaws.{first_found, first_missing}
 use Rattle.basics.specs.Folds.{Folding, fold_first, fold_next, fold_last}
 use Rattle.geometry.proofs.first_pair.Goals as goal
 
-pub loop-i-init : goal.loop-i-init
-loop-i-init c = fold_first _ _ _
-
-pub pair_with-found-requires-clause-good : goal.pair_with-found-requires-clause-good
-pair_with-found-requires-clause-good c = c.requires.good
-
-pub pair_with-found-requires-clause-bytes_len : goal.pair_with-found-requires-clause-bytes_len
-pair_with-found-requires-clause-bytes_len c = c.requires.bytes_len
-
-pub pair_with-found-requires-clause-cell_bound : goal.pair_with-found-requires-clause-cell_bound
-pair_with-found-requires-clause-cell_bound c = rw c.as_index.ensures.0 (c.requires.all_cells.below _ c.loop-i-test.true)
-
-pub loop-i-preserved : goal.loop-i-preserved
-loop-i-preserved c = fold_next _ _ c.loop-i.invariant 0 c.loop-i-test.true _ (rw (c.pair_with-found.ensures, c.as_index.ensures.0) at c.lesser_of-least.ensures)
+pub loop-cell-preserved : goal.loop-cell-preserved
+loop-cell-preserved c = fold_next _ _ c.loop-cell.invariant 0 c.loop-cell-test.true _ (rw (c.pair_with-found.ensures, c.as_index.ensures.0) at c.lesser_of-least.ensures)
 
 pub returns-then-least-none : goal.returns-then-least-none
-returns-then-least-none c = first_found _ c.requires.good _ _ (cells_in _ _ c.requires.all_cells) c.requires.on_path _ _ c.requires.bytes_len (fold_last _ _ c.loop-i.invariant c.loop-i-test.false) c.if-least-none.true
+returns-then-least-none c = first_found _ c.requires.good _ _ (cells_in _ _ c.requires.all_cells) c.requires.on_path _ _ c.requires.bytes_len (fold_last _ _ c.loop-cell.invariant c.loop-cell-test.false) c.if-least-none.true
 
-pub returns : goal.returns
-returns c = first_missing _ c.requires.good _ _ (cells_in _ _ c.requires.all_cells) c.requires.on_path _ _ c.requires.bytes_len (fold_last _ _ c.loop-i.invariant c.loop-i-test.false) c.if-least-none.false
+pub returns-else-least-none : goal.returns-else-least-none
+returns-else-least-none c = first_missing _ c.requires.good _ _ (cells_in _ _ c.requires.all_cells) c.requires.on_path _ _ c.requires.bytes_len (fold_last _ _ c.loop-cell.invariant c.loop-cell-test.false) c.if-least-none.false

@@ -8,8 +8,5 @@ use Rattle.geometry.specs.PairLaws.{first_found, first_missing}
 use Rattle.basics.specs.Folds.{Folding, fold_first, fold_next, fold_last}
 use Rattle.geometry.proofs.first_pair.Given as goal
 
-abbrev pub invariant-loop-i : goal.invariant-loop-i
-invariant-loop-i l = Folding (λ cell. lesser_place (pair_with l.room (conducts_by l.bytes) cell)) l.path l.none l.least l.i
-
-abbrev pub decreases-loop-i : goal.decreases-loop-i
-decreases-loop-i l = length l.path - l.i
+abbrev pub invariant-loop-cell : goal.invariant-loop-cell
+invariant-loop-cell l = Folding (λ cell. lesser_place (pair_with l.room (conducts_by l.bytes) cell)) l.path l.none l.least l.cell-index

@@ -9,8 +9,5 @@ use Rattle.geometry.specs.LayLaws.{one-put, one_kept, walk_length, walk_in}
 use Rattle.basics.specs.Folds.{Folding, fold_first, fold_next, fold_last}
 use Rattle.geometry.proofs.replace.Given as goal
 
-abbrev pub invariant-loop-i : goal.invariant-loop-i
-invariant-loop-i l = Folding (replaced_at l.old l.new) l.path l.initial.bytes l.bytes l.i
-
-abbrev pub decreases-loop-i : goal.decreases-loop-i
-decreases-loop-i l = length l.path - l.i
+abbrev pub invariant-loop-cell : goal.invariant-loop-cell
+invariant-loop-cell l = Folding (replaced_at l.old l.new) l.path l.initial.bytes l.bytes l.cell-index

@@ -9,36 +9,41 @@ use Rattle.geometry.specs.Along.{conducts_by}
 use Rattle.geometry.specs.StairLaws.{stairs_from, stair_at, stairs-next, stairs-found, stairs-end}
 use Rattle.geometry.proofs.stair_conflict.Goals as goal
 use Rattle.geometry.proofs.stair_conflict.Goals.{After-stair_at-found}
+use Rattle.std.specs.Prelude.{◌≡◌, ℕ, ◌+◌, ◌-◌, ◌≤◌, ◌<◌, List, length, Bool, true, false, Option, Some, None, is_some}
+use Rattle.basics.specs.Tests.{never}
+use Rattle.room.specs.declared.Room.{Room}
 
--- what the stair here gives
-stair_told : (c : After-stair_at-found) → c.stair_at-found.result ≡ stair_at c.args.room c.args.kinds.now (conducts_by c.args.bytes.now) c.args.path.now c.loop-i.i
-stair_told c = rw (c.as_index.ensures.0, c.as_index-in-loop-i.ensures.0) at c.stair_at-found.ensures
+-- the cell before is the one at a place whose next is here
+back : {i : ℕ} → 1 ≤ i → i - 1 + 1 ≡ i
+back h = omega arith
 
-pub loop-i-init : goal.loop-i-init
-loop-i-init c = (omega arith, refl)
+-- what the stair to here gives
+stair_told : (c : After-stair_at-found) → c.stair_at-found.result ≡ stair_at c.args.room c.args.kinds.now (conducts_by c.args.bytes.now) c.args.path.now (c.loop-i.i - 1)
+stair_told c = rw (back c.loop-i.auto.i) (rw (c.as_index.ensures.0, c.as_index-in-loop-i.ensures.0) at c.stair_at-found.ensures)
 
-pub stair_at-found-requires-clause-good : goal.stair_at-found-requires-clause-good
-stair_at-found-requires-clause-good c = c.requires.good
+-- whether it gives a conflict
+stair-some : (R : Room) (kinds : List ℕ) (conducts : ℕ → Bool) (path : List ℕ) (i : ℕ) → i + 1 < length path → (o : Option ℕ) → o ≡ stair_at R kinds conducts path i → is_some o ≡ true
+    → o ≡ stairs_from R kinds conducts path i
+stair-some R kinds conducts path i h (Some v) e t = e ∙ stairs-found R kinds conducts path i h v (sym e)
+stair-some R kinds conducts path i h None e t = never (cc)
 
-pub stair_at-found-requires-clause-kinds_len : goal.stair_at-found-requires-clause-kinds_len
-stair_at-found-requires-clause-kinds_len c = c.requires.kinds_len
+stair-none : (R : Room) (kinds : List ℕ) (conducts : ℕ → Bool) (path : List ℕ) (i : ℕ) → i + 1 < length path → (o : Option ℕ) → o ≡ stair_at R kinds conducts path i → is_some o ≡ false
+    → stairs_from R kinds conducts path (i + 1) ≡ stairs_from R kinds conducts path i
+stair-none R kinds conducts path i h (Some v) e f = never (cc)
+stair-none R kinds conducts path i h None e f = stairs-next R kinds conducts path i h (sym e)
 
-pub stair_at-found-requires-clause-from_bound : goal.stair_at-found-requires-clause-from_bound
-stair_at-found-requires-clause-from_bound c = (rw c.as_index.ensures.0 (c.requires.all_cells.below _ (omega arith)), rw c.as_index-in-loop-i.ensures.0 (c.requires.all_cells.below _ c.loop-i-test.true))
-
-pub returns-in-Inside : goal.returns-in-Inside
-returns-in-Inside c =
-    let i = c.loop-i.i in
-    let more = c.loop-i-test.true in
-    let read = stair_told (goal.at.returns-in-Inside c).After-stair_at-found in
-    read ∙ stairs-found _ _ _ _ i more _ (sym read ∙ c.in-Inside.is) ∙ c.loop-i.invariant.1
+pub returns-then-is_some : goal.returns-then-is_some
+returns-then-is_some c =
+    let one = c.loop-i.auto.i in
+    stair-some _ _ _ _ (c.loop-i.i - 1) (omega (arith, c.loop-i-test.true)) _ (stair_told (goal.at.returns-then-is_some c).After-stair_at-found) (sym c.is_some.ensures ∙ c.if-is_some.true) ∙ c.loop-i.invariant (c.loop-i.i - 1) (back one)
 
 pub loop-i-preserved : goal.loop-i-preserved
 loop-i-preserved c =
-    let i = c.loop-i.i in
-    let more = c.loop-i-test.true in
-    let read = stair_told (goal.at.loop-i-preserved c).After-stair_at-found in
-    (omega arith, stairs-next _ _ _ _ i more (sym read ∙ c.in_default.is) ∙ c.loop-i.invariant.1)
+    let one = c.loop-i.auto.i in
+    let next = stair-none _ _ _ _ (c.loop-i.i - 1) (omega (arith, c.loop-i-test.true)) _ (stair_told (goal.at.loop-i-preserved c).After-stair_at-found) (sym c.is_some.ensures ∙ c.if-is_some.false) in
+    λ k e. let q : k ≡ c.loop-i.i - 1 + 1 = omega arith in rw q (next ∙ c.loop-i.invariant (c.loop-i.i - 1) (back one))
 
 pub returns : goal.returns
-returns c = stairs-end _ _ _ _ _ c.loop-i-test.false ∙ c.loop-i.invariant.1
+returns c =
+    let one = c.loop-i.auto.i in
+    stairs-end _ _ _ _ (c.loop-i.i - 1) (omega (arith, c.loop-i-test.false)) ∙ c.loop-i.invariant (c.loop-i.i - 1) (back one)

@@ -1,8 +1,6 @@
 -- `sheet_size` meets its contract: the length that the sheet tells, where there are so many bytes.
-use mathlib.Core.Path.{sym, ◌∙◌}
 use native.Mathlib.Omega.{arith}
 use Rattle.job_list.specs.SplitLaws.{long-short, long-told}
-use borrow.Author.Rules.{rules}
 use Rattle.job_list.proofs.sheet_size.Goals as goal
 
 pub returns-then-bytes-told : goal.returns-then-bytes-told

@@ -2,7 +2,6 @@
 use native.Mathlib.Omega.{arith}
 use Rattle.job_sheet.specs.LayoutLaws.{parts_in}
 use Rattle.job_sheet.proofs.ReadLaws.{job-forth}
-use borrow.Author.Rules.{rules}
 use Rattle.job_sheet.proofs.job_from.Goals as goal
 
 pub endpoint_from-requires : goal.endpoint_from-requires

@@ -1,5 +1,4 @@
 -- `no_sink` meets its contract.
-use borrow.Author.Rules.{rules}
 use Rattle.job_sheet.proofs.no_sink.Goals as goal
 
 pub returns : goal.returns

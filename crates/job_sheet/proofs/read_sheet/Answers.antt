@@ -3,7 +3,6 @@ use Rattle.basics.specs.Tests.{test_fails, test-passes}
 use native.Mathlib.Omega.{arith}
 use Rattle.job_sheet.proofs.ReadLaws.{shaped-is, read-nothing, read-refused, read-accepted}
 use Rattle.job_sheet.specs.VersionLaws.{searchable}
-use borrow.Author.Rules.{rules}
 use Rattle.job_sheet.proofs.read_sheet.Goals as goal
 
 pub returns-then-not-shaped : goal.returns-then-not-shaped

@@ -1,6 +1,5 @@
 -- `refusal` meets its contract: it writes out the definition.
 use Rattle.job_sheet.specs.Sheet.{no_job}
-use borrow.Author.Rules.{rules}
 use Rattle.job_sheet.proofs.refusal.Goals as goal
 
 pub returns : goal.returns

@@ -1,8 +1,6 @@
 -- `sinks_from` meets its contract: what is gathered so far stands before places that hold nothing.
-use Prim.Native.Nat.{◌-◌}
 use native.Mathlib.Omega.{arith}
-use Rattle.job_sheet.proofs.ScanLaws.{SinksGathered, gather_on, gather_near, gather_done}
-use borrow.Author.Rules.{rules}
+use Rattle.job_sheet.proofs.ScanLaws.{gather_on, gather_near, gather_done}
 use Rattle.job_sheet.proofs.sinks_from.Goals as goal
 
 pub loop-k-init : goal.loop-k-init
@@ -14,8 +12,8 @@ overflow_mul-size c = omega (arith, gather_near c.loop-k.invariant c.loop-k-test
 pub overflow_add-from : goal.overflow_add-from
 overflow_add-from c = omega (arith, gather_near c.loop-k.invariant c.loop-k-test.true c.requires.1, c.well_formed)
 
-pub sink_from-sink-requires : goal.sink_from-sink-requires
-sink_from-sink-requires c = omega (arith, gather_near c.loop-k.invariant c.loop-k-test.true c.requires.1, c.well_formed)
+pub sink_from-requires : goal.sink_from-requires
+sink_from-requires c = omega (arith, gather_near c.loop-k.invariant c.loop-k-test.true c.requires.1, c.well_formed)
 
 pub offset_bounds-ends-k : goal.offset_bounds-ends-k
 offset_bounds-ends-k c = omega (arith, c.requires)
@@ -23,14 +21,8 @@ offset_bounds-ends-k c = omega (arith, c.requires)
 pub bounds-ends-k : goal.bounds-ends-k
 bounds-ends-k c = omega (arith, c.requires)
 
-pub overflow_add-k : goal.overflow_add-k
-overflow_add-k c = omega (arith, c.requires)
-
-pub loop-k-smaller : goal.loop-k-smaller
-loop-k-smaller c = omega arith
-
 pub loop-k-preserved : goal.loop-k-preserved
-loop-k-preserved c = gather_on c.loop-k.invariant c.loop-k-test.true c.requires.0 _ c.sink_from-sink.ensures
+loop-k-preserved c = gather_on c.loop-k.invariant c.loop-k-test.true c.requires.0 _ c.sink_from.ensures
 
 pub returns : goal.returns
 returns c = gather_done _ _ c.args.part _ _ c.loop-k.invariant c.loop-k-test.false

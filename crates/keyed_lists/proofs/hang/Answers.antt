@@ -1,5 +1,4 @@
 -- `hang` makes the place the last of its list: alone in it, or told as the next by the one that was the last.
-use borrow.Author.Rules.{rules}
 use mathlib.Core.Path.{◌≡◌, refl}
 use mathlib.Core.Logic.{◌≢◌}
 use mathlib.Core.List.{List}

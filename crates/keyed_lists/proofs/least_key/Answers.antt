@@ -1,8 +1,6 @@
 -- `least_key` passes over the keys whose lists are empty; some entry waits, so it ends.
-use borrow.Author.Rules.{rules}
-use Prim.Native.Nat.{◌-◌, ◌^◌}
 use native.Mathlib.Omega.{arith}
-use Rattle.keyed_lists.specs.BeginLaws.{Reached, floor-reached, passed_over, reached-small, reached-least}
+use Rattle.keyed_lists.specs.BeginLaws.{floor-reached, passed_over, reached-small, reached-least}
 use Rattle.keyed_lists.proofs.least_key.Goals as goal
 
 pub loop-key-init : goal.loop-key-init

@@ -1,5 +1,4 @@
 -- `leave` takes the first of the least key out.
-use borrow.Author.Rules.{rules}
 use mathlib.Core.Path.{refl}
 use Rattle.keyed_lists.specs.LeaveWords.{first-gone-left}
 use Rattle.keyed_lists.proofs.leave.Goals as goal

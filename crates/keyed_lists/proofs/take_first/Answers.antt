@@ -1,5 +1,4 @@
 -- `take_first` empties the first place of the list, which goes on at the next.
-use borrow.Author.Rules.{rules}
 use mathlib.Core.Path.{◌≡◌, refl}
 use mathlib.Core.Logic.{◌≢◌}
 use mathlib.Core.List.{List}

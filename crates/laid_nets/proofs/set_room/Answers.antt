@@ -1,12 +1,6 @@
 -- `set_room` meets its contract: the blocks, then their facings.
 use Rattle.laid_nets.specs.NetLaws.{room-set}
 use Rattle.outset.specs.SetOutLaws.{good-room, block-list}
-use mathlib.Core.Path.{◌≡◌, refl, sym, ap, ◌∙◌}
-use borrow.Author.Rules.{rules}
-use Rattle.laid_nets.proofs.set_room.Reads as reads
-use Rattle.laid_nets.proofs.set_room.Lts as lts
-use Rattle.blocks.proofs.place_blocks.Reads as place-blocks-reads
-use Rattle.laid_nets.proofs.place_facings.Reads as place-facings-reads
 use Rattle.laid_nets.proofs.set_room.Goals as goal
 
 pub place_blocks-placement-requires-clause-good : goal.place_blocks-placement-requires-clause-good

@@ -1,7 +1,6 @@
 -- `lay_net` meets its contract: the tree is rooted, then supports and wire, then repeaters, then those of the sinks.
 use mathlib.Core.Path.{◌∙◌}
 use Rattle.laying.specs.NetLaws.{held_on, net_rootable, net-held, net-taps, net-marks, net-laid}
-use borrow.Author.Rules.{rules}
 use Rattle.laying.proofs.lay_net.Goals as goal
 
 pub root_tree-requires : goal.root_tree-requires

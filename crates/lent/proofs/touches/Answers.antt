@@ -5,5 +5,5 @@ use Rattle.lent.proofs.touches.Goals as goal
 pub returns-then-number-eq-DONE_NUMBER : goal.returns-then-number-eq-DONE_NUMBER
 returns-then-number-eq-DONE_NUMBER c = rw (eq-eqb _ _ c.if-number-eq-DONE_NUMBER.true)
 
-pub returns : goal.returns
-returns c = rw (ne_eqb _ _ c.if-number-eq-DONE_NUMBER.false)
+pub returns-else-number-eq-DONE_NUMBER : goal.returns-else-number-eq-DONE_NUMBER
+returns-else-number-eq-DONE_NUMBER c = rw (ne_eqb _ _ c.if-number-eq-DONE_NUMBER.false)

@@ -6,26 +6,26 @@ use Rattle.list_routing.proofs.lay_answer.Goals as goal
 
 use Rattle.branches.specs.Branches.{sum, lengths_in}
 
-pub returns-in-Refused : goal.returns-in-Refused
-returns-in-Refused c = laid_none _ _ c.in-Refused.is refl
+pub returns-in-Err : goal.returns-in-Err
+returns-in-Err c = laid_none _ c.in-Err.is refl
 
 pub lay_sheet-met-requires : goal.lay_sheet-met-requires
-lay_sheet-met-requires c = (c.requires.tree _ _ c.in_default.is).layable
+lay_sheet-met-requires c = (c.requires.tree _ c.in-Ok.is).layable
 
 pub overflow_add-result : goal.overflow_add-result
-overflow_add-result c = let h = (c.requires.tree _ _ c.in_default.is).counted in omega (arith, c.well_formed)
+overflow_add-result c = let h = (c.requires.tree _ c.in-Ok.is).counted in omega (arith, c.well_formed)
 
 pub joined_length-requires-clause-short : goal.joined_length-requires-clause-short
-joined_length-requires-clause-short c = let T = c.requires.tree _ _ c.in_default.is in T.short
+joined_length-requires-clause-short c = let T = c.requires.tree _ c.in-Ok.is in T.short
 
 pub joined_length-requires-clause-k_le_max_sinks : goal.joined_length-requires-clause-k_le_max_sinks
-joined_length-requires-clause-k_le_max_sinks c = let T = c.requires.tree _ _ c.in_default.is in T.few
+joined_length-requires-clause-k_le_max_sinks c = let T = c.requires.tree _ c.in-Ok.is in T.few
 
 pub overflow_add-result-2 : goal.overflow_add-result-2
 overflow_add-result-2 c =
-    let T = c.requires.tree _ _ c.in_default.is in
-    let n : c.joined_length.result ≡ sum (lengths_in c.args.answer.lengths) = c.joined_length.ensures in
+    let T = c.requires.tree _ c.in-Ok.is in
+    let n : c.joined_length.result ≡ sum (lengths_in c.in-Ok.tree.lengths) = c.joined_length.ensures in
     let h = T.fits in omega (arith, c.well_formed)
 
 pub returns : goal.returns
-returns c = laid_one _ _ c.in_default.is _ (further-by c.args.stand c.args.end c.args.answer.lengths _ c.joined_length.ensures) c.lay_sheet-met.ensures
+returns c = laid_one _ c.in-Ok.is _ (further-by c.args.stand c.args.end c.in-Ok.tree.lengths _ c.joined_length.ensures) c.lay_sheet-met.ensures

@@ -1,7 +1,6 @@
 -- `mark_branch` meets its contract: the conductors, then the clearances.
-use mathlib.Core.Path.{◌≡◌, refl, sym, ap, ◌∙◌}
+use mathlib.Core.Path.{◌∙◌}
 use Rattle.other_nets.specs.OtherLaws.{branch-marked}
-use borrow.Author.Rules.{rules}
 use Rattle.other_nets.proofs.mark_branch.Goals as goal
 
 pub branch_stair_clearances-requires-clause-good : goal.branch_stair_clearances-requires-clause-good

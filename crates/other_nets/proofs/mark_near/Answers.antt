@@ -1,6 +1,5 @@
 -- `mark_near` meets its contract: the cell, then its keepout.
 use Rattle.other_nets.specs.OtherLaws.{near-marked}
-use borrow.Author.Rules.{rules}
 use Rattle.other_nets.proofs.mark_near.Goals as goal
 
 pub returns : goal.returns

@@ -4,7 +4,6 @@ use borrow.Author.Tests.{eq-eqb, ne_eqb}
 use Rattle.room.specs.RoomLaws.{cell_in}
 use Rattle.room.specs.MoveLaws.{ahead_in}
 use Rattle.outset.specs.OutsetLaws.{block-powers, block_output, block_none}
-use borrow.Author.Rules.{rules}
 use Rattle.outset.proofs.block_keepout.Goals as goal
 
 pub electrical_keepout_for_wire-requires-clause-good : goal.electrical_keepout_for_wire-requires-clause-good

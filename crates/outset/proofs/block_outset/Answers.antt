@@ -2,7 +2,6 @@
 use mathlib.Core.Path.{◌∙◌}
 use Rattle.blocks.proofs.BlockLaws.{own-list}
 use Rattle.outset.specs.OutsetLaws.{sized-still, outset-marked}
-use borrow.Author.Rules.{rules}
 use Rattle.outset.proofs.block_outset.Goals as goal
 
 pub cell_source_keepout-requires-clause-sized : goal.cell_source_keepout-requires-clause-sized

@@ -1,10 +1,8 @@
 -- `cell_source_keepout` meets its contract: each round marks the keepout that one block asks for.
-use Prim.Native.Nat.{◌-◌}
-use Rattle.routing_resources.specs.MarkLaws.{MarkedSoFar, marking-none, rest_of, marking-on, marking-all}
-use Rattle.job_sheet.specs.Places.{no_block, blocks_in}
+use Rattle.routing_resources.specs.MarkLaws.{marking-none, marking-on, marking-all}
+use Rattle.job_sheet.specs.Places.{no_block}
 use Rattle.outset.specs.Outset.{block_keepout}
 use Rattle.outset.specs.OutsetLaws.{sized-still}
-use borrow.Author.Rules.{rules}
 use Rattle.job_sheet.specs.RecordLaws.{blocks-long}
 use Rattle.outset.proofs.cell_source_keepout.Goals as goal
 

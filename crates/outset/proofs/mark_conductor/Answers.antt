@@ -3,7 +3,6 @@ use mathlib.Core.Path.{ap, ◌∙◌}
 use Rattle.routing_resources.specs.Marks.{marked_by}
 use Rattle.routing_resources.specs.MarkLaws.{with_or}
 use Rattle.routing_resources.specs.Resources.{in_keepout}
-use borrow.Author.Rules.{rules}
 use Rattle.outset.proofs.mark_conductor.Goals as goal
 
 pub returns : goal.returns

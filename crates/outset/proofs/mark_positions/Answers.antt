@@ -1,10 +1,8 @@
 -- `mark_positions` meets its contract: each round marks the cell of one position.
-use Prim.Native.Nat.{◌-◌}
-use Rattle.routing_resources.specs.MarkLaws.{MarkedSoFar, marking-none, rest_of, marking-on, marking-all}
-use Rattle.job_sheet.specs.Places.{no_position, positions_in}
+use Rattle.routing_resources.specs.MarkLaws.{marking-none, marking-on, marking-all}
+use Rattle.job_sheet.specs.Places.{no_position}
 use Rattle.outset.specs.Outset.{stands_at}
 use Rattle.outset.specs.OutsetLaws.{listed-within, listed_in}
-use borrow.Author.Rules.{rules}
 use Rattle.job_sheet.specs.RecordLaws.{positions-long}
 use Rattle.outset.proofs.mark_positions.Goals as goal
 

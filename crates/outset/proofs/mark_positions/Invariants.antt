@@ -1,15 +1,8 @@
 -- `mark_positions` meets its contract: each round marks the cell of one position.
-use Prim.Native.Nat.{◌-◌}
-use Rattle.routing_resources.specs.MarkLaws.{MarkedSoFar, marking-none, rest_of, marking-on, marking-all}
-use Rattle.job_sheet.specs.Places.{no_position, positions_in}
+use Rattle.routing_resources.specs.MarkLaws.{MarkedSoFar, rest_of}
+use Rattle.job_sheet.specs.Places.{positions_in}
 use Rattle.outset.specs.Outset.{stands_at}
-use Rattle.outset.specs.OutsetLaws.{listed-within, listed_in}
-use borrow.Author.Rules.{rules}
-use Rattle.job_sheet.specs.RecordLaws.{positions-long}
 use Rattle.outset.proofs.mark_positions.Given as goal
 
 abbrev pub invariant-loop-i : goal.invariant-loop-i
 invariant-loop-i l = MarkedSoFar 1 (rest_of (stands_at l.room) (positions_in l.sheet l.part)) l.initial.marks l.marks l.i
-
-abbrev pub decreases-loop-i : goal.decreases-loop-i
-decreases-loop-i l = l.part.count - l.i

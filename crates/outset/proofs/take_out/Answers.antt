@@ -1,7 +1,6 @@
 -- `take_out` meets its contract: the cell, then the one right beneath it.
 use mathlib.Core.Path.{sym, ◌∙◌}
 use Rattle.outset.specs.OutsetLaws.{out-cell}
-use borrow.Author.Rules.{rules}
 use Rattle.room.specs.RoomLaws.{beneath_in}
 use Rattle.outset.proofs.take_out.Goals as goal
 

@@ -1,10 +1,8 @@
 -- `take_out_ends` meets its contract: the source's terminal, then each round one sink's terminal and approach.
-use mathlib.Core.Path.{◌∙◌}
-use Prim.Native.Nat.{◌-◌}
 use native.Mathlib.Omega.{arith}
 use Rattle.ends.specs.EndLaws.{taps-long, tap-is}
-use Rattle.routing_resources.specs.MarkLaws.{MarkedSoFar, marking-none, rest_of, marking-on, marking-all}
-use Rattle.ends.specs.Ends.{no_tap, taps_in}
+use Rattle.routing_resources.specs.MarkLaws.{marking-none, marking-on, marking-all}
+use Rattle.ends.specs.Ends.{no_tap}
 use Rattle.outset.specs.Outset.{tap_cell}
 use Rattle.outset.specs.OutsetLaws.{out-ends}
 use Rattle.outset.proofs.take_out_ends.Goals as goal
@@ -38,12 +36,6 @@ take_out_tap-requires-clause-terminal_bound c =
 pub take_out_tap-requires-clause-marks_len : goal.take_out_tap-requires-clause-marks_len
 take_out_tap-requires-clause-marks_len c =
     let more = c.loop-i-test.true in rw (c.loop-i.invariant.long, c.take_out.auto.marks) c.requires.marks_len
-
-pub overflow_add-i : goal.overflow_add-i
-overflow_add-i c = omega (arith, c.loop-i-test.true, c.requires.net_inside.taps_in_lem.few)
-
-pub loop-i-smaller : goal.loop-i-smaller
-loop-i-smaller c = omega (arith, c.loop-i-test.true)
 
 pub loop-i-preserved : goal.loop-i-preserved
 loop-i-preserved c = marking-on (tap_cell _) _ c.loop-i.invariant no_tap _ (tap-is _ _ c.loop-i-test.true) (rw (taps-long c.requires.net_inside.taps_in_lem) c.loop-i-test.true) c.take_out_tap.ensures

@@ -1,6 +1,5 @@
 -- `take_out_tap` meets its contract: the terminal, then the approach.
 use Rattle.outset.specs.OutsetLaws.{out-tap}
-use borrow.Author.Rules.{rules}
 use Rattle.outset.proofs.take_out_tap.Goals as goal
 
 pub returns : goal.returns

@@ -5,20 +5,13 @@ use Rattle.port_realization.specs.PortLaws.{terminal_in_lem}
 use borrow.Author.Rules.{rules}
 use Rattle.port_realization.proofs.realize_sink_endpoint.Goals as goal
 
-pub with_approach-requires-clause-good : goal.with_approach-requires-clause-good
-with_approach-requires-clause-good c = c.requires.good
-
 pub with_approach-requires-clause-terminal_bound : goal.with_approach-requires-clause-terminal_bound
-with_approach-requires-clause-terminal_bound c = terminal_in_lem _ _ c.requires.within _ _ _ (sym c.terminal_for_endpoint.ensures ∙ c.in-At.is)
+with_approach-requires-clause-terminal_bound c = terminal_in_lem _ _ c.requires.within _ _ _ (sym c.terminal_for_endpoint.ensures ∙ c.in_ok-terminal.was)
 
-pub returns-in-At : goal.returns-in-At
+pub returns-in_err-terminal : goal.returns-in_err-terminal
 unfolding realized_of
-returns-in-At c = rw (← c.terminal_for_endpoint.ensures, c.in-At.is) c.with_approach.ensures
+returns-in_err-terminal c = rw (← c.terminal_for_endpoint.ensures, c.in_err-terminal.was) (search rules)
 
-pub returns-in-NoFacing : goal.returns-in-NoFacing
+pub returns : goal.returns
 unfolding realized_of
-returns-in-NoFacing c = rw (← c.terminal_for_endpoint.ensures, c.in-NoFacing.is)
-
-pub returns-in-Outside : goal.returns-in-Outside
-unfolding realized_of
-returns-in-Outside c = rw (← c.terminal_for_endpoint.ensures, c.in-Outside.is)
+returns c = rw (← c.terminal_for_endpoint.ensures, c.in_ok-terminal.was) c.with_approach.ensures

@@ -1,17 +1,18 @@
 -- `with_approach` meets its contract: its test is that of the definition.
+use mathlib.Core.Path.{sym, ◌∙◌}
 use Rattle.basics.specs.Tests.{test_fails, test-passes}
 use Rattle.port_realization.specs.Ports.{approach_of}
 use borrow.Author.Rules.{rules}
 use Rattle.port_realization.proofs.with_approach.Goals as goal
 
-pub returns-then-not-facing_horizontal : goal.returns-then-not-facing_horizontal
+pub returns-in_err-approach : goal.returns-in_err-approach
 unfolding approach_of
-returns-then-not-facing_horizontal c = rw (test_fails c.facing_horizontal.ensures c.if-not-facing_horizontal.true-raw)
+returns-in_err-approach c = rw (sym c.facing_horizontal.ensures ∙ c.if-facing_horizontal.true, ← c.ahead.ensures, c.ok_or.ensures.ok_part, c.in_err-approach.was) (search rules)
 
-pub returns-in_default : goal.returns-in_default
+pub returns-in_ok-approach : goal.returns-in_ok-approach
 unfolding approach_of
-returns-in_default c = rw (test-passes c.facing_horizontal.ensures c.if-not-facing_horizontal.false-raw, ← c.ahead.ensures, c.in_default.is)
+returns-in_ok-approach c = rw (sym c.facing_horizontal.ensures ∙ c.if-facing_horizontal.true, ← c.ahead.ensures, c.ok_or.ensures.ok_part, c.in_ok-approach.was)
 
-pub returns : goal.returns
+pub returns-else-facing_horizontal : goal.returns-else-facing_horizontal
 unfolding approach_of
-returns c = rw (test-passes c.facing_horizontal.ensures c.if-not-facing_horizontal.false-raw, ← c.ahead.ensures, c.in-Inside.is)
+returns-else-facing_horizontal c = rw (sym c.facing_horizontal.ensures ∙ c.if-facing_horizontal.false)

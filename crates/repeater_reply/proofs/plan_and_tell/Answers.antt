@@ -6,7 +6,6 @@ use Rattle.basics.specs.Tests.{either}
 use Rattle.repeater_plan.specs.Plan.{lent}
 use Rattle.repeater_reply.specs.Reply.{net_told, well_told}
 use Rattle.repeater_reply.specs.ReplyLaws.{marks-inside, values-enough, told_promise, answer-fits, plan_told}
-use borrow.Author.Rules.{rules}
 use Rattle.repeater_reply.proofs.plan_and_tell.Goals as goal
 
 pub slice_bounds-plan_net-end : goal.slice_bounds-plan_net-end

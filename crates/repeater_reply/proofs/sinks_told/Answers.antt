@@ -2,14 +2,13 @@
 use mathlib.Core.Path.{sym}
 use lib.Seq.{length-take-le}
 use Rattle.repeater_reply.specs.ReplyLaws.{most-there, most-few, sinks-are}
-use borrow.Author.Rules.{rules}
 use Rattle.repeater_reply.proofs.sinks_told.Goals as goal
 
 pub slice_bounds-sinks_of-end : goal.slice_bounds-sinks_of-end
-slice_bounds-sinks_of-end c = sym (length-take-le _ _ (most-there c.args.numbers.now c.at_most-most.ensures))
+slice_bounds-sinks_of-end c = sym (length-take-le _ _ (most-there c.args.numbers.now c.min-most.ensures))
 
 pub sinks_of-held-requires : goal.sinks_of-held-requires
-sinks_of-held-requires c = most-few c.args.numbers.now c.at_most-most.ensures
+sinks_of-held-requires c = most-few c.args.numbers.now c.min-most.ensures
 
 pub returns : goal.returns
-returns c = sinks-are _ c.at_most-most.ensures c.sinks_of-held.ensures
+returns c = sinks-are _ c.min-most.ensures c.sinks_of-held.ensures

@@ -1,6 +1,5 @@
 -- `place_repeaters` meets its contract: the net's ends are marked, and then the repeaters are planned off them.
 use Rattle.repeaters.specs.NetEndLaws.{ends_in, plannable, net-placed}
-use borrow.Author.Rules.{rules}
 use Rattle.repeaters.proofs.place_repeaters.Goals as goal
 
 pub mark_net_ends-requires : goal.mark_net_ends-requires

@@ -5,14 +5,12 @@ use mathlib.Core.List.{List}
 use Prim.Native.Nat.{ℕ, ◌+◌, ◌-◌, ◌≤◌, ◌<◌}
 use native.Mathlib.Omega.{arith}
 use lib.ListN.{length, get_or, drop}
-use borrow.Author.Rules.{rules}
 use Rattle.basics.specs.Folds.{ByPairs, pairs_next, pairs_end}
 use Rattle.room.specs.declared.Room.{Room}
 use Rattle.room.specs.Room.{volume}
 use Rattle.routing_resources.specs.Marks.{is_cell, AllCells}
-use Rattle.routing_resources.specs.MarkLaws.{MarkedSoFar, marking-none, marking-next, marking-last, read_below}
+use Rattle.routing_resources.specs.MarkLaws.{MarkedSoFar, read_below}
 use Rattle.routing_resources.specs.Resources.{clearance_of, is_clearance}
-use Rattle.routing_resources.specs.ResourceLaws.{clearance_in}
 use Rattle.routing_resources.proofs.branch_stair_clearances.Given as goal
 
 -- the clearances from the i-th cell of the branch on
@@ -23,19 +21,17 @@ pub by-pairs : (R : Room) (v : ℕ) → ByPairs (λ branch. is_clearance R branc
 unfolding is_clearance
 by-pairs R v = record { at-nothing = refl; at_one = λ a. refl; at_pair = λ a b rest. refl }
 
-pub one_more : (R : Room) (branch : List ℕ) (i : ℕ) → i + 1 < length branch → (v : ℕ)
-    → clears R branch i v ≡ is_cell (clearance_of R (get_or branch i 0) (get_or branch (i + 1) 0)) v || clears R branch (i + 1) v
-one_more R branch i h v = pairs_next (by-pairs R v) branch i h
+-- j is the cell behind i
+pub one_more : (R : Room) (branch : List ℕ) (i j : ℕ) → i + 1 ≡ j → j < length branch → (v : ℕ)
+    → clears R branch i v ≡ is_cell (clearance_of R (get_or branch i 0) (get_or branch j 0)) v || clears R branch (i + 1) v
+one_more R branch i j e h v = rw (← e) (pairs_next (by-pairs R v) branch i (omega arith))
 
 pub all-cleared : (R : Room) (branch : List ℕ) (i : ℕ) → length branch ≤ i + 1 → (v : ℕ) → clears R branch i v ≡ false
 all-cleared R branch i h v = pairs_end (by-pairs R v) branch i h
 
-pub ends_in : (R : Room) (branch : List ℕ) → AllCells R branch → (i : ℕ) → i + 1 < length branch → (a b : ℕ) → a ≡ get_or branch i 0 → b ≡ get_or branch (i + 1) 0
+pub ends_in : (R : Room) (branch : List ℕ) → AllCells R branch → (i j : ℕ) → i ≤ j → j < length branch → (a b : ℕ) → a ≡ get_or branch i 0 → b ≡ get_or branch j 0
     → (a < volume R) × (b < volume R)
-ends_in R branch cells i h a b e f = (read_below cells i (omega arith) a e, read_below cells (i + 1) h b f)
+ends_in R branch cells i j l h a b e f = (read_below cells i (omega arith) a e, read_below cells j h b f)
 
 abbrev pub invariant-loop-i : goal.invariant-loop-i
-invariant-loop-i l = (l.i ≤ length l.branch) × MarkedSoFar 1 (clears l.room l.branch) l.initial.marks l.marks l.i
-
-abbrev pub decreases-loop-i : goal.decreases-loop-i
-decreases-loop-i l = length l.branch - l.i
+invariant-loop-i l = MarkedSoFar 1 (clears l.room l.branch) l.initial.marks l.marks (l.i - 1)

@@ -2,7 +2,6 @@
 use mathlib.Core.List.{List}
 use mathlib.Core.Path.{◌≡◌, ap, ◌∙◌}
 use Prim.Native.Nat.{ℕ}
-use borrow.Author.Rules.{rules}
 use Rattle.room.specs.declared.Room.{Room}
 use Rattle.routing_resources.specs.Marks.{marked_by}
 use Rattle.routing_resources.specs.MarkLaws.{with_or}

@@ -1,21 +1,18 @@
 -- `horizontal_neighbors` meets its contract: each round marks where one direction leads.
-use mathlib.Core.Path.{◌≡◌, refl, ◌∙◌}
+use mathlib.Core.Path.{◌≡◌, refl}
 use mathlib.Core.Bool.{Bool}
 use mathlib.Core.List.{List}
-use Prim.Native.Nat.{ℕ, zero, suc, ◌+◌, ◌-◌, ◌*◌, ◌≤◌, ◌<◌}
+use Prim.Native.Nat.{ℕ, zero, suc, ◌+◌, ◌*◌, ◌≤◌, ◌<◌}
 use native.Mathlib.Nat.{zero-add}
 use native.Mathlib.Omega.{arith}
 use lib.ListN.{length, get_or}
-use borrow.Author.Rules.{rules}
 use Rattle.basics.specs.Lists.{any}
 use Rattle.room.specs.declared.Room.{Room}
 use Rattle.room.specs.declared.Pos.{Pos}
 use Rattle.room.specs.declared.Move.{Move}
 use Rattle.room.specs.Room.{pos_of, by, move_at, neighbour_at, neighbour}
-use Rattle.room.specs.RoomLaws.{pos_in}
-use Rattle.room.specs.MoveLaws.{leads, move-small}
 use Rattle.routing_resources.specs.Marks.{marked_by, is_cell}
-use Rattle.routing_resources.specs.MarkLaws.{MarkedSoFar, marking-none, rest_of, marking-on, marking-all}
+use Rattle.routing_resources.specs.MarkLaws.{MarkedSoFar, rest_of}
 use Rattle.routing_resources.specs.Resources.{directions, is_neighbour}
 use Rattle.routing_resources.proofs.horizontal_neighbors.Given as goal
 
@@ -41,7 +38,4 @@ in_threes (suc (suc (suc zero))) rise h = refl
 in_threes (suc (suc (suc (suc k)))) rise h = absurd (omega arith)
 
 abbrev pub invariant-loop-k : goal.invariant-loop-k
-invariant-loop-k l = MarkedSoFar 1 (rest_of (leads_to l.room l.p) (directions l.rise)) l.initial.marks l.marks l.k
-
-abbrev pub decreases-loop-k : goal.decreases-loop-k
-decreases-loop-k l = 4 - l.k
+invariant-loop-k l = MarkedSoFar 1 (rest_of (leads_to l.room l.p) (directions l.part)) l.initial.marks l.marks l.k

@@ -1,6 +1,5 @@
 -- `unmark` meets its contract: one byte written at a cell takes its mark away and nothing else.
 use Rattle.routing_resources.specs.MarkLaws.{with_set}
-use borrow.Author.Rules.{rules}
 use Rattle.routing_resources.proofs.unmark.Goals as goal
 
 pub returns : goal.returns

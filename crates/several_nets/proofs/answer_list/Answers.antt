@@ -1,15 +1,17 @@
 -- `answer_list` meets its contract: the room set, then a number that is due, or the walk.
-use Rattle.several_nets.specs.AnswerLaws.{first-asked, answered-due, walking-first, answered-walk}
+use Rattle.several_nets.specs.AnswerLaws.{first-asked, answered-told, walking-first, answered-walk}
+use Rattle.job_list.specs.Told.{verdict_of}
+use mathlib.Core.Path.{ap}
 use Rattle.several_nets.proofs.answer_list.Goals as goal
 
 pub set_first-placement-requires : goal.set_first-placement-requires
-set_first-placement-requires c = first-asked c.requires
+set_first-placement-requires c = first-asked c.requires.asked
 
-pub returns-then-verdict-ne-DONE_NUMBER : goal.returns-then-verdict-ne-DONE_NUMBER
-returns-then-verdict-ne-DONE_NUMBER c = answered-due c.requires c.set_first-placement.ensures c.args.mode (λ e. c.if-verdict-ne-DONE_NUMBER.true e) c.detail_for.ensures c.refused.ensures
+pub returns-in-Err : goal.returns-in-Err
+returns-in-Err c = answered-told c.requires.asked c.requires.told c.set_first-placement.ensures c.args.mode c.in-Err.is c.detail_for.ensures
 
-pub walk_list-step-requires : goal.walk_list-step-requires
-walk_list-step-requires c = walking-first c.requires c.set_first-placement.ensures c.args.mode c.if-verdict-ne-DONE_NUMBER.false _ c.set_first-placement.auto.kinds c.set_first-placement.auto.facings c.set_first-placement.auto.known
+pub walk_list-walk-requires : goal.walk_list-walk-requires
+walk_list-walk-requires c = walking-first c.requires.asked c.set_first-placement.ensures c.args.mode (ap (λ j. (verdict_of j).number) c.in_default.is) _ c.set_first-placement.auto.kinds c.set_first-placement.auto.facings c.set_first-placement.auto.known
 
 pub returns : goal.returns
-returns c = answered-walk c.requires c.set_first-placement.ensures c.args.mode c.if-verdict-ne-DONE_NUMBER.false _ c.set_first-placement.auto.kinds c.set_first-placement.auto.facings c.set_first-placement.auto.known c.walk_list-step.ensures c.answer_for.ensures
+returns c = answered-walk c.requires.asked c.set_first-placement.ensures c.args.mode (ap (λ j. (verdict_of j).number) c.in_default.is) _ c.set_first-placement.auto.kinds c.set_first-placement.auto.facings c.set_first-placement.auto.known c.walk_list-walk.ensures c.answer_for.ensures

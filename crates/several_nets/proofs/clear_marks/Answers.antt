@@ -2,4 +2,4 @@
 use Rattle.several_nets.proofs.clear_marks.Goals as goal
 
 pub returns : goal.returns
-returns c = (c.clear_bytes.ensures, c.clear_bytes-2.ensures, c.clear_bytes-3.ensures)
+returns c = (c.clear.ensures, c.clear-2.ensures, c.clear-3.ensures)

@@ -5,8 +5,8 @@ use Rattle.several_nets.proofs.detail_for.Goals as goal
 pub returns-then-verdict-ne-OVERLAP_NUMBER : goal.returns-then-verdict-ne-OVERLAP_NUMBER
 returns-then-verdict-ne-OVERLAP_NUMBER c = rw (ne_eqb _ _ c.if-verdict-ne-OVERLAP_NUMBER.true)
 
-pub returns-in-Placed : goal.returns-in-Placed
-returns-in-Placed c = rw (eq-eqb _ _ c.if-verdict-ne-OVERLAP_NUMBER.false, c.in-Placed.is)
+pub returns-in-Ok : goal.returns-in-Ok
+returns-in-Ok c = rw (eq-eqb _ _ c.if-verdict-ne-OVERLAP_NUMBER.false, c.in-Ok.is)
 
-pub returns-in-RepeatAt : goal.returns-in-RepeatAt
-returns-in-RepeatAt c = rw (eq-eqb _ _ c.if-verdict-ne-OVERLAP_NUMBER.false, c.in-RepeatAt.is)
+pub returns-in-Err : goal.returns-in-Err
+returns-in-Err c = rw (eq-eqb _ _ c.if-verdict-ne-OVERLAP_NUMBER.false, c.in-Err.is)

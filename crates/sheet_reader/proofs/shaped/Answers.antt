@@ -1,6 +1,5 @@
 -- `shaped` meets its contract: what the reader found is what `shape_holds` tests.
 use Rattle.job_sheet.specs.Places.{shaped}
-use borrow.Author.Rules.{rules}
 use Rattle.sheet_reader.proofs.shaped.Goals as goal
 
 pub returns : goal.returns

@@ -3,7 +3,6 @@ use native.Mathlib.Omega.{arith}
 use mathlib.Core.List.{[]}
 use lib.ListN.{length}
 use Rattle.trace.specs.TraceLaws.{trace-short}
-use borrow.Author.Rules.{rules}
 use Rattle.trace.proofs.path_to.Goals as goal
 
 pub trace_into-requires-clause-to_in_bounds : goal.trace_into-requires-clause-to_in_bounds

@@ -1,11 +1,7 @@
 -- `trace_into` meets its contract. The loop's invariant: `left` cells are still to be written, and the others stand behind them.
 use native.Mathlib.Omega.{arith}
-use borrow.Author.Rules.{rules}
 use mathlib.Core.Path.{◌≡◌, refl}
-use lib.ListN.{length}
-use mathlib.Core.List.{[]}
-use Rattle.best_first.specs.Search.{trace}
-use Rattle.trace.specs.TraceLaws.{Writing, writing_none, writing_first, writing_next, writing_all}
+use Rattle.trace.specs.TraceLaws.{writing_none, writing_first, writing_next, writing_all}
 use Rattle.trace.proofs.trace_into.Goals as goal
 
 pub loop-left-init : goal.loop-left-init

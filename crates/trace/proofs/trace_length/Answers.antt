@@ -1,9 +1,8 @@
 -- `trace_length` meets its contract. The loop's invariant: n cells are counted, and those that lead to `cell` are left.
 use native.Mathlib.Omega.{arith}
-use borrow.Author.Rules.{rules}
-use Prim.Native.Nat.{◌-◌}
 use lib.ListN.{length}
-use Rattle.trace.specs.TraceLaws.{Counting, counting_none, counting_start, counting_next, counting_all}
+use mathlib.Core.Path.{◌≡◌, ◌∙◌}
+use Rattle.trace.specs.TraceLaws.{counting_none, counting_start, counting_next, counting_all}
 use Rattle.trace.proofs.trace_length.Goals as goal
 
 pub loop-n-init : goal.loop-n-init
@@ -22,4 +21,4 @@ pub loop-n-preserved : goal.loop-n-preserved
 loop-n-preserved c = counting_next c.loop-n.invariant c.requires.previous_inside c.loop-n-test.true c.if-before-eq0.false
 
 pub returns : goal.returns
-returns c = counting_all c.loop-n.invariant c.loop-n-test.false
+returns c = let end : length c.args.previous.now ≡ c.loop-n.n = omega arith in end ∙ counting_all c.loop-n.invariant c.loop-n-test.false

@@ -7,7 +7,6 @@ use Rattle.basics.specs.Zeros.{zeros-long}
 use Rattle.branches.specs.Branches.{branches_of}
 use Rattle.causes.specs.Causes.{cleared_by}
 use Rattle.causes.specs.CauseLaws.{free-here, added-here}
-use borrow.Author.Rules.{rules}
 use Rattle.causes.proofs.reasons.add_own.Goals as goal
 
 pub mark_own-requires-clause-good : goal.mark_own-requires-clause-good
@@ -17,13 +16,13 @@ pub mark_own-requires-clause-own_branches : goal.mark_own-requires-clause-own_br
 mark_own-requires-clause-own_branches c = c.requires.own_branches
 
 pub mark_own-requires-clause-marks_len : goal.mark_own-requires-clause-marks_len
-mark_own-requires-clause-marks_len c = zeros-long {n = length c.args.marks.now} c.clear_bytes.ensures ∙ c.requires.marks_len
+mark_own-requires-clause-marks_len c = zeros-long {n = length c.args.marks.now} c.clear.ensures ∙ c.requires.marks_len
 
 pub add_bit-requires-clause-bit_free : goal.add_bit-requires-clause-bit_free
-add_bit-requires-clause-bit_free c = free-here (λ v. any (cleared_by c.args.room v) (branches_of c.args.lengths c.args.branches.now)) c.args.marks.now c.requires.marks_len c.clear_bytes.ensures c.mark_own.ensures c.requires.bit_free
+add_bit-requires-clause-bit_free c = free-here (λ v. any (cleared_by c.args.room v) (branches_of c.args.lengths c.args.branches.now)) c.args.marks.now c.requires.marks_len c.clear.ensures c.mark_own.ensures c.requires.bit_free
 
 pub add_bit-requires-clause-bit_le_own_bit : goal.add_bit-requires-clause-bit_le_own_bit
 add_bit-requires-clause-bit_le_own_bit c = omega arith
 
 pub returns : goal.returns
-returns c = added-here (λ v. any (cleared_by c.args.room v) (branches_of c.args.lengths c.args.branches.now)) c.args.marks.now c.requires.marks_len c.clear_bytes.ensures c.mark_own.ensures c.add_bit.ensures
+returns c = added-here (λ v. any (cleared_by c.args.room v) (branches_of c.args.lengths c.args.branches.now)) c.args.marks.now c.requires.marks_len c.clear.ensures c.mark_own.ensures c.add_bit.ensures

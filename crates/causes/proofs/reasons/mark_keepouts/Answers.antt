@@ -1,10 +1,8 @@
 -- `mark_keepouts` meets its contract: each round marks the keepout of one conductor.
-use Prim.Native.Nat.{◌-◌}
-use Rattle.routing_resources.specs.MarkLaws.{MarkedSoFar, marking-none, rest_of, marking-on, marking-all}
-use Rattle.job_sheet.specs.Places.{no_position, positions_in}
+use Rattle.routing_resources.specs.MarkLaws.{marking-none, marking-on, marking-all}
+use Rattle.job_sheet.specs.Places.{no_position}
 use Rattle.causes.specs.Causes.{beside_conductor}
 use Rattle.outset.specs.OutsetLaws.{listed-within, listed_in}
-use borrow.Author.Rules.{rules}
 use Rattle.job_sheet.specs.RecordLaws.{positions-long}
 use Rattle.causes.proofs.reasons.mark_keepouts.Goals as goal
 

@@ -1,10 +1,7 @@
 -- `mark_own` meets its contract. The loop's invariant: the branches left, marked on the marks of now, make what all branches make.
 use native.Mathlib.Omega.{arith}
-use mathlib.Core.Path.{◌≡◌, refl, ◌∙◌}
-use Prim.Native.Nat.{◌-◌}
-use lib.ListN.{length}
-use Rattle.causes.specs.CauseLaws.{OwnMarked, own-none, own-within, own_in, own-next, own-all}
-use borrow.Author.Rules.{rules}
+use mathlib.Core.Path.{refl, ◌∙◌}
+use Rattle.causes.specs.CauseLaws.{own-none, own-within, own_in, own-next, own-all}
 use Rattle.causes.proofs.reasons.mark_own.Goals as goal
 
 pub loop-k-init : goal.loop-k-init

@@ -1,7 +1,6 @@
 -- `tell_causes` meets its contract: what others keep free, the net's own cells taken out, then its own clearances.
 use mathlib.Core.Path.{◌∙◌}
 use Rattle.causes.specs.CauseLaws.{own-free, causes-told}
-use borrow.Author.Rules.{rules}
 use Rattle.causes.proofs.telling.tell_causes.Goals as goal
 
 pub add_own-requires-clause-good : goal.add_own-requires-clause-good

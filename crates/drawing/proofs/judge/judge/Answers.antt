@@ -2,7 +2,6 @@
 use mathlib.Core.Path.{sym, ◌∙◌}
 use Rattle.room.specs.RoomLaws.{good}
 use Rattle.drawing.specs.Answers.{judged}
-use borrow.Author.Rules.{rules}
 use Rattle.drawing.proofs.judge.judge.Goals as goal
 
 pub returns-then-not-good : goal.returns-then-not-good

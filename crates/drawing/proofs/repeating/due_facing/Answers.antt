@@ -2,7 +2,6 @@
 use native.Mathlib.Omega.{arith}
 use Rattle.drawing.specs.ListingLaws.{due-early, due_no_step, due-turn, due-straight}
 use Prim.Native.Nat.{◌+◌, ◌-◌}
-use borrow.Author.Rules.{rules}
 use Rattle.drawing.proofs.repeating.due_facing.Goals as goal
 
 pub returns-then-count-run : goal.returns-then-count-run
@@ -36,7 +35,7 @@ facing-out-requires-clause-b_bound c =
     let i = c.args.i in rw c.as_index-2.ensures.0 (c.requires.all_cells.below (i + 1) c.requires.i_in_bounds)
 
 pub returns-then-into-out : goal.returns-then-into-out
-returns-then-into-out c = due-turn _ _ _ _ _ c.if-count-run.false (rw (c.as_index.ensures.0, c.as_index-cell.ensures.0) at c.facing-into.ensures) c.if-into-eq-NO_FACING.false (rw (c.as_index-cell.ensures.0, c.as_index-2.ensures.0) at c.facing-out.ensures) c.if-into-out.true
+returns-then-into-out c = due-straight _ _ _ _ _ c.if-count-run.false (rw (c.as_index.ensures.0, c.as_index-cell.ensures.0) at c.facing-into.ensures) c.if-into-eq-NO_FACING.false (rw (c.as_index-cell.ensures.0, c.as_index-2.ensures.0) at c.facing-out.ensures) c.if-into-out.true
 
-pub returns : goal.returns
-returns c = due-straight _ _ _ _ _ c.if-count-run.false (rw (c.as_index.ensures.0, c.as_index-cell.ensures.0) at c.facing-into.ensures) c.if-into-eq-NO_FACING.false (rw (c.as_index-cell.ensures.0, c.as_index-2.ensures.0) at c.facing-out.ensures) c.if-into-out.false
+pub returns-else-into-out : goal.returns-else-into-out
+returns-else-into-out c = due-turn _ _ _ _ _ c.if-count-run.false (rw (c.as_index.ensures.0, c.as_index-cell.ensures.0) at c.facing-into.ensures) c.if-into-eq-NO_FACING.false (rw (c.as_index-cell.ensures.0, c.as_index-2.ensures.0) at c.facing-out.ensures) c.if-into-out.false

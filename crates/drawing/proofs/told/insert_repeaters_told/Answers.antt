@@ -1,6 +1,5 @@
 -- `insert_repeaters_told` keeps its promise: too few values, or the answer of `insert_repeaters`, told.
 use Rattle.drawing.specs.ListToldLaws.{list-short, list-told}
-use borrow.Author.Rules.{rules}
 use Rattle.drawing.proofs.told.insert_repeaters_told.Goals as goal
 
 pub returns-then-values-lt-LIST_VALUES : goal.returns-then-values-lt-LIST_VALUES

@@ -1,6 +1,5 @@
 -- `materialize_route_told` keeps its promise: too few values, or the answer of `materialize_route`, told.
 use Rattle.drawing.specs.RouteToldLaws.{route-short, route-told, handed_on}
-use borrow.Author.Rules.{rules}
 use Rattle.drawing.proofs.told.materialize_route_told.Goals as goal
 
 pub returns-then-values-lt-ROUTE_VALUES : goal.returns-then-values-lt-ROUTE_VALUES

@@ -1,5 +1,4 @@
 -- `lay` meets its contract: the test is the definition's.
-use borrow.Author.Rules.{rules}
 use borrow.Author.Tests.{eq-eqb, ne_eqb}
 use Rattle.room.specs.Units.{air}
 use Rattle.drawing.specs.Drawing.{laid}

@@ -14,7 +14,7 @@ pub returns-then-touches-clause-values_after : goal.returns-then-touches-clause-
 returns-then-touches-clause-values_after c =
     let args = c.args in
     let number = c.number_of-number.ensures in
-    let touched = sym c.touches.ensures ∙ c.if-touches.true in values-written args.answer args.values.now number touched c.detail_of-detail.ensures c.route_of-route.ensures c.write_answer.ensures
+    let touched = sym c.touches.ensures ∙ c.if-touches.true in values-written args.answer args.values.now number touched c.detail_of-detail.ensures c.route_of-route.ensures c.write_front.ensures
 
 pub returns-else-touches-clause-value : goal.returns-else-touches-clause-value
 returns-else-touches-clause-value c =

@@ -14,12 +14,6 @@ use Rattle.exports.proofs.tree_values.write_lengths.Goals as goal
 each_copied : {each out₀ out : List ℕ} {i : ℕ} → length each ≡ max_sinks → max_sinks ≤ length out₀ → Copied each out₀ 0 max_sinks i out → max_sinks ≤ i → out ≡ each ++ drop (length each) out₀
 each_copied {each} {out₀} e h C l = front-all each out₀ max_sinks (omega (arith, e)) h C l ∙ rw e (ap (λ s. s ++ drop max_sinks out₀) (rw e at (take-length each)))
 
-pub loop-sink-init : goal.loop-sink-init
-loop-sink-init c = copied_none
-
-pub bounds-out-sink : goal.bounds-out-sink
-bounds-out-sink c = omega (arith, c.loop-sink.invariant.kept)
-
 pub loop-sink-preserved : goal.loop-sink-preserved
 loop-sink-preserved c = front-next _ _ _ (omega (arith, c.well_formed)) c.requires c.loop-sink.invariant c.loop-sink-test.true
 

@@ -12,7 +12,4 @@ use Rattle.job_sheet.specs.Sheet.{max_sinks}
 use Rattle.exports.proofs.tree_values.write_lengths.Given as goal
 
 abbrev pub invariant-loop-sink : goal.invariant-loop-sink
-invariant-loop-sink l = Copied l.lengths.each l.initial.out 0 max_sinks l.sink l.out
-
-abbrev pub decreases-loop-sink : goal.decreases-loop-sink
-decreases-loop-sink l = max_sinks - l.sink
+invariant-loop-sink l = Copied l.fn.lengths.each l.initial.out 0 max_sinks l.sink l.out

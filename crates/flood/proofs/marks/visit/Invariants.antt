@@ -12,8 +12,5 @@ use Rattle.flood.specs.FloodLaws.{visiting_none, visiting_next}
 use borrow.Author.Rules.{rules}
 use Rattle.flood.proofs.marks.visit.Given as goal
 
-abbrev pub invariant-loop-k : goal.invariant-loop-k
-invariant-loop-k l = (l.k ≤ 12) × Met (OpenBy l.room (byte_of l.obstacles) l.from l.k) l.initial.reached l.initial.line l.end l.reached l.line l.last
-
-abbrev pub decreases-loop-k : goal.decreases-loop-k
-decreases-loop-k l = 12 - l.k
+abbrev pub invariant-loop-m : goal.invariant-loop-m
+invariant-loop-m l = Met (OpenBy l.room (byte_of l.obstacles) l.from l.m-index) l.initial.reached l.initial.line l.end l.reached l.line l.last

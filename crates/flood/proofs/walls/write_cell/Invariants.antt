@@ -12,7 +12,4 @@ use borrow.Author.Rules.{rules}
 use Rattle.flood.proofs.walls.write_cell.Given as goal
 
 abbrev pub invariant-loop-i : goal.invariant-loop-i
-invariant-loop-i l = (l.i ≤ 12) × Written (wall_at l.room (byte_of l.obstacles) (marked_in l.reached)) (12 * volume l.room) l.walls (12 * l.cell + l.i)
-
-abbrev pub decreases-loop-i : goal.decreases-loop-i
-decreases-loop-i l = 12 - l.i
+invariant-loop-i l = Written (wall_at l.room (byte_of l.obstacles) (marked_in l.reached)) (12 * volume l.room) l.walls (12 * l.cell + l.i)

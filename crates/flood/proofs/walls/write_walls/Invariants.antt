@@ -14,6 +14,3 @@ use Rattle.flood.proofs.walls.write_walls.Given as goal
 
 abbrev pub invariant-loop-cell : goal.invariant-loop-cell
 invariant-loop-cell l = Written (wall_at l.room (byte_of l.obstacles) (marked_in l.reached)) (12 * volume l.room) l.walls (12 * l.cell)
-
-abbrev pub decreases-loop-cell : goal.decreases-loop-cell
-decreases-loop-cell l = l.cells - l.cell

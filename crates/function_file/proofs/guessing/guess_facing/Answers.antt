@@ -1,5 +1,4 @@
 -- `guess_facing` meets its contract.
-use borrow.Author.Rules.{rules}
 use Rattle.function_file.specs.Guessing.{guessed_facing}
 use Rattle.function_file.proofs.guessing.guess_facing.Goals as goal
 

@@ -1,5 +1,4 @@
 -- `guess_kind` meets its contract.
-use borrow.Author.Rules.{rules}
 use Rattle.function_file.specs.Guessing.{guessed_kind}
 use Rattle.function_file.proofs.guessing.guess_kind.Goals as goal
 

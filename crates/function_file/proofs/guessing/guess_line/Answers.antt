@@ -1,5 +1,4 @@
 -- `guess_line` meets its contract: each place is behind the number before.
-use borrow.Author.Rules.{rules}
 use Rattle.function_file.specs.GuessLaws.{guess_is}
 use Rattle.function_file.proofs.guessing.guess_line.Goals as goal
 

@@ -1,5 +1,4 @@
 -- `guess_name` meets its contract.
-use borrow.Author.Rules.{rules}
 use Rattle.function_file.specs.Guessing.{guessed_name}
 use Rattle.function_file.proofs.guessing.guess_name.Goals as goal
 

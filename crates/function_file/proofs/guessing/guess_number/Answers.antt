@@ -1,5 +1,4 @@
 -- `guess_number` meets its contract.
-use borrow.Author.Rules.{rules}
 use Rattle.function_file.specs.Guessing.{guessed_number}
 use Rattle.function_file.proofs.guessing.guess_number.Goals as goal
 

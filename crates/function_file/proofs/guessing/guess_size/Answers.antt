@@ -1,5 +1,4 @@
 -- `guess_size` meets its contract.
-use borrow.Author.Rules.{rules}
 use Rattle.function_file.specs.Guessing.{guessed_size}
 use Rattle.function_file.proofs.guessing.guess_size.Goals as goal
 

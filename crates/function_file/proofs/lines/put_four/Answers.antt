@@ -1,5 +1,4 @@
 -- `put_four` meets its contract, word by word.
-use borrow.Author.Rules.{rules}
 use Rattle.function_file.specs.Putting.{both}
 use Rattle.function_file.proofs.lines.put_four.Goals as goal
 

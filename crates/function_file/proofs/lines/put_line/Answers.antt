@@ -1,5 +1,4 @@
 -- `put_line` meets its contract, piece by piece.
-use borrow.Author.Rules.{rules}
 use Rattle.function_file.specs.Putting.{both}
 use Rattle.function_file.specs.Text.{line_at}
 use Rattle.function_file.proofs.lines.put_line.Goals as goal

@@ -1,5 +1,4 @@
 -- `put_number` meets its contract.
-use borrow.Author.Rules.{rules}
 use Rattle.function_file.specs.Words.{number_text}
 use Rattle.function_file.proofs.lines.put_number.Goals as goal
 

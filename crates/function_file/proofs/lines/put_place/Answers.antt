@@ -1,5 +1,4 @@
 -- `put_place` meets its contract, number by number.
-use borrow.Author.Rules.{rules}
 use Rattle.function_file.specs.Putting.{both}
 use Rattle.function_file.specs.Text.{place_text}
 use Rattle.function_file.proofs.lines.put_place.Goals as goal

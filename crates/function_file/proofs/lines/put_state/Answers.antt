@@ -1,5 +1,4 @@
 -- `put_state` meets its contract.
-use borrow.Author.Rules.{rules}
 use Rattle.function_file.specs.Words.{state_text}
 use Rattle.function_file.proofs.lines.put_state.Goals as goal
 

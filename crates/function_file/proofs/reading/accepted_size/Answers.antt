@@ -1,11 +1,8 @@
 -- `accepted_size` meets its contract: the line of the guess is put, and compared.
-use borrow.Author.Rules.{rules}
-use Prim.Native.Nat.{◌<◌, ◌≤◌}
 use native.Mathlib.Omega.{arith}
 use Rattle.basics.specs.Tests.{test_fails, test-passes}
-use Rattle.room.specs.Room.{Within, Good}
 use Rattle.function_file.specs.WriteLaws.{kind-low, facing-low}
-use Rattle.function_file.specs.ReadLaws.{lawful-within, lawful-known, line-put, line-size, line_array, size_unlawful, size-good, size-bad}
+use Rattle.function_file.specs.ReadLaws.{lawful-within, lawful-known, line-size, size_unlawful, size-good, size-bad}
 use Rattle.function_file.proofs.reading.accepted_size.Goals as goal
 
 pub returns-then-not-guess_lawful : goal.returns-then-not-guess_lawful
@@ -23,5 +20,5 @@ starts_with-requires c = (c.requires.at_in_bounds, omega (arith, line-size c.put
 pub returns-then-starts_with : goal.returns-then-starts_with
 returns-then-starts_with c = size-good _ _ _ _ (test-passes c.guess_lawful.ensures c.if-not-guess_lawful.false-raw) c.put_line-size.ensures c.starts_with.ensures c.if-starts_with.true
 
-pub returns : goal.returns
-returns c = size-bad _ _ _ _ (test-passes c.guess_lawful.ensures c.if-not-guess_lawful.false-raw) c.put_line-size.ensures c.starts_with.ensures c.if-starts_with.false
+pub returns-else-starts_with : goal.returns-else-starts_with
+returns-else-starts_with c = size-bad _ _ _ _ (test-passes c.guess_lawful.ensures c.if-not-guess_lawful.false-raw) c.put_line-size.ensures c.starts_with.ensures c.if-starts_with.false

@@ -1,7 +1,6 @@
 -- `tell_read` meets its contract: lines and 19 write their values, and 2 and 6 none.
 use mathlib.Core.Path.{sym, ◌∙◌}
 use Rattle.function_file.specs.ReadToldLaws.{lines_told, lines_kept}
-use borrow.Author.Rules.{rules}
 use Rattle.function_file.proofs.told.tell_read.Goals as goal
 
 pub returns-then-touches-clause-value : goal.returns-then-touches-clause-value

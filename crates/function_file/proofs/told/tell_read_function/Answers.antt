@@ -1,7 +1,6 @@
 -- `tell_read_function` keeps its promise: too few values, or the answer of `read_function`, told.
 use mathlib.Core.Path.{refl}
 use Rattle.function_file.specs.ReadTold.{few-to-read, read_told}
-use borrow.Author.Rules.{rules}
 use Rattle.function_file.proofs.told.tell_read_function.Goals as goal
 
 pub returns-then-values-lt-VALUES : goal.returns-then-values-lt-VALUES

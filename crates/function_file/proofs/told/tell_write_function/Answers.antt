@@ -1,7 +1,6 @@
 -- `tell_write_function` keeps its promise: too few values, or the answer of `write_function`, told.
 use mathlib.Core.Path.{refl}
 use Rattle.function_file.specs.WriteTold.{few_to_write, write_told}
-use borrow.Author.Rules.{rules}
 use Rattle.function_file.proofs.told.tell_write_function.Goals as goal
 
 pub returns-then-values-lt-VALUES : goal.returns-then-values-lt-VALUES

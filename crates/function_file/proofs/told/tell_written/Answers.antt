@@ -1,7 +1,6 @@
 -- `tell_written` meets its contract: a text and 18 write their values, and 2, 6 and 5 none.
 use mathlib.Core.Path.{sym, ◌∙◌}
 use Rattle.function_file.specs.WriteToldLaws.{written-told, written-kept}
-use borrow.Author.Rules.{rules}
 use Rattle.function_file.proofs.told.tell_written.Goals as goal
 
 pub returns-then-touches-clause-value : goal.returns-then-touches-clause-value

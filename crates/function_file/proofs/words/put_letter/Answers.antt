@@ -1,5 +1,4 @@
 -- `put_letter` meets its contract: past the end nothing is set.
-use borrow.Author.Rules.{rules}
 use mathlib.Core.Path.{sym}
 use lib.Seq.{set_out}
 use Rattle.function_file.proofs.words.put_letter.Goals as goal

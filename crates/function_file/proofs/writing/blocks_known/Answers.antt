@@ -1,10 +1,6 @@
 -- `blocks_known` meets its contract: whether all are known is whether those from the cell on are.
-use borrow.Author.Rules.{rules}
-use mathlib.Core.Path.{◌≡◌, refl, ◌∙◌}
-use Prim.Native.Nat.{◌-◌}
-use lib.ListN.{length, drop}
+use mathlib.Core.Path.{refl, ◌∙◌}
 use Rattle.basics.specs.Tests.{test_fails, test-passes}
-use Rattle.function_file.specs.Written.{known_from}
 use Rattle.function_file.specs.WriteLaws.{known-failed, known-passed, known-end}
 use Rattle.function_file.proofs.writing.blocks_known.Goals as goal
 

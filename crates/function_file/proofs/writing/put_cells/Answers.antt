@@ -1,10 +1,6 @@
 -- `put_cells` meets its contract: what is written, and what is left to write, are the whole.
-use borrow.Author.Rules.{rules}
-use Prim.Native.Nat.{◌-◌, ◌<◌, ◌≤◌, ◌*◌}
 use native.Mathlib.Omega.{arith}
-use lib.ListN.{length}
-use Rattle.room.specs.Room.{volume, Good}
-use Rattle.function_file.specs.WriteLaws.{PutCells, cells_begun, cells-on, cells-done, known-here}
+use Rattle.function_file.specs.WriteLaws.{cells_begun, cells-on, cells-done, known-here}
 use Rattle.function_file.proofs.writing.put_cells.Goals as goal
 
 pub loop-cell-init : goal.loop-cell-init

@@ -1,9 +1,7 @@
 -- `write_function` meets its contract: judged in order, cleared, written, and cleared again where it does not fit.
-use borrow.Author.Rules.{rules}
-use mathlib.Core.Path.{◌≡◌, sym, ◌∙◌}
+use mathlib.Core.Path.{sym, ◌∙◌}
 use lib.ListN.{length}
 use Rattle.basics.specs.Tests.{test_fails, test-passes}
-use Rattle.room.specs.Room.{volume}
 use Rattle.room.specs.RoomLaws.{good}
 use Rattle.function_file.specs.WriteLaws.{write_sides, write_buffer, write_code, exact, ends-short, ends-whole}
 use Rattle.function_file.proofs.writing.write_function.Goals as goal
@@ -33,7 +31,7 @@ pub put_cells-length-requires-clause-facings_value : goal.put_cells-length-requi
 put_cells-length-requires-clause-facings_value c = (test-passes c.blocks_known.ensures c.if-not-blocks_known.false-raw)
 
 pub returns-then-text-length : goal.returns-then-text-length
-returns-then-text-length c = ends-short c.args.room c.args.kinds.now c.args.facings.now c.args.text.now (test-passes c.good.ensures c.if-not-good.false-raw) (test-passes c.exactly.ensures c.if-not-exactly.false-raw) (test-passes c.blocks_known.ensures c.if-not-blocks_known.false-raw) c.clear_bytes.ensures c.put_cells-length.ensures c.if-text-length.true c.clear_bytes-then-text-length.ensures
+returns-then-text-length c = ends-short c.args.room c.args.kinds.now c.args.facings.now c.args.text.now (test-passes c.good.ensures c.if-not-good.false-raw) (test-passes c.exactly.ensures c.if-not-exactly.false-raw) (test-passes c.blocks_known.ensures c.if-not-blocks_known.false-raw) c.clear.ensures c.put_cells-length.ensures c.if-text-length.true c.clear-then-text-length.ensures
 
 pub returns : goal.returns
-returns c = ends-whole c.args.room c.args.kinds.now c.args.facings.now c.args.text.now (test-passes c.good.ensures c.if-not-good.false-raw) (test-passes c.exactly.ensures c.if-not-exactly.false-raw) (test-passes c.blocks_known.ensures c.if-not-blocks_known.false-raw) c.clear_bytes.ensures c.put_cells-length.ensures c.if-text-length.false
+returns c = ends-whole c.args.room c.args.kinds.now c.args.facings.now c.args.text.now (test-passes c.good.ensures c.if-not-good.false-raw) (test-passes c.exactly.ensures c.if-not-exactly.false-raw) (test-passes c.blocks_known.ensures c.if-not-blocks_known.false-raw) c.clear.ensures c.put_cells-length.ensures c.if-text-length.false

@@ -1,7 +1,6 @@
 -- `set_blocked` meets its contract: the classes are refreshed at the cell whose mark changed.
 use Rattle.goals.proofs.AttemptLaws.{set_says}
 use Rattle.room.specs.RoomLaws.{same-cell}
-use borrow.Author.Rules.{rules}
 use Rattle.goals.proofs.attempts.set_blocked.Goals as goal
 
 pub put_mark-requires : goal.put_mark-requires

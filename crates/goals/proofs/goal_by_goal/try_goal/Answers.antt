@@ -3,7 +3,6 @@ use mathlib.Core.Path.{ap, ◌∙◌}
 use lib.ListN.{length}
 use Rattle.goals.proofs.GoalLaws.{able-towards, classes-left}
 use Rattle.goals.proofs.AttemptLaws.{able-fits}
-use borrow.Author.Rules.{rules}
 use Rattle.goals.proofs.goal_by_goal.try_goal.Goals as goal
 
 pub attempt_goal-tried-requires : goal.attempt_goal-tried-requires

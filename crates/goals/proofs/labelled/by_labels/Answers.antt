@@ -2,7 +2,6 @@
 use mathlib.Core.Path.{refl, ◌∙◌}
 use Rattle.goals.proofs.GoalLaws.{SameMemory, memory-first, memory-next, memory-able}
 use Rattle.goals.proofs.LabelledLaws.{left-first, able_labels, memory_passing, memory-told}
-use borrow.Author.Rules.{rules}
 use Rattle.goals.proofs.labelled.by_labels.Goals as goal
 use Rattle.goals.proofs.labelled.by_labels.Goals.{After-label_goals}
 
@@ -20,15 +19,15 @@ label_goals-requires-clause-labels_len c =
 
 pub finish_labels-requires-clause-attemptable : goal.finish_labels-requires-clause-attemptable
 finish_labels-requires-clause-attemptable c =
-    let label = c.label_goals in memory-able c.args.ground c.args.kinds.now (memory (goal.at.finish_labels-requires-clause-attemptable c).After-label_goals) c.requires.attemptable
+    let label = c.label_goals in memory-able c.args.turn.ground c.args.turn.kinds.now (memory (goal.at.finish_labels-requires-clause-attemptable c).After-label_goals) c.requires.attemptable
 
 pub finish_labels-requires-clause-passing : goal.finish_labels-requires-clause-passing
 finish_labels-requires-clause-passing c =
-    let label = c.label_goals in memory_passing c.args.ground c.args.kinds.now (memory (goal.at.finish_labels-requires-clause-passing c).After-label_goals) _ (left-first c.requires.passed_below label.ensures.goal_labels label.auto.labels)
+    let label = c.label_goals in memory_passing c.args.turn.ground c.args.turn.kinds.now (memory (goal.at.finish_labels-requires-clause-passing c).After-label_goals) _ (left-first c.requires.passed_below label.ensures.goal_labels label.auto.labels)
 
 pub returns-clause-tells : goal.returns-clause-tells
 returns-clause-tells c =
-    let finish = c.finish_labels in memory-told c.args.ground c.args.kinds.now (memory (goal.at.returns-clause-tells c).After-label_goals) _ finish.ensures.tells
+    let finish = c.finish_labels in memory-told c.args.turn.ground c.args.turn.kinds.now (memory (goal.at.returns-clause-tells c).After-label_goals) _ finish.ensures.tells
 
 pub returns-clause-joinable_unchanged : goal.returns-clause-joinable_unchanged
 returns-clause-joinable_unchanged c =

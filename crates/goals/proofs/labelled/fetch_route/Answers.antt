@@ -1,33 +1,20 @@
 -- `fetch_route` meets its contract: the kept route's goal comes to it again.
-use mathlib.Core.Path.{refl, sym, ◌∙◌}
-use Rattle.goals.proofs.LabelledLaws.{fetched_none, never-kept-full, fetched_goal, fetched_route}
-use borrow.Author.Rules.{rules}
+use mathlib.Core.Path.{sym, ◌∙◌}
+use Rattle.goals.proofs.LabelledLaws.{fetched_none, fetched_goal, fetched_never, fetched_route}
 use Rattle.goals.proofs.labelled.fetch_route.Goals as goal
 
-pub try_goal-tried-requires-clause-attemptable : goal.try_goal-tried-requires-clause-attemptable
-try_goal-tried-requires-clause-attemptable c = c.requires.attemptable
+pub try_goal-requires-clause-goal_bound : goal.try_goal-requires-clause-goal_bound
+try_goal-requires-clause-goal_bound c = fetched_goal c.requires.never_full c.requires.all_passed c.in-Some.is
 
-pub try_goal-tried-requires-clause-goal_bound : goal.try_goal-tried-requires-clause-goal_bound
-try_goal-tried-requires-clause-goal_bound c = fetched_goal c.requires.never_full c.requires.all_passed c.in-Found.is
+pub returns-in_err-tried : goal.returns-in_err-tried
+returns-in_err-tried c = absurd (fetched_never c.requires.never_full c.requires.all_passed c.in-Some.is (rw c.in_err-tried.was at c.try_goal.ensures.tells))
 
 pub copy_path-requires : goal.copy_path-requires
 copy_path-requires c =
-    let try-goal = c.try_goal-tried in
-    (try-goal.auto.path ∙ c.requires.attemptable.memory.path-long ∙ sym c.requires.best_len, try-goal.ensures.tells.fits)
+    (c.try_goal.auto.path ∙ c.requires.attemptable.memory.path-long ∙ sym c.requires.best_len, (rw c.in_ok-tried.was at c.try_goal.ensures.tells).fits)
 
-pub returns-in-Found-clause-tells : goal.returns-in-Found-clause-tells
-returns-in-Found-clause-tells c =
-    let try-goal = c.try_goal-tried in fetched_route c.requires.never_full c.requires.all_passed c.in-Found.is try-goal.ensures.tells c.copy_path.ensures
+pub returns-clause-tells : goal.returns-clause-tells
+returns-clause-tells c = fetched_route c.requires.never_full c.requires.all_passed c.in-Some.is (rw c.in_ok-tried.was at c.try_goal.ensures.tells) c.copy_path.ensures
 
-pub returns-in-Found-clause-joinable_unchanged : goal.returns-in-Found-clause-joinable_unchanged
-returns-in-Found-clause-joinable_unchanged c =
-    let try-goal = c.try_goal-tried in try-goal.ensures.joinable_unchanged
-
-pub returns-in-Failed-clause-tells : goal.returns-in-Failed-clause-tells
-returns-in-Failed-clause-tells c = fetched_none c.requires.never_full c.requires.all_passed c.in-Failed.is _
-
-pub returns-in-Failed-clause-joinable_unchanged : goal.returns-in-Failed-clause-joinable_unchanged
-returns-in-Failed-clause-joinable_unchanged c = (refl, refl, refl)
-
-pub returns-in-Full : goal.returns-in-Full
-returns-in-Full c = absurd (never-kept-full c.requires.never_full c.requires.all_passed _ c.in-Full.is)
+pub returns-in_default-clause-tells : goal.returns-in_default-clause-tells
+returns-in_default-clause-tells c = fetched_none c.requires.never_full c.requires.all_passed c.in_default.is _

@@ -2,7 +2,6 @@
 use mathlib.Core.Path.{sym, ◌∙◌}
 use Rattle.basics.specs.Tests.{test_fails, test-passes}
 use Rattle.goals.specs.SearchForLaws.{told-failed, told-searched}
-use borrow.Author.Rules.{rules}
 use Rattle.room_search.specs.Routing.{graph_of}
 use Rattle.room_search.specs.TakeAllLaws.{told_showable}
 use Rattle.room_search.specs.Takings.{graph_in}

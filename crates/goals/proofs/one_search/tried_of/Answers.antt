@@ -5,15 +5,14 @@ use Prim.Native.Nat.{ℕ}
 use Rattle.room.specs.declared.Nodes.{Nodes}
 use Rattle.room_search.specs.declared.Outcome.{Outcome}
 use Rattle.room_search.specs.declared.Outcome.TheVariants.{Arrived, NoRoute, LimitPassed, QueueFull}
-use Rattle.goals.specs.declared.Tried.TheVariants.{Failed}
+use Rattle.std.specs.Prelude.{None, Ok}
 use Rattle.goals.specs.Trials.{TriedOf}
 use Rattle.goals.specs.SearchForLaws.{outcome-route, outcome-none, outcome-limit, outcome-full}
-use borrow.Author.Rules.{rules}
 use Rattle.goals.proofs.one_search.tried_of.Goals as goal
 
 -- neither a route nor a full queue: both that are left fail
 failed-unless : {goal : ℕ} {known previous : List ℕ} (o : Outcome) → ((x : Nodes) → o ≡ Arrived x → ⊥) → ((x : Nodes) → o ≡ QueueFull x → ⊥) → (cells : List ℕ)
-    → TriedOf o goal known previous Failed cells
+    → TriedOf o goal known previous (Ok None) cells
 failed-unless (Arrived x) a f cells = absurd (a x refl)
 failed-unless (NoRoute x) a f cells = outcome-none cells x
 failed-unless (LimitPassed x) a f cells = outcome-limit cells x

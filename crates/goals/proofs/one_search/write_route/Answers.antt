@@ -5,7 +5,6 @@ use mathlib.Core.List.{[]}
 use lib.ListN.{length, get_or}
 use Rattle.trace.specs.TraceLaws.{trace-short}
 use Rattle.goals.specs.SearchForLaws.{tells-route}
-use borrow.Author.Rules.{rules}
 use Rattle.goals.proofs.one_search.write_route.Goals as goal
 
 pub path_to-length-requires-clause-to_in_bounds : goal.path_to-length-requires-clause-to_in_bounds
@@ -24,4 +23,4 @@ pub returns : goal.returns
 returns c =
     let args = c.args in
     let call = c.path_to-length in
-    tells-route _ _ _ args.path.now _ _ call.ensures.value (omega (arith, call.ensures.value, trace-short (length args.previous.now) args.previous.now args.goal [])) (sub-one (get_or args.known.now args.goal 0)) call.ensures.path_after
+    tells-route _ _ args.path.now _ _ call.ensures.value (omega (arith, call.ensures.value, trace-short (length args.previous.now) args.previous.now args.goal [])) (sub-one (get_or args.known.now args.goal 0)) call.ensures.path_after

@@ -1,20 +1,13 @@
--- `count_enterable` meets its contract: each round counts one cell or passes it.
-use borrow.Author.Rules.{rules}
-use Prim.Native.Nat.{◌-◌}
-use lib.ListN.{length}
-use mathlib.Core.Logic.{⊎_elim}
-use Rattle.goals.specs.EnterLaws.{EnterableCounted, enterable-none, enterable-one, enterable-other, enterable-all}
+-- `count_enterable` meets its contract: of the list's bytes those are counted that can be entered.
+use mathlib.Core.Path.{◌∙◌}
+use Rattle.std.proofs.Common.{rules, tests}
+use Rattle.std.proofs.lemmas.Iterator.{YieldsList-from_slice}
+use Rattle.std.proofs.lemmas.Iterator.Consumers.{count_from_yields_List, YieldsList-from_filter}
+use Rattle.room_search.specs.Routing.{can_enter}
+use Rattle.goals.specs.EnterLaws.{enterable-filtered}
 use Rattle.goals.proofs.to_tree.count_enterable.Goals as goal
-use Rattle.goals.proofs.to_tree.count_enterable.Goals.{else-classes-v-ne0, then-classes-v-ne0}
-
-pub loop-v-init : goal.loop-v-init
-loop-v-init c = enterable-none _
-
-pub loop-v-preserved : goal.loop-v-preserved
-loop-v-preserved c =
-    let round = c.loop-v.invariant in
-    let more = c.loop-v-test.true in
-    elim c.if-classes-v-ne0.branch [ then-classes-v-ne0 w ↦ rw w.count-is (enterable-one round more w.if-classes-v-ne0.true) | else-classes-v-ne0 w ↦ rw w.count-is (enterable-other round more w.if-classes-v-ne0.false) ]
 
 pub returns : goal.returns
-returns c = enterable-all c.loop-v.invariant c.loop-v-test.false
+returns c =
+    count_from_yields_List c.filter.result _ c.count.ensures.ran (YieldsList-from_filter _ can_enter (YieldsList-from_slice c.args.classes.now cc) c.filter.ensures.closure (λ x r q k. search (rules, tests)))
+    ∙ enterable-filtered c.args.classes.now

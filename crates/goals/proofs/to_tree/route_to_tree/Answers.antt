@@ -1,7 +1,6 @@
 -- `route_to_tree` meets its contract, whichever of the two ways it goes.
 use mathlib.Core.Path.{sym, ◌∙◌}
 use Rattle.goals.proofs.FullLaws.{tested-never}
-use borrow.Author.Rules.{rules}
 use Rattle.goals.proofs.to_tree.route_to_tree.Goals as goal
 
 pub by_bids-requires-clause-attemptable : goal.by_bids-requires-clause-attemptable

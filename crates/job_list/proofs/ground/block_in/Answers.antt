@@ -2,7 +2,6 @@
 use native.Mathlib.Omega.{arith}
 use Rattle.job_sheet.specs.RecordLaws.{block_at}
 use Rattle.job_list.specs.Grounds.{block-place}
-use borrow.Author.Rules.{rules}
 use Rattle.job_list.proofs.ground.block_in.Goals as goal
 
 pub overflow_mul-part : goal.overflow_mul-part

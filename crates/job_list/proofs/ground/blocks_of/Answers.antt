@@ -1,6 +1,5 @@
 -- `blocks_of` meets its contract: the first list behind the head.
 use Rattle.job_list.specs.Grounds.{blocks-listed}
-use borrow.Author.Rules.{rules}
 use Rattle.job_list.proofs.ground.blocks_of.Goals as goal
 
 pub returns : goal.returns

@@ -1,7 +1,6 @@
 -- `cell_repeats` meets its contract, over marks that are all clear.
 use mathlib.Core.Path.{refl}
 use native.Mathlib.Omega.{arith}
-use borrow.Author.Rules.{rules}
 use Rattle.job_list.proofs.ground.cell_repeats.Goals as goal
 
 pub marked_twice-requires-clause-good : goal.marked_twice-requires-clause-good

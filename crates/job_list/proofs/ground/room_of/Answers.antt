@@ -1,6 +1,5 @@
 -- `room_of` meets its contract: the sides behind the length.
 use Rattle.job_sheet.specs.Places.{contents_in}
-use borrow.Author.Rules.{rules}
 use Rattle.job_list.proofs.ground.room_of.Goals as goal
 
 pub returns : goal.returns

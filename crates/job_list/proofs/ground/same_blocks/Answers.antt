@@ -1,11 +1,7 @@
 -- `same_blocks` meets its contract. The loop's invariant: what is left of both lists is compared as the whole lists are.
-use Prim.Native.Nat.{◌-◌}
 use native.Mathlib.Omega.{arith}
-use mathlib.Core.Path.{◌∙◌}
 use Rattle.basics.specs.Tests.{test_fails, test-passes}
-use Rattle.job_sheet.specs.Places.{blocks_in}
-use Rattle.job_list.specs.Grounds.{SameSoFar, same_none, same_next, same_not, same_end, differ-by-count}
-use borrow.Author.Rules.{rules}
+use Rattle.job_list.specs.Grounds.{same_none, same_next, same_not, same_end, differ-by-count}
 use Rattle.job_list.proofs.ground.same_blocks.Goals as goal
 
 pub returns-then-a-b : goal.returns-then-a-b

@@ -1,23 +1,10 @@
--- `ends_due` meets its contract: the cells, then the ends.
-use Rattle.outset.specs.SetOutLaws.{good-room, block-list, source-within, sinks-within}
-use Rattle.job_list.specs.JudgeLaws.{ends-due}
-use borrow.Author.Rules.{rules}
+-- `ends_due` meets its contract: the number and the detail of what the ends are refused for.
+use Rattle.std.proofs.Common.{sym, ◌∙◌}
+use Rattle.job_list.specs.JudgeLaws.{due-good, due-refused}
 use Rattle.job_list.proofs.judge.ends_due.Goals as goal
 
-pub cell_repeats-requires-clause-good : goal.cell_repeats-requires-clause-good
-cell_repeats-requires-clause-good c = good-room c.requires
+pub returns-in-Ok : goal.returns-in-Ok
+returns-in-Ok c = due-good _ (sym c.ends_refused.ensures ∙ c.in-Ok.is)
 
-pub cell_repeats-requires-clause-block_list : goal.cell_repeats-requires-clause-block_list
-cell_repeats-requires-clause-block_list c = block-list c.requires
-
-pub realize_ends-ends-requires-clause-good : goal.realize_ends-ends-requires-clause-good
-realize_ends-ends-requires-clause-good c = good-room c.requires
-
-pub realize_ends-ends-requires-clause-within : goal.realize_ends-ends-requires-clause-within
-realize_ends-ends-requires-clause-within c = source-within c.requires
-
-pub realize_ends-ends-requires-clause-sink_list : goal.realize_ends-ends-requires-clause-sink_list
-realize_ends-ends-requires-clause-sink_list c = sinks-within c.requires
-
-pub returns : goal.returns
-returns c = ends-due c.requires c.cell_repeats.ensures c.placed_or_not-placement.ensures c.realize_ends-ends.ensures c.number_by.ensures c.detail_by.ensures
+pub returns-in-Err : goal.returns-in-Err
+returns-in-Err c = due-refused _ (sym c.ends_refused.ensures ∙ c.in-Err.is) c.number.ensures c.detail.ensures

@@ -1,6 +1,7 @@
 -- `judge_list` meets its contract: net 0, then the others.
-use Rattle.job_list.specs.JudgeLaws.{first-whole, first-refused, first-passed}
-use borrow.Author.Rules.{rules}
+use Rattle.job_list.specs.JudgeLaws.{told-by, first-whole, first-refused, first-passed}
+use Rattle.job_list.specs.Told.{told_list, list-told}
+use mathlib.Core.Path.{refl, sym, ap, ◌∙◌}
 use Rattle.job_list.proofs.judge.judge_list.Goals as goal
 
 pub slice_bounds-judge_net-end : goal.slice_bounds-judge_net-end
@@ -9,8 +10,8 @@ slice_bounds-judge_net-end c = first-whole c.args.list.now c.sheet_size-first.en
 pub slice_bounds-judge_net-end-2 : goal.slice_bounds-judge_net-end-2
 slice_bounds-judge_net-end-2 c = first-whole c.args.list.now c.sheet_size-first.ensures
 
-pub returns-then-due-ne-DONE_NUMBER : goal.returns-then-due-ne-DONE_NUMBER
-returns-then-due-ne-DONE_NUMBER c = first-refused _ _ c.sheet_size-first.ensures c.judge_net-due.ensures c.if-due-ne-DONE_NUMBER.true c.refused_at.ensures
+pub returns-in-Err : goal.returns-in-Err
+returns-in-Err c = list-told (first-refused _ _ c.sheet_size-first.ensures c.judge_net.ensures c.in-Err.is c.refused_at.ensures) (rw c.refused_at.ensures ((told-by _ (sym c.in-Err.is ∙ c.judge_net.ensures)).1))
 
 pub returns : goal.returns
-returns c = first-passed _ _ c.sheet_size-first.ensures c.judge_net-due.ensures c.if-due-ne-DONE_NUMBER.false c.judge_others.ensures
+returns c = c.judge_others.ensures ∙ ap told_list (first-passed _ _ c.sheet_size-first.ensures c.judge_net.ensures c.in_default.is refl)

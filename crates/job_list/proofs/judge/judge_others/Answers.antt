@@ -1,10 +1,8 @@
 -- `judge_others` meets its contract. The loop's invariant: what is left of the list is judged as all of it behind the first sheet.
-use Prim.Native.Nat.{◌-◌}
 use native.Mathlib.Omega.{arith}
-use mathlib.Core.Path.{refl, ap}
-use lib.ListN.{length}
-use Rattle.job_list.specs.JudgeLaws.{JudgedSoFar, judging_first, judging_end, end-within, end-behind, first-whole, ends_at, judging_refused, judging_next}
-use borrow.Author.Rules.{rules}
+use Rattle.job_list.specs.JudgeLaws.{told-by, judging_first, judging_end, end-within, end-behind, first-whole, ends_at, judging_refused, judging_next}
+use Rattle.job_list.specs.Told.{told_list, list-told}
+use mathlib.Core.Path.{sym, ap, ◌∙◌}
 use Rattle.job_list.proofs.judge.judge_others.Goals as goal
 
 pub loop-place-init : goal.loop-place-init
@@ -34,8 +32,8 @@ slice_bounds-judge_net-start c = omega arith
 pub slice_bounds-judge_net-end-in-loop-place : goal.slice_bounds-judge_net-end-in-loop-place
 slice_bounds-judge_net-end-in-loop-place c = end-within _ _ c.loop-place.invariant c.loop-place-test.true (ends_at c.args.list.now c.loop-place.place c.loop-place.invariant.within c.sheet_size.ensures)
 
-pub returns-then-due-ne-DONE_NUMBER : goal.returns-then-due-ne-DONE_NUMBER
-returns-then-due-ne-DONE_NUMBER c = judging_refused _ _ c.loop-place.invariant c.loop-place-test.true (ends_at c.args.list.now c.loop-place.place c.loop-place.invariant.within c.sheet_size.ensures) c.requires c.judge_net-due.ensures c.if-due-ne-DONE_NUMBER.true c.refused_at.ensures
+pub returns-in-Err : goal.returns-in-Err
+returns-in-Err c = list-told (judging_refused _ _ c.loop-place.invariant c.loop-place-test.true (ends_at c.args.list.now c.loop-place.place c.loop-place.invariant.within c.sheet_size.ensures) c.requires c.judge_net.ensures c.in-Err.is c.refused_at.ensures) (rw c.refused_at.ensures ((told-by _ (sym c.in-Err.is ∙ c.judge_net.ensures)).1))
 
 pub overflow_add-net : goal.overflow_add-net
 overflow_add-net c = omega (arith, c.loop-place.invariant.few (omega (arith, c.loop-place-test.true)), c.loop-place-test.true)
@@ -44,7 +42,7 @@ pub loop-place-smaller : goal.loop-place-smaller
 loop-place-smaller c = omega (arith, c.loop-place-test.true, end-behind _ _ c.loop-place.invariant c.loop-place-test.true (ends_at c.args.list.now c.loop-place.place c.loop-place.invariant.within c.sheet_size.ensures))
 
 pub loop-place-preserved : goal.loop-place-preserved
-loop-place-preserved c = judging_next _ _ c.loop-place.invariant c.loop-place-test.true (ends_at c.args.list.now c.loop-place.place c.loop-place.invariant.within c.sheet_size.ensures) c.requires c.judge_net-due.ensures c.if-due-ne-DONE_NUMBER.false
+loop-place-preserved c = judging_next _ _ c.loop-place.invariant c.loop-place-test.true (ends_at c.args.list.now c.loop-place.place c.loop-place.invariant.within c.sheet_size.ensures) c.requires c.judge_net.ensures c.in_default.is
 
 pub returns : goal.returns
-returns c = judging_end _ _ c.loop-place.invariant c.loop-place-test.false
+returns c = ap told_list (judging_end _ _ c.loop-place.invariant c.loop-place-test.false)

@@ -1,10 +1,7 @@
 -- `judge_others` meets its contract. The loop's invariant: what is left of the list is judged as all of it behind the first sheet.
 use Prim.Native.Nat.{◌-◌}
-use native.Mathlib.Omega.{arith}
-use mathlib.Core.Path.{refl, ap}
 use lib.ListN.{length}
-use Rattle.job_list.specs.JudgeLaws.{JudgedSoFar, judging_first, judging_end, end-within, end-behind, first-whole, ends_at, judging_refused, judging_next}
-use borrow.Author.Rules.{rules}
+use Rattle.job_list.specs.JudgeLaws.{JudgedSoFar}
 use Rattle.job_list.proofs.judge.judge_others.Given as goal
 
 abbrev pub invariant-loop-place : goal.invariant-loop-place

@@ -4,7 +4,6 @@ use Rattle.basics.specs.Tests.{test_fails, test-passes}
 use Rattle.job_sheet.specs.Sheet.{first_fault}
 use Rattle.job_sheet.specs.VersionLaws.{good-sides}
 use Rattle.job_sheet.proofs.FaultLaws.{only-first}
-use borrow.Author.Rules.{rules}
 use Rattle.job_sheet.proofs.Ranges.head_fault.Goals as goal
 
 pub returns-then-not-sides_within : goal.returns-then-not-sides_within

@@ -4,7 +4,6 @@ use native.Mathlib.Omega.{arith}
 use Rattle.basics.specs.Tests.{test_fails, test-passes}
 use Rattle.room.specs.RoomLaws.{between-high}
 use Rattle.job_sheet.specs.Version.{sides_within}
-use borrow.Author.Rules.{rules}
 use Rattle.job_sheet.proofs.Ranges.sides_within.Goals as goal
 
 pub returns-then-not-side_within : goal.returns-then-not-side_within

@@ -3,7 +3,6 @@ use mathlib.Core.Path.{sym, ◌∙◌}
 use borrow.Author.Tests.{eq-eqb, ne_eqb}
 use Rattle.basics.specs.Tests.{test_fails, test-passes}
 use Rattle.job_sheet.specs.Sheet.{first_fault, block_fault}
-use borrow.Author.Rules.{rules}
 use Rattle.job_sheet.proofs.faults.block_fault.Goals as goal
 
 pub returns-then-not-within : goal.returns-then-not-within

@@ -2,7 +2,6 @@
 use mathlib.Core.Path.{sym, ◌∙◌}
 use Rattle.basics.specs.Tests.{test_fails, test-passes}
 use Rattle.job_sheet.specs.Sheet.{first_fault, endpoint_fault}
-use borrow.Author.Rules.{rules}
 use Rattle.job_sheet.proofs.faults.endpoint_fault.Goals as goal
 
 pub returns-then-not-within : goal.returns-then-not-within

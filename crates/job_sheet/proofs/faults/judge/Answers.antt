@@ -1,7 +1,6 @@
 -- `judge` meets its contract: the fault so far is carried from list to list, in the sheet's order.
 use Rattle.job_sheet.specs.LayoutLaws.{parts_in}
 use Rattle.job_sheet.proofs.FaultLaws.{judged-steps}
-use borrow.Author.Rules.{rules}
 use Rattle.job_sheet.proofs.faults.judge.Goals as goal
 
 pub head_fault-fault-requires : goal.head_fault-fault-requires

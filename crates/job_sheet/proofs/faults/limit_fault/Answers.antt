@@ -1,6 +1,5 @@
 -- `limit_fault` meets its contract: its test is the definition's.
 use mathlib.Core.Path.{sym, ◌∙◌}
-use borrow.Author.Rules.{rules}
 use Rattle.job_sheet.proofs.faults.limit_fault.Goals as goal
 
 pub returns-then-limit_within : goal.returns-then-limit_within

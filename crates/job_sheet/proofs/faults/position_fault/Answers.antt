@@ -1,6 +1,5 @@
 -- `position_fault` meets its contract: its test is the definition's.
 use mathlib.Core.Path.{sym, ◌∙◌}
-use borrow.Author.Rules.{rules}
 use Rattle.job_sheet.proofs.faults.position_fault.Goals as goal
 
 pub returns-then-within : goal.returns-then-within

@@ -1,5 +1,4 @@
 -- `record_fault` meets its contract: it goes by the sort of the record as the definition does.
-use borrow.Author.Rules.{rules}
 use Rattle.job_sheet.proofs.faults.record_fault.Goals as goal
 
 pub returns-in-Blocks : goal.returns-in-Blocks

@@ -1,9 +1,7 @@
 -- `sink_fault` meets its contract: the endpoint, then the tail limit.
 use Rattle.basics.specs.Tests.{test_fails, test-passes}
-use mathlib.Core.Path.{refl}
 use Rattle.job_sheet.specs.Sheet.{sink_fault}
 use Rattle.job_sheet.proofs.FaultLaws.{first-of-two, second-of-two}
-use borrow.Author.Rules.{rules}
 use Rattle.job_sheet.proofs.faults.sink_fault.Goals as goal
 
 pub returns-then-not-is_good : goal.returns-then-not-is_good

@@ -1,5 +1,4 @@
 -- `block_from` meets its contract: each part is one of the definition's.
-use borrow.Author.Rules.{rules}
 use Rattle.job_sheet.proofs.places.block_from.Goals as goal
 
 pub returns-then-long : goal.returns-then-long

@@ -2,7 +2,6 @@
 use mathlib.Core.Path.{sym}
 use lib.ListN.{get_or-eq_default}
 use lib.Seq.{get_or-drop}
-use borrow.Author.Rules.{rules}
 use Rattle.job_sheet.proofs.places.byte.Goals as goal
 
 pub returns-then-at-sheet : goal.returns-then-at-sheet

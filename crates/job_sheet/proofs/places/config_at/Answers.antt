@@ -1,5 +1,4 @@
 -- `config_at` meets its contract: each part is four bytes.
-use borrow.Author.Rules.{rules}
 use Rattle.job_sheet.proofs.places.config_at.Goals as goal
 
 pub returns : goal.returns

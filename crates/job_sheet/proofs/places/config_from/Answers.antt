@@ -1,5 +1,4 @@
 -- `config_from` meets its contract: the config stands where the version says.
-use borrow.Author.Rules.{rules}
 use Rattle.job_sheet.proofs.places.config_from.Goals as goal
 
 pub returns : goal.returns

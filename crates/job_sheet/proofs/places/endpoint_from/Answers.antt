@@ -1,5 +1,4 @@
 -- `endpoint_from` meets its contract: each part is one of the definition's.
-use borrow.Author.Rules.{rules}
 use Rattle.job_sheet.proofs.places.endpoint_from.Goals as goal
 
 pub returns : goal.returns

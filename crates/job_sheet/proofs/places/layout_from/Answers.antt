@@ -1,7 +1,6 @@
 -- `layout_from` meets its contract: it goes from part to part as the definition does.
 use native.Mathlib.Omega.{arith}
 use Rattle.job_sheet.specs.LayoutLaws.{laid_out}
-use borrow.Author.Rules.{rules}
 use Rattle.job_sheet.proofs.places.layout_from.Goals as goal
 
 pub behind-requires-5 : goal.behind-requires-5

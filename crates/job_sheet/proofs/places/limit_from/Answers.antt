@@ -1,6 +1,4 @@
 -- `limit_from` meets its contract: one byte where limits are carried.
-use mathlib.Core.Path.{refl}
-use borrow.Author.Rules.{rules}
 use Rattle.job_sheet.proofs.places.limit_from.Goals as goal
 
 pub returns-then-limits : goal.returns-then-limits

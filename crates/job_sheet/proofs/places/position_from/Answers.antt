@@ -1,5 +1,4 @@
 -- `position_from` meets its contract: each part is a coordinate, of two bytes or one.
-use borrow.Author.Rules.{rules}
 use Rattle.job_sheet.proofs.places.position_from.Goals as goal
 
 pub returns-then-long : goal.returns-then-long

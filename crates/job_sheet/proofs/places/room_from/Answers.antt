@@ -1,5 +1,4 @@
 -- `room_from` meets its contract: the sides are written as a position is.
-use borrow.Author.Rules.{rules}
 use Rattle.job_sheet.proofs.places.room_from.Goals as goal
 
 pub returns : goal.returns

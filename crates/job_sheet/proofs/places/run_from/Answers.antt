@@ -1,5 +1,4 @@
 -- `run_from` meets its contract: the run limit stands where the version says.
-use borrow.Author.Rules.{rules}
 use Rattle.job_sheet.proofs.places.run_from.Goals as goal
 
 pub returns : goal.returns

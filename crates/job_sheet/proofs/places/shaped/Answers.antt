@@ -1,7 +1,6 @@
 -- `shaped` meets its contract: it asks of the whole sheet what `shape_holds` tests.
 use native.Mathlib.Omega.{arith}
 use Rattle.job_sheet.specs.Places.{shaped}
-use borrow.Author.Rules.{rules}
 use Rattle.job_sheet.proofs.places.shaped.Goals as goal
 
 pub behind-end-requires : goal.behind-end-requires

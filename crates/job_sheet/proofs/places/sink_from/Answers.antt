@@ -1,5 +1,4 @@
 -- `sink_from` meets its contract: its endpoint, and the limit behind it.
-use borrow.Author.Rules.{rules}
 use Rattle.job_sheet.proofs.places.sink_from.Goals as goal
 
 pub returns : goal.returns

@@ -1,7 +1,6 @@
 -- `source_at` meets its contract: a record of so many bytes.
 use mathlib.Core.Path.{refl}
 use native.Mathlib.Omega.{arith}
-use borrow.Author.Rules.{rules}
 use Rattle.job_sheet.proofs.places.source_at.Goals as goal
 
 pub returns : goal.returns

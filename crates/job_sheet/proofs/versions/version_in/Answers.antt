@@ -1,5 +1,4 @@
 -- `version_in` meets its contract: the version is that of the first byte.
-use borrow.Author.Rules.{rules}
 use Rattle.job_sheet.proofs.versions.version_in.Goals as goal
 
 pub returns : goal.returns

@@ -1,5 +1,4 @@
 -- `version_three` meets its contract: it writes out the definition.
-use borrow.Author.Rules.{rules}
 use Rattle.job_sheet.proofs.versions.version_three.Goals as goal
 
 pub returns : goal.returns

@@ -1,24 +1,14 @@
 -- `climbs` meets its contract. The loop's invariant: the cells that the bits left lead to come to the same as all.
-use mathlib.Core.Path.{sym, ap, ◌∙◌}
-use Prim.Native.Nat.{◌-◌}
+use mathlib.Core.Path.{sym, ◌∙◌}
 use Rattle.room.specs.RoomLaws.{pos_in}
-use Rattle.room.specs.Room.{holds_at}
-use Rattle.laying.specs.Bearing.{off_level}
-use Rattle.laying.specs.BearingLaws.{LinksAsked, links-first, link_yes, link_no, link-none}
-use borrow.Author.Rules.{rules}
+use Rattle.laying.specs.BearingLaws.{links-first, link_yes, link_no, link-none}
 use Rattle.laying.proofs.bearing.climbs.Goals as goal
 
 pub loop-k-init : goal.loop-k-init
 loop-k-init c = links-first _ _ _ _
 
-pub linked_place-place-requires-clause-good : goal.linked_place-place-requires-clause-good
-linked_place-place-requires-clause-good c = c.requires.good
-
 pub linked_place-place-requires-clause-within : goal.linked_place-place-requires-clause-within
 linked_place-place-requires-clause-within c = rw c.pos-p.ensures (pos_in _ c.requires.good _ c.requires.cell_bound)
-
-pub linked_place-place-requires-clause-k_bound : goal.linked_place-place-requires-clause-k_bound
-linked_place-place-requires-clause-k_bound c = c.loop-k-test.true
 
 pub returns-then-off_level : goal.returns-then-off_level
 returns-then-off_level c = rw c.pos-p.ensures at (link_yes _ _ _ _ c.loop-k.invariant c.loop-k-test.true (rw c.linked_place-place.ensures at (sym c.off_level.ensures ∙ c.if-off_level.true)))

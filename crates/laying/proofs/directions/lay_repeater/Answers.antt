@@ -2,7 +2,6 @@
 use mathlib.Core.Path.{ap, ◌∙◌}
 use Rattle.room.specs.Units.{repeater}
 use Rattle.laying.specs.Laying.{laid_room, placed}
-use borrow.Author.Rules.{rules}
 use Rattle.laying.proofs.directions.lay_repeater.Goals as goal
 
 pub returns : goal.returns

@@ -1,10 +1,6 @@
 -- `overlap` meets its contract. The loop's invariant: no cell so far is met.
 use mathlib.Core.Path.{sym, ◌∙◌}
-use Prim.Native.Nat.{◌-◌}
-use native.Mathlib.Omega.{arith}
-use lib.ListN.{length}
-use Rattle.laying.specs.OwnerLaws.{NoneMet, met-first, met_no, met_yes, met-none}
-use borrow.Author.Rules.{rules}
+use Rattle.laying.specs.OwnerLaws.{met-first, met_no, met_yes, met-none}
 use Rattle.laying.proofs.owners.overlap.Goals as goal
 
 pub loop-cell-init : goal.loop-cell-init

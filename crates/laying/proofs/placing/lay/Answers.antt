@@ -1,6 +1,5 @@
 -- `lay` meets its contract: the test is the definition's.
 use Rattle.laying.specs.PlacingLaws.{laid-air, laid-full}
-use borrow.Author.Rules.{rules}
 use Rattle.laying.proofs.placing.lay.Goals as goal
 
 pub returns-then-kinds-cell-eq-AIR : goal.returns-then-kinds-cell-eq-AIR

@@ -1,5 +1,4 @@
 -- `lay_occupied` meets its contract: the support has its kind.
-use borrow.Author.Rules.{rules}
 use Rattle.laying.proofs.wiring.lay_occupied.Goals as goal
 
 pub returns : goal.returns

@@ -1,6 +1,5 @@
 -- `grow_tree` meets its contract: one turn after another, until a number is due or every sink has had its turn.
 use mathlib.Core.Path.{refl, ◌∙◌}
-use native.Mathlib.Omega.{arith}
 use Rattle.multinet.specs.SinkTurns.{Lasting}
 use Rattle.multinet.specs.TreeLaws.{first-turn, turnable, turn_recordable, turn-ends, turn-goes-on, all_grown}
 use Rattle.multinet.proofs.growing.grow_tree.Goals as goal
@@ -30,19 +29,13 @@ pub grow_sink-turned-requires : goal.grow_sink-turned-requires
 grow_sink-turned-requires c = rw (c.loop-turn.invariant.1.0.queue_long, c.loop-turn.invariant.1.0.branches-long) (turnable c.loop-turn.invariant.1.1 c.requires.sound (rw c.loop-turn.invariant.0 at c.loop-turn-test.true) (record { known-long = c.loop-turn.invariant.1.0.known-long ∙ c.requires.memory.known-long; previous-long = c.loop-turn.invariant.1.0.previous-long ∙ c.requires.memory.previous-long; path-long = c.loop-turn.invariant.1.0.path-long ∙ c.requires.memory.path-long }) (c.loop-turn.invariant.1.0.classes-long ∙ c.requires.classes-long) (c.loop-turn.invariant.1.0.best-long ∙ c.requires.best-long))
 
 pub with_length-lengths-requires : goal.with_length-lengths-requires
-with_length-lengths-requires c = turn_recordable c.loop-turn.invariant.1.1 (rw (c.loop-turn.invariant.1.0.queue_long, c.loop-turn.invariant.1.0.branches-long) at c.grow_sink-turned.ensures) c.in-Grown.is
+with_length-lengths-requires c = turn_recordable c.loop-turn.invariant.1.1 (rw (c.loop-turn.invariant.1.0.queue_long, c.loop-turn.invariant.1.0.branches-long) at c.grow_sink-turned.ensures) c.in-Ok.is
 
-pub returns-in-Stopped : goal.returns-in-Stopped
-returns-in-Stopped c = turn-ends c.loop-turn.invariant.1.1 (rw (c.loop-turn.invariant.1.0.queue_long, c.loop-turn.invariant.1.0.branches-long) at c.grow_sink-turned.ensures) c.in-Stopped.is
-
-pub overflow_add-turn : goal.overflow_add-turn
-overflow_add-turn c = omega (arith, c.loop-turn-test.true, c.loop-turn.invariant.0, c.requires.sound.net.taps_in_lem.few)
-
-pub loop-turn-smaller : goal.loop-turn-smaller
-loop-turn-smaller c = omega (arith, c.loop-turn-test.true)
+pub returns-in-Err : goal.returns-in-Err
+returns-in-Err c = turn-ends c.loop-turn.invariant.1.1 (rw (c.loop-turn.invariant.1.0.queue_long, c.loop-turn.invariant.1.0.branches-long) at c.grow_sink-turned.ensures) c.in-Err.is
 
 pub loop-turn-preserved : goal.loop-turn-preserved
-loop-turn-preserved c = (c.loop-turn.invariant.0, (lasting (goal.at.loop-turn-preserved c).After-grow_sink-turned, turn-goes-on c.loop-turn.invariant.1.1 (rw (c.loop-turn.invariant.1.0.queue_long, c.loop-turn.invariant.1.0.branches-long) at c.grow_sink-turned.ensures) (rw c.loop-turn.invariant.0 at c.loop-turn-test.true) c.in-Grown.is c.with_length-lengths.ensures))
+loop-turn-preserved c = (c.loop-turn.invariant.0, (lasting (goal.at.loop-turn-preserved c).After-grow_sink-turned, turn-goes-on c.loop-turn.invariant.1.1 (rw (c.loop-turn.invariant.1.0.queue_long, c.loop-turn.invariant.1.0.branches-long) at c.grow_sink-turned.ensures) (rw c.loop-turn.invariant.0 at c.loop-turn-test.true) c.in-Ok.is c.with_length-lengths.ensures))
 
 pub returns : goal.returns
 returns c = all_grown c.loop-turn.invariant.1.1 (rw c.loop-turn.invariant.0 at c.loop-turn-test.false)

@@ -72,5 +72,5 @@ slice_bounds-route_job-end-20 c = sym (length-take-le _ _ (omega (arith, c.volum
 pub route_job-requires : goal.route_job-requires
 route_job-requires c = routable c.requires.lendable c.requires.outputs_clear c.volume-cells.ensures
 
-pub returns : goal.returns
-returns c = record { occupied-front = _; repeaters-front = _; is-routed = lent-on refl refl c.route_job.ensures; occupied-is = rw c.volume-cells.ensures refl; repeaters-is = rw c.volume-cells.ensures refl }
+pub returns-clause-routed : goal.returns-clause-routed
+returns-clause-routed c = record { occupied-front = _; repeaters-front = _; is-routed = lent-on refl refl c.route_job.ensures; occupied-is = rw c.volume-cells.ensures refl; repeaters-is = rw c.volume-cells.ensures refl }

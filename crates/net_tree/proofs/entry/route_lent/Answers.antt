@@ -12,13 +12,15 @@ route_front-answer-requires-clause-outputs_clear c =
     let pre = c.requires in
     let outputs = c.clear_outputs.ensures in clean-cleared pre outputs.0 outputs.1 outputs.2
 
-pub returns : goal.returns
-returns c = let pre = c.requires in
+pub returns-clause-promise : goal.returns-clause-promise
+returns-clause-promise c = let pre = c.requires in
     let co = c.clear_outputs.ensures in
     let rf = c.route_front-answer in
-    let cw = c.clear_work.ensures in
+    let M = c.route_front-answer.new.memory in
+    let same = c.route_front-answer.ensures.same_lengths in
+    let zero = c.clear.ensures.cleared in
     let se = c.settle.ensures in
-    promised pre co.0 co.1 co.2 c.route_front-answer.ensures c.route_front-answer.auto.branches c.route_front-answer.auto.occupied c.route_front-answer.auto.repeaters se.0 se.1 se.2
-    c.route_front-answer.new.kinds c.route_front-answer.new.blocked c.route_front-answer.new.classes c.route_front-answer.new.joinable c.route_front-answer.new.known c.route_front-answer.new.previous c.route_front-answer.new.path c.route_front-answer.new.best c.route_front-answer.new.queue
-    c.route_front-answer.auto.kinds c.route_front-answer.auto.blocked c.route_front-answer.auto.classes c.route_front-answer.auto.joinable c.route_front-answer.auto.known c.route_front-answer.auto.previous c.route_front-answer.auto.path c.route_front-answer.auto.best c.route_front-answer.auto.queue
-    cw.0 cw.1 cw.2 cw.3 cw.4 cw.5 cw.6 cw.7 cw.8
+    promised pre co.0 co.1 co.2 rf.ensures.routed rf.auto.branches rf.auto.occupied rf.auto.repeaters se.0 se.1 se.2
+    M.kinds.now M.blocked.now M.classes.now M.joinable.now M.known.now M.previous.now M.path.now M.best.now M.queue.now
+    same.kinds same.blocked same.classes same.joinable same.known same.previous same.path same.best same.queue
+    zero.kinds zero.blocked zero.classes zero.joinable zero.known zero.previous zero.path zero.best zero.queue

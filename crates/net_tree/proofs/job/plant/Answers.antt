@@ -5,4 +5,4 @@ use Rattle.routing_resources.specs.Marks.{marked_by}
 use Rattle.net_tree.proofs.job.plant.Goals as goal
 
 pub returns : goal.returns
-returns c = c.mark.ensures ∙ ap (marked_by (eqb _)) c.clear_bytes.ensures
+returns c = c.mark.ensures ∙ ap (marked_by (eqb _)) c.clear.ensures

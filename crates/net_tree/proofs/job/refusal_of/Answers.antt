@@ -2,10 +2,10 @@
 use Rattle.net_tree.proofs.job.refusal_of.Goals as goal
 
 pub returns-in-QueueFull : goal.returns-in-QueueFull
-returns-in-QueueFull c = rw c.in-QueueFull.is c.refuse.ensures
+returns-in-QueueFull c = rw c.in-QueueFull.is
 
 pub returns-in-NoGoal : goal.returns-in-NoGoal
-returns-in-NoGoal c = rw c.in-NoGoal.is c.refuse-in-NoGoal.ensures
+returns-in-NoGoal c = rw c.in-NoGoal.is
 
 pub returns-in-BufferFull : goal.returns-in-BufferFull
-returns-in-BufferFull c = rw c.in-BufferFull.is c.refuse-in-BufferFull.ensures
+returns-in-BufferFull c = rw c.in-BufferFull.is

@@ -1,10 +1,7 @@
 -- `write_lengths` meets its contract: each round copies one length.
-use native.Mathlib.Omega.{arith}
-use Prim.Native.Nat.{◌-◌}
-use Rattle.basics.specs.Copies.{Copied, copied_none, front-next}
-use Rattle.job_sheet.specs.Sheet.{max_sinks}
+use Rattle.std.proofs.Common.{arith}
+use Rattle.basics.specs.Copies.{copied_none, front-next}
 use Rattle.other_nets.specs.Keeping.{each_copied}
-use borrow.Author.Rules.{rules}
 use Rattle.other_nets.proofs.keeping.write_lengths.Goals as goal
 
 pub loop-sink-init : goal.loop-sink-init
@@ -14,7 +11,7 @@ pub overflow_cast-out : goal.overflow_cast-out
 overflow_cast-out c = omega (arith, c.requires.short.short _ c.loop-sink-test.true)
 
 pub bounds-out-sink : goal.bounds-out-sink
-bounds-out-sink c = omega (arith, c.loop-sink.invariant.kept, c.requires.max_sinks_in_bounds)
+bounds-out-sink c = omega (arith, c.loop-sink.invariant.kept, c.requires.max_sinks_in_bounds, c.requires.short.whole)
 
 pub loop-sink-preserved : goal.loop-sink-preserved
 loop-sink-preserved c = front-next _ _ _ (omega (arith, c.requires.short.whole)) c.requires.max_sinks_in_bounds c.loop-sink.invariant c.loop-sink-test.true

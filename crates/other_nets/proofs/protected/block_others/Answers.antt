@@ -1,7 +1,6 @@
 -- `block_others` meets its contract: the nets before, the other jobs, then the net's own ends.
-use mathlib.Core.Path.{◌≡◌, refl, sym, ap, ◌∙◌}
+use mathlib.Core.Path.{◌∙◌}
 use Rattle.other_nets.specs.OtherLaws.{list-still, others-blocked}
-use borrow.Author.Rules.{rules}
 use Rattle.other_nets.proofs.protected.block_others.Goals as goal
 
 pub mark_jobs-requires : goal.mark_jobs-requires

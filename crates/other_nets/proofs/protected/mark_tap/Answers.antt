@@ -1,6 +1,5 @@
 -- `mark_tap` meets its contract: the terminal, then the approach.
 use Rattle.other_nets.specs.OtherLaws.{tap-marked}
-use borrow.Author.Rules.{rules}
 use Rattle.other_nets.proofs.protected.mark_tap.Goals as goal
 
 pub returns : goal.returns

@@ -1,6 +1,5 @@
 -- `with_mark` meets its contract.
 use borrow.Author.Tests.{eq-eqb, ne_eqb}
-use borrow.Author.Rules.{rules}
 use Rattle.other_nets.proofs.protected.with_mark.Goals as goal
 
 pub returns-then-more-eq-MARKED : goal.returns-then-more-eq-MARKED

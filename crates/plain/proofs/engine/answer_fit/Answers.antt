@@ -8,7 +8,6 @@ use lib.Seq.{length-take-le}
 use Rattle.basics.specs.Zeros.{cleared-to}
 use Rattle.routing.specs.EntryLaws.{again, again_length, cleared-whole}
 use Rattle.plain.specs.PromiseLaws.{settled-inside, settled-known, room-ready, fitted}
-use borrow.Author.Rules.{rules}
 use Rattle.plain.proofs.engine.answer_fit.Goals as goal
 use Rattle.plain.proofs.engine.answer_fit.Goals.{After-settle_room}
 
@@ -52,21 +51,21 @@ answer_of-answer-requires-clause-goal_in_bounds c =
     let p = c.requires in
     let S = c.settle_room.ensures in
     let I = settled-inside S in
-    let cleared = c.clear_words in (rw (previous-again (goal.at.answer_of-answer-requires-clause-goal_in_bounds c).After-settle_room, I.0) p.posed.goal_in, rw (previous-again (goal.at.answer_of-answer-requires-clause-goal_in_bounds c).After-settle_room, I.0) p.posed.good.few, rw (known-again (goal.at.answer_of-answer-requires-clause-goal_in_bounds c).After-settle_room, previous-again (goal.at.answer_of-answer-requires-clause-goal_in_bounds c).After-settle_room, I.0) (settled-known S), rw (previous-again (goal.at.answer_of-answer-requires-clause-goal_in_bounds c).After-settle_room, I.0) (omega (arith, p.path-enough, cleared.auto.s)))
+    let cleared = c.clear in (rw (previous-again (goal.at.answer_of-answer-requires-clause-goal_in_bounds c).After-settle_room, I.0) p.posed.goal_in, rw (previous-again (goal.at.answer_of-answer-requires-clause-goal_in_bounds c).After-settle_room, I.0) p.posed.good.few, rw (known-again (goal.at.answer_of-answer-requires-clause-goal_in_bounds c).After-settle_room, previous-again (goal.at.answer_of-answer-requires-clause-goal_in_bounds c).After-settle_room, I.0) (settled-known S), rw (previous-again (goal.at.answer_of-answer-requires-clause-goal_in_bounds c).After-settle_room, I.0) (omega (arith, p.path-enough, cleared.auto.s)))
 
 pub answer_of-answer-requires-clause-previous_inside : goal.answer_of-answer-requires-clause-previous_inside
 answer_of-answer-requires-clause-previous_inside c =
     let p = c.requires in
     let S = c.settle_room.ensures in
     let I = settled-inside S in
-    let cleared = c.clear_words in rw (previous-again (goal.at.answer_of-answer-requires-clause-previous_inside c).After-settle_room) I.1
+    let cleared = c.clear in rw (previous-again (goal.at.answer_of-answer-requires-clause-previous_inside c).After-settle_room) I.1
 
 pub answer_of-answer-requires-clause-path_value : goal.answer_of-answer-requires-clause-path_value
 answer_of-answer-requires-clause-path_value c =
     let p = c.requires in
     let S = c.settle_room.ensures in
     let I = settled-inside S in
-    let cleared = c.clear_words in cleared-to (sym cleared.auto.s) cleared.ensures
+    let cleared = c.clear in cleared-to (sym cleared.auto.s) cleared.ensures
 
 pub returns : goal.returns
 returns c =
@@ -75,7 +74,7 @@ returns c =
     let run = c.settle_room in
     let cleared = c.clear_work.ensures in
     let T = c.answer_of-answer.ensures in
-    fitted S (rw (known-again (goal.at.returns c).After-settle_room, previous-again (goal.at.returns c).After-settle_room) at T) c.clear_words.auto.s
+    fitted S (rw (known-again (goal.at.returns c).After-settle_room, previous-again (goal.at.returns c).After-settle_room) at T) c.clear.auto.s
     (cleared-whole (known (goal.at.returns c).After-settle_room) a.known.now (cells (goal.at.returns c).After-settle_room) run.auto.known _ cleared.0)
     (cleared-whole (previous (goal.at.returns c).After-settle_room) a.previous.now (cells (goal.at.returns c).After-settle_room) run.auto.previous _ cleared.1)
     (cleared-whole run.new.classes a.classes.now (cells (goal.at.returns c).After-settle_room) run.auto.classes _ cleared.2)

@@ -2,7 +2,6 @@
 use mathlib.Core.Path.{refl}
 use native.Mathlib.Omega.{arith}
 use Rattle.plain.specs.PromiseLaws.{told_none, told-route}
-use borrow.Author.Rules.{rules}
 use Rattle.plain.proofs.engine.answer_of.Goals as goal
 
 pub returns-then-noted-eq0 : goal.returns-then-noted-eq0

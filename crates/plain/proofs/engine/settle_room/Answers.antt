@@ -1,6 +1,5 @@
 -- `settle_room` meets its contract: classes are filled in, and the sweeps run over the room's own graph.
 use Rattle.plain.specs.PromiseLaws.{room_settled}
-use borrow.Author.Rules.{rules}
 use Rattle.plain.proofs.engine.settle_room.Goals as goal
 
 pub returns : goal.returns

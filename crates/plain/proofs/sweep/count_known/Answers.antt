@@ -1,17 +1,22 @@
--- `count_known` meets its contract. The loop's invariant: those below i are counted.
-use mathlib.Core.Logic.{⊎_elim}
-use Prim.Native.Nat.{◌-◌}
-use native.Mathlib.Omega.{arith}
-use borrow.Author.Rules.{rules}
-use Rattle.plain.specs.SweepingLaws.{CountedBelow, counted_none, counted-one, counted_zero, counted-all}
+-- `count_known` meets its contract: those that are not 0 are counted.
+use Rattle.std.proofs.Common.{◌≡◌, ℕ, zero, suc, Bool, true, false, not, eqb, ltb, List, [], ◌∷◌, length, filter, refl, ◌∙◌, arith, rules, tests}
+use Rattle.std.proofs.lemmas.Iterator.{YieldsList-from_slice}
+use Rattle.std.proofs.lemmas.Iterator.Consumers.{YieldsList-from_filter, count_from_yields_List}
+use borrow.Author.Tests.{ne_eqb, lt-ltb}
+use Rattle.basics.specs.Counts.{times}
 use Rattle.plain.proofs.sweep.count_known.Goals as goal
-use Rattle.plain.proofs.sweep.count_known.Goals.{else-known-i-ne0, then-known-i-ne0}
 
-pub loop-i-init : goal.loop-i-init
-loop-i-init c = counted_none
+abbrev is-known : ℕ → Bool
+is-known n = not (eqb n 0)
 
-pub loop-i-preserved : goal.loop-i-preserved
-loop-i-preserved c = elim c.if-known-i-ne0.branch [ then-known-i-ne0 w ↦ rw w.count-is (counted-one c.loop-i.invariant c.loop-i-test.true (omega (arith, w.if-known-i-ne0.true))) | else-known-i-ne0 w ↦ rw w.count-is (counted_zero c.loop-i.invariant c.loop-i-test.true w.if-known-i-ne0.false) ]
+counted : (known : List ℕ) → length (filter is-known known) ≡ times (ltb 0) known
+unfolding times
+counted [] = refl
+counted (zero ∷ known) = omega (arith, counted known)
+counted (suc n ∷ known) =
+    let e : eqb (suc n) 0 ≡ false = ne_eqb (suc n) 0 (λ z. absurd (omega arith)) in
+    let k : ltb 0 (suc n) ≡ true = lt-ltb 0 (suc n) (omega arith) in
+    rw (e, k) (omega (arith, counted known))
 
 pub returns : goal.returns
-returns c = counted-all c.loop-i-test.false c.loop-i.invariant
+returns c = count_from_yields_List c.filter.result _ c.count.ensures.ran (YieldsList-from_filter _ is-known (YieldsList-from_slice c.args.known.now cc) c.filter.ensures.closure (λ x b q k. search (rules, tests))) ∙ counted c.args.known.now

@@ -3,7 +3,6 @@ use native.Mathlib.Omega.{arith}
 use Rattle.room.specs.UnitLaws.{dearest-most}
 use Rattle.room_search.specs.GraphLaws.{price-low}
 use Rattle.plain.specs.SweepingLaws.{cost-laid, cost-bare}
-use borrow.Author.Rules.{rules}
 use Rattle.plain.proofs.sweep.move_cost.Goals as goal
 
 pub overflow_add-result : goal.overflow_add-result

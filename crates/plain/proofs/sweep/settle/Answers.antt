@@ -1,16 +1,14 @@
 -- `settle` meets its contract. The loop's invariant: ways of as many steps as sweeps were made are beaten, and the last sweep changed something, or
 -- nothing gets cheaper. The sum of known costs falls.
-use mathlib.Core.Path.{sym, ◌∙◌}
 use native.Mathlib.Omega.{arith}
-use borrow.Author.Rules.{rules}
-use Rattle.plain.specs.SweepingLaws.{fit-long, SweepsMade, sum_left, going-first, going_next, going_less, going-fits, going_done}
+use Rattle.plain.specs.SweepingLaws.{fit-long, going-first, going_next, going_less, going-fits, going_done}
 use Rattle.plain.proofs.sweep.settle.Goals as goal
 
 pub bounds-known-first : goal.bounds-known-first
-bounds-known-first c = let p = c.requires in omega (arith, p.fit.start_in, p.known-long, c.clear_words.auto.s)
+bounds-known-first c = let p = c.requires in omega (arith, p.fit.start_in, p.known-long, c.clear.auto.s)
 
 pub loop-changed-init : goal.loop-changed-init
-loop-changed-init c = going-first c.requires c.clear_words.ensures c.clear_words-2.ensures
+loop-changed-init c = going-first c.requires c.clear.ensures c.clear-2.ensures
 
 pub sweep-changed-requires : goal.sweep-changed-requires
 sweep-changed-requires c = record { fit = c.requires.fit; kept = c.loop-changed.invariant.kept }

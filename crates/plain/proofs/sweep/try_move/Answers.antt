@@ -1,14 +1,11 @@
 -- `try_move` meets its contract: the move leads out of the room, or into a cell that can't be entered, or is offered.
-use mathlib.Core.Path.{◌≡◌, sym, ◌∙◌}
-use Prim.Native.Nat.{ℕ, ◌+◌, ◌<◌, ◌≤◌, ◌^◌}
-use lib.ListN.{length, get_or}
+use mathlib.Core.Path.{sym, ◌∙◌}
+use Prim.Native.Nat.{◌+◌, ◌<◌, ◌^◌}
+use lib.ListN.{get_or}
 use native.Mathlib.Omega.{arith}
-use Rattle.room.specs.declared.Neighbour.TheVariants.{Inside}
-use Rattle.room.specs.Room.{neighbour}
 use Rattle.room.specs.MoveLaws.{small}
 use Rattle.room_search.specs.GraphLaws.{price-low}
 use Rattle.plain.specs.SweepingLaws.{fit-long, fit-most, from_in, into_in, move-out, move-shut, move-offered}
-use borrow.Author.Rules.{rules}
 use Rattle.plain.proofs.sweep.try_move.Goals as goal
 use Rattle.plain.proofs.sweep.try_move.Goals.{After-move_cost-step}
 
@@ -17,7 +14,7 @@ sum_fits : (c : After-move_cost-step) → c.args.cost.0 + c.move_cost-step.resul
 sum_fits c =
     let a = c.args in
     let S = c.requires.sweeping in
-    let low = price-low a.errand.config a.m (get_or a.classes.now c.in-Inside.cell 0) in
+    let low = price-low a.errand.config a.m (get_or a.classes.now c.in-Some.cell 0) in
     let most = fit-most S.fit S.kept a.from (omega (arith, c.requires.from_value)) in
     omega (arith, c.move_cost-step.ensures, low, most, c.requires.from_value)
 
@@ -33,12 +30,12 @@ neighbour-requires-clause-x_bound c = let w = small c.args.m c.requires.fact in 
 pub bounds-classes-cell : goal.bounds-classes-cell
 bounds-classes-cell c =
     let a = c.args in
-    omega (arith, into_in c.requires.sweeping a.from a.cost.0 c.requires.from_value a.m _ (sym c.neighbour.ensures ∙ c.in-Inside.is), c.requires.sweeping.fit.classes-long)
+    omega (arith, into_in c.requires.sweeping a.from a.cost.0 c.requires.from_value a.m _ (sym c.neighbour.ensures ∙ c.in-Some.is), c.requires.sweeping.fit.classes-long)
 
 pub returns-then-class-eq0 : goal.returns-then-class-eq0
 returns-then-class-eq0 c =
     let a = c.args in
-    move-shut c.requires.sweeping a.from a.cost.0 c.requires.from_value a.m _ (sym c.neighbour.ensures ∙ c.in-Inside.is) c.if-class-eq0.true
+    move-shut c.requires.sweeping a.from a.cost.0 c.requires.from_value a.m _ (sym c.neighbour.ensures ∙ c.in-Some.is) c.if-class-eq0.true
 
 pub move_cost-step-requires : goal.move_cost-step-requires
 move_cost-step-requires c = c.requires.sweeping.fit.config-good.ranges
@@ -51,7 +48,7 @@ lower-requires-clause-cell_in_bounds c =
     let a = c.args in
     let S = c.requires.sweeping in
     let long = fit-long S.fit S.kept in
-    let into = into_in S a.from a.cost.0 c.requires.from_value a.m _ (sym c.neighbour.ensures ∙ c.in-Inside.is) in
+    let into = into_in S a.from a.cost.0 c.requires.from_value a.m _ (sym c.neighbour.ensures ∙ c.in-Some.is) in
     (omega (arith, into, long.0), long.1 ∙ sym long.0)
 
 pub lower-requires-clause-from_lt_max_volume : goal.lower-requires-clause-from_lt_max_volume
@@ -61,12 +58,12 @@ lower-requires-clause-from_lt_max_volume c =
     let from = from_in S a.from a.cost.0 c.requires.from_value a.m in
     (omega (arith, from, S.fit.good.few), sum_fits (goal.at.lower-requires-clause-from_lt_max_volume c).After-move_cost-step)
 
-pub returns-else-class-eq0 : goal.returns-else-class-eq0
-returns-else-class-eq0 c =
+pub returns : goal.returns
+returns c =
     let a = c.args in
-    move-offered c.requires.sweeping a.from a.cost.0 c.requires.from_value a.m _ (sym c.neighbour.ensures ∙ c.in-Inside.is) c.requires.fact c.if-class-eq0.false _ c.move_cost-step.ensures c.lower.ensures
+    move-offered c.requires.sweeping a.from a.cost.0 c.requires.from_value a.m _ (sym c.neighbour.ensures ∙ c.in-Some.is) c.requires.fact c.if-class-eq0.false _ c.move_cost-step.ensures c.lower.ensures
 
-pub returns-in-Outside : goal.returns-in-Outside
-returns-in-Outside c =
+pub returns-in_default : goal.returns-in_default
+returns-in_default c =
     let a = c.args in
-    move-out c.requires.sweeping a.from a.cost.0 c.requires.from_value a.m (sym c.neighbour.ensures ∙ c.in-Outside.is)
+    move-out c.requires.sweeping a.from a.cost.0 c.requires.from_value a.m (sym c.neighbour.ensures ∙ c.in_default.is)

@@ -1,7 +1,6 @@
 -- `label_cells` meets its contract: the labels are those of the open cells, and the class bytes say again what is seen.
 use Rattle.blocked_world.specs.SeenLaws.{says-one}
 use Rattle.relaxed.specs.OpeningLaws.{shut_none}
-use borrow.Author.Rules.{rules}
 use Rattle.relaxed.proofs.labelling.label_cells.Goals as goal
 
 pub shut_goals-requires-clause-world_fits : goal.shut_goals-requires-clause-world_fits

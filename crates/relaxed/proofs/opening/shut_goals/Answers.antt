@@ -1,14 +1,10 @@
 -- `shut_goals` meets its contract. The loop's invariant: but for joinable cells from here on, and the cells above them, the bytes say what is seen.
-use mathlib.Core.Path.{sym, ◌∙◌}
-use mathlib.Core.Logic.{⊎_elim}
-use Prim.Native.Nat.{◌-◌, ◌<◌}
+use Prim.Native.Nat.{◌<◌}
 use native.Mathlib.Omega.{arith}
 use Rattle.room.specs.Room.{volume}
-use borrow.Author.Rules.{rules}
-use Rattle.relaxed.specs.Labels.{ShutBelow}
 use Rattle.relaxed.specs.OpeningLaws.{shut-next, shut-same, shut-all}
 use Rattle.relaxed.proofs.opening.shut_goals.Goals as goal
-use Rattle.relaxed.proofs.opening.shut_goals.Goals.{else-joinable-cell-eq-MARKED, then-joinable-cell-eq-MARKED}
+use Rattle.relaxed.proofs.opening.shut_goals.Goals.{else-mark-eq-MARKED, then-mark-eq-MARKED}
 
 pub loop-cell-init : goal.loop-cell-init
 loop-cell-init c = c.requires.shut_below
@@ -29,7 +25,7 @@ pub loop-cell-preserved : goal.loop-cell-preserved
 loop-cell-preserved c =
     let round = c.loop-cell.invariant in
     let inside : c.loop-cell.cell < volume c.args.ground.room = omega (arith, c.loop-cell-test.true, c.requires.joinable_len) in
-    elim c.if-joinable-cell-eq-MARKED.branch [ then-joinable-cell-eq-MARKED w ↦ rw w.classes-is (shut-next _ _ c.requires.world_fits.good _ _ _ _ round inside w.refresh.ensures) | else-joinable-cell-eq-MARKED w ↦ rw w.classes-is (shut-same _ _ c.requires.world_fits.good _ _ _ _ round w.if-joinable-cell-eq-MARKED.false) ]
+    elim c.if-mark-eq-MARKED.branch [ then-mark-eq-MARKED w ↦ rw w.classes-is (shut-next _ _ c.requires.world_fits.good _ _ _ _ round inside w.refresh.ensures) | else-mark-eq-MARKED w ↦ rw w.classes-is (shut-same _ _ c.requires.world_fits.good _ _ _ _ round w.if-mark-eq-MARKED.false) ]
 
 pub returns : goal.returns
 returns c = shut-all _ _ c.requires.world_fits.good _ _ _ _ c.loop-cell.invariant (omega (arith, c.loop-cell-test.false, c.requires.joinable_len))

@@ -1,6 +1,5 @@
 -- `branch_fault` meets its contract: the places so far are good.
 use mathlib.Core.Path.{sym, ◌∙◌}
-use native.Mathlib.Omega.{arith}
 use Rattle.repeater_plan.specs.JudgeLaws.{places-first, places-next, places-bad, places-all}
 use Rattle.repeater_plan.proofs.judge.branch_fault.Goals as goal
 
@@ -15,12 +14,6 @@ place_good-requires-clause-i_in_bounds c = c.loop-i-test.true
 
 pub returns-then-not-place_good : goal.returns-then-not-place_good
 returns-then-not-place_good c = places-bad _ _ c.loop-i.invariant c.loop-i-test.true (sym c.place_good.ensures ∙ c.if-not-place_good.true)
-
-pub overflow_add-i : goal.overflow_add-i
-overflow_add-i c = omega (arith, c.loop-i-test.true)
-
-pub loop-i-smaller : goal.loop-i-smaller
-loop-i-smaller c = omega (arith, c.loop-i-test.true)
 
 pub loop-i-preserved : goal.loop-i-preserved
 loop-i-preserved c = places-next _ _ c.loop-i.invariant c.loop-i-test.true (sym c.place_good.ensures ∙ c.if-not-place_good.false)

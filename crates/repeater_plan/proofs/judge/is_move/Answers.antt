@@ -1,6 +1,5 @@
 -- `is_move` meets its contract: none of the moves so far leads there.
 use mathlib.Core.Path.{sym, ◌∙◌}
-use native.Mathlib.Omega.{arith}
 use Rattle.repeater_plan.specs.JudgeLaws.{none-leads, leads_not, leads-there, leads-nowhere, move-small, tested}
 use Rattle.repeater_plan.proofs.judge.is_move.Goals as goal
 
@@ -21,12 +20,6 @@ neighbour-requires-clause-x_bound c = move-small c.loop-k-test.true c.move_at.en
 
 pub returns-then-is_at : goal.returns-then-is_at
 returns-then-is_at c = leads-there _ _ _ c.loop-k.invariant c.loop-k-test.true (sym (tested _ _ _ _ c.move_at.ensures c.neighbour.ensures c.is_at.ensures) ∙ c.if-is_at.true)
-
-pub overflow_add-k : goal.overflow_add-k
-overflow_add-k c = omega (arith, c.loop-k-test.true)
-
-pub loop-k-smaller : goal.loop-k-smaller
-loop-k-smaller c = omega (arith, c.loop-k-test.true)
 
 pub loop-k-preserved : goal.loop-k-preserved
 loop-k-preserved c = leads_not _ _ _ c.loop-k.invariant c.loop-k-test.true (sym (tested _ _ _ _ c.move_at.ensures c.neighbour.ensures c.is_at.ensures) ∙ c.if-is_at.false)

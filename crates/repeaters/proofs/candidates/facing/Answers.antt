@@ -1,6 +1,5 @@
 -- `facing` meets its contract: a cell's position is below the sides.
 use Rattle.room.specs.RoomLaws.{small_pos}
-use borrow.Author.Rules.{rules}
 use Rattle.repeaters.proofs.candidates.facing.Goals as goal
 
 pub facing_by-requires-clause-small_pos : goal.facing_by-requires-clause-small_pos

@@ -2,7 +2,6 @@
 use mathlib.Core.Path.{sym, ◌∙◌}
 use borrow.Author.Tests.{eq-eqb, ne_eqb}
 use Rattle.repeaters.specs.Repeaters.{facing_by}
-use borrow.Author.Rules.{rules}
 use Rattle.repeaters.proofs.candidates.facing_by.Goals as goal
 
 pub returns-then-p-q : goal.returns-then-p-q

@@ -2,13 +2,12 @@
 use borrow.Author.Tests.{eq-eqb, ne_eqb}
 use Rattle.room.specs.Units.{no_facing}
 use Rattle.repeaters.specs.Repeaters.{straight}
-use borrow.Author.Rules.{rules}
 use Rattle.repeaters.proofs.candidates.goes_straight.Goals as goal
 
-pub returns-then-into-eq-NO_FACING : goal.returns-then-into-eq-NO_FACING
+pub returns-then-into-ne-NO_FACING : goal.returns-then-into-ne-NO_FACING
 unfolding straight
-returns-then-into-eq-NO_FACING c = rw (eq-eqb _ no_facing (rw c.facing-into.ensures at c.if-into-eq-NO_FACING.true))
+returns-then-into-ne-NO_FACING c = rw (ne_eqb _ no_facing (rw c.facing-into.ensures at c.if-into-ne-NO_FACING.true), c.facing-into.ensures, c.facing.ensures)
 
-pub returns : goal.returns
+pub returns-else-into-ne-NO_FACING : goal.returns-else-into-ne-NO_FACING
 unfolding straight
-returns c = rw (ne_eqb _ no_facing (rw c.facing-into.ensures at c.if-into-eq-NO_FACING.false), c.facing-into.ensures, c.facing-out.ensures)
+returns-else-into-ne-NO_FACING c = rw (eq-eqb _ no_facing (rw c.facing-into.ensures at c.if-into-ne-NO_FACING.false), c.facing-into.ensures, eq-eqb _ no_facing (rw c.facing-into.ensures at c.if-into-ne-NO_FACING.false))

@@ -6,7 +6,6 @@ use lib.Dec.{eqb}
 use lib.ListN.{get_or}
 use borrow.Author.Tests.{eqb-true}
 use Rattle.basics.specs.Lists.{all_below, below_all}
-use borrow.Author.Rules.{rules}
 use Rattle.repeaters.proofs.links.bit_value.Goals as goal
 
 values : List ℕ

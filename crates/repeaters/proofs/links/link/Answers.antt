@@ -4,7 +4,6 @@ use mathlib.Core.Path.{◌∙◌, ap}
 use Prim.Native.Nat.{ℕ, ◌^◌}
 use native.Mathlib.Nat.{one-le-pow}
 use Rattle.repeaters.specs.MaskLaws.{step_in, linked-kept, linked-now, value_fits}
-use borrow.Author.Rules.{rules}
 use Rattle.repeaters.proofs.links.link.Goals as goal
 
 pub bit_value-value-requires : goal.bit_value-value-requires

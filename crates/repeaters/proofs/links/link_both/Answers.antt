@@ -1,6 +1,5 @@
 -- `link_both` meets its contract: the step goes both ways.
 use Rattle.repeaters.specs.MaskLaws.{step_back, masked_linked, linked-both}
-use borrow.Author.Rules.{rules}
 use Rattle.repeaters.proofs.links.link_both.Goals as goal
 
 pub link-requires-clause-good : goal.link-requires-clause-good

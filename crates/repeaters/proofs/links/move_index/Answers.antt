@@ -1,7 +1,6 @@
 -- `move_index` meets its contract: its tests are those of the definition.
 use borrow.Author.Tests.{eq-eqb, ne_eqb}
 use Rattle.repeaters.specs.Masks.{move_index}
-use borrow.Author.Rules.{rules}
 use Rattle.repeaters.proofs.links.move_index.Goals as goal
 
 pub returns-then-m-eq0 : goal.returns-then-m-eq0

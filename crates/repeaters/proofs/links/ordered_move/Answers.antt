@@ -1,7 +1,6 @@
 -- `ordered_move` meets its contract: the table is the definition's list of places.
 use mathlib.Core.Path.{◌∙◌}
 use Rattle.repeaters.specs.MaskLaws.{order_in, order_is}
-use borrow.Author.Rules.{rules}
 use Rattle.repeaters.proofs.links.ordered_move.Goals as goal
 
 pub move_at-requires : goal.move_at-requires

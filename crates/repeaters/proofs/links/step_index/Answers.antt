@@ -1,7 +1,6 @@
 -- `step_index` meets its contract: a step changes each part by at most 1.
 use native.Mathlib.Omega.{arith}
 use Rattle.repeaters.specs.MaskLaws.{StepParts, step-parts}
-use borrow.Author.Rules.{rules}
 use Rattle.repeaters.proofs.links.step_index.Goals as goal
 use Rattle.repeaters.proofs.links.step_index.Goals.{After-pos-q}
 

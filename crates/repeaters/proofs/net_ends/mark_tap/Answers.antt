@@ -1,7 +1,6 @@
 -- `mark_tap` meets its contract: the terminal, then the approach.
 use mathlib.Core.Path.{refl}
 use Rattle.repeaters.specs.NetEndLaws.{end_marked}
-use borrow.Author.Rules.{rules}
 use Rattle.repeaters.proofs.net_ends.mark_tap.Goals as goal
 
 pub returns : goal.returns

@@ -1,7 +1,6 @@
 -- `plan_tree` meets its contract: the masks are those of the tree, and so are the parents; the runs come first, and then the tails.
 use mathlib.Core.Path.{◌∙◌}
 use Rattle.repeaters.specs.SinkLaws.{tree-ready, placed}
-use borrow.Author.Rules.{rules}
 use Rattle.basics.specs.Zeros.{cleared-to, zeros-long}
 use Rattle.repeaters.proofs.planning.plan_tree.Goals as goal
 
@@ -12,7 +11,7 @@ pub tree_adjacency-requires-clause-branches_ready : goal.tree_adjacency-requires
 tree_adjacency-requires-clause-branches_ready c = c.requires.laid
 
 pub tree_adjacency-requires-clause-links_value : goal.tree_adjacency-requires-clause-links_value
-tree_adjacency-requires-clause-links_value c = cleared-to c.requires.links-long c.clear_words.ensures
+tree_adjacency-requires-clause-links_value c = cleared-to c.requires.links-long c.clear.ensures
 
 pub rooted_parent-requires-clause-good : goal.rooted_parent-requires-clause-good
 rooted_parent-requires-clause-good c = c.requires.good
@@ -21,16 +20,16 @@ pub rooted_parent-requires-clause-source_bound : goal.rooted_parent-requires-cla
 rooted_parent-requires-clause-source_bound c = c.requires.source_in
 
 pub rooted_parent-requires-clause-links_len : goal.rooted_parent-requires-clause-links_len
-rooted_parent-requires-clause-links_len c = (c.tree_adjacency.auto.links ∙ c.clear_words.auto.s ∙ c.requires.links-long)
+rooted_parent-requires-clause-links_len c = (c.tree_adjacency.auto.links ∙ c.clear.auto.s ∙ c.requires.links-long)
 
 pub rooted_parent-requires-clause-parents_value : goal.rooted_parent-requires-clause-parents_value
-rooted_parent-requires-clause-parents_value c = cleared-to c.requires.parents-long c.clear_words-2.ensures
+rooted_parent-requires-clause-parents_value c = cleared-to c.requires.parents-long c.clear-2.ensures
 
 pub rooted_parent-requires-clause-line_len : goal.rooted_parent-requires-clause-line_len
 rooted_parent-requires-clause-line_len c = c.requires.line-long
 
-pub plan_repeaters-requires-clause-tree_ready : goal.plan_repeaters-requires-clause-tree_ready
-plan_repeaters-requires-clause-tree_ready c = tree-ready c.requires (c.tree_adjacency.auto.links ∙ c.clear_words.auto.s) c.rooted_parent.ensures
+pub invariant_of-tree : goal.invariant_of-tree
+invariant_of-tree c = record { ready = tree-ready c.requires (c.tree_adjacency.auto.links ∙ c.clear.auto.s) c.rooted_parent.ensures }
 
 pub plan_repeaters-requires-clause-taps_inside : goal.plan_repeaters-requires-clause-taps_inside
 plan_repeaters-requires-clause-taps_inside c = c.requires.taps_in_lem
@@ -40,9 +39,6 @@ plan_repeaters-requires-clause-repeaters_len c = zeros-long c.requires.unmarked
 
 pub plan_repeaters-requires-clause-line_len : goal.plan_repeaters-requires-clause-line_len
 plan_repeaters-requires-clause-line_len c = c.rooted_parent.auto.line ∙ c.requires.line-long
-
-pub reinforce_wire_sink_tails-requires-clause-tree_ready : goal.reinforce_wire_sink_tails-requires-clause-tree_ready
-reinforce_wire_sink_tails-requires-clause-tree_ready c = tree-ready c.requires (c.tree_adjacency.auto.links ∙ c.clear_words.auto.s) c.rooted_parent.ensures
 
 pub reinforce_wire_sink_tails-requires-clause-taps_inside : goal.reinforce_wire_sink_tails-requires-clause-taps_inside
 reinforce_wire_sink_tails-requires-clause-taps_inside c = c.requires.taps_in_lem

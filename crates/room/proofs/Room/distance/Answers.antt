@@ -2,7 +2,6 @@
 use mathlib.Core.Path.{◌∙◌}
 use Rattle.room.specs.Room.{distance}
 use Rattle.room.specs.RoomLaws.{small_pos}
-use borrow.Author.Rules.{rules}
 use Rattle.room.proofs.Room.distance.Goals as goal
 
 pub distance_at-requires-clause-small_pos : goal.distance_at-requires-clause-small_pos

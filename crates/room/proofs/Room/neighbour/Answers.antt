@@ -1,7 +1,6 @@
 -- `Room::neighbour` meets its contract: a cell's position is in the room, and the move leads from there.
 use Rattle.room.specs.Room.{neighbour}
 use Rattle.room.specs.RoomLaws.{pos_in}
-use borrow.Author.Rules.{rules}
 use Rattle.room.proofs.Room.neighbour.Goals as goal
 
 pub neighbour_at-requires-clause-good : goal.neighbour_at-requires-clause-good

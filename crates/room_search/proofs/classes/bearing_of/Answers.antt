@@ -1,25 +1,21 @@
--- `bearing_of` meets its contract: its tests are the definition's.
-use borrow.Author.Tests.{eq-eqb, ne_eqb}
-use Rattle.room.specs.Units.{air, solid, transparent, redstone_block}
+-- `bearing_of` meets its contract: its arms are the definition's tests.
+use Rattle.std.proofs.Common.{arith}
+use Rattle.std.proofs.lemmas.Bool.Decides.{nat_tests}
 use Rattle.room_search.specs.Routing.{bearing}
 use Rattle.room_search.proofs.classes.bearing_of.Goals as goal
 
-pub returns-then-kind-eq-AIR : goal.returns-then-kind-eq-AIR
+pub returns-in-0 : goal.returns-in-0
 unfolding bearing
-returns-then-kind-eq-AIR c = rw (eq-eqb _ air c.if-kind-eq-AIR.true)
+returns-in-0 c = rw c.in-0.is
 
-pub returns-then-kind-eq-SOLID : goal.returns-then-kind-eq-SOLID
+pub returns-in-1 : goal.returns-in-1
 unfolding bearing
-returns-then-kind-eq-SOLID c = rw (ne_eqb _ air c.if-kind-eq-AIR.false, eq-eqb _ solid c.if-kind-eq-SOLID.true)
+returns-in-1 c = rw c.in-1.is
 
-pub returns-then-kind-eq-TRANSPARENT : goal.returns-then-kind-eq-TRANSPARENT
+pub returns-in-1-2 : goal.returns-in-1-2
 unfolding bearing
-returns-then-kind-eq-TRANSPARENT c = rw (ne_eqb _ air c.if-kind-eq-AIR.false, ne_eqb _ solid c.if-kind-eq-SOLID.false, eq-eqb _ transparent c.if-kind-eq-TRANSPARENT.true)
+returns-in-1-2 c = grind (arith, nat_tests)
 
-pub returns-then-kind-eq-REDSTONE_BLOCK : goal.returns-then-kind-eq-REDSTONE_BLOCK
+pub returns-in_default : goal.returns-in_default
 unfolding bearing
-returns-then-kind-eq-REDSTONE_BLOCK c = rw (ne_eqb _ air c.if-kind-eq-AIR.false, ne_eqb _ solid c.if-kind-eq-SOLID.false, ne_eqb _ transparent c.if-kind-eq-TRANSPARENT.false, eq-eqb _ redstone_block c.if-kind-eq-REDSTONE_BLOCK.true)
-
-pub returns : goal.returns
-unfolding bearing
-returns c = rw (ne_eqb _ air c.if-kind-eq-AIR.false, ne_eqb _ solid c.if-kind-eq-SOLID.false, ne_eqb _ transparent c.if-kind-eq-TRANSPARENT.false, ne_eqb _ redstone_block c.if-kind-eq-REDSTONE_BLOCK.false)
+returns-in_default c = grind (arith, nat_tests)

@@ -1,7 +1,6 @@
 -- `class_for` meets its contract: the definition, by cases of its test.
 use mathlib.Core.Path.{sym, ◌∙◌}
 use Rattle.room_search.specs.Routing.{class_for}
-use borrow.Author.Rules.{rules}
 use Rattle.room_search.proofs.classes.class_for.Goals as goal
 
 pub returns-then-routeable_kind : goal.returns-then-routeable_kind

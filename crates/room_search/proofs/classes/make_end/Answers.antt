@@ -1,5 +1,4 @@
 -- `make_end` meets its contract: one class is written.
-use borrow.Author.Rules.{rules}
 use Rattle.room_search.proofs.classes.make_end.Goals as goal
 
 pub returns : goal.returns

@@ -12,6 +12,6 @@ pub returns-then-endpoint : goal.returns-then-endpoint
 unfolding routeable_kind
 returns-then-endpoint c = rw (ne_eqb _ air c.if-kind-eq-AIR.false, c.if-endpoint.true)
 
-pub returns : goal.returns
+pub returns-else-endpoint : goal.returns-else-endpoint
 unfolding routeable_kind
-returns c = rw (ne_eqb _ air c.if-kind-eq-AIR.false, c.if-endpoint.false)
+returns-else-endpoint c = rw (ne_eqb _ air c.if-kind-eq-AIR.false, c.if-endpoint.false)

@@ -1,27 +1,15 @@
 -- `side_move` meets its contract: the four columns in the order of the twelve moves.
-use mathlib.Core.Path.{◌≡◌, refl}
-use Prim.Native.Nat.{ℕ, ◌*◌}
-use native.Mathlib.Omega.{arith}
-use Rattle.room.specs.declared.Move.{Move}
-use Rattle.room.specs.Room.{moves, move_at}
+use Rattle.std.proofs.Common.{ℕ, zero, suc, ◌≡◌, ◌*◌, ◌<◌, [], ◌∷◌, refl, get_or, arith}
+use Rattle.room.specs.Room.{moves, move_at, by}
 use Rattle.room_search.proofs.idle.side_move.Goals as goal
 
-at_side : (side k : ℕ) (m : Move) → side ≡ k → m ≡ move_at (k * 3) → m ≡ move_at (side * 3)
-at_side side k m e f = rw e f
-
-pub returns-then-side-eq0 : goal.returns-then-side-eq0
+first_of : (k : ℕ) → k < 4 → get_or (by 2 0 1 ∷ by 0 0 1 ∷ by 1 0 2 ∷ by 1 0 0 ∷ []) k (by 0 0 0) ≡ move_at (k * 3)
 unfolding moves
-returns-then-side-eq0 c = at_side _ 0 _ c.if-side-eq0.true refl
-
-pub returns-then-side-eq1 : goal.returns-then-side-eq1
-unfolding moves
-returns-then-side-eq1 c = at_side _ 1 _ c.if-side-eq1.true refl
-
-pub returns-then-side-eq2 : goal.returns-then-side-eq2
-unfolding moves
-returns-then-side-eq2 c = at_side _ 2 _ c.if-side-eq2.true refl
+first_of zero h = refl
+first_of (suc zero) h = refl
+first_of (suc (suc zero)) h = refl
+first_of (suc (suc (suc zero))) h = refl
+first_of (suc (suc (suc (suc k)))) h = absurd (omega arith)
 
 pub returns : goal.returns
-unfolding moves
-returns c =
-    at_side c.args.side 3 _ (omega (arith, c.requires, c.if-side-eq0.false, c.if-side-eq1.false, c.if-side-eq2.false)) refl
+returns c = first_of c.args.side c.requires

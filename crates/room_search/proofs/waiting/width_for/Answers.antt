@@ -3,11 +3,11 @@ use mathlib.Core.Path.{◌≡◌}
 use Prim.Native.Nat.{ℕ, ◌+◌, ◌*◌, ◌^◌, ◌≤◌}
 use native.Mathlib.Nat.{le_refl, mul-le-mul}
 use native.Mathlib.Omega.{arith}
-use borrow.Author.Rules.{rules}
 use Rattle.room.specs.declared.Room.{Room}
 use Rattle.room.specs.declared.RouterConfig.{RouterConfig}
 use Rattle.room.specs.Room.{max_volume, volume}
 use Rattle.room.specs.Units.{dearest}
+use Rattle.room_search.specs.declared.Width.TheVariants.{One}
 use Rattle.room_search.specs.TriedMoves.{WidthFits}
 use Rattle.room_search.proofs.waiting.width_for.Goals as goal
 
@@ -19,7 +19,7 @@ unfolding dearest three
 dearest-three C = omega arith
 
 fits_one : (R : Room) (C : RouterConfig) (v s most : ℕ) → v ≡ volume R → s ≡ C.horizontal.0 + C.stair.0 + C.support.0 → v * s ≤ most → most + 10000 ≤ 2 ^ 24
-    → WidthFits R C 1
+    → WidthFits R C One
 unfolding three
 fits_one R C v s most e f h k = record { keys = λ _. omega (arith, rw (e, f) at h, mul-le-mul (le_refl (volume R)) (dearest-three C)) }
 

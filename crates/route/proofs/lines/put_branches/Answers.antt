@@ -5,15 +5,6 @@ use lib.ListN.{get_or, drop}
 use Rattle.route.specs.BranchLineLaws.{branching_begun, next-within, branch_fits, branching_on, branching_done, branched-count, length_at, part-is}
 use Rattle.route.proofs.lines.put_branches.Goals as goal
 
-pub loop-k-init : goal.loop-k-init
-loop-k-init c = branching_begun refl c.requires.branched.within
-
-pub offset_bounds-lengths-k : goal.offset_bounds-lengths-k
-offset_bounds-lengths-k c = omega (arith, c.requires.branched.few)
-
-pub bounds-lengths-k : goal.bounds-lengths-k
-bounds-lengths-k c = omega (arith, c.requires.branched.few)
-
 pub overflow_add-to : goal.overflow_add-to
 overflow_add-to c = omega (arith, next-within c.loop-k.invariant (omega (arith, branched-count c.requires.branched)) (length_at c.requires.branched c.loop-k.k (omega arith)))
 

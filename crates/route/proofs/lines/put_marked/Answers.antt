@@ -1,11 +1,7 @@
 -- `put_marked` meets its contract: what is put, and what is left to put, are the whole.
 use borrow.Author.Rules.{rules}
-use Rattle.putting.specs.PutLaws.{putting_begun}
 use Rattle.route.specs.LineLaws.{mark-fits, marks-on, marks-done}
 use Rattle.route.proofs.lines.put_marked.Goals as goal
-
-pub loop-cell-init : goal.loop-cell-init
-loop-cell-init c = putting_begun
 
 pub put_if_marked-end-requires : goal.put_if_marked-end-requires
 put_if_marked-end-requires c = mark-fits c.args.marks.now c.loop-cell.cell c.loop-cell.invariant (search rules) c.requires

@@ -1,12 +1,11 @@
 -- `answer_fit` meets its contract: the first V numbers of each work buffer, and the queue whole, are lent to the search, and all are cleared behind it.
 use native.Mathlib.Omega.{arith}
-use mathlib.Core.Path.{◌≡◌, refl, sym, ap, ◌∙◌}
+use mathlib.Core.Path.{◌≡◌, sym, ap, ◌∙◌}
 use mathlib.Core.List.{List, ◌++◌}
 use Prim.Native.Nat.{ℕ, ◌≤◌}
 use lib.ListN.{length, take, drop}
 use Rattle.routing.specs.Answers.{task_in}
 use Rattle.routing.specs.EntryLaws.{again, again_length, cleared-whole, room-searchable}
-use borrow.Author.Rules.{rules}
 use Rattle.room_search.specs.TakeAllLaws.{told_showable}
 use Rattle.room_search.specs.Routing.{graph_of, graph, searched}
 use Rattle.room_search.specs.TriedMoves.{places_of}
@@ -71,7 +70,7 @@ answer_of-answer-requires-clause-shown c =
     let e = c.volume-cells.ensures in
     let T = task_in a.room a.config a.kinds.now a.start a.goal (places_of a.queue.now) in
     let long = ap length (previous-again (goal.at.answer_of-answer-requires-clause-shown c).After-search_room-outcome) ∙ previous-long (goal.at.answer_of-answer-requires-clause-shown c).After-search_room-outcome in
-    let cleared = c.clear_words in record { good = p.good; config-good = p.config-good; kinds-long = p.kinds-long; previous-long = long ∙ e; known-long = ap length (known-again (goal.at.answer_of-answer-requires-clause-shown c).After-search_room-outcome) ∙ known-long (goal.at.answer_of-answer-requires-clause-shown c).After-search_room-outcome ∙ e; goal_in = p.goal_in; path-enough = omega (arith, p.path-enough, c.clear_words.auto.s) }
+    let cleared = c.clear in record { good = p.good; config-good = p.config-good; kinds-long = p.kinds-long; previous-long = long ∙ e; known-long = ap length (known-again (goal.at.answer_of-answer-requires-clause-shown c).After-search_room-outcome) ∙ known-long (goal.at.answer_of-answer-requires-clause-shown c).After-search_room-outcome ∙ e; goal_in = p.goal_in; path-enough = omega (arith, p.path-enough, c.clear.auto.s) }
 
 pub answer_of-answer-requires-clause-path_value : goal.answer_of-answer-requires-clause-path_value
 unfolding graph_of
@@ -82,7 +81,7 @@ answer_of-answer-requires-clause-path_value c =
     let e = c.volume-cells.ensures in
     let T = task_in a.room a.config a.kinds.now a.start a.goal (places_of a.queue.now) in
     let long = ap length (previous-again (goal.at.answer_of-answer-requires-clause-path_value c).After-search_room-outcome) ∙ previous-long (goal.at.answer_of-answer-requires-clause-path_value c).After-search_room-outcome in
-    let cleared = c.clear_words in cleared-to (sym c.clear_words.auto.s) c.clear_words.ensures
+    let cleared = c.clear in cleared-to (sym c.clear.auto.s) c.clear.ensures
 
 pub answer_of-answer-requires-clause-showable : goal.answer_of-answer-requires-clause-showable
 unfolding graph_of
@@ -93,7 +92,7 @@ answer_of-answer-requires-clause-showable c =
     let e = c.volume-cells.ensures in
     let T = task_in a.room a.config a.kinds.now a.start a.goal (places_of a.queue.now) in
     let long = ap length (previous-again (goal.at.answer_of-answer-requires-clause-showable c).After-search_room-outcome) ∙ previous-long (goal.at.answer_of-answer-requires-clause-showable c).After-search_room-outcome in
-    let cleared = c.clear_words in rw (known-again (goal.at.answer_of-answer-requires-clause-showable c).After-search_room-outcome, previous-again (goal.at.answer_of-answer-requires-clause-showable c).After-search_room-outcome) (told_showable (graph T) (searched T) run.result (known (goal.at.answer_of-answer-requires-clause-showable c).After-search_room-outcome) (previous (goal.at.answer_of-answer-requires-clause-showable c).After-search_room-outcome) (previous-long (goal.at.answer_of-answer-requires-clause-showable c).After-search_room-outcome ∙ e) c.search_room-outcome.ensures.told)
+    let cleared = c.clear in rw (known-again (goal.at.answer_of-answer-requires-clause-showable c).After-search_room-outcome, previous-again (goal.at.answer_of-answer-requires-clause-showable c).After-search_room-outcome) (told_showable (graph T) (searched T) run.result (known (goal.at.answer_of-answer-requires-clause-showable c).After-search_room-outcome) (previous (goal.at.answer_of-answer-requires-clause-showable c).After-search_room-outcome) (previous-long (goal.at.answer_of-answer-requires-clause-showable c).After-search_room-outcome ∙ e) c.search_room-outcome.ensures.told)
 
 pub returns : goal.returns
 returns c =
@@ -104,7 +103,7 @@ returns c =
     let S = c.answer_of-answer.ensures.shows a.start (places_of a.queue.now) (rw (known-again (goal.at.returns c).After-search_room-outcome, previous-again (goal.at.returns c).After-search_room-outcome) c.search_room-outcome.ensures) in
     record {
       answer = S.0;
-      path-is = rw c.clear_words.auto.s at S.1;
+      path-is = rw c.clear.auto.s at S.1;
       known_is = cleared-whole (known (goal.at.returns c).After-search_room-outcome) a.known.now (cells (goal.at.returns c).After-search_room-outcome) c.search_room-outcome.auto.known _ cleared.0;
       previous-is = cleared-whole (previous (goal.at.returns c).After-search_room-outcome) a.previous.now (cells (goal.at.returns c).After-search_room-outcome) c.search_room-outcome.auto.previous _ cleared.1;
       classes-is = cleared-whole c.search_room-outcome.new.classes a.classes.now (cells (goal.at.returns c).After-search_room-outcome) c.search_room-outcome.auto.classes _ cleared.2;

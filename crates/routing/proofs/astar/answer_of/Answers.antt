@@ -2,7 +2,6 @@
 use mathlib.Core.Path.{refl}
 use Rattle.routing.specs.Answers.{task_in}
 use Rattle.routing.specs.EntryLaws.{shown-route, shown-bare}
-use borrow.Author.Rules.{rules}
 use Rattle.routing.proofs.astar.answer_of.Goals as goal
 
 pub show_route-requires-clause-shown : goal.show_route-requires-clause-shown

@@ -1,6 +1,5 @@
 -- `bad_end` meets its contract: the start is judged first.
 use Rattle.basics.specs.Tests.{test_fails, test-passes}
-use borrow.Author.Rules.{rules}
 use Rattle.routing.proofs.astar.bad_end.Goals as goal
 
 pub returns-then-not-routeable_kind : goal.returns-then-not-routeable_kind

@@ -1,6 +1,5 @@
 -- `search_room` meets its contract: classes are filled in, and the search runs over the task's own graph.
 use Rattle.routing.specs.EntryLaws.{classed-searchable, classed-found}
-use borrow.Author.Rules.{rules}
 use Rattle.routing.proofs.astar.search_room.Goals as goal
 
 pub search_classes-requires : goal.search_classes-requires

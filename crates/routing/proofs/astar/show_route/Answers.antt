@@ -10,7 +10,6 @@ use Rattle.trace.specs.TraceLaws.{trace-short}
 use Rattle.routing.specs.Answers.{route_in}
 use Rattle.routing.specs.Entry.{traced}
 use Rattle.routing.specs.EntryLaws.{traced_countable}
-use borrow.Author.Rules.{rules}
 use Rattle.routing.proofs.astar.show_route.Goals as goal
 use Rattle.routing.proofs.astar.show_route.Goals.{After-path_to-length}
 

@@ -2,7 +2,6 @@
 use Rattle.basics.specs.Tests.{test_fails, test-passes}
 use Rattle.room.specs.RoomLaws.{good}
 use Rattle.routing.specs.Answers.{judged}
-use borrow.Author.Rules.{rules}
 use Rattle.routing.proofs.judge.judge.Goals as goal
 
 pub returns-then-not-good : goal.returns-then-not-good

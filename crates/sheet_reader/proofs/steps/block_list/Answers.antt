@@ -1,5 +1,4 @@
 -- `block_list` meets its contract: the records are as long as the sheet's version says.
-use borrow.Author.Rules.{rules}
 use Rattle.sheet_reader.proofs.steps.block_list.Goals as goal
 
 pub returns : goal.returns

@@ -1,5 +1,4 @@
 -- `config_list` meets its contract: a record of the config and, where limits are carried, one byte more.
-use borrow.Author.Rules.{rules}
 use Rattle.sheet_reader.proofs.steps.config_list.Goals as goal
 
 pub returns : goal.returns

@@ -1,5 +1,4 @@
 -- `endpoint` meets its contract: it reads in the sheet's version.
-use borrow.Author.Rules.{rules}
 use Rattle.sheet_reader.proofs.steps.endpoint.Goals as goal
 
 pub returns : goal.returns

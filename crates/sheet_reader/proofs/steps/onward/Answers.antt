@@ -1,6 +1,5 @@
 -- `onward` meets its contract: either the bytes are there, or the place is off the sheet.
 use native.Mathlib.Omega.{arith}
-use borrow.Author.Rules.{rules}
 use Rattle.sheet_reader.specs.ReaderLaws.{onward-on, onward-off}
 use mathlib.Core.Path.{sym}
 use Rattle.sheet_reader.proofs.steps.onward.Goals as goal

@@ -1,5 +1,4 @@
 -- `run` meets its contract: it reads in the sheet's version.
-use borrow.Author.Rules.{rules}
 use Rattle.sheet_reader.proofs.steps.run.Goals as goal
 
 pub returns : goal.returns

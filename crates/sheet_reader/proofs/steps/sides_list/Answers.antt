@@ -1,7 +1,6 @@
 -- `sides_list` meets its contract: a record as long as a position.
 use mathlib.Core.Path.{refl}
 use native.Mathlib.Omega.{arith}
-use borrow.Author.Rules.{rules}
 use Rattle.sheet_reader.proofs.steps.sides_list.Goals as goal
 
 pub returns : goal.returns

@@ -1,6 +1,5 @@
 -- `sinks` meets its contract: what `whole_sinks` lets through can be read.
 use Rattle.sheet_reader.specs.ReaderLaws.{whole-few, whole-inside}
-use borrow.Author.Rules.{rules}
 use Rattle.sheet_reader.proofs.steps.sinks.Goals as goal
 
 pub sinks_from-requires : goal.sinks_from-requires

@@ -1,5 +1,4 @@
 -- `sinks_list` meets its contract: they stand as the sheet's version says.
-use borrow.Author.Rules.{rules}
 use Rattle.sheet_reader.proofs.steps.sinks_list.Goals as goal
 
 pub returns : goal.returns

@@ -1,5 +1,4 @@
 -- `source_list` meets its contract: it stands as the sheet's version says.
-use borrow.Author.Rules.{rules}
 use Rattle.sheet_reader.proofs.steps.source_list.Goals as goal
 
 pub returns : goal.returns

@@ -3,7 +3,6 @@ use mathlib.Core.Path.{sym, ◌∙◌}
 use native.Mathlib.Nat.{mul-le-mul}
 use native.Mathlib.Omega.{arith}
 use Rattle.sheet_reader.specs.ReaderLaws.{whole-some, whole-over, whole-short}
-use borrow.Author.Rules.{rules}
 use Rattle.sheet_reader.proofs.steps.whole_sinks.Goals as goal
 
 pub returns-then-part-gt-MAX_SINKS : goal.returns-then-part-gt-MAX_SINKS

@@ -2,7 +2,6 @@
 use lib.ListN.{drop}
 use Rattle.job_sheet.specs.RecordLaws.{bytes_drop}
 use Rattle.sheet_writer.specs.ApartLaws.{block_numbers_are, position_numbers_are}
-use borrow.Author.Rules.{rules}
 use native.Mathlib.Omega.{arith}
 use Rattle.sheet_writer.proofs.apart.copy_record.Goals as goal
 

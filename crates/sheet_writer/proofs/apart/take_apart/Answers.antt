@@ -1,7 +1,6 @@
 -- `take_apart` meets its contract: the promise, by its cases.
 use Rattle.sheet_writer.specs.Apart.{lists}
 use Rattle.sheet_writer.specs.ApartLaws.{parts-read, apart-unread, apart-short, blocks-fit, conductors-fit, clearances-fit, terminals-fit, reserved-fit, apart-done}
-use borrow.Author.Rules.{rules}
 use Rattle.sheet_writer.proofs.apart.take_apart.Goals as goal
 
 pub returns-then-not-is_good : goal.returns-then-not-is_good

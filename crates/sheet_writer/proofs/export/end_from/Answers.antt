@@ -1,7 +1,6 @@
 -- `end_from` meets its contract: its codes are narrowed.
 use mathlib.Core.Path.{◌∙◌, ap}
 use Rattle.sheet_writer.specs.Narrow.{code_of}
-use borrow.Author.Rules.{rules}
 use Rattle.sheet_writer.proofs.export.end_from.Goals as goal
 
 pub returns : goal.returns

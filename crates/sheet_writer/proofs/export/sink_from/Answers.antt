@@ -1,5 +1,4 @@
 -- `sink_from` meets its contract: an end, and its tail limit.
-use borrow.Author.Rules.{rules}
 use Rattle.sheet_writer.proofs.export.sink_from.Goals as goal
 
 pub returns : goal.returns

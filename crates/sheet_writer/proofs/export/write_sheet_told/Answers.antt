@@ -3,9 +3,8 @@ use mathlib.Core.Path.{sym}
 use lib.ListN.{length}
 use lib.Seq.{length-take-le}
 use Rattle.basics.specs.Tests.{test_fails}
-use Rattle.sheet_writer.specs.Export.{ends_good, parts_told}
+use Rattle.sheet_writer.specs.Export.{parts_told}
 use Rattle.sheet_writer.specs.ExportLaws.{ends_ill, lent-inside, told_fit, told, source-whole, sinks-few}
-use borrow.Author.Rules.{rules}
 use Rattle.sheet_writer.proofs.export.write_sheet_told.Goals as goal
 
 pub returns-then-not-ends_good : goal.returns-then-not-ends_good

@@ -1,7 +1,6 @@
 -- `behind_ends` meets its contract: the records are few enough for the products and the sums.
 use native.Mathlib.Nat.{mul-le-mul}
 use native.Mathlib.Omega.{arith}
-use borrow.Author.Rules.{rules}
 use Rattle.sheet_writer.proofs.faults.behind_ends.Goals as goal
 
 pub overflow_mul-result : goal.overflow_mul-result

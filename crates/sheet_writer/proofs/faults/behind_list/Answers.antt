@@ -1,7 +1,6 @@
 -- `behind_list` meets its contract: the records are few enough for the product and the sums.
 use mathlib.Core.Path.{refl}
 use native.Mathlib.Nat.{mul-le-mul}
-use borrow.Author.Rules.{rules}
 use native.Mathlib.Omega.{arith}
 use Rattle.sheet_writer.proofs.faults.behind_list.Goals as goal
 

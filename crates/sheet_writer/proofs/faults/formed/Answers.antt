@@ -1,10 +1,8 @@
 -- `formed` meets its contract: lists of too many records have too many bytes.
-use mathlib.Core.Path.{sym, ap, ◌∙◌}
 use borrow.Author.Tests.{le-leb, lt-leb}
 use Rattle.basics.specs.Tests.{test_fails, test-passes}
 use Rattle.sheet_writer.specs.Sizes.{lengths_good}
 use Rattle.sheet_writer.specs.SizeLaws.{few-by, too_many}
-use borrow.Author.Rules.{rules}
 use Rattle.sheet_writer.proofs.faults.formed.Goals as goal
 
 pub returns-then-n-gt-MAX_SINKS : goal.returns-then-n-gt-MAX_SINKS

@@ -2,7 +2,6 @@
 use mathlib.Core.Path.{sym, ◌∙◌}
 use Rattle.basics.specs.Tests.{test_fails, test-passes}
 use Rattle.job_sheet.proofs.FaultLaws.{fault_first, good-first, only-first}
-use borrow.Author.Rules.{rules}
 use Rattle.sheet_writer.proofs.faults.one_sink_fault.Goals as goal
 
 pub returns-then-not-is_good : goal.returns-then-not-is_good

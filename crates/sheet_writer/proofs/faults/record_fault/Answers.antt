@@ -1,8 +1,7 @@
 -- `record_fault` meets its contract: a block with its codes in a byte each is judged as its numbers are.
-use mathlib.Core.Path.{sym, ap, ◌∙◌}
+use mathlib.Core.Path.{ap, ◌∙◌}
 use Rattle.job_sheet.specs.Sheet.{block_fault, position_fault}
 use Rattle.sheet_writer.specs.Narrow.{narrow_fault}
-use borrow.Author.Rules.{rules}
 use native.Mathlib.Omega.{arith}
 use Rattle.sheet_writer.proofs.faults.record_fault.Goals as goal
 

@@ -1,7 +1,6 @@
 -- `sheet_length` meets its contract: each list stands behind the one before it.
 use native.Mathlib.Omega.{arith}
 use Rattle.sheet_writer.specs.SizeLaws.{counted_length}
-use borrow.Author.Rules.{rules}
 use Rattle.sheet_writer.proofs.faults.sheet_length.Goals as goal
 
 pub behind_ends-requires : goal.behind_ends-requires

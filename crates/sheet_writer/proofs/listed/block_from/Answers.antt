@@ -1,7 +1,6 @@
 -- `block_from` meets its contract: its codes are narrowed.
 use mathlib.Core.Path.{◌∙◌, ap}
 use Rattle.sheet_writer.specs.Narrow.{code_of, narrowed}
-use borrow.Author.Rules.{rules}
 use Rattle.sheet_writer.proofs.listed.block_from.Goals as goal
 
 pub returns : goal.returns

@@ -1,6 +1,5 @@
 -- `number` meets its contract: a list from a place on begins there.
 use lib.Seq.{get_or-drop}
-use borrow.Author.Rules.{rules}
 use Rattle.sheet_writer.proofs.listed.number.Goals as goal
 
 pub returns : goal.returns

@@ -1,6 +1,5 @@
 -- `position_from` meets its contract: each part is a number.
 use mathlib.Core.Path.{◌∙◌}
-use borrow.Author.Rules.{rules}
 use Rattle.sheet_writer.proofs.listed.position_from.Goals as goal
 
 pub returns : goal.returns

@@ -3,7 +3,6 @@ use lib.ListN.{drop}
 use Rattle.putting.specs.PutLaws.{both, first_fits, then-fits}
 use Rattle.sheet_writer.specs.Writer.{block_from}
 use Rattle.sheet_writer.specs.TextLaws.{block_pieces, fits_as, put_as}
-use borrow.Author.Rules.{rules}
 use Rattle.sheet_writer.proofs.puts.put_block.Goals as goal
 
 pub put_two-noded-requires : goal.put_two-noded-requires

@@ -1,5 +1,4 @@
 -- `put_codes` meets its contract.
-use borrow.Author.Rules.{rules}
 use Rattle.sheet_writer.proofs.puts.put_codes.Goals as goal
 
 pub returns : goal.returns

@@ -1,5 +1,4 @@
 -- `put_coordinate` meets its contract: two bytes where it is long, else one.
-use borrow.Author.Rules.{rules}
 use Rattle.sheet_writer.proofs.puts.put_coordinate.Goals as goal
 
 pub put_two-requires : goal.put_two-requires

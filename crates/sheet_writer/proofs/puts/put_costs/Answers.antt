@@ -1,6 +1,5 @@
 -- `put_costs` meets its contract, one amount after another.
 use Rattle.putting.specs.PutLaws.{both}
-use borrow.Author.Rules.{rules}
 use Rattle.sheet_writer.proofs.puts.put_costs.Goals as goal
 
 pub returns : goal.returns

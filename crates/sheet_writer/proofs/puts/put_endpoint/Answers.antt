@@ -1,7 +1,6 @@
 -- `put_endpoint` meets its contract, piece by piece.
 use Rattle.putting.specs.PutLaws.{both, first_fits, then-fits}
 use Rattle.sheet_writer.specs.TextLaws.{endpoint_pieces, fits_as, put_as}
-use borrow.Author.Rules.{rules}
 use Rattle.sheet_writer.proofs.puts.put_endpoint.Goals as goal
 
 pub put_position-placed-requires : goal.put_position-placed-requires

@@ -1,6 +1,5 @@
 -- `put_four` meets its contract: the upper two bytes, then the lower two.
 use Rattle.putting.specs.PutLaws.{both}
-use borrow.Author.Rules.{rules}
 use Rattle.sheet_writer.proofs.puts.put_four.Goals as goal
 
 pub returns : goal.returns

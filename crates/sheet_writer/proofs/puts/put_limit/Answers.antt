@@ -1,6 +1,5 @@
 -- `put_limit` meets its contract: one byte where limits are carried.
 use Rattle.putting.specs.PutLaws.{put-nothing}
-use borrow.Author.Rules.{rules}
 use Rattle.sheet_writer.proofs.puts.put_limit.Goals as goal
 
 pub put_one-requires : goal.put_one-requires

@@ -1,9 +1,7 @@
 -- `put_list` meets its contract: the count, then the records.
-use Prim.Native.Nat.{◌/◌}
 use Rattle.putting.specs.PutLaws.{both, first_fits, then-fits}
 use Rattle.sheet_writer.specs.Faults.{numbers_some}
 use Rattle.sheet_writer.specs.Texts.{records_text, list_text}
-use borrow.Author.Rules.{rules}
 use Rattle.sheet_writer.proofs.puts.put_list.Goals as goal
 
 pub nonzero_div-numbers : goal.nonzero_div-numbers

@@ -1,7 +1,6 @@
 -- `put_lists` meets its contract, list by list.
 use Rattle.putting.specs.PutLaws.{both, first_fits, then-fits}
 use Rattle.sheet_writer.specs.Texts.{lists_text}
-use borrow.Author.Rules.{rules}
 use Rattle.sheet_writer.proofs.puts.put_lists.Goals as goal
 
 pub put_list-first-requires : goal.put_list-first-requires

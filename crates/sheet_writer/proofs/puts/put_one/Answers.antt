@@ -1,5 +1,4 @@
 -- `put_one` meets its contract.
-use borrow.Author.Rules.{rules}
 use Rattle.sheet_writer.proofs.puts.put_one.Goals as goal
 
 pub returns : goal.returns

@@ -1,7 +1,6 @@
 -- `put_position` meets its contract, one coordinate after another.
 use Rattle.putting.specs.PutLaws.{both, first_fits, then-fits}
 use Rattle.sheet_writer.specs.TextLaws.{position_pieces, fits_as, put_as}
-use borrow.Author.Rules.{rules}
 use Rattle.sheet_writer.proofs.puts.put_position.Goals as goal
 
 pub put_coordinate-first-requires : goal.put_coordinate-first-requires

@@ -1,5 +1,4 @@
 -- `put_record` meets its contract: it goes by the sort of the record.
-use borrow.Author.Rules.{rules}
 use native.Mathlib.Omega.{arith}
 use Rattle.sheet_writer.proofs.puts.put_record.Goals as goal
 

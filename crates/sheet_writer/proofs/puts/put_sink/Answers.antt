@@ -1,7 +1,6 @@
 -- `put_sink` meets its contract: its endpoint, then its tail limit.
 use Rattle.putting.specs.PutLaws.{both, first_fits, then-fits}
 use Rattle.sheet_writer.specs.TextLaws.{sink_pieces, fits_as, put_as}
-use borrow.Author.Rules.{rules}
 use Rattle.sheet_writer.proofs.puts.put_sink.Goals as goal
 
 pub put_endpoint-ended-requires : goal.put_endpoint-ended-requires

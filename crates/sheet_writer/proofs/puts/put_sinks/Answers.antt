@@ -1,7 +1,6 @@
 -- `put_sinks` meets its contract: the count, then the sinks.
 use Rattle.putting.specs.PutLaws.{both, first_fits, then-fits}
 use Rattle.sheet_writer.specs.Texts.{sinks_text}
-use borrow.Author.Rules.{rules}
 use Rattle.sheet_writer.proofs.puts.put_sinks.Goals as goal
 
 pub put_one-counted-requires : goal.put_one-counted-requires

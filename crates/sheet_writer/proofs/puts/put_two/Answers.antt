@@ -1,5 +1,4 @@
 -- `put_two` meets its contract.
-use borrow.Author.Rules.{rules}
 use Rattle.sheet_writer.proofs.puts.put_two.Goals as goal
 
 pub returns : goal.returns

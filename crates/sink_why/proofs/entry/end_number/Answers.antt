@@ -1,9 +1,8 @@
 -- `end_number` meets its contract: by the end.
-use borrow.Author.Rules.{rules}
 use Rattle.sink_why.proofs.entry.end_number.Goals as goal
 
-pub returns-in-Routed : goal.returns-in-Routed
-returns-in-Routed c = rw c.in-Routed.is
+pub returns-in-Ok : goal.returns-in-Ok
+returns-in-Ok c = rw c.in-Ok.is
 
-pub returns-in-Refused : goal.returns-in-Refused
-returns-in-Refused c = rw c.in-Refused.is
+pub returns-in-Err : goal.returns-in-Err
+returns-in-Err c = rw c.in-Err.is

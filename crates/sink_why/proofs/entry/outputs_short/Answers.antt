@@ -1,6 +1,5 @@
 -- `outputs_short` meets its contract: its tests are the definition's.
 use Rattle.basics.specs.Tests.{test_fails, test-passes}
-use borrow.Author.Rules.{rules}
 use Rattle.sink_why.proofs.entry.outputs_short.Goals as goal
 
 pub returns-then-not-is_good : goal.returns-then-not-is_good

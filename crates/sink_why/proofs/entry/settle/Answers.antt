@@ -1,7 +1,6 @@
 -- `settle` meets its contract: the outputs are cleared, or stay.
-use mathlib.Core.Path.{refl, sym, ◌∙◌}
+use mathlib.Core.Path.{sym, ◌∙◌}
 use Rattle.sink_why.specs.WhyLaws.{settled_zero, settled-kept}
-use borrow.Author.Rules.{rules}
 use Rattle.sink_why.proofs.entry.settle.Goals as goal
 
 pub returns-then-touches : goal.returns-then-touches

@@ -1,7 +1,7 @@
 -- `tell_front` meets its contract: the front of each buffer is lent on, the branch buffer and the queue whole.
 use mathlib.Core.Path.{sym}
 use native.Mathlib.Omega.{arith}
-use lib.Seq.{length-take-le, length_front}
+use lib.Seq.{length-take-le}
 use Rattle.outset.specs.SetOutLaws.{good-room}
 use Rattle.sink_why.specs.WhyLaws.{regrowable_front}
 use Rattle.sink_why.proofs.entry.tell_front.Goals as goal
@@ -63,5 +63,5 @@ tell_growth-requires-clause-regrowable c = regrowable_front c.requires c.volume-
 pub tell_growth-requires-clause-sink_asks : goal.tell_growth-requires-clause-sink_asks
 tell_growth-requires-clause-sink_asks c = c.requires.asks
 
-pub returns : goal.returns
-returns c = c.tell_growth.ensures
+pub returns-clause-sink_reasoned : goal.returns-clause-sink_reasoned
+returns-clause-sink_reasoned c = c.tell_growth.ensures

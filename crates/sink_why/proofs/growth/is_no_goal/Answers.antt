@@ -1,5 +1,4 @@
 -- `is_no_goal` meets its contract: by the number that is due.
-use borrow.Author.Rules.{rules}
 use Rattle.sink_why.proofs.growth.is_no_goal.Goals as goal
 
 pub returns-in-QueueFull : goal.returns-in-QueueFull

@@ -13,6 +13,6 @@ pub returns-then-routeable_kind : goal.returns-then-routeable_kind
 unfolding obstacle_by
 returns-then-routeable_kind c = rw (eq-eqb _ 0 c.if-class-ne0.false, sym c.routeable_kind.ensures ∙ c.if-routeable_kind.true)
 
-pub returns : goal.returns
+pub returns-else-routeable_kind : goal.returns-else-routeable_kind
 unfolding obstacle_by
-returns c = rw (eq-eqb _ 0 c.if-class-ne0.false, sym c.routeable_kind.ensures ∙ c.if-routeable_kind.false)
+returns-else-routeable_kind c = rw (eq-eqb _ 0 c.if-class-ne0.false, sym c.routeable_kind.ensures ∙ c.if-routeable_kind.false)

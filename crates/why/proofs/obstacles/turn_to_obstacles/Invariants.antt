@@ -12,6 +12,3 @@ use Rattle.why.proofs.obstacles.turn_to_obstacles.Given as goal
 
 abbrev pub invariant-loop-v : goal.invariant-loop-v
 invariant-loop-v l = Turning (λ (k class : ℕ). obstacle_by (an_end l.start l.goal k) (get_or l.kinds k air) class) l.initial.classes l.classes l.v
-
-abbrev pub decreases-loop-v : goal.decreases-loop-v
-decreases-loop-v l = l.n - l.v

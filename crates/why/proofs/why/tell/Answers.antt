@@ -47,4 +47,4 @@ pub tell_walls-requires-clause-room_in_bounds_2 : goal.tell_walls-requires-claus
 tell_walls-requires-clause-room_in_bounds_2 c = let p = c.requires in let e = c.volume-cells.ensures in p.walls-enough
 
 pub returns : goal.returns
-returns c = let T = c.tell_walls in why-told c.requires c.volume-cells.ensures c.fill_obstacles.ensures c.fill_obstacles.auto.obstacles T.new.line T.auto.line T.ensures c.clear_words.ensures c.clear_bytes.ensures
+returns c = let T = c.tell_walls in why-told c.requires c.volume-cells.ensures c.fill_obstacles.ensures c.fill_obstacles.auto.obstacles T.new.line T.auto.line T.ensures c.clear.ensures c.clear-2.ensures

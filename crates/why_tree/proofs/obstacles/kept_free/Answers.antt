@@ -1,13 +1,25 @@
--- `kept_free_lem` meets its contract: its tests are the definition's.
+-- `kept_free` meets its contract: its tests are the definition's.
+use mathlib.Core.Bool.{Bool, true, false}
+use mathlib.Core.Path.{◌≡◌, sym, ◌∙◌}
+use borrow.Author.Tests.{eqb-true, eq-eqb}
 use Rattle.why_tree.proofs.TellingLaws.{kept-other, kept-unblocked, kept-blocked}
-use borrow.Author.Rules.{rules}
 use Rattle.why_tree.proofs.obstacles.kept_free.Goals as goal
+use Rattle.why_tree.proofs.obstacles.kept_free.Goals.{then-kinds-cell-eq-AIR, else-kinds-cell-eq-AIR}
 
-pub returns-then-kinds-cell-ne-AIR : goal.returns-then-kinds-cell-ne-AIR
-returns-then-kinds-cell-ne-AIR c = let a = c.args in kept-other a.kinds.now a.blocked.now a.joinable.now a.approach a.cell c.if-kinds-cell-ne-AIR.true
+clash : {b : Bool} → b ≡ false → b ≡ true → ⊥
+clash p q = cc
 
-pub returns-then-blocked-cell-ne-MARKED : goal.returns-then-blocked-cell-ne-MARKED
-returns-then-blocked-cell-ne-MARKED c = let a = c.args in kept-unblocked a.kinds.now a.blocked.now a.joinable.now a.approach a.cell c.if-blocked-cell-ne-MARKED.true
+pub returns-then-blocked-cell-eq-MARKED : goal.returns-then-blocked-cell-eq-MARKED
+returns-then-blocked-cell-eq-MARKED c =
+    let a = c.args in elim c.if-kinds-cell-eq-AIR.branch [
+      | then-kinds-cell-eq-AIR w ↦ kept-blocked a.kinds.now a.blocked.now a.joinable.now a.approach a.cell w.if-kinds-cell-eq-AIR.true (eqb-true _ _ (sym w.value-is ∙ c.if-blocked-cell-eq-MARKED.true)) c.is_exempt.ensures
+      | else-kinds-cell-eq-AIR w ↦ absurd (w.if-kinds-cell-eq-AIR.false (eqb-true _ _ (sym w.value-is ∙ c.if-blocked-cell-eq-MARKED.true)))
+    ]
 
-pub returns : goal.returns
-returns c = let a = c.args in kept-blocked a.kinds.now a.blocked.now a.joinable.now a.approach a.cell c.if-kinds-cell-ne-AIR.false c.if-blocked-cell-ne-MARKED.false c.is_exempt.ensures
+pub returns-else-blocked-cell-eq-MARKED : goal.returns-else-blocked-cell-eq-MARKED
+returns-else-blocked-cell-eq-MARKED c =
+    let a = c.args in
+    elim c.if-kinds-cell-eq-AIR.branch [
+      | then-kinds-cell-eq-AIR w ↦ c.if-blocked-cell-eq-MARKED.false ∙ kept-unblocked a.kinds.now a.blocked.now a.joinable.now a.approach a.cell (λ e. clash (sym w.value-is ∙ c.if-blocked-cell-eq-MARKED.false) (eq-eqb _ _ e))
+      | else-kinds-cell-eq-AIR w ↦ c.if-blocked-cell-eq-MARKED.false ∙ kept-other a.kinds.now a.blocked.now a.joinable.now a.approach a.cell w.if-kinds-cell-eq-AIR.false
+    ]

@@ -1,16 +1,10 @@
 -- `reaches_none` meets its contract. The loop's invariant: none of the cells below v is reached and joinable.
-use native.Mathlib.Omega.{arith}
-use mathlib.Core.Path.{sym, ap, ◌∙◌}
-use mathlib.Core.Bool.{Bool, not}
-use Prim.Native.Nat.{ℕ, ◌-◌}
+use mathlib.Core.Bool.{not}
+use Prim.Native.Nat.{ℕ}
 use lib.ListN.{length, get_or}
 use Rattle.why_tree.specs.Telling.{joined_by}
-use Rattle.why_tree.proofs.TellingLaws.{PassedSoFar, passed_none, passed-next, passed-all, below_fails}
-use borrow.Author.Rules.{rules}
+use Rattle.why_tree.proofs.TellingLaws.{PassedSoFar}
 use Rattle.why_tree.proofs.sink.reaches_none.Given as goal
 
 abbrev pub invariant-loop-v : goal.invariant-loop-v
 invariant-loop-v l = PassedSoFar (λ (k : ℕ). not (joined_by (get_or l.reached k 0) (get_or l.joinable k 0))) (length l.joinable) l.v
-
-abbrev pub decreases-loop-v : goal.decreases-loop-v
-decreases-loop-v l = l.n - l.v

@@ -3,7 +3,6 @@ use mathlib.Core.Path.{sym, ◌∙◌}
 use native.Mathlib.Omega.{arith}
 use Rattle.basics.specs.Tests.{test_fails, test-passes}
 use Rattle.why_tree.proofs.TellingLaws.{told-taken, told-shut, told_open}
-use borrow.Author.Rules.{rules}
 use Rattle.why_tree.proofs.sink.tell_sink.Goals as goal
 
 pub fill_obstacles-requires-clause-turn_fits : goal.fill_obstacles-requires-clause-turn_fits
@@ -42,5 +41,5 @@ returns-then-reaches_none c = told-shut c.requires c.fill_obstacles.ensures c.te
 pub open_verdict-requires : goal.open_verdict-requires
 open_verdict-requires c = c.requires.fits.good
 
-pub returns : goal.returns
-returns c = told_open c.requires c.fill_obstacles.ensures c.tell_walls.ensures (test-passes c.routeable_kind.ensures c.if-not-routeable_kind.false-raw) (sym c.reaches_none.ensures ∙ c.if-reaches_none.false) c.open_verdict.ensures
+pub returns-else-reaches_none : goal.returns-else-reaches_none
+returns-else-reaches_none c = told_open c.requires c.fill_obstacles.ensures c.tell_walls.ensures (test-passes c.routeable_kind.ensures c.if-not-routeable_kind.false-raw) (sym c.reaches_none.ensures ∙ c.if-reaches_none.false) c.open_verdict.ensures

@@ -1,9 +1,0 @@
--- `covers` is safe and ends: fewer places are left.
-use Rattle.std.proofs.Common.{◌-◌, rules}
-use Rattle.replay_sheets.proofs.judging.covers.Given as goal
-
-abbrev pub invariant-loop-i : goal.invariant-loop-i
-invariant-loop-i l = Unit {0}
-
-abbrev pub decreases-loop-i : goal.decreases-loop-i
-decreases-loop-i l = l.i-end - l.i
