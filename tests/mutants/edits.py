@@ -4,8 +4,13 @@ from dataclasses import dataclass
 from pathlib import Path
 
 CODE_OTHERS = {"<": ["<="], "<=": ["<"], ">": [">="], ">=": [">"], "==": ["!="], "!=": ["=="], "&&": ["||"], "||": ["&&"],
-               "+": ["-"], "-": ["+"], "*": ["+"], "/": ["*"], "%": ["/"], "+=": ["-="], "-=": ["+="]}
+               "+": ["-"], "-": ["+"], "*": ["+"], "/": ["*"], "%": ["/"], "+=": ["-="], "-=": ["+="], "|=": ["&="], "&=": ["|="]}
 CODE_WORDS = {"true": ["false"], "false": ["true"]}
+CODE_METHODS = {"min": "max", "max": "min", "any": "all", "all": "any", "is_some": "is_none", "is_none": "is_some", "is_ok": "is_err",
+                "is_err": "is_ok"}
+# the parts of a chain of calls that may be left out, and those behind which one more may stand
+LEFT_OUT = {"skip", "take", "rev", "filter", "min", "max"}
+PASSED_OVER = {"iter", "iter_mut"}
 DEFINITION_OTHERS = {"≤": ["<"], "<": ["≤"], "&&": ["||"], "||": ["&&"], "+": ["-", "*"], "-": ["+"], "*": ["+"], "≡": ["≤"]}
 DEFINITION_WORDS = {"ltb": ["leb"], "leb": ["ltb"], "eqb": ["leb", "ltb"], "true": ["false"], "false": ["true"]}
 # the definitions whose arguments may change places and still be of the same kinds
@@ -41,8 +46,8 @@ def word_edits(line, first, last, words):
 
 
 def constant_edits(line, first, last):
-    """One more and one less. A number behind a dot or before `=` is a field's name."""
-    for match in re.finditer(r"(?<![\w.·-])\d+(?=(?:u8|u16|u32|u64|usize)?(?![\w·-]))(?! = )", line[:last]):
+    """One more and one less. A number behind a single dot or before `=` is a field's name."""
+    for match in re.finditer(r"(?:(?<![\w.·-])|(?<=\.\.))\d+(?=(?:u8|u16|u32|u64|usize)?(?![\w·-]))(?! = )", line[:last]):
         if match.start() >= first:
             for other in {int(match[0]) + 1, max(int(match[0]) - 1, 0)} - {int(match[0])}:
                 yield "constant", replaced(line, *match.span(), str(other))
@@ -56,11 +61,54 @@ def denial_edits(line, first, last):
 
 def argument_edits(line, first, last):
     """Two neighbours among a call's arguments change places."""
-    for match in re.finditer(r"\b\w+\(([^()]+)\)", line[:last]):
+    for match in re.finditer(r"\b\w+(?:::<\w+>)?\(([^()]+)\)", line[:last]):
         given = match[1].split(", ")
         for at in range(len(given) - 1) if match.start() >= first else []:
             changed = given[:at] + [given[at + 1], given[at]] + given[at + 2:]
             yield "arguments", replaced(line, *match.span(1), ", ".join(changed))
+
+
+def range_edits(line, first, last):
+    """A range with its last number or without it, and without the first place of all. Dots behind a space are a struct's other fields."""
+    for match in re.finditer(r"(?<=[\w)\[])\.\.(=?)(?=[\w(])", line[:last]):
+        if match.start() >= first:
+            yield "range", replaced(line, *match.span(), ".." if match[1] else "..=")
+            if line[match.start() - 1] == "[":
+                yield "range", replaced(line, match.start(), match.start(), "1")
+    match = re.match(r" *for .+ in &(?:mut )?[\w.:]+(?= \{)", line[:last])
+    if match and match.end() > first:
+        yield "range", replaced(line, match.end(), match.end(), "[1..]")
+
+
+def option_edits(line, first, last):
+    """Nothing, where something is answered."""
+    match = re.fullmatch(r"( *(?:return )?)Some\(.+\)(;?)", line[:last])
+    if match and match.start() >= first:
+        yield "option", f"{match[1]}None{match[2]}"
+
+
+def behind_call(line, at):
+    """The place behind a call whose bracket opens at `at`, or None where it closes on another line."""
+    depth = 0
+    for place in range(at, len(line)):
+        depth += {"(": 1, ")": -1}.get(line[place], 0)
+        if depth == 0:
+            return place + 1
+    return None
+
+
+def method_edits(line, first, last):
+    """A method for its neighbour, a chain of calls without one of them, and one that passes over its first item."""
+    for match in re.finditer(r"\.(\w+)\(", line[:last]):
+        end = behind_call(line, match.end() - 1)
+        if match.start() < first or end is None:
+            continue
+        if match[1] in CODE_METHODS:
+            yield "method", replaced(line, *match.span(1), CODE_METHODS[match[1]])
+        if match[1] in LEFT_OUT:
+            yield "method", replaced(line, match.start(), end, "")
+        if match[1] in PASSED_OVER:
+            yield "method", replaced(line, end, end, ".skip(1)")
 
 
 def sides_edits(line, first, last):
@@ -102,6 +150,20 @@ def answer_edits(lines, place):
             yield "answer", f"{match[1]}{counted[1]};"
 
 
+def arm_at(lines, place):
+    """The indent, the pattern and the answer of an arm of a `match` that stands on one line, or None."""
+    return re.fullmatch(r"( +)(.+?) => (.+),", lines[place]) if 0 <= place < len(lines) else None
+
+
+def arm_edits(lines, place):
+    """An arm with the answer of the arm beside it, where that uses no name of its own pattern."""
+    arm = arm_at(lines, place)
+    for beside in filter(None, [arm_at(lines, place - 1), arm_at(lines, place + 1)] if arm else []):
+        own = set(re.findall(r"\b[a-z]\w*\b(?!::)", beside[2]))
+        if arm[1] == beside[1] and not own & set(re.findall(r"\w+", beside[3])):
+            yield "arm", f"{arm[1]}{arm[2]} => {beside[3]},"
+
+
 # ---- edits of a file
 
 def code_edits(line):
@@ -114,6 +176,9 @@ def code_edits(line):
     yield from constant_edits(line, first, last)
     yield from denial_edits(line, first, last)
     yield from argument_edits(line, first, last)
+    yield from range_edits(line, first, last)
+    yield from option_edits(line, first, last)
+    yield from method_edits(line, first, last)
     yield from sides_edits(line, first, last)
 
 
@@ -142,7 +207,7 @@ def edits_of(root, file):
     found = set()
     for place, line in enumerate(lines):
         if Path(file).suffix == ".rt":
-            edits = [*code_edits(line), *answer_edits(lines, place)]
+            edits = [*code_edits(line), *answer_edits(lines, place), *arm_edits(lines, place)]
         else:
             edits = definition_edits(line, imported)
         found.update(Edit(file, place + 1, kind, line, new) for kind, new in edits if new != line)

@@ -1,13 +1,55 @@
--- Laws of the writer: the terminal added, a part moved before another, a branch put in between.
-use Rattle.std.specs.Prelude.{◌≡◌, ℕ, suc, ◌+◌, ◌-◌, ◌≤◌, ◌<◌, get_or, take, drop, set}
-use Rattle.std.proofs.Common.{sym, ◌∙◌, arith, length-drop, drop_of_length-le, drop-cons, drop-drop, take-add, length-take-le, take_at, drop_at, eq-eqb, ne_eqb}
+-- Laws of the writer: a path written from its end, the terminal added, a part moved before another, a branch put in between.
+use Rattle.std.specs.Prelude.{◌≡◌, refl, ℕ, suc, ◌+◌, ◌-◌, ◌≤◌, ◌<◌, get_or, take, drop, set}
+use Rattle.std.proofs.Common.{sym, ◌∙◌, arith, length-drop, length-set, drop_of_length-le, drop-cons, drop-drop, take-add, length-take-le, take_at, drop_at, eq-eqb, ne_eqb}
 use Rattle.std.proofs.Math.Path.{ap}
-use mathlib.Core.List.{List, [], ◌∷◌, ◌++◌, reverse, append_assoc, append-nil}
+use mathlib.Core.List.{List, [], ◌∷◌, ◌++◌, reverse, append_assoc, append-nil, reverse-cons, reverse-append, reverse-reverse}
 use Rattle.std.proofs.Math.ListN.{length, length-append}
 use Rattle.std.proofs.lemmas.List.{length-reverse, set_at}
-use Rattle.std.proofs.Math.Seq.{append_snoc, take-length}
+use Rattle.std.proofs.Math.Seq.{drop-length, append_snoc, take-length}
+use Rattle.basics.specs.Lists.{drop_next}
 use Rattle.ends.specs.declared.Tap.{Tap}
 use Rattle.branches.specs.Branches.{terminal_added, branch_of, branch_length, inserted}
+
+-- ---- a path written from its end
+
+pub record Reversing (path start : List ℕ) (i : ℕ) (out : List ℕ) : Type 0 where
+  pub so_far : i ≤ length path
+  pub is : out ≡ reverse (drop (length path - i) path) ++ drop i start
+  pub kept : length out ≡ length start
+
+pub reversing_none : (path start : List ℕ) → Reversing path start 0 start
+reversing_none path start =
+    let z : length path - 0 ≡ length path = omega arith in
+    record { so_far = omega arith; is = sym (ap (λ l. reverse l ++ start) (ap (λ n. drop n path) z ∙ drop-length path)); kept = refl }
+
+module _ {path start out : List ℕ} {i : ℕ} (fits : length path ≤ length start) (R : Reversing path start i out) where
+  pub reversing_next : i < length path → Reversing path start (i + 1) (set out i (get_or path (length path - 1 - i) 0))
+  reversing_next h =
+      let j : ℕ = length path - (i + 1) in
+      let x : ℕ = get_or path j 0 in
+      let p : List ℕ = reverse (drop (length path - i) path) in
+      let b : suc j ≡ length path - i = omega arith in
+      let a : length path - 1 - i ≡ j = omega arith in
+      let n : length p ≡ i = length-reverse (drop (length path - i) path) ∙ length-drop (length path - i) path ∙ omega (arith, R.so_far) in
+      let more : reverse (drop j path) ≡ p ++ (x ∷ []) =
+      ap reverse (drop-cons path j 0 (omega arith) ∙ ap (λ m. x ∷ drop m path) b) ∙ reverse-cons x (drop (length path - i) path) in
+      let rest : drop i start ≡ get_or start i 0 ∷ drop (i + 1) start = drop_next start i 0 (omega arith) in
+      record {
+        so_far = omega arith;
+        is =
+            ap (λ m. set out i (get_or path m 0)) a
+            ∙ ap (λ l. set l i x) (R.is ∙ ap (λ l. p ++ l) rest)
+            ∙ set_at p (get_or start i 0) (drop (i + 1) start) x i n
+            ∙ sym (append_snoc p x (drop (i + 1) start))
+            ∙ ap (λ l. l ++ drop (i + 1) start) (sym more);
+        kept = length-set out i (get_or path (length path - 1 - i) 0) ∙ R.kept;
+      }
+
+  pub reversing_done : length path ≤ i → out ≡ reverse path ++ drop (length path) start
+  reversing_done h =
+      let e : i ≡ length path = omega (arith, R.so_far) in
+      let z : length path - length path ≡ 0 = omega arith in
+      R.is ∙ rw (e, z)
 
 -- ---- the terminal added
 
@@ -54,6 +96,21 @@ part_to_end l n = ap (λ m. take m (drop n l)) (sym (length-drop n l)) ∙ take-
 
 none-behind : (l : List ℕ) (n : ℕ) → drop (length l - n) (drop n l) ≡ []
 none-behind l n = let e : length (drop n l) ≤ length l - n = omega (arith, length-drop n l) in drop_of_length-le (drop n l) e
+
+pub rotated : (cells : List ℕ) (mid : ℕ) → mid ≤ length cells → (front back whole halves turned : List ℕ)
+    → front ≡ reverse (take mid cells) → halves ≡ front ++ drop mid cells → back ≡ reverse (take (length halves - mid) (drop mid halves))
+    → turned ≡ take mid halves ++ (back ++ drop (length halves - mid) (drop mid halves)) → whole ≡ reverse turned
+    → whole ≡ drop mid cells ++ take mid cells
+rotated cells mid h front back whole halves turned f a b t w =
+    let x : List ℕ = take mid cells in
+    let y : List ℕ = drop mid cells in
+    let n : length front ≡ mid = ap length f ∙ length-reverse x ∙ length-take-le mid cells h in
+    let d : drop mid halves ≡ y = ap (drop mid) a ∙ drop_at front y mid n in
+    let g : take mid halves ≡ reverse x = ap (take mid) a ∙ take_at front y mid n ∙ f in
+    let k : back ≡ reverse y = b ∙ ap reverse (part_to_end halves mid ∙ d) in
+    let z : drop (length halves - mid) (drop mid halves) ≡ [] = none-behind halves mid in
+    let both : turned ≡ reverse x ++ reverse y = t ∙ (λ i. g i ++ (k i ++ z i)) ∙ ap (λ l. reverse x ++ l) (append-nil (reverse y)) in
+    w ∙ ap reverse both ∙ reverse-append (reverse x) (reverse y) ∙ (λ i. reverse-reverse y i ++ reverse-reverse x i)
 
 moved_before : (p q b t buffer turned : List ℕ) (at m n : ℕ) → length p ≡ at → length q ≡ m → n ≡ m + length b → buffer ≡ p ++ (q ++ (b ++ t))
     → turned ≡ drop m (take n (drop at buffer)) ++ take m (take n (drop at buffer))

@@ -46,9 +46,10 @@ fn write_reversed(path: &[u32], out: &mut [u32])
     requires { length path.now ≤ length out.old }
     ensures { out.new ≡ reverse path.now ++ drop (length path.now) out.old }
 {
-    let front = &mut out[..path.len()];
-    front.copy_from_slice(path);
-    front.reverse();
+    let n = path.len();
+    for i in 0..n {
+        out[i] = path[n - 1 - i];
+    }
 }
 
 // Writes one branch to the front of what is left of the branch buffer.
@@ -64,6 +65,17 @@ fn write_branch(path: &[u32], tap: Tap, out: &mut [u32])
     }
 }
 
+// The cells from `mid` on come first, then those up to it: each part is reversed, and then the whole. Not by `rotate_left`,
+// which calls `memmove`: the archive for C needs `memset` and `memcpy` alone.
+fn rotate(cells: &mut [u32], mid: usize)
+    requires { mid ≤ length cells.old }
+    ensures { cells.new ≡ drop mid cells.old ++ take mid cells.old }
+{
+    cells[..mid].reverse();
+    cells[mid..].reverse();
+    cells.reverse();
+}
+
 // "Each branch goes into what is left of the branch buffer and is at last in sheet order": of the `used` cells those from `at`
 // on belong to later sinks, and the new branch moves before them.
 pub fn insert_branch(branches: &mut [u32], at: usize, used: usize, path: &[u32], tap: Tap)
@@ -74,7 +86,7 @@ pub fn insert_branch(branches: &mut [u32], at: usize, used: usize, path: &[u32],
 {
     write_branch(path, tap, &mut branches[used..]);
     let end = used + branch_length(path.len(), tap);
-    branches[at..end].rotate_left(used - at);
+    rotate(&mut branches[at..end], used - at);
 }
 
 // Marks these cells, among which one may stand twice.

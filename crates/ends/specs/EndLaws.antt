@@ -25,6 +25,7 @@ use Rattle.ends.specs.declared.Tap.{Tap}
 use Rattle.ends.specs.declared.Taps.{Taps}
 use Rattle.ends.specs.declared.Fault.{Fault}
 use Rattle.ends.specs.declared.Ends.{Ends}
+use Rattle.ends.specs.declared.Unrealized.{Unrealized}
 use Rattle.ends.specs.Ends.{sinks_in, source_end, sink_end, due_for, is_due, first_due, ends_at, no_tap, tap_of, taps_of, tap_from, without_approach, terminal_in, fault_number, fault_by, fault_of, ends_of, unless, realized_ends, taps_in, TapsInside, NetInside}
 
 module _ {R : Room} {k : Sinks} (S : SinkList R k) where
@@ -142,30 +143,31 @@ ends_is R e es q r = λ i. record { source = q i; taps = r i }
 
 module _ (R : Room) (e : Endpoint) (es : List Sink) where
   -- where no number is due, `realize_ends` gives the ends
-  pub ends_realized : fault_of R e es ≡ None → {r : Result Ends Fault} → r ≡ realized_ends R e es → r ≡ Ok (ends_of R e es)
+  pub ends_realized : fault_of R e es ≡ None → {r : Result Ends Unrealized} → r ≡ realized_ends R e es → r ≡ Ok (ends_of R e es)
   ends_realized f is = is ∙ ap (λ x. unless x (ends_of R e es)) f
 
   pub realized-good : {f : Option Fault} → f ≡ fault_of R e es → f ≡ None → {E : Ends} → E ≡ ends_of R e es → Ok E ≡ realized_ends R e es
   realized-good p n q = ap Ok q ∙ ap (λ x. unless x (ends_of R e es)) (sym n ∙ p)
 
-  pub realized-fault : {f : Option Fault} → f ≡ fault_of R e es → {x : Fault} → f ≡ Some x → Err x ≡ realized_ends R e es
-  realized-fault p n = ap (λ x. unless x (ends_of R e es)) (sym n ∙ p)
+  pub realized-fault : {f : Option Fault} → f ≡ fault_of R e es → {x : Fault} → f ≡ Some x → {E : Ends} → E ≡ ends_of R e es
+      → Err (record { fault = x; ends = E }) ≡ realized_ends R e es
+  realized-fault p n {E} q = ap (λ y. unless y E) (sym n ∙ p) ∙ ap (unless (fault_of R e es)) q
 
--- what its answer tells: the ends, and no number is due, or what is wrong
+-- what its answer tells: the ends, and no number is due, or what is wrong, and the ends that are good
 told_ends : (f : Option Fault) (E : Ends) {e : Ends} → Ok e ≡ unless f E → (f ≡ None) × (e ≡ E)
 told_ends None E q = (refl, cc)
 told_ends (Some x) E q = never (cc)
 
-told_fault : (f : Option Fault) (E : Ends) {x : Fault} → Err x ≡ unless f E → f ≡ Some x
+told_fault : (f : Option Fault) (E : Ends) {x : Unrealized} → Err x ≡ unless f E → (f ≡ Some x.fault) × (x.ends ≡ E)
 told_fault None E q = never (cc)
-told_fault (Some y) E q = cc
+told_fault (Some y) E {x} q = let same : x ≡ record { fault = y; ends = E } = cc in (ap (λ z. Some z.fault) (sym same), ap (λ z. z.ends) same)
 
-module _ (R : Room) (e : Endpoint) (es : List Sink) {r : Result Ends Fault} (is : r ≡ realized_ends R e es) where
+module _ (R : Room) (e : Endpoint) (es : List Sink) {r : Result Ends Unrealized} (is : r ≡ realized_ends R e es) where
   pub ends-told : {E : Ends} → r ≡ Ok E → (fault_of R e es ≡ None) × (E ≡ ends_of R e es)
   ends-told q = told_ends _ _ (sym q ∙ is)
 
-  pub fault-told : {x : Fault} → r ≡ Err x → fault_of R e es ≡ Some x
-  fault-told q = told_fault _ (ends_of R e es) (sym q ∙ is)
+  pub fault-told : {x : Unrealized} → r ≡ Err x → (fault_of R e es ≡ Some x.fault) × (x.ends ≡ ends_of R e es)
+  fault-told q = told_fault _ _ (sym q ∙ is)
 
 -- ---- a net whose ends no number refuses
 

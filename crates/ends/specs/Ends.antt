@@ -18,6 +18,7 @@ use Rattle.ends.specs.declared.Tap.{Tap}
 use Rattle.ends.specs.declared.Taps.{Taps}
 use Rattle.ends.specs.declared.Ends.{Ends}
 use Rattle.ends.specs.declared.Fault.{Fault}
+use Rattle.ends.specs.declared.Unrealized.{Unrealized}
 
 -- the sinks in use, of those that travel as one value
 abbrev pub sinks_in : Sinks → List Sink
@@ -98,17 +99,17 @@ fault_by None None = None
 unfoldable pub fault_of : Room → Endpoint → List Sink → Option Fault
 fault_of R source sinks = fault_by (first_due EndFault.NoFacing 0 (ends_at R source sinks)) (first_due EndFault.Outside 0 (ends_at R source sinks))
 
--- the ends of one net, where no number is due for them
+-- the ends of one net: zeros for each of which a number is due
 unfoldable pub ends_of : Room → Endpoint → List Sink → Ends
 ends_of R source sinks = record { source = terminal_in (source_end R source); taps = taps_of R sinks }
 
--- these ends, unless there is a fault
-abbrev pub unless : Option Fault → Ends → Result Ends Fault
-unless (Some fault) ends = Err fault
+-- these ends, or a fault beside them
+abbrev pub unless : Option Fault → Ends → Result Ends Unrealized
+unless (Some fault) ends = Err (record { fault = fault; ends = ends })
 unless None ends = Ok ends
 
--- the ends of one net, or number 8 or 9: what `realize_ends` promises
-abbrev pub realized_ends : Room → Endpoint → List Sink → Result Ends Fault
+-- the ends of one net, or number 8 or 9 and the ends that are good: what `realize_ends` promises
+abbrev pub realized_ends : Room → Endpoint → List Sink → Result Ends Unrealized
 realized_ends R source sinks = unless (fault_of R source sinks) (ends_of R source sinks)
 
 -- ---- what the functions ask

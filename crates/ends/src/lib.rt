@@ -52,6 +52,14 @@ pub struct Ends {
     pub taps: Taps,
 }
 
+// What is told of a net where a number is due for one of its ends: the fault, and all of the ends, with zeros for each of
+// which 8 or 9 is due.
+#[derive(Clone, Copy)]
+pub struct Unrealized {
+    pub fault: Fault,
+    pub ends: Ends,
+}
+
 // A source has no approach.
 fn source_end(room: Room, source: Endpoint) -> Result<Realized, EndFault>
     requires good { Good room }
@@ -167,18 +175,19 @@ fn fault_of(room: Room, source: Endpoint, sinks: Sinks) -> Option<Fault>
     })
 }
 
-// The ends of one net, or what is wrong with one of them.
-pub fn realize_ends(room: Room, source: Endpoint, sinks: Sinks) -> Result<Ends, Fault>
+// The ends of one net, or what is wrong with one of them, beside those that are good.
+pub fn realize_ends(room: Room, source: Endpoint, sinks: Sinks) -> Result<Ends, Unrealized>
     requires good { Good room }
     requires within { Within room source.at }
     requires sink_list { SinkList room sinks }
     ensures { result ≡ realized_ends room source (sinks_in sinks) }
 {
+    let ends = Ends {
+        source: terminal_in(source_end(room, source)),
+        taps: taps_of(room, sinks),
+    };
     match fault_of(room, source, sinks) {
-        Some(fault) => Err(fault),
-        None => Ok(Ends {
-            source: terminal_in(source_end(room, source)),
-            taps: taps_of(room, sinks),
-        }),
+        Some(fault) => Err(Unrealized { fault, ends }),
+        None => Ok(ends),
     }
 }

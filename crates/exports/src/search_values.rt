@@ -20,13 +20,16 @@ pub fn short_refusal(room: Room, config: RouterConfig) -> Refusal
     Refusal::Buffer
 }
 
-// As many of these values as are lent, and zeros behind them.
+// As many of these values as are lent, and zeros behind them. Not by `copy_from_slice`, which compares addresses: their width is
+// another in a browser, for which the compiled module is compiled once more.
 pub fn write_front(values: &mut [u64], front: &[u64])
     ensures { values.new ≡ filled (take (length values.old) front.now) values.old }
 {
     let count = values.len().min(front.len());
     lent::clear(values);
-    values[..count].copy_from_slice(&front[..count]);
+    for i in 0..count {
+        values[i] = front[i];
+    }
 }
 
 // Writes an answer's seven values, as many of them as are lent, and returns its number. A refusal by 2 to 6 writes nothing.

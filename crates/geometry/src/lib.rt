@@ -115,7 +115,7 @@ fn first_conflict(room: Room, kinds: &[u8], bytes: &[u8], path: &[u32]) -> Optio
     first_pair(room, bytes, path).or_else(|| stair_conflict(room, kinds, bytes, path))
 }
 
-// The conflict of a path with the joinable cells, `Outside` where there is none. Joinable cells among themselves make no
+// The conflict of a path with the joinable cells, `None` where there is none. Joinable cells among themselves make no
 // pair; their marks are as they were when it returns.
 pub fn geometry_conflict(
     room: Room,

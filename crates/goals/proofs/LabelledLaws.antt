@@ -323,8 +323,7 @@ module _ {S : Site} {start : ℕ} {blocked : List ℕ} {K : Option Kept} (F : Ne
     pub fetched_goal : k.goal < volume S.room
     fetched_goal = route-held.0
 
-    -- the kept route's goal comes to it again
-    -- and no queue is full then
+    -- where its searches are made once more, no queue is full
     pub fetched_never : {x : QueueFull} {path : List ℕ} → Tells (attempts max_attempts S start k.goal blocked) (Err x) path → ⊥
     unfolding tried_goal
     fetched_never t =
@@ -332,6 +331,7 @@ module _ {S : Site} {start : ℕ} {blocked : List ℕ} {K : Option Kept} (F : Ne
         (λ m. never (cc (t.is ∙ rw m at route-held.1)))
         (λ f. never (cc (rw f at route-held.1)))
 
+    -- and the kept route's goal comes to it again
     pub fetched_route : {tried : Tried} {path best' : List ℕ} → Tells (attempts max_attempts S start k.goal blocked) tried path → Copies tried path best'
         → Tells (route_to_tree S start blocked) tried best'
     unfolding tried_goal

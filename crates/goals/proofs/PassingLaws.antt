@@ -1,10 +1,11 @@
 -- Laws of passing: a goal whose route can't come before what is kept is passed without a search, and once every goal is passed what is kept is the first
 -- strictly cheapest route, in whatever order they were passed.
-use Rattle.std.specs.Prelude.{◌≡◌, ◌≢◌, true, false, List, ◌++◌, ℕ, ◌+◌, ◌-◌, ◌*◌, ◌≤◌, ◌<◌, eqb, ltb, length, take, drop, Option, Some, None, Result, Ok, Err}
+use Rattle.std.specs.Prelude.{◌≡◌, ◌≢◌, true, false, List, ◌++◌, ℕ, ◌+◌, ◌-◌, ◌*◌, ◌≤◌, ◌<◌, eqb, ltb, length, get_or, take, drop, Option, Some, None, Result, Ok, Err}
 use Rattle.std.proofs.Math.Path.{refl}
 use Rattle.std.proofs.Common.{sym, ap, ◌∙◌, length-append, take_at, length-take-le, eqb-true, ltb-true, ltb-false}
 use native.Mathlib.Omega.{arith}
 use Rattle.std.proofs.lemmas.Bool.{eqb-false}
+use borrow.Author.Tests.{eq-eqb, ne_eqb}
 use Rattle.basics.specs.Tests.{ask, ask_same, ask_less, never}
 use Rattle.room.specs.declared.Room.{Room}
 use Rattle.room.specs.declared.RouterConfig.{RouterConfig}
@@ -25,7 +26,7 @@ use Rattle.goals.proofs.RouteLaws.{same-path, below-failed, KeptBelow, below-kep
 use Rattle.goals.proofs.LeastLaws.{bid_few, tried-least}
 use Rattle.goals.proofs.FullLaws.{best_not_full}
 use Rattle.goals.proofs.GoalLaws.{SameMemory, memory-first, memory-site, memory-next}
-use Rattle.goals.specs.Passing.{least_at, least_cost, precedes, route_of, bid_of, no_bid, bid_to_beat, SmallKept, HoldsRoute, Holds, NotBefore, Yields, Passes, PassesOn, KeepsFirst, Passable, LowestBid, LowerBid, NextBid}
+use Rattle.goals.specs.Passing.{least_at, least_cost, precedes, route_of, bid_of, no_bid, bid_to_beat, SmallKept, HoldsRoute, Holds, NotBefore, Yields, Passes, PassesOn, KeepsFirst, Passable, NextMarked, LowestBid, LowerBid, NextBid}
 
 -- ---- the order
 
@@ -187,6 +188,35 @@ module _ (S : Site) (start : ℕ) (blocked best : List ℕ) (F : NeverFull S sta
   unfolding route_to_tree
   kept-is K H Y = all-passed K H.holds (λ other h. (Y other h).yields) _ refl
 
+-- ---- the next marked cell
+
+-- all from here on and before this cell are unmarked
+pub record Unmarked (marks : List ℕ) (from cell : ℕ) : Type 0 where
+  pub unmarked : (other : ℕ) → from ≤ other → other < cell → is_marked marks other ≡ false
+
+pub unmarked-first : (marks : List ℕ) (from cell : ℕ) → cell ≤ from → Unmarked marks from cell
+unmarked-first marks from cell h = record { unmarked = λ other l m. absurd (omega arith) }
+
+module _ {marks : List ℕ} {from cell : ℕ} (U : Unmarked marks from cell) where
+  pub unmarked-next : get_or marks cell 0 ≢ 1 → Unmarked marks from (cell + 1)
+  unmarked-next d = record {
+    unmarked = λ other l m. ask_same other cell (λ s. rw s (ne_eqb _ _ d)) (λ n. U.unmarked other l (omega (arith, n, m)));
+  }
+
+  pub marked-here : from ≤ cell → cell < length marks → get_or marks cell 0 ≡ 1 → NextMarked marks from (Some cell)
+  marked-here h k m = record {
+    marked = λ c q. let s : cell ≡ c = cc in let here : (from ≤ cell) × (cell < length marks) × (is_marked marks cell ≡ true) = (h, k, eq-eqb _ _ m) in rw s at here;
+    first = λ c q. let s : cell ≡ c = cc in rw s at U.unmarked;
+    none = λ q. never (cc);
+  }
+
+  pub none-marked : length marks ≤ cell → NextMarked marks from None
+  none-marked h = record {
+    marked = λ c q. never (cc);
+    first = λ c q. never (cc);
+    none = λ q other l m. U.unmarked other l (omega (arith, m, h));
+  }
+
 -- ---- whose bid is next
 
 -- no two goals bid the same
@@ -202,21 +232,22 @@ module _ {C : RouterConfig} {R : Room} {joinable : List ℕ} {from : Pos} {low e
   pub next-some : {t : Bid} → LowestBid C R joinable from low end n t → NextBid C R joinable from low end n (Some t)
   next-some {t} L = record { lowest = λ b q. let s : t ≡ b = cc in rw s at L; ended = λ q. never (cc) }
 
-  -- a cell that is not joinable does not bid
-  pub next-skip : {t : Option Bid} → NextBid C R joinable from low end n t → is_marked joinable n ≡ false → NextBid C R joinable from low end (n + 1) t
-  next-skip {t} N f = record {
+  -- cells that are not joinable do not bid
+  pub next-skip : {t : Option Bid} → NextBid C R joinable from low end n t → (m : ℕ) → n ≤ m
+      → ((other : ℕ) → n ≤ other → other < m → is_marked joinable other ≡ false) → NextBid C R joinable from low end m t
+  next-skip {t} N m h none = record {
     lowest = λ b q. let S = N.lowest b q in record {
-      least = λ other h m l. S.least other (lower other h m) m l;
-      others = λ other h m l o. S.others other (lower other h m) m l o;
+      least = λ other i k l. S.least other (lower other i k) k l;
+      others = λ other i k l o. S.others other (lower other i k) k l o;
       its_bid = S.its_bid;
-      below = (omega (arith, S.below.0), S.below.1);
+      below = (omega (arith, S.below.0, h), S.below.1);
       within = S.within;
     };
-    ended = λ q other h m l. N.ended q other (lower other h m) m l;
+    ended = λ q other i k l. N.ended q other (lower other i k) k l;
   }
     where
-      lower : (other : ℕ) → other < n + 1 → is_marked joinable other ≡ true → other < n
-      lower other h m = ask_same other n (λ s. never (cc (sym f ∙ rw s at m))) (λ d. omega (arith, d, h))
+      lower : (other : ℕ) → other < m → is_marked joinable other ≡ true → other < n
+      lower other i k = ask_less other n (λ l. l) (λ o. let f = none other o i in never (cc))
 
 -- one goal more
 module _ (C : RouterConfig) (R : Room) (from : Pos) (low end : ℕ) {n : ℕ} {bid : ℕ} (e : bid ≡ bid_of C R from n) where

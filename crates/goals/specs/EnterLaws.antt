@@ -193,6 +193,39 @@ enterable-filtered (x ∷ xs) = rw (length-filter can_enter (x ∷ xs), sum_by-c
     go true n = refl
     go false n = refl
 
+-- ---- the loop that counts
+
+pub record EnterableCounted (classes : List ℕ) (count v : ℕ) : Type 0 where
+  pub counted : count ≡ enterable_count v classes
+  pub few : count ≤ v
+  pub within : v ≤ length classes
+
+pub enterable-none : (classes : List ℕ) → EnterableCounted classes 0 0
+unfolding sum_below
+enterable-none classes = record { counted = refl; few = omega arith; within = omega arith }
+
+module _ {classes : List ℕ} {count v : ℕ} (E : EnterableCounted classes count v) where
+  one_more : v < length classes → (n : ℕ) → bit (can_enter (get_or classes v 0)) ≡ n → n ≤ 1 → EnterableCounted classes (count + n) (v + 1)
+  unfolding sum_below
+  one_more h n e l = record {
+    counted =
+        let s : v + 1 ≡ suc v = omega arith in
+        let c : count + n ≡ enterable_count v classes + bit (can_enter (get_or classes v 0)) = omega (arith, E.counted) in
+        c ∙ ap (λ (u : ℕ). enterable_count u classes) (sym s);
+    few = omega (arith, E.few);
+    within = omega arith;
+  }
+
+  pub enterable-one : v < length classes → get_or classes v 0 ≢ 0 → EnterableCounted classes (count + 1) (v + 1)
+  enterable-one h n = one_more h 1 (rw (ne_eqb (get_or classes v 0) 0 n)) (omega arith)
+
+  pub enterable-other : v < length classes → get_or classes v 0 ≡ 0 → EnterableCounted classes count (v + 1)
+  enterable-other h z =
+      let m : count + 0 ≡ count = omega arith in rw m at (one_more h 0 (rw (eq-eqb (get_or classes v 0) 0 z)) (omega arith))
+
+  pub enterable-all : length classes ≤ v → count ≡ enterable_count (length classes) classes
+  enterable-all h = let e : v ≡ length classes = omega (arith, E.within) in E.counted ∙ ap (λ (u : ℕ). enterable_count u classes) e
+
 pub enterable-most : (n : ℕ) (classes : List ℕ) → enterable_count n classes ≤ n
 enterable-most n classes = omega (
   arith,

@@ -1,6 +1,6 @@
 -- What the contracts of the functions cite that pass over goals that can't win: what any route costs at least, in what order
 -- routes come, what is kept of the goals that are done, and what a goal that is passed leaves. Definitions alone; that the answer is `route_to_tree` is shown in PassingLaws.
-use Rattle.std.specs.Prelude.{◌≡◌, ◌≢◌, Bool, true, List, ℕ, ◌+◌, ◌-◌, ◌*◌, ◌^◌, ◌≤◌, ◌<◌, min, eqb, ltb, length, take, Option, Some, None, Result, Ok}
+use Rattle.std.specs.Prelude.{◌≡◌, ◌≢◌, Bool, true, false, List, ℕ, ◌+◌, ◌-◌, ◌*◌, ◌^◌, ◌≤◌, ◌<◌, min, eqb, ltb, length, take, Option, Some, None, Result, Ok}
 use Rattle.basics.specs.Tests.{either}
 use Rattle.room.specs.declared.Room.{Room}
 use Rattle.room.specs.declared.Pos.{Pos}
@@ -102,6 +102,12 @@ pub record Passable (S : Site) (start : ℕ) (blocked best : List ℕ) (goal : �
   pub held : Holds S start blocked best K
 
 -- ---- whose bid is next
+
+-- the first marked cell from here on, or none where all from here on are unmarked
+pub record NextMarked (marks : List ℕ) (from : ℕ) (r : Option ℕ) : Type 0 where
+  pub marked : (cell : ℕ) → r ≡ Some cell → (from ≤ cell) × (cell < length marks) × (is_marked marks cell ≡ true)
+  pub first : (cell : ℕ) → r ≡ Some cell → (other : ℕ) → from ≤ other → other < cell → is_marked marks other ≡ false
+  pub none : r ≡ None → (other : ℕ) → from ≤ other → other < length marks → is_marked marks other ≡ false
 
 -- of the joinable cells below n whose bids are `low` or higher: the lowest bid, its goal, and what the others bid at least, which is `end` or lower
 pub record LowestBid (C : RouterConfig) (R : Room) (joinable : List ℕ) (from : Pos) (low end n : ℕ) (t : Bid) : Type 0 where

@@ -16,12 +16,15 @@ fn beats(kept: Option<Found>, cost: Cost) -> bool
     }
 }
 
-// Copies the first cells of one path to the front of another.
+// Copies the first cells of one path to the front of another. Not by `copy_from_slice`, which calls `memmove`: the archive
+// for C needs `memset` and `memcpy` alone.
 pub fn copy_cells(from: &[u32], to: &mut [u32], count: usize)
     requires { (count ≤ length from.now) × (count ≤ length to.old) }
     ensures { to.new ≡ take count from.now ++ drop count to.old }
 {
-    to[..count].copy_from_slice(&from[..count]);
+    for i in 0..count {
+        to[i] = from[i];
+    }
 }
 
 // Of what is kept and what a later goal came to, the cheaper one.

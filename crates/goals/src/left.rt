@@ -96,9 +96,12 @@ fn lower_label(labels: &[u32], lowest: Option<usize>, cell: usize) -> bool
     ensures { LowerLabel labels.now lowest cell result }
 {
     let label = labels[cell];
+    if label == 0 {
+        return false;
+    }
     match lowest {
-        Some(other) => label != 0 && label < labels[other],
-        None => label != 0,
+        Some(other) => label < labels[other],
+        None => true,
     }
 }
 

@@ -8,7 +8,7 @@ ghost use Rattle.goals.specs.Goals.{route_to_tree};
 ghost use Rattle.goals.specs.Trials.{Tells, length_of, site_in, Attemptable};
 ghost use Rattle.goals.specs.NeverFull.{NeverFull};
 ghost use Rattle.goals.specs.Labelled.{KeptInside};
-ghost use Rattle.goals.specs.Passing.{least_at, precedes, route_of, bid_of, bid_to_beat, SmallKept, PassesOn, KeepsFirst, Passable, LowerBid, NextBid};
+ghost use Rattle.goals.specs.Passing.{least_at, precedes, route_of, bid_of, bid_to_beat, SmallKept, PassesOn, KeepsFirst, Passable, NextMarked, LowerBid, NextBid};
 
 use crate::cheapest::copy_cells;
 use crate::goal_by_goal::try_goal;
@@ -91,6 +91,18 @@ fn keep_first(
     }
     copy_cells(path, best, found.length);
     Some(Kept { found, goal })
+}
+
+// The first marked cell from here on, if one is left. A loop of its own, since most cells are unmarked.
+fn next_marked(marks: &[u8], from: usize) -> Option<usize>
+    ensures { NextMarked marks.now from result }
+{
+    for cell in from..marks.len() {
+        if marks[cell] == routing_resources::MARKED {
+            return Some(cell);
+        }
+    }
+    None
 }
 
 // Where a turn's routes begin, and what steps cost there.
@@ -177,10 +189,10 @@ impl Viewpoint {
             return None;
         }
         let mut next = None;
-        for goal in 0..joinable.len() {
-            if joinable[goal] == routing_resources::MARKED {
-                next = self.lower_bid(low, end, next, goal);
-            }
+        let mut cell = 0;
+        while let Some(goal) = next_marked(joinable, cell) {
+            next = self.lower_bid(low, end, next, goal);
+            cell = goal + 1;
         }
         next
     }

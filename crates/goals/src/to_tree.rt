@@ -11,11 +11,18 @@ use crate::{Tried, Turn};
 use ground::Ground;
 use room::RouterConfig;
 
-// How many cells can be entered, by their class bytes.
+// How many cells can be entered, by their class bytes. A counting loop, since the compiler makes it one over several bytes
+// at a time, and no chain of `filter` and `count`.
 fn count_enterable(classes: &[u8]) -> usize
     ensures { result ≡ enterable_count (length classes.now) classes.now }
 {
-    classes.iter().filter(|class| **class != 0).count()
+    let mut count = 0;
+    for class in classes {
+        if *class != 0 {
+            count += 1;
+        }
+    }
+    count
 }
 
 // Whether no search of this turn can find a queue of so many numbers full: a flat step costs at least 10 and a stair at

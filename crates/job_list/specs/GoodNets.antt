@@ -19,6 +19,7 @@ use Rattle.job_sheet.specs.Accepted.{Accepted}
 use Rattle.job_sheet.specs.RecordLaws.{Bytes}
 use Rattle.job_sheet.proofs.Theorems.{accepted-by}
 use Rattle.ends.specs.declared.Fault.{Fault}
+use Rattle.ends.specs.declared.Unrealized.{Unrealized}
 use Rattle.ends.specs.Ends.{sinks_in, fault_of, ends_of, realized_ends}
 use Rattle.outset.specs.SetOut.{number_by}
 use Rattle.ends.specs.declared.Ends.{Ends}
@@ -124,8 +125,8 @@ module _ {M : Memory} {F : Contents} {k : ℕ} {sheet : List ℕ} (G : GoodNet M
     pub good-fault : fault_of job.room job.source (sinks_in job.sinks) ≡ None
     good-fault = accepted-fault A ∙ G.ends
 
-    pub good-ends-told : {r : Result Ends Fault} → r ≡ realized_ends job.room job.source (sinks_in job.sinks) → r ≡ Ok (ends_of job.room job.source (sinks_in job.sinks))
+    pub good-ends-told : {r : Result Ends Unrealized} → r ≡ realized_ends job.room job.source (sinks_in job.sinks) → r ≡ Ok (ends_of job.room job.source (sinks_in job.sinks))
     good-ends-told is = ends_realized job.room job.source (sinks_in job.sinks) good-fault is
 
-    pub good-ends-are : {r : Result Ends Fault} → r ≡ realized_ends job.room job.source (sinks_in job.sinks) → {e : Ends} → r ≡ Ok e → e ≡ ends_of job.room job.source (sinks_in job.sinks)
+    pub good-ends-are : {r : Result Ends Unrealized} → r ≡ realized_ends job.room job.source (sinks_in job.sinks) → {e : Ends} → r ≡ Ok e → e ≡ ends_of job.room job.source (sinks_in job.sinks)
     good-ends-are is q = (ends-told job.room job.source (sinks_in job.sinks) is q).1

@@ -21,13 +21,16 @@ use Rattle.job_sheet.specs.LayoutLaws.{contents-back}
 use Rattle.job_sheet.proofs.FaultLaws.{good-is}
 use Rattle.job_sheet.proofs.ReadLaws.{shaped-is, read-refused, read-accepted, read-nothing}
 use Rattle.job_sheet.proofs.Theorems.{coincide}
+use Rattle.blocks.specs.Blocks.{Placement}
 use Rattle.ends.specs.declared.Ends.{Ends}
 use Rattle.ends.specs.declared.Fault.{Fault}
+use Rattle.ends.specs.declared.Unrealized.{Unrealized}
 use Rattle.ends.specs.Ends.{sinks_in, fault_of, ends_of, realized_ends}
 use Rattle.job_sheet.specs.declared.Judgement.{Judgement}
 use Rattle.job_sheet.specs.declared.Judgement.TheVariants as judgement
 use Rattle.ends.specs.EndLaws.{fault-late, ends-told, fault-told}
 use Rattle.outset.specs.declared.Refusal.{Refusal}
+use Rattle.outset.specs.declared.NotSetOut.{NotSetOut}
 use Rattle.outset.specs.SetOut.{number_by, detail_by, refusal_number, refusal_detail, told_by}
 use Rattle.outset.specs.SetOutLaws.{told-refused, use_of, sinks_in_lem}
 use Rattle.job_list.specs.declared.Memory.{Memory}
@@ -35,7 +38,7 @@ use Rattle.job_list.specs.declared.Due.{Due}
 use Rattle.job_list.specs.declared.Verdict.{Verdict}
 use Rattle.job_list.specs.Split.{sheet_long, first_sheet, behind_first, sheets_in, sheets_of}
 use Rattle.job_list.specs.SplitLaws.{long-most, long-some, sheets_some, sheets_none}
-use Rattle.job_list.specs.Judged.{same_ground, contents_at, net_judgement, memory_good, repeats_in, placed_or_not, due, told_due, ends_told, ends_due, net_due, all_good, refused_at, judged_from, judged_list}
+use Rattle.job_list.specs.Judged.{same_ground, contents_at, net_judgement, memory_good, repeats_in, placed_or_not, due, told_due, refusal_alone, ends_told, ends_due, net_due, all_good, refused_at, judged_from, judged_list}
 
 -- ---- number 6
 
@@ -152,7 +155,7 @@ due-none : (J : Contents) {e : Ends} → ends_told J ≡ Ok e → due done_numbe
 unfolding ends_told ends_due
 due-none K q = go (repeats_in K.room K.blocks) (fault_of K.room K.source K.sinks) (ends_of K.room K.source K.sinks) q
   where
-    go : (repeats : Bool) (f : Option Fault) (E : Ends) {e : Ends} → told_by (placed_or_not repeats) f E ≡ Ok e → due done_number 0 ≡ due (number_by (placed_or_not repeats) f) (detail_by (placed_or_not repeats) f)
+    go : (repeats : Bool) (f : Option Fault) (E : Ends) {e : Ends} → refusal_alone (told_by (placed_or_not repeats) f E) ≡ Ok e → due done_number 0 ≡ due (number_by (placed_or_not repeats) f) (detail_by (placed_or_not repeats) f)
     go true f E q = never (cc)
     go false None E q = refl
     go false (Some fault) E q = never (cc)
@@ -164,12 +167,24 @@ refusal-some : (x : Refusal) → refusal_number x ≢ done_number
 refusal-some (Refusal.Blocks overlap) e = absurd (omega arith)
 refusal-some (Refusal.End fault) e = absurd (omega (arith, (fault-late fault.due).0, e))
 
+-- a refusal alone tells the number that is due, and its detail
+alone-refused : (p : Placement) (f : Option Fault) (e : Ends) {x : Refusal} → refusal_alone (told_by p f e) ≡ Err x
+    → (refusal_number x ≡ number_by p f) × (refusal_detail x ≡ detail_by p f)
+alone-refused p f e {x} q = go (told_by p f e) refl q
+  where
+    go : (t : Result Ends NotSetOut) → told_by p f e ≡ t → refusal_alone t ≡ Err x → (refusal_number x ≡ number_by p f) × (refusal_detail x ≡ detail_by p f)
+    go (Ok ends) r q = never (cc)
+    go (Err told) r q =
+        let t = told-refused p f e (sym r) in
+        let same : x ≡ told.refusal = cc in
+        (ap refusal_number same ∙ t.number-is, ap refusal_detail same ∙ t.detail-is)
+
 pub due-refused : (J : Contents) {x : Refusal} → ends_told J ≡ Err x → {n d : ℕ} → n ≡ refusal_number x → d ≡ refusal_detail x → Err (due n d) ≡ told_due (ends_due J)
 unfolding ends_told ends_due
 due-refused J {x} q {n} {d} a b = told-of here (λ z. refusal-some x (sym a ∙ z))
   where
     here : due n d ≡ ends_due J
-    here = let t = told-refused _ _ _ (sym q) in rw (a, b, t.number-is, t.detail-is)
+    here = let t = alone-refused _ _ _ q in rw (a, b, t.0, t.1)
 
 module _ {s : List ℕ} {job : Job} (A : Accepted s job) where
   here : A.contents ≡ contents_at s
@@ -189,7 +204,7 @@ module _ {s : List ℕ} {job : Job} (A : Accepted s job) where
   told-repeats a t = let r : repeats_in (contents_at s).room (contents_at s).blocks ≡ true = sym (same_repeats a) ∙ t in rw r
 
   module _ {repeats : Bool} (a : repeats ≡ repeats_in job.room (blocks_in s job.blocks)) (t : repeats ≡ false)
-      {r : Result Ends Fault} (is : r ≡ realized_ends job.room job.source (sinks_in job.sinks)) where
+      {r : Result Ends Unrealized} (is : r ≡ realized_ends job.room job.source (sinks_in job.sinks)) where
     apart_here : repeats_in (contents_at s).room (contents_at s).blocks ≡ false
     apart_here = sym (same_repeats a) ∙ t
 
@@ -197,9 +212,9 @@ module _ {s : List ℕ} {job : Job} (A : Accepted s job) where
     unfolding ends_told
     told-good q = let z = ends-told _ _ _ (is ∙ same_realized) q in rw (apart_here, z.0, z.1)
 
-    pub told-end : {x : Fault} → r ≡ Err x → Err (Refusal.End x) ≡ ends_told (contents_at s)
+    pub told-end : {x : Unrealized} → r ≡ Err x → Err (Refusal.End x.fault) ≡ ends_told (contents_at s)
     unfolding ends_told
-    told-end q = rw (apart_here, fault-told _ _ _ (is ∙ same_realized) q)
+    told-end q = rw (apart_here, (fault-told _ _ _ (is ∙ same_realized) q).0)
 
 -- ---- the walk along the list
 

@@ -17,6 +17,7 @@ use Rattle.blocks.specs.Blocks.{Placement, Placed, RepeatAt, block_cell}
 use Rattle.ends.specs.declared.Ends.{Ends}
 use Rattle.ends.specs.Ends.{fault_of, ends_of}
 use Rattle.outset.specs.declared.Refusal.{Refusal}
+use Rattle.outset.specs.declared.NotSetOut.{NotSetOut}
 use Rattle.outset.specs.SetOut.{number_by, detail_by, told_by}
 use Rattle.job_list.specs.declared.Memory.{Memory}
 use Rattle.job_list.specs.declared.Due.{Due}
@@ -78,9 +79,14 @@ due number detail = record { number = number; detail = detail }
 abbrev pub told_due : Due → Result Unit Due
 told_due d = either (eqb d.number done_number) (Ok tt) (Err d)
 
+-- the refusal alone, of what is told where no tree is set out
+abbrev pub refusal_alone : Result Ends NotSetOut → Result Ends Refusal
+refusal_alone (Ok ends) = Ok ends
+refusal_alone (Err told) = Err told.refusal
+
 -- "7, all of 8, all of 9": the ends of a net, or the first of these
 unfoldable pub ends_told : Contents → Result Ends Refusal
-ends_told J = told_by (placed_or_not (repeats_in J.room J.blocks)) (fault_of J.room J.source J.sinks) (ends_of J.room J.source J.sinks)
+ends_told J = refusal_alone (told_by (placed_or_not (repeats_in J.room J.blocks)) (fault_of J.room J.source J.sinks) (ends_of J.room J.source J.sinks))
 
 -- that number and its detail
 unfoldable pub ends_due : Contents → Due

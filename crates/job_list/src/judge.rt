@@ -32,7 +32,10 @@ fn ends_refused(sheet: &[u8], job: Job) -> Result<Ends, Refusal>
     if ground::cell_repeats(sheet, job.blocks, job.room) {
         return Err(Refusal::Blocks(Overlap { cell: 0 }));
     }
-    Ok(ends::realize_ends(job.room, job.source, job.sinks)?)
+    match ends::realize_ends(job.room, job.source, job.sinks) {
+        Ok(ends) => Ok(ends),
+        Err(unrealized) => Err(Refusal::End(unrealized.fault)),
+    }
 }
 
 // The number of that, and its detail.

@@ -1,15 +1,18 @@
 -- Laws of supports: how the loops over a mask's cells and over the sinks go, and the tests of a support's kind in turn.
 use Rattle.std.specs.Prelude.{◌≡◌, refl, ◌≢◌, Bool, true, false, ◌||◌, List, ℕ, ◌+◌, ◌/◌, ◌≤◌, ◌<◌, length, get_or, drop, Option, Some, None}
-use Rattle.std.proofs.Common.{sym, ap, ◌∙◌, arith, drop_of_length-le, eq-eqb, ne_eqb}
+use Rattle.std.proofs.Common.{sym, ap, ◌∙◌, arith, drop_of_length-le, length-take-le, eq-eqb, ne_eqb}
 use Rattle.basics.specs.Lists.{any, drop_next}
 use Rattle.room.specs.declared.Room.{Room}
 use Rattle.room.specs.declared.Pos.{Pos}
 use Rattle.room.specs.Room.{holds_at}
 use Rattle.room.specs.Units.{solid, transparent}
 use Rattle.ends.specs.declared.Tap.{Tap}
+use Rattle.ends.specs.declared.Taps.{Taps}
+use Rattle.ends.specs.Ends.{taps_in}
 use Rattle.repeaters.specs.Links.{ordered_moves, ordered_move, linked_place, cons_place, cells_by}
 use Rattle.repeaters.specs.LinkLaws.{cells_left, cells-more, cells-none}
 use Rattle.laying.specs.Laying.{stair_end, powered_at, support_kind}
+use Rattle.laying.specs.Layable.{TapsHeld}
 
 -- ---- one member after another is asked
 
@@ -33,6 +36,10 @@ module _ {X : Type 0} (p : X → Bool) (l : List X) where
 
     pub asked-none : length l ≤ i → false ≡ any p l
     asked-none h = sym (ap (any p) (drop_of_length-le l h)) ∙ I.left
+
+-- the taps in use are as many as are counted
+pub taps-there : {T : Taps} → TapsHeld T → length (taps_in T) ≡ T.count
+taps-there {T} H = length-take-le T.count T.taps (omega (arith, H.few, H.whole))
 
 -- ---- one bit of a mask after another
 

@@ -68,7 +68,8 @@ pub fn support_kind(room: Room, taps: Taps, repeaters: &[u8], links: &[u32], cel
     requires cell_bound { cell < volume room }
     ensures { result ≡ support_kind room (linked_cells room links.now) (taps_in taps) repeaters.now cell }
 {
-    if repeaters[cell] == MARKED || powered_at(taps, cell) || climbs(room, links[cell], cell) {
+    let planned = repeaters[cell] == MARKED;
+    if planned || powered_at(taps, cell) || climbs(room, links[cell], cell) {
         SOLID
     } else {
         TRANSPARENT

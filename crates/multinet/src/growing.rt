@@ -75,17 +75,13 @@ fn grow_sink(
     let found = match tried {
         Ok(found) => found,
         Err(full) => {
-            return Err(Stopped {
-                stop: Stop::QueueFull(full.0),
-                sink,
-            });
+            let stop = Stop::QueueFull(full.0);
+            return Err(Stopped { stop, sink });
         }
     };
     let Some(found) = found else {
-        return Err(Stopped {
-            stop: Stop::NoGoal(tap.approach),
-            sink,
-        });
+        let stop = Stop::NoGoal(tap.approach);
+        return Err(Stopped { stop, sink });
     };
     place_branch(
         ground.room,

@@ -173,10 +173,8 @@ pub fn route_net_tree(
     let reading = sheet_reader::read_sheet(sheet);
     let judgement = reading.judgement;
     if !judgement.is_good() {
-        return Err(Refused {
-            number: judgement.number(),
-            detail: 0,
-        });
+        let number = judgement.number();
+        return Err(Refused { number, detail: 0 });
     }
     let lent_lengths = Lengths {
         branches: branches.len(),
@@ -194,10 +192,8 @@ pub fn route_net_tree(
     };
     let job = reading.job;
     if !lent_enough(job.room, lent_lengths) {
-        return Err(Refused {
-            number: numbers::BUFFER_NUMBER,
-            detail: 0,
-        });
+        let number = numbers::BUFFER_NUMBER;
+        return Err(Refused { number, detail: 0 });
     }
     let mut memory = Memory {
         kinds,

@@ -161,10 +161,10 @@ pub fn route_job(
 {
     let ends = match outset::set_out(sheet, job, kinds, known, blocked) {
         Ok(ends) => ends,
-        Err(refusal) => {
+        Err(told) => {
             return Err(Refused {
-                number: refusal.number(),
-                detail: refusal.detail(),
+                number: told.refusal.number(),
+                detail: told.refusal.detail(),
             });
         }
     };

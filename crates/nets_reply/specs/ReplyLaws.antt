@@ -1,9 +1,11 @@
 -- Laws of the telling: the values written, and that where too few are lent nothing is touched.
-use Rattle.std.specs.Prelude.{◌≡◌, true, false, List, ◌++◌, ℕ, ◌+◌, ◌*◌, ◌≤◌, ◌<◌, leb, length, drop, replicate}
+use Rattle.std.specs.Prelude.{◌≡◌, refl, Bool, true, false, List, ◌++◌, ℕ, ◌+◌, ◌-◌, ◌*◌, ◌≤◌, ◌<◌, leb, length, take, drop, replicate, Ok, Err}
 use Rattle.std.proofs.Common.{sym, ap, ◌∙◌, arith, leb-true, le-leb}
 use Rattle.std.proofs.lemmas.Bool.{lt-leb}
+use Rattle.std.proofs.lemmas.List.{length-replicate}
 use Rattle.basics.specs.Tests.{either, ask, never, and_left, and_right}
-use Rattle.lent.specs.Lent.{touches}
+use Rattle.basics.specs.Zeros.{drop_zeros}
+use Rattle.lent.specs.Lent.{touches, filled}
 use Rattle.room.specs.Room.{volume}
 use Rattle.ground.specs.declared.Mode.{Mode}
 use Rattle.job_list.specs.declared.Verdict.{Verdict}
@@ -12,13 +14,45 @@ use Rattle.list_routing.specs.ListLent.{ListLent}
 use Rattle.list_routing.specs.Walking.{room_of}
 use Rattle.several_nets.specs.Answers.{ListAnswer, memory_of, ListOutcome, ListComes, due, repeated, walked, answer_of, number_told, lent_after, Promise}
 use Rattle.several_nets.specs.FirstLaws.{past_first}
-use Rattle.nets_reply.specs.Reply.{value_count, well_told, lent_told, values_after, NetsTold}
+use Rattle.nets_reply.specs.Reply.{value_count, values_of, well_told, lent_told, values_after, NetsTold}
 
 -- ---- the values
 
 -- cleared before where lent memory is touched
 abbrev pub wiped_by : ℕ → List ℕ → List ℕ
 wiped_by number values = either (touches number) (replicate (length values) 0) values
+
+wiped-same : (values : List ℕ) (t : Bool) → length (either t (replicate (length values) 0) values) ≡ length values
+wiped-same values true = length-replicate {A = ℕ} (length values) 0
+wiped-same values false = refl
+
+pub wiped-long : (number : ℕ) (values : List ℕ) {wiped : List ℕ} → wiped ≡ wiped_by number values → length wiped ≡ length values
+wiped-long number values w = ap length w ∙ wiped-same values (touches number)
+
+three-values : (a : ListAnswer) → length (values_of a) ≡ value_count
+three-values (Ok nets) = refl
+three-values (Err why) = refl
+
+three-taken : (a : ListAnswer) → take value_count (values_of a) ≡ values_of a
+three-taken (Ok nets) = refl
+three-taken (Err why) = refl
+
+pub values-three : (a : ListAnswer) {front : List ℕ} → front ≡ values_of a → length front ≡ value_count
+values-three a e = ap length e ∙ three-values a
+
+-- the three values stand before what was wiped
+module _ (a : ListAnswer) (values : List ℕ) where
+  told-by : (t : Bool) → values_of a ++ drop value_count (either t (replicate (length values) 0) values) ≡ either t (filled (values_of a) values) (values_of a ++ drop value_count values)
+  told-by true = ap (λ l. values_of a ++ l) (drop_zeros value_count (length values) ∙ ap (λ k. replicate (length values - k) 0) (sym (three-values a)))
+  told-by false = refl
+
+  pub values-told : {number : ℕ} {wiped front : List ℕ} → number ≡ number_told a → wiped ≡ wiped_by number values → front ≡ values_of a
+      → take value_count front ++ drop value_count wiped ≡ values_after true a values
+  values-told {wiped = wiped} n w e =
+      ap (λ l. take value_count l ++ drop value_count wiped) e
+      ∙ ap (λ l. l ++ drop value_count wiped) (three-taken a)
+      ∙ ap (λ l. values_of a ++ drop value_count l) (w ∙ ap (λ k. wiped_by k values) n)
+      ∙ told-by (touches (number_told a))
 
 -- ---- too few values
 

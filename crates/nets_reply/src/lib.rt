@@ -42,13 +42,18 @@ fn values_of(answer: Result<usize, NetRefused>) -> [u64; VALUES]
     }
 }
 
-// Writes the values of an answer; behind them zeros, or where lent memory is not touched what was there.
+// Writes the values of an answer; behind them zeros, or where lent memory is not touched what was there. Not by
+// `copy_from_slice`, which compares addresses: their width is another in a browser, for which the compiled module is compiled
+// once more.
 fn write_values(answer: Result<usize, NetRefused>, values: &mut [u64])
     requires { value_count ≤ length values.old }
     ensures { values.new ≡ values_after true answer values.old }
 {
     wipe(number_told(answer), values);
-    values[..VALUES].copy_from_slice(&values_of(answer));
+    let front = values_of(answer);
+    for i in 0..VALUES {
+        values[i] = front[i];
+    }
 }
 
 // A job list, told as numbers, as `several_nets::route_nets`: the number comes back, 0 where all nets are laid; its detail, the

@@ -1,7 +1,7 @@
 -- Laws of what a net of a list keeps off: how the loops mark it, and that the marks come to `blocked_in_list`.
 use Rattle.std.specs.Prelude.{None, ◌≡◌, refl, Bool, true, false, not, ◌&&◌, ◌||◌, ℕ, zero, suc, ◌+◌, ◌-◌, ◌≤◌, ◌<◌, eqb, leb, get_or, take, set}
 use Rattle.std.proofs.Math.Path.{sym, ap, subst}
-use Rattle.std.proofs.Common.{◌∙◌, length-drop, length-set, drop_of_length-le, get_or-set_same, get_or-set_other, ext_get_or, le-leb, eq-eqb, ne_eqb}
+use Rattle.std.proofs.Common.{◌∙◌, length-drop, length-set, drop_of_length-le, length-take-le, get_or-set_same, get_or-set_other, ext_get_or, le-leb, eq-eqb, ne_eqb}
 use mathlib.Core.List.{List, [], ◌∷◌}
 use native.Mathlib.Omega.{arith}
 use Rattle.std.proofs.Math.ListN.{length, drop, get_or-eq_default}
@@ -77,6 +77,7 @@ pub record NetReady (R : Room) (source : ℕ) (L : BranchLengths) (cells marks :
 
 -- those of the first k branches are marked: with those of the others they make all
 pub record MarkingNet (R : Room) (L : BranchLengths) (cells start marks : List ℕ) (from k : ℕ) : Type 0 where
+  pub within : k ≤ L.count
   pub fits : from + sum (drop k (lengths_in L)) ≤ length cells
   pub cells_left : AllIn R (cut_into (drop k (lengths_in L)) (drop from cells))
   pub long : length marks ≡ length start
@@ -84,7 +85,7 @@ pub record MarkingNet (R : Room) (L : BranchLengths) (cells start marks : List �
 
 module _ {R : Room} {source : ℕ} {L : BranchLengths} {cells marks₀ : List ℕ} (N : NetReady R source L cells marks₀) where
   pub net-none : (start : List ℕ) → MarkingNet R L cells start start 0 0
-  net-none start = record { fits = omega (arith, N.branched.within); cells_left = N.cells_in; long = refl; left = refl }
+  net-none start = record { within = omega arith; fits = omega (arith, N.branched.within); cells_left = N.cells_in; long = refl; left = refl }
 
   module _ {start marks : List ℕ} {from k : ℕ} (I : MarkingNet R L cells start marks from k) where
     module _ (h : k < length (lengths_in L)) (to : ℕ) (e : to ≡ from + get_or (lengths_in L) k 0) where
@@ -110,6 +111,7 @@ module _ {R : Room} {source : ℕ} {L : BranchLengths} {cells marks₀ : List �
 
       pub net-next : {marks' : List ℕ} → marks' ≡ marked_by (λ v. branch_clear R v (take (to - from) (drop from cells))) marks → MarkingNet R L cells start marks' to (k + 1)
       net-next {marks'} m = record {
+        within = omega (arith, length-take-le L.count L.each (omega (arith, N.branched.few, N.branched.whole)));
         fits = omega (arith, I.fits, more);
         cells_left = cells-now.1;
         long = ap length m ∙ with_length_lem 1 _ marks ∙ I.long;

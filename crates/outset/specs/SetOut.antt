@@ -10,11 +10,14 @@ use Rattle.job_sheet.specs.Accepted.{Accepted}
 use Rattle.blocks.specs.Blocks.{Placement, kinds_of, nodes_of, BlocksLaid}
 use Rattle.ends.specs.declared.Fault.{Fault}
 use Rattle.ends.specs.declared.Ends.{Ends}
+use Rattle.ends.specs.declared.Unrealized.{Unrealized}
 use Rattle.ends.specs.Ends.{fault_number, fault_of, ends_of}
 use Rattle.outset.specs.declared.Refusal.{Refusal}
+use Rattle.outset.specs.declared.NotSetOut.{NotSetOut}
+use Rattle.blocks.specs.declared.Overlap.{Overlap}
 use Rattle.outset.specs.Outset.{blocked_at_outset}
 
--- what setting a tree out comes to: whether each block has a cell of its own, whether a number is due for an end, and the net's ends where none is
+-- what setting a tree out comes to: whether each block has a cell of its own, whether a number is due for an end, and the net's ends, with zeros for each of which one is
 pub record Outset : Type 0 where
   pub placement : Placement
   pub fault : Option Fault
@@ -49,11 +52,19 @@ abbrev pub refusal_detail : Refusal → ℕ
 refusal_detail (Refusal.Blocks overlap) = overlap.cell
 refusal_detail (Refusal.End fault) = fault.place
 
--- the ends, or the first number that is due
-abbrev pub told_by : Placement → Option Fault → Ends → Result Ends Refusal
-told_by (Err overlap) fault ends = Err (Refusal.Blocks overlap)
-told_by (Ok placed) (Some fault) ends = Err (Refusal.End fault)
+-- the ends, or the first number that is due, with what is wrong with the ends and those that are good
+abbrev pub told_by : Placement → Option Fault → Ends → Result Ends NotSetOut
+told_by (Err overlap) fault ends = Err (record { refusal = Refusal.Blocks overlap; fault = fault; ends = ends })
+told_by (Ok placed) (Some fault) ends = Err (record { refusal = Refusal.End fault; fault = Some fault; ends = ends })
 told_by (Ok placed) None ends = Ok ends
+
+-- so it is at number 7, of what the ends come to, and at 8 and 9
+abbrev pub told_at_overlap : Overlap → Result Ends Unrealized → NotSetOut
+told_at_overlap overlap (Ok ends) = record { refusal = Refusal.Blocks overlap; fault = None; ends = ends }
+told_at_overlap overlap (Err unrealized) = record { refusal = Refusal.Blocks overlap; fault = Some unrealized.fault; ends = unrealized.ends }
+
+abbrev pub told_at_end : Unrealized → NotSetOut
+told_at_end unrealized = record { refusal = Refusal.End unrealized.fault; fault = Some unrealized.fault; ends = unrealized.ends }
 
 -- the tree of this job is set out
 pub record OutsetOf (J : Contents) (r : Outset) (kinds nodes blocked : List ℕ) : Type 0 where
@@ -75,7 +86,7 @@ pub record SetOut (sheet : List ℕ) (r : Outset) (kinds nodes blocked : List �
   pub is : (J : Contents) → Means sheet J → OutsetOf J r kinds nodes blocked
 
 -- the tree of what the sheet means is set out, and the answer tells of it
-pub record OutsetTold (sheet : List ℕ) (r : Result Ends Refusal) (kinds nodes blocked : List ℕ) : Type 0 where
+pub record OutsetTold (sheet : List ℕ) (r : Result Ends NotSetOut) (kinds nodes blocked : List ℕ) : Type 0 where
   pub outset : Outset
   pub is_set : SetOut sheet outset kinds nodes blocked
   pub told : r ≡ told_by outset.placement outset.fault outset.ends

@@ -22,11 +22,13 @@ use Rattle.blocks.proofs.BlockLaws as blocks
 use Rattle.blocks.proofs.BlockLaws.{tabulated-long, own-list, blocks_laid_for}
 use Rattle.ends.specs.declared.Ends.{Ends}
 use Rattle.ends.specs.declared.Fault.{Fault}
-use Rattle.ends.specs.Ends.{sinks_in, fault_of, ends_of, NetInside}
+use Rattle.ends.specs.declared.Unrealized.{Unrealized}
+use Rattle.ends.specs.Ends.{sinks_in, fault_of, ends_of, unless, realized_ends, NetInside}
 use Rattle.ends.specs.EndLaws.{net_in}
 use Rattle.outset.specs.declared.Refusal.{Refusal}
+use Rattle.outset.specs.declared.NotSetOut.{NotSetOut}
 use Rattle.outset.specs.Outset.{blocked_at_outset, OutsetReady, OutsetMarked}
-use Rattle.outset.specs.SetOut.{Outset, ready_by, ready, number_by, detail_by, refusal_number, refusal_detail, told_by, OutsetOf, SetOut, OutsetTold}
+use Rattle.outset.specs.SetOut.{Outset, ready_by, ready, number_by, detail_by, refusal_number, refusal_detail, told_by, told_at_overlap, told_at_end, OutsetOf, SetOut, OutsetTold}
 
 -- no number is due: the blocks are placed, and the ends are good
 pub ready-placed : (p : Placement) (f : Option Fault) → ready_by p f ≡ true → p ≡ Placed
@@ -38,21 +40,44 @@ ready-good (Ok placed) None e = refl
 ready-good (Ok placed) (Some fault) e = never (cc)
 ready-good (Err overlap) f e = never (cc)
 
--- what the answer tells: no number is due, or this one with this detail
+-- what the answer tells: no number is due, or this one with this detail, and all of the ends
 pub told-ready : (p : Placement) (f : Option Fault) (e : Ends) {E : Ends} → Ok E ≡ told_by p f e → (ready_by p f ≡ true) × (E ≡ e)
 told-ready (Ok placed) None e q = (refl, cc)
 told-ready (Ok placed) (Some fault) e q = never (cc)
 told-ready (Err overlap) f e q = never (cc)
 
-pub record ToldRefused (p : Placement) (f : Option Fault) (x : Refusal) : Type 0 where
+pub record ToldRefused (p : Placement) (f : Option Fault) (e : Ends) (x : NotSetOut) : Type 0 where
   pub refused : ready_by p f ≡ false
-  pub number-is : refusal_number x ≡ number_by p f
-  pub detail-is : refusal_detail x ≡ detail_by p f
+  pub number-is : refusal_number x.refusal ≡ number_by p f
+  pub detail-is : refusal_detail x.refusal ≡ detail_by p f
+  pub fault-is : x.fault ≡ f
+  pub ends-are : x.ends ≡ e
 
-pub told-refused : (p : Placement) (f : Option Fault) (e : Ends) {x : Refusal} → Err x ≡ told_by p f e → ToldRefused p f x
+pub told-refused : (p : Placement) (f : Option Fault) (e : Ends) {x : NotSetOut} → Err x ≡ told_by p f e → ToldRefused p f e x
 told-refused (Ok placed) None e q = never (cc)
-told-refused (Ok placed) (Some fault) e {x = x} q = let same : x ≡ Refusal.End fault = cc in record { refused = refl; number-is = ap refusal_number same; detail-is = ap refusal_detail same }
-told-refused (Err overlap) f e {x = x} q = let same : x ≡ Refusal.Blocks overlap = cc in record { refused = refl; number-is = ap refusal_number same; detail-is = ap refusal_detail same }
+told-refused (Ok placed) (Some fault) e {x = x} q =
+    let same : x ≡ told_at_end (record { fault = fault; ends = e }) = cc in
+    record {
+      refused = refl;
+      number-is = ap (λ y. refusal_number y.refusal) same;
+      detail-is = ap (λ y. refusal_detail y.refusal) same;
+      fault-is = ap (λ y. y.fault) same;
+      ends-are = ap (λ y. y.ends) same;
+    }
+told-refused (Err overlap) f e {x = x} q =
+    let same : x ≡ record { refusal = Refusal.Blocks overlap; fault = f; ends = e } = cc in
+    record {
+      refused = refl;
+      number-is = ap (λ y. refusal_number y.refusal) same;
+      detail-is = ap (λ y. refusal_detail y.refusal) same;
+      fault-is = ap (λ y. y.fault) same;
+      ends-are = ap (λ y. y.ends) same;
+    }
+
+-- at number 7 the ends are told as they were realized
+told-overlap : (overlap : Overlap) (f : Option Fault) (e : Ends) → Err (told_at_overlap overlap (unless f e)) ≡ told_by (Err overlap) f e
+told-overlap overlap None e = refl
+told-overlap overlap (Some fault) e = refl
 
 ready-ends : (p : Placement) (f : Option Fault) (e : Ends) → ready_by p f ≡ true → told_by p f e ≡ Ok e
 ready-ends (Ok placed) None e q = refl
@@ -63,7 +88,7 @@ ready-ends (Err overlap) f e q = never (cc)
 abbrev pub outset_with : Ends → Outset
 outset_with e = record { placement = Placed; fault = None; ends = e }
 
-module _ {sheet : List ℕ} {r : Answer Ends Refusal} {kinds nodes blocked : List ℕ} (T : OutsetTold sheet r kinds nodes blocked) where
+module _ {sheet : List ℕ} {r : Answer Ends NotSetOut} {kinds nodes blocked : List ℕ} (T : OutsetTold sheet r kinds nodes blocked) where
   pub set-told : {e : Ends} → r ≡ Ok e → SetOut sheet (outset_with e) kinds nodes blocked
   set-told {e} q =
       let O = T.outset in
@@ -76,7 +101,7 @@ module _ {sheet : List ℕ} {r : Answer Ends Refusal} {kinds nodes blocked : Lis
   pub told-ends : ready T.outset ≡ true → r ≡ Ok T.outset.ends
   told-ends g = T.told ∙ ready-ends T.outset.placement T.outset.fault T.outset.ends g
 
-  pub told-refusal : {x : Refusal} → r ≡ Err x → ToldRefused T.outset.placement T.outset.fault x
+  pub told-refusal : {x : NotSetOut} → r ≡ Err x → ToldRefused T.outset.placement T.outset.fault T.outset.ends x
   told-refusal q = told-refused T.outset.placement T.outset.fault T.outset.ends (sym q ∙ T.told)
 
 pub same_faults : {R R' : Room} {e e' : Endpoint} {es es' : List Sink} → R ≡ R' → e ≡ e' → es ≡ es' → fault_of R e es ≡ fault_of R' e' es'
@@ -167,20 +192,23 @@ module _ {sheet : List ℕ} {job : Job} (A : Accepted sheet job) where
             told = rw q refl;
           }
 
-    pub set-out-refused : {x : Refusal} → Err x ≡ told_by p (fault_of job.room job.source (sinks_in job.sinks)) (ends_of job.room job.source (sinks_in job.sinks))
+    pub set-out-refused : {x : NotSetOut} → Err x ≡ told_by p (fault_of job.room job.source (sinks_in job.sinks)) (ends_of job.room job.source (sinks_in job.sinks))
         → {blocked : List ℕ} → blocked ≡ no_marks (volume job.room) → OutsetTold sheet (Err x) kinds nodes blocked
     set-out-refused {x} told {blocked = blocked} m =
         let here : blocked ≡ no_marks (volume contents-of.room) = rw use_of.room-is at m in
         let r = (told-refused p _ _ told).refused in
         record { outset = outset_now; is_set = contents-alone record { laid = contents-laid; fault-is = contents-fault; ends-are = contents-ends; blocked-are = rw r here }; told = told }
 
-    pub set-out-blocks : {overlap : Overlap} → p ≡ Err overlap → {blocked : List ℕ} → blocked ≡ no_marks (volume job.room)
-        → OutsetTold sheet (Err (Refusal.Blocks overlap)) kinds nodes blocked
-    set-out-blocks q m = set-out-refused (rw q refl) m
+    pub set-out-blocks : {overlap : Overlap} → p ≡ Err overlap → {r : Answer Ends Unrealized} → r ≡ realized_ends job.room job.source (sinks_in job.sinks)
+        → {x : NotSetOut} → x ≡ told_at_overlap overlap r → {blocked : List ℕ} → blocked ≡ no_marks (volume job.room)
+        → OutsetTold sheet (Err x) kinds nodes blocked
+    set-out-blocks {overlap} q is told m =
+        set-out-refused (rw q (ap Err (told ∙ ap (told_at_overlap overlap) is) ∙ told-overlap overlap (fault_of job.room job.source (sinks_in job.sinks)) (ends_of job.room job.source (sinks_in job.sinks)))) m
 
-    pub set-out-end : p ≡ Placed → {fault : Fault} → fault_of job.room job.source (sinks_in job.sinks) ≡ Some fault → {blocked : List ℕ} → blocked ≡ no_marks (volume job.room)
-        → OutsetTold sheet (Err (Refusal.End fault)) kinds nodes blocked
-    set-out-end q f m = set-out-refused (rw (q, f) refl) m
+    pub set-out-end : p ≡ Placed → {u : Unrealized} → (fault_of job.room job.source (sinks_in job.sinks) ≡ Some u.fault) × (u.ends ≡ ends_of job.room job.source (sinks_in job.sinks))
+        → {x : NotSetOut} → x ≡ told_at_end u → {blocked : List ℕ} → blocked ≡ no_marks (volume job.room)
+        → OutsetTold sheet (Err x) kinds nodes blocked
+    set-out-end q {u} told is m = set-out-refused (rw (q, told.0) (ap Err is ∙ ap (λ y. Err (told_at_end (record { fault = u.fault; ends = y }))) told.1)) m
 
 -- ---- it leaves no choice
 
@@ -199,7 +227,7 @@ module _ {J : Contents} {r s : Outset} {kinds nodes blocked kinds' nodes' blocke
 
 -- two results of `set_out` for one accepted sheet coincide: the answer, and the final bytes of all three buffers
 pub record Result : Type 0 where
-  pub answer : Answer Ends Refusal
+  pub answer : Answer Ends NotSetOut
   pub kinds : List ℕ
   pub nodes : List ℕ
   pub blocked : List ℕ

@@ -12,11 +12,11 @@ ghost use Rattle.job_sheet.specs.Accepted.{BlockList};
 ghost use Rattle.job_sheet.specs.Places.{positions_in, blocks_in};
 ghost use Rattle.outset.specs.Outset.{stands_at, near_conductor, powers, solid_of, output_keepout, block_keepout, at_or_beneath, tap_cell, own_cell, PositionsListed, Sized, OutputKnown, OutsetReady, OutsetMarked};
 ghost use Rattle.outset.specs.declared.Refusal.{Refusal};
-ghost use Rattle.outset.specs.SetOut.{refusal_number, refusal_detail};
+ghost use Rattle.outset.specs.SetOut.{refusal_number, refusal_detail, told_at_end};
 ghost use Rattle.ends.specs.Ends.{NetInside};
 
 use blocks::Overlap;
-use ends::{Fault, Tap, Taps};
+use ends::{Ends, Fault, Tap, Taps, Unrealized};
 use job_sheet::{Block, Job, Part};
 use room::Room;
 pub use setting_out::set_out;
@@ -53,16 +53,37 @@ impl Refusal {
 impl From<Overlap> for Refusal {
     ghost from_gives = { λ overlap refusal. refusal ≡ Refusal.Blocks overlap };
 
-    fn from(overlap: Overlap) -> Refusal {
-        Refusal::Blocks(overlap)
+    fn from(repeat: Overlap) -> Refusal {
+        Refusal::Blocks(repeat)
     }
 }
 
 impl From<Fault> for Refusal {
     ghost from_gives = { λ fault refusal. refusal ≡ Refusal.End fault };
 
-    fn from(fault: Fault) -> Refusal {
-        Refusal::End(fault)
+    fn from(wrong: Fault) -> Refusal {
+        Refusal::End(wrong)
+    }
+}
+
+// What is told where no tree is set out: why; what is wrong with the net's ends, also where 7 comes before it; and all of
+// the ends, with zeros for each of which 8 or 9 is due.
+#[derive(Clone, Copy)]
+pub struct NotSetOut {
+    pub refusal: Refusal,
+    pub fault: Option<Fault>,
+    pub ends: Ends,
+}
+
+impl From<Unrealized> for NotSetOut {
+    ghost from_gives = { λ unrealized told. told ≡ told_at_end unrealized };
+
+    fn from(unrealized: Unrealized) -> NotSetOut {
+        NotSetOut {
+            refusal: Refusal::from(unrealized.fault),
+            fault: Some(unrealized.fault),
+            ends: unrealized.ends,
+        }
     }
 }
 

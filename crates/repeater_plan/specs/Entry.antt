@@ -5,6 +5,7 @@ use Rattle.room.specs.Room.{Good, volume}
 use Rattle.ends.specs.declared.Taps.{Taps}
 use Rattle.ends.specs.declared.Fault.{Fault}
 use Rattle.ends.specs.declared.Ends.{Ends}
+use Rattle.ends.specs.declared.Unrealized.{Unrealized}
 use Rattle.ends.specs.Ends.{fault_number, NetInside}
 use Rattle.branches.specs.declared.BranchLengths.{BranchLengths}
 use Rattle.branches.specs.Branches.{marked_count}
@@ -46,10 +47,15 @@ PlacedBy None marks R repeaters r repeaters' =
     (r ≡ Ok (marked_count marks)) × (length marks ≡ volume R) × (repeaters' ≡ marks ++ drop (volume R) repeaters)
 PlacedBy (Some fault) marks R repeaters r repeaters' = (r ≡ Err (record { number = fault_number fault.due; detail = fault.place })) × (repeaters' ≡ repeaters)
 
+-- what is wrong with a net's ends, if anything is
+abbrev pub fault_in : Result Ends Unrealized → Option Fault
+fault_in (Ok ends) = None
+fault_in (Err unrealized) = Some unrealized.fault
+
 -- the repeaters of a net whose ends these are; none where a number is due for one
-abbrev pub marks_with : Room → ℕ → List (List ℕ) → Result Ends Fault → List ℕ
+abbrev pub marks_with : Room → ℕ → List (List ℕ) → Result Ends Unrealized → List ℕ
 marks_with R run branches (Ok e) = net_repeaters R run e.source e.taps branches
-marks_with R run branches (Err fault) = []
+marks_with R run branches (Err unrealized) = []
 
 -- what comes of it is answered, and left in lent memory
 pub record Settled (o : Outcome) (B : Lent) (r : Result ℕ Refused) (B' : Lent) : Type 0 where

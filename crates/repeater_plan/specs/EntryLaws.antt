@@ -6,7 +6,6 @@ use mathlib.Core.List.{List, [], ◌∷◌, ◌++◌, map}
 use Rattle.std.proofs.lemmas.List.{length-map}
 use borrow.Author.Tests.{ltb-true, eqb-true, le-leb, lt-leb}
 use Rattle.numbers.specs.Refusals.{buffer_number}
-use Rattle.std.specs.Result.{result_err}
 use Rattle.basics.specs.Tests.{ask, and_left, and_right, passed, never}
 use Rattle.basics.specs.Lists.{In, any, every, every_in, every_map, every_append, in_at}
 use Rattle.basics.specs.Zeros.{take_zeros, drop_zeros, cleared-to, zeros-long}
@@ -24,6 +23,7 @@ use Rattle.job_sheet.proofs.AcceptedLaws.{first_good, faultless, endpoint-within
 use Rattle.ends.specs.declared.Taps.{Taps}
 use Rattle.ends.specs.declared.Ends.{Ends}
 use Rattle.ends.specs.declared.Fault.{Fault}
+use Rattle.ends.specs.declared.Unrealized.{Unrealized}
 use Rattle.port_realization.specs.declared.EndFault.{EndFault}
 use Rattle.ends.specs.Ends.{sinks_in, fault_number, fault_of, ends_of, unless, realized_ends}
 use Rattle.ends.specs.EndLaws.{net_in, ends-told}
@@ -35,7 +35,7 @@ use Rattle.repeaters.specs.NetEnds.{net_repeaters}
 use Rattle.repeater_plan.specs.declared.Lengths.{Lengths}
 use Rattle.repeater_plan.specs.declared.Refused.{Refused}
 use Rattle.repeater_plan.specs.Plan.{Net, branches_in, is_move, head_good, branch_good, branch_fault, room_fault, judged, Lent, lent, lengths_of, lent_good, counts_good, unplanned, planned_marks, outcome_by, outcome_of, answer_of, lent_after, Promise}
-use Rattle.repeater_plan.specs.Entry.{Enough, Lendable, Frontable, FrontPlaced, PlacedBy, marks_with, Settled}
+use Rattle.repeater_plan.specs.Entry.{Enough, Lendable, Frontable, FrontPlaced, PlacedBy, fault_in, marks_with, Settled}
 
 -- ---- number 6
 
@@ -168,7 +168,7 @@ module _ (N : Net) (sinks-whole : length N.sinks.ends ≡ max_sinks) (lengths-wh
   }
 
   module _ {B : Lent} (m : lent_good N.room (lengths_of B) ≡ true) where
-    pub lendable : {r : Result Ends Fault} → r ≡ realized_ends N.room N.source (sinks_in N.sinks) → (E : Ends) → r ≡ Ok E
+    pub lendable : {r : Result Ends Unrealized} → r ≡ realized_ends N.room N.source (sinks_in N.sinks) → (E : Ends) → r ≡ Ok E
         → Lendable N.room E.source E.taps N.lengths N.cells B
     unfolding ends_of
     lendable is E e =
@@ -232,13 +232,13 @@ frontable {B = B} F r f =
       forbidden-clear = cleared-to (sym q) f;
     }
 
-module _ (R : Room) (run : ℕ) (branches : List (List ℕ)) (repeaters : List ℕ) {r : Result Ends Fault} where
+module _ (R : Room) (run : ℕ) (branches : List (List ℕ)) (repeaters : List ℕ) {r : Result Ends Unrealized} where
   pub placed-good : {E : Ends} → r ≡ Ok E → {n : ℕ} {repeaters' : List ℕ} → FrontPlaced (net_repeaters R run E.source E.taps branches) R repeaters n repeaters'
-      → PlacedBy (result_err r) (marks_with R run branches r) R repeaters (Ok n) repeaters'
+      → PlacedBy (fault_in r) (marks_with R run branches r) R repeaters (Ok n) repeaters'
   placed-good e P = rw e (ap Ok P.count, P.long, P.is)
 
-  pub placed-refused : {f : Fault} → r ≡ Err f → {n : ℕ} → n ≡ fault_number f.due → {p : Result ℕ Refused} → p ≡ Err (record { number = n; detail = f.place })
-      → PlacedBy (result_err r) (marks_with R run branches r) R repeaters p repeaters
+  pub placed-refused : {u : Unrealized} → r ≡ Err u → {n : ℕ} → n ≡ fault_number u.fault.due → {p : Result ℕ Refused} → p ≡ Err (record { number = n; detail = u.fault.place })
+      → PlacedBy (fault_in r) (marks_with R run branches r) R repeaters p repeaters
   placed-refused e q p = rw (e, ← q) (p, refl)
 
 -- ---- what is left in lent memory
@@ -296,15 +296,15 @@ module _ (N : Net) (B : Lent) where
       lent-bad f a = record { answer = rw (g, c, f) a; lent_is = rw (g, c, f) refl }
 
       -- what comes of the ends comes of their fault
-      outcome-is : (f : Option Fault) → outcome_by (marks_with N.room N.run (branches_in N) (unless f (ends_of N.room N.source (sinks_in N.sinks)))) (result_err (unless f (ends_of N.room N.source (sinks_in N.sinks))))
+      outcome-is : (f : Option Fault) → outcome_by (marks_with N.room N.run (branches_in N) (unless f (ends_of N.room N.source (sinks_in N.sinks)))) (fault_in (unless f (ends_of N.room N.source (sinks_in N.sinks))))
           ≡ outcome_by (planned_marks N) f
       unfolding ends_of planned_marks
       outcome-is None = refl
       outcome-is (Some fault) = refl
 
-      pub all-good : lent_good N.room (lengths_of B) ≡ true → {E : Result Ends Fault} → E ≡ realized_ends N.room N.source (sinks_in N.sinks) → {r : Result ℕ Refused} {B' : Lent}
-          → Settled (outcome_by (marks_with N.room N.run (branches_in N) E) (result_err E)) B r B' → Promise N B r B'
+      pub all-good : lent_good N.room (lengths_of B) ≡ true → {E : Result Ends Unrealized} → E ≡ realized_ends N.room N.source (sinks_in N.sinks) → {r : Result ℕ Refused} {B' : Lent}
+          → Settled (outcome_by (marks_with N.room N.run (branches_in N) E) (fault_in E)) B r B' → Promise N B r B'
       unfolding outcome_of
       all-good t {E} e {r} {B'} S =
-          let o = ap (λ x. outcome_by (marks_with N.room N.run (branches_in N) x) (result_err x)) e ∙ outcome-is (fault_of N.room N.source (sinks_in N.sinks)) in
+          let o = ap (λ x. outcome_by (marks_with N.room N.run (branches_in N) x) (fault_in x)) e ∙ outcome-is (fault_of N.room N.source (sinks_in N.sinks)) in
           record { answer = rw (g, c, t) (S.answer ∙ ap answer_of o); lent_is = rw (g, c, t) (S.lent_is ∙ ap (λ x. lent_after x B) o) }

@@ -1,18 +1,17 @@
 // The public call: the order of judgement, and what is lent.
 ghost use Rattle.std.specs.Prelude.{◌≡◌, Ok};
-ghost use Rattle.std.specs.Result.{result_err};
 ghost use Rattle.lent.specs.Lent.{Cleared};
 ghost use Rattle.room.specs.Room.{Good};
 ghost use Rattle.branches.specs.Branches.{branches_of};
 ghost use Rattle.repeaters.specs.NetEnds.{net_repeaters};
 ghost use Rattle.ends.specs.declared.Ends.{Ends};
 ghost use Rattle.repeater_plan.specs.Plan.{net, lent, lent_good, outcome_by, unplanned, answer_of, Promise};
-ghost use Rattle.repeater_plan.specs.Entry.{Frontable, FrontPlaced, PlacedBy, marks_with, Lendable, Settled};
+ghost use Rattle.repeater_plan.specs.Entry.{Frontable, FrontPlaced, PlacedBy, fault_in, marks_with, Lendable, Settled};
 
 use crate::judge::{counts_good, judge};
 use crate::{Lengths, Refused};
 use branches::BranchLengths;
-use ends::{Ends, Fault, Taps};
+use ends::{Ends, Taps, Unrealized};
 use job_sheet::{Endpoint, Sinks};
 use room::Room;
 
@@ -93,7 +92,7 @@ fn place_front(
 fn place_or_refuse(
     room: Room,
     run: usize,
-    ends: Result<Ends, Fault>,
+    ends: Result<Ends, Unrealized>,
     branches: &[u32],
     lengths: BranchLengths,
     repeaters: &mut [u8],
@@ -103,7 +102,7 @@ fn place_or_refuse(
     line: &mut [u32],
 ) -> Result<usize, Refused>
     requires { (e : Ends) → ends ≡ Ok e → Frontable room e.source e.taps lengths branches.now (lent repeaters.old forbidden.old links.old parents.old line.old) }
-    ensures { PlacedBy (result_err ends) (marks_with room run (branches_of lengths branches.now) ends) room repeaters.old result repeaters.new }
+    ensures { PlacedBy (fault_in ends) (marks_with room run (branches_of lengths branches.now) ends) room repeaters.old result repeaters.new }
 {
     match ends {
         Ok(ends) => Ok(place_front(
@@ -119,7 +118,7 @@ fn place_or_refuse(
             parents,
             line,
         )),
-        Err(fault) => refuse(fault.number(), fault.place),
+        Err(unrealized) => refuse(unrealized.fault.number(), unrealized.fault.place),
     }
 }
 
@@ -127,7 +126,7 @@ fn place_or_refuse(
 fn plan_lent(
     room: Room,
     run: usize,
-    ends: Result<Ends, Fault>,
+    ends: Result<Ends, Unrealized>,
     branches: &[u32],
     lengths: BranchLengths,
     repeaters: &mut [u8],
@@ -137,7 +136,7 @@ fn plan_lent(
     line: &mut [u32],
 ) -> Result<usize, Refused>
     requires { (e : Ends) → ends ≡ Ok e → Lendable room e.source e.taps lengths branches.now (lent repeaters.old forbidden.old links.old parents.old line.old) }
-    ensures { Settled (outcome_by (marks_with room run (branches_of lengths branches.now) ends) (result_err ends)) (lent repeaters.old forbidden.old links.old parents.old line.old) result (lent repeaters.new forbidden.new links.new parents.new line.new) }
+    ensures { Settled (outcome_by (marks_with room run (branches_of lengths branches.now) ends) (fault_in ends)) (lent repeaters.old forbidden.old links.old parents.old line.old) result (lent repeaters.new forbidden.new links.new parents.new line.new) }
 {
     clear_marks(repeaters, forbidden);
     let planned = place_or_refuse(

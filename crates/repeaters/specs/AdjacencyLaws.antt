@@ -1,7 +1,7 @@
 -- The loops that make the masks of a tree: over the steps of a branch, and over the branches.
-use Rattle.std.specs.Prelude.{◌≡◌, refl, ℕ, ◌+◌, ◌-◌, ◌≤◌, ◌<◌, length, get_or, take}
+use Rattle.std.specs.Prelude.{◌≡◌, refl, ℕ, zero, suc, ◌+◌, ◌-◌, ◌≤◌, ◌<◌, length, get_or, take}
 use mathlib.Core.List.{List, [], ◌∷◌}
-use Rattle.std.proofs.Common.{arith, drop_of_length-le}
+use Rattle.std.proofs.Common.{suc-add, arith, drop_of_length-le, length-take-le}
 use Rattle.basics.specs.Lists.{drop_next}
 use Rattle.std.proofs.Math.ListN.{drop}
 use Rattle.std.proofs.Math.Seq.{drop-drop}
@@ -19,6 +19,13 @@ use Rattle.repeaters.specs.MaskLaws.{AddingLinks, adding-none, adding-next, addi
 pub record StepsLeft (R : Room) (branch start links rest : List ℕ) : Type 0 where
   pub steps : Steps R rest
   pub adding : AddingLinks R (beside_on rest) (beside_on branch) start links
+
+-- from each cell of the branch to the next there is a step
+pub step-at : (R : Room) (branch : List ℕ) → Steps R branch → (i : ℕ) → i + 1 < length branch → Step R (get_or branch i 0) (get_or branch (i + 1) 0)
+step-at R [] s i h = absurd (omega arith)
+step-at R (a ∷ []) s i h = absurd (omega arith)
+step-at R (a ∷ (b ∷ rest)) s zero h = s.0
+step-at R (a ∷ (b ∷ rest)) s (suc i) h = rw (suc-add i 1) (step-at R (b ∷ rest) s.1 i (omega arith))
 
 step-first : (R : Room) (rest : List ℕ) → Steps R rest → 2 ≤ length rest → Step R (get_or (take 2 rest) 0 0) (get_or (take 2 rest) 1 0)
 step-first R [] s h = absurd (omega arith)
@@ -54,13 +61,14 @@ module _ {R : Room} {branch start : List ℕ} where
 -- ---- the branches
 
 pub record LayingLinks (R : Room) (L : BranchLengths) (cells start links : List ℕ) (from k : ℕ) : Type 0 where
+  pub within : k ≤ L.count
   pub fits : from + sum (drop k (lengths_in L)) ≤ length cells
   pub steps : AllSteps R (cut_into (drop k (lengths_in L)) (drop from cells))
   pub adding : AddingLinks R (neighbouring (cut_into (drop k (lengths_in L)) (drop from cells))) (neighbouring (branches_of L cells)) start links
 
 module _ {R : Room} {L : BranchLengths} {cells start : List ℕ} (D : BranchesReady R L cells) where
   pub laying_none : LayingLinks R L cells start start 0 0
-  laying_none = record { fits = omega (arith, D.branched.within); steps = D.steps; adding = adding-none }
+  laying_none = record { within = omega arith; fits = omega (arith, D.branched.within); steps = D.steps; adding = adding-none }
 
   module _ {links : List ℕ} {from k : ℕ} (I : LayingLinks R L cells start links from k) where
     module _ (h : k < length (lengths_in L)) (to : ℕ) (e : to ≡ from + get_or (lengths_in L) k 0) where
@@ -93,6 +101,7 @@ module _ {R : Room} {L : BranchLengths} {cells start : List ℕ} (D : BranchesRe
       pub laying_next : {links' : List ℕ} → NowLinked R (beside_on (take (to - from) (drop from cells))) links links' → LayingLinks R L cells start links' to (k + 1)
       unfolding neighbouring
       laying_next J = record {
+        within = omega (arith, length-take-le L.count L.each (omega (arith, D.branched.few, D.branched.whole)));
         fits = omega (arith, I.fits, more);
         steps = left-steps.1;
         adding = adding-next I.adding (beside_on (take (to - from) (drop from cells))) _ J (λ u v. rw cut);

@@ -144,7 +144,7 @@ module _ (limit : ℕ) (fit : ℕ → Bool) (path marks : List ℕ) (s : Stride)
     walks : Walking fit onward
     walks = record { past = omega (arith, W.past); known = chosen }
 
-    strode_near : place - s.reset ≤ limit → Strode limit fit path marks s marks onward
+    pub strode_near : place - s.reset ≤ limit → Strode limit fit path marks s marks onward
     unfolding stride
     strode_near h = record {
       is = rw (ne_eqb (get_or marks (path_cell path place) 0) 1 none, le-ltb (s.reset + limit) place (omega arith));
@@ -153,7 +153,7 @@ module _ (limit : ℕ) (fit : ℕ → Bool) (path marks : List ℕ) (s : Stride)
     }
 
     module _ (far : limit < place - s.reset) where
-      strode_none : r ≡ None → Strode limit fit path marks s marks onward
+      pub strode_none : r ≡ None → Strode limit fit path marks s marks onward
       unfolding stride resume
       strode_none z = record {
         is = rw (ne_eqb (get_or marks (path_cell path place) 0) 1 none, lt-ltb (s.reset + limit) place (omega arith), eq-eqb (candidate fit s.reset (place + 1)) 0 (place-none _ (sym z ∙ chosen)));

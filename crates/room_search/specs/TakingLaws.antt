@@ -59,7 +59,7 @@ module _ {F : Field} {s : Work} (expanded : ℕ) (T : Takeable F s) {cell : ℕ}
   was-taken-out : TakenOut (entries_in s.line.width s.queue.now s.line.waiting) taken_entry rest
   was-taken-out = K.left.out
 
-  cell-known : 1 ≤ get_or t.known.now cell 0
+  pub cell-known : 1 ≤ get_or t.known.now cell 0
   cell-known = rw K.known_same (left-known T K.left)
 
   -- the cell's moves can be tried

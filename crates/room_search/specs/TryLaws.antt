@@ -133,10 +133,10 @@ module _ (F : Field) (from : Reached) (s : Work) (m : Move) where
   abbrev class : ℕ → ℕ
   class v = get_or F.classes.now v 0
 
-  tried-out : {x : Unit {0}} → HeapReady s → neighbour F.room from.spot.cell m ≡ None → MovesCame S (m ∷ []) s (Ok x) s
+  pub tried-out : {x : Unit {0}} → HeapReady s → neighbour F.room from.spot.cell m ≡ None → MovesCame S (m ∷ []) s (Ok x) s
   tried-out ready e = record { readied = (ready, omega arith, refl); goes = λ A B ms T. rw (moves_out F.room F.config class from.spot.cell m ms e) at T }
 
-  tried-shut : {x : Unit {0}} → HeapReady s → (v : ℕ) → neighbour F.room from.spot.cell m ≡ Some v → class v ≡ 0 → MovesCame S (m ∷ []) s (Ok x) s
+  pub tried-shut : {x : Unit {0}} → HeapReady s → (v : ℕ) → neighbour F.room from.spot.cell m ≡ Some v → class v ≡ 0 → MovesCame S (m ∷ []) s (Ok x) s
   tried-shut ready v e z = record {
     readied = (ready, omega arith, refl);
     goes = λ A B ms T. rw (moves-shut F.room F.config class from.spot.cell m ms v e z) at T;

@@ -16,35 +16,35 @@ pub use search::search_classes;
 
 // How many numbers of the queue hold an entry.
 #[derive(Clone, Copy)]
-enum Width {
+pub enum Width {
     One,
     Two,
 }
 
 // How many entries wait, the last serial given, and how many numbers of the queue hold an entry.
 #[derive(Clone, Copy)]
-struct Line {
-    waiting: usize,
-    serial: u64,
-    width: Width,
+pub struct Line {
+    pub waiting: usize,
+    pub serial: u64,
+    pub width: Width,
 }
 
 // The price of a step: the step alone, and a new support, 0 where none is laid.
 #[derive(Clone, Copy)]
-struct Price {
-    step: room::Cost,
-    support: room::Cost,
+pub struct Price {
+    pub step: room::Cost,
+    pub support: room::Cost,
 }
 
 // A push found the queue full.
 #[derive(Clone, Copy)]
-struct QueueFull;
+pub struct QueueFull;
 
 // A cell and its position.
 #[derive(Clone, Copy)]
-struct Spot {
-    cell: usize,
-    at: room::Pos,
+pub struct Spot {
+    pub cell: usize,
+    pub at: room::Pos,
 }
 
 // A cell, and the cost at which it is reached.

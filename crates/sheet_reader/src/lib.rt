@@ -172,20 +172,26 @@ impl<'a> Reader<'a> {
         steps::sinks(self.sheet, self.place)
     }
 
-    // Moves on by `size` bytes; off the sheet where it has too few.
-    pub fn past(&mut self, size: usize)
-        ensures { (self.new.sheet ≡ self.old.sheet) × (self.new.place ≡ onward self.old.sheet.now self.old.place size) }
+    // Moved on by `size` bytes; off the sheet where it has too few.
+    pub fn past(self, size: usize) -> Reader<'a>
+        ensures { (result.sheet ≡ self.entry.sheet) × (result.place ≡ onward self.entry.sheet.now self.entry.place size) }
     {
-        self.place = steps::onward(self.sheet, self.place, size);
+        Reader {
+            sheet: self.sheet,
+            place: steps::onward(self.sheet, self.place, size),
+        }
     }
 
-    // Moves on behind the part that stands here: its count, of `width` bytes, and its records; off the sheet where it has too
+    // Moved on behind the part that stands here: its count, of `width` bytes, and its records; off the sheet where it has too
     // few.
-    pub fn behind(&mut self, width: usize, part: Part)
+    pub fn behind(self, width: usize, part: Part) -> Reader<'a>
         requires { width + part.size * part.count < 2 ^ 64 }
-        ensures { (self.new.sheet ≡ self.old.sheet) × (self.new.place ≡ onward self.old.sheet.now self.old.place (width + part.size * part.count)) }
+        ensures { (result.sheet ≡ self.entry.sheet) × (result.place ≡ onward self.entry.sheet.now self.entry.place (width + part.size * part.count)) }
     {
-        self.place = steps::behind(self.sheet, self.place, width, part);
+        Reader {
+            sheet: self.sheet,
+            place: steps::behind(self.sheet, self.place, width, part),
+        }
     }
 
     // Whether nothing is left over and nothing was too short.
@@ -249,26 +255,26 @@ fn body_of(layout: Layout, source: Endpoint, sinks: Sinks, whole: bool) -> Body
 }
 
 // From a sheet's lists to its end, with the reader that has come to them.
-fn read_body<'a>(mut reader: Reader<'a>) -> Body
+fn read_body<'a>(reader: Reader<'a>) -> Body
     requires { reader.place ≡ onward reader.sheet.now 0 (lists_place (version_in reader.sheet.now)) }
     ensures { PartsFound reader.entry.sheet.now result }
 {
     let blocks = reader.block_list();
-    reader.behind(LIST_COUNT_SIZE, blocks);
+    let reader = reader.behind(LIST_COUNT_SIZE, blocks);
     let conductors = reader.position_list();
-    reader.behind(LIST_COUNT_SIZE, conductors);
+    let reader = reader.behind(LIST_COUNT_SIZE, conductors);
     let clearances = reader.position_list();
-    reader.behind(LIST_COUNT_SIZE, clearances);
+    let reader = reader.behind(LIST_COUNT_SIZE, clearances);
     let terminals = reader.position_list();
-    reader.behind(LIST_COUNT_SIZE, terminals);
+    let reader = reader.behind(LIST_COUNT_SIZE, terminals);
     let reserved = reader.position_list();
-    reader.behind(LIST_COUNT_SIZE, reserved);
+    let reader = reader.behind(LIST_COUNT_SIZE, reserved);
     let stands = reader.source_list();
     let source = reader.endpoint();
-    reader.behind(NO_COUNT_SIZE, stands);
+    let reader = reader.behind(NO_COUNT_SIZE, stands);
     let listed = reader.sinks_list();
     let sinks = reader.sinks();
-    reader.behind(SINKS_COUNT_SIZE, listed);
+    let reader = reader.behind(SINKS_COUNT_SIZE, listed);
     let whole = reader.at_end();
     let layout = layout_found(
         blocks, conductors, clearances, terminals, reserved, stands, listed,
@@ -287,18 +293,18 @@ fn found_of(head: Head, body: Body) -> Found
 fn read_through(sheet: &[u8]) -> Found
     ensures { AllFound sheet.now result }
 {
-    let mut reader = Reader::new(sheet);
+    let reader = Reader::new(sheet);
     let version = reader.byte();
-    reader.past(1);
+    let reader = reader.past(1);
     let rest = reader.four();
-    reader.past(4);
+    let reader = reader.past(4);
     let sides = reader.position();
     let stands = reader.sides_list();
-    reader.behind(NO_COUNT_SIZE, stands);
+    let reader = reader.behind(NO_COUNT_SIZE, stands);
     let config = reader.config();
     let run = reader.run();
     let settings = reader.config_list();
-    reader.behind(NO_COUNT_SIZE, settings);
+    let reader = reader.behind(NO_COUNT_SIZE, settings);
     let body = read_body(reader);
     let head = head_of(version, rest, sides, config, run);
     found_of(head, body)

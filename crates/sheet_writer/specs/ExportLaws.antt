@@ -85,7 +85,7 @@ fault_most Config = omega arith
 fault_most Position = omega arith
 fault_most Code = omega arith
 
-due-most : (P : Parts) (lent : ℕ) → number_due P lent ≤ buffer_number
+pub due-most : (P : Parts) (lent : ℕ) → number_due P lent ≤ buffer_number
 unfolding number_due
 due-most P lent =
     ask (is_good (judged_parts P))
@@ -104,7 +104,7 @@ kept : (d : ℕ) → d ≤ buffer_number → eqb d done_number ≡ false → (ce
 kept d h f cells out = rw (f, le-ltb buffer_number d h) refl
 
 -- what a number stands for has that number
-refused_number : (d : ℕ) → d ≤ buffer_number → eqb d done_number ≡ false → refusal_number (refusal_of d) ≡ d
+pub refused_number : (d : ℕ) → d ≤ buffer_number → eqb d done_number ≡ false → refusal_number (refusal_of d) ≡ d
 refused_number d h f =
     ask (eqb d 1) (λ t. rw t (sym (eqb-true d 1 t)))
     (λ f₁. ask (eqb d 2) (λ t. rw (f₁, t) (sym (eqb-true d 2 t)))
@@ -113,16 +113,24 @@ refused_number d h f =
     (λ f₄. ask (eqb d 5) (λ t. rw (f₁, f₂, f₃, f₄, t) (sym (eqb-true d 5 t)))
     (λ f₅. rw (f₁, f₂, f₃, f₄, f₅) (omega (arith, eqb-false d 0 f, eqb-false d 1 f₁, eqb-false d 2 f₂, eqb-false d 3 f₃, eqb-false d 4 f₄, eqb-false d 5 f₅)))))))
 
--- what an answer tells is the number
+-- what an answer tells is the number, of those that can be due: no refusal has 17 or a number above 19
 module _ (d n : ℕ) {w : results.Result ℕ Refusal} (is : w ≡ answer_of d n) where
-  told-number : d ≤ buffer_number → number_told w ≡ d
-  told-number h = ask (eqb d done_number) (λ t. let z : d ≡ 0 = eqb-true d done_number t in rw (is, z) refl) (λ f. let q : w ≡ Err (refusal_of d) = is ∙ rw f refl in ap number_told q ∙ refused_number d h f)
+  told-within : d ≤ buffer_number → number_told w ≡ d
+  told-within h = ask (eqb d done_number) (λ t. let z : d ≡ 0 = eqb-true d done_number t in rw (is, z) refl) (λ f. let q : w ≡ Err (refusal_of d) = is ∙ rw f refl in ap number_told q ∙ refused_number d h f)
 
   told-values : d ≤ buffer_number → (values : List ℕ) → values_told w values ≡ output_after d (0 ∷ n ∷ []) values
   told-values h values =
       ask (eqb d done_number)
       (λ t. let z : d ≡ 0 = eqb-true d done_number t in rw (is, z) refl)
       (λ f. let q : w ≡ Err (refusal_of d) = is ∙ rw f refl in ap (λ x. values_told x values) q ∙ sym (kept d h f (0 ∷ n ∷ []) values))
+
+-- so it is at each number that is due
+pub told-number : (P : Parts) (lent n : ℕ) {w : results.Result ℕ Refusal} → w ≡ answer_of (number_due P lent) n → number_told w ≡ number_due P lent
+told-number P lent n is = told-within (number_due P lent) n is (due-most P lent)
+
+-- what a caller of `write_sheet` knows of a refusal: its number is the one that is due
+pub refused-due : {P : Parts} {out out' : List ℕ} {why : Refusal} → Promise P out (Err why) out' → refusal_number why ≡ number_due P (length out)
+refused-due {P} {out} p = told-number P (length out) (length (written (contents_of P))) p.answers
 
 module _ (P : Parts) (sheet values : List ℕ) {well t : Bool} (e : t ≡ well) (g : not t ≡ false) {lent : ℕ} (l : lent ≡ either (leb value_count (length values)) (length sheet) 0) where
   pub lent-inside : lent ≤ length sheet
@@ -167,7 +175,7 @@ module _ (P : Parts) (sheet values : List ℕ) {well t : Bool} (e : t ≡ well) 
 
     pub told : {r : ℕ} {values' : List ℕ} → r ≡ number_told w → values' ≡ values_told w values → Told P well sheet values r (part ++ drop lent sheet) values'
     told {r} n v =
-        let d : r ≡ number_due P lent = n ∙ told-number (number_due P lent) (length (written (contents_of P))) answer-is (due-most P lent) in
+        let d : r ≡ number_due P lent = n ∙ told-number P lent (length (written (contents_of P))) answer-is in
         record {
           number = d ∙ sym number_is;
           sheet-is = rw d sheet-told;

@@ -35,7 +35,7 @@ pub record BadSupport (T : Task) (u i : ℕ) : Type 0 where
   pub there : neighbour T.room u (move_at i) ≡ Some cell
   pub bears-none : bearing (support_of T cell) ≡ 0
 
--- what a byte says of it: 0 exactly where it is a lawful step, else the least reason that holds. None neither of the others holds, so a bad support alone
+-- what a byte says of it: 0 exactly where it is a lawful step, else the least reason that holds. Outside neither of the others holds, so a bad support alone
 -- may stand behind another reason
 pub record SaysWhy (T : Task) (u i byte : ℕ) : Type 0 where
   pub as_allowed : (byte ≡ allowed) ↔ LawfulMove T u i

@@ -11,8 +11,8 @@ overflow_add-end c =
     let count = c.branch_length.ensures ∙ sym (branch-long args.tap args.path.now) in
     omega (arith, c.requires.path_in_bounds)
 
-pub slice_bounds-rotate_left-end : goal.slice_bounds-rotate_left-end
-slice_bounds-rotate_left-end c =
+pub slice_bounds-rotate-end : goal.slice_bounds-rotate-end
+slice_bounds-rotate-end c =
     let args = c.args in
     let count = c.branch_length.ensures ∙ sym (branch-long args.tap args.path.now) in
     omega (arith, c.requires.path_in_bounds, c.branches-1.given.1)
@@ -25,4 +25,4 @@ returns c =
     inserted-is args.branches.now (branch_of args.tap args.path.now) args.at args.used c.requires.at_le_used c.requires.path_in_bounds
     c.write_branch.new.out _ c.write_branch.ensures refl
     count.result (c.branch_length.ensures ∙ sym (branch-long args.tap args.path.now))
-    c.rotate_left.new.self c.rotate_left.ensures.after
+    c.rotate.new.cells c.rotate.ensures

@@ -16,25 +16,25 @@ pub block_list-blocks-requires : goal.block_list-blocks-requires
 block_list-blocks-requires c = rw c.requires (onward-stands _ _ _)
 
 pub position_list-conductors-requires : goal.position_list-conductors-requires
-position_list-conductors-requires c = moved-stands _ _ _ c.behind.ensures
+position_list-conductors-requires c = moved-stands _ _ _ c.behind-reader.ensures
 
 pub position_list-clearances-requires : goal.position_list-clearances-requires
-position_list-clearances-requires c = moved-stands _ _ _ c.behind-2.ensures
+position_list-clearances-requires c = moved-stands _ _ _ c.behind-reader-2.ensures
 
 pub position_list-terminals-requires : goal.position_list-terminals-requires
-position_list-terminals-requires c = moved-stands _ _ _ c.behind-3.ensures
+position_list-terminals-requires c = moved-stands _ _ _ c.behind-reader-3.ensures
 
 pub position_list-reserved-requires : goal.position_list-reserved-requires
-position_list-reserved-requires c = moved-stands _ _ _ c.behind-4.ensures
+position_list-reserved-requires c = moved-stands _ _ _ c.behind-reader-4.ensures
 
 pub endpoint-source-requires : goal.endpoint-source-requires
-endpoint-source-requires c = moved-stands _ _ _ c.behind-5.ensures
+endpoint-source-requires c = moved-stands _ _ _ c.behind-reader-5.ensures
 
 pub sinks_list-listed-requires : goal.sinks_list-listed-requires
-sinks_list-listed-requires c = moved-stands _ _ _ c.behind-6.ensures
+sinks_list-listed-requires c = moved-stands _ _ _ c.behind-reader-6.ensures
 
 pub sinks-sinks-requires : goal.sinks-sinks-requires
-sinks-sinks-requires c = moved-stands _ _ _ c.behind-6.ensures
+sinks-sinks-requires c = moved-stands _ _ _ c.behind-reader-6.ensures
 
 pub returns : goal.returns
 returns c =
@@ -53,13 +53,13 @@ returns c =
     let h₆ : Reader = behind-at h₅ list_count_size r in
     let h₇ : Reader = behind-at h₆ no_count_size o in
     let h₈ : Reader = behind-at h₇ sinks_count_size n in
-    let e₂ : c.behind.new.self ≡ h₂ = moved _ _ _ c.behind.ensures in
-    let e₃ : c.behind-2.new.self ≡ h₃ = moved _ _ _ c.behind-2.ensures ∙ ap (λ h. behind-at h list_count_size k) e₂ in
-    let e₄ : c.behind-3.new.self ≡ h₄ = moved _ _ _ c.behind-3.ensures ∙ ap (λ h. behind-at h list_count_size l) e₃ in
-    let e₅ : c.behind-4.new.self ≡ h₅ = moved _ _ _ c.behind-4.ensures ∙ ap (λ h. behind-at h list_count_size t) e₄ in
-    let e₆ : c.behind-5.new.self ≡ h₆ = moved _ _ _ c.behind-5.ensures ∙ ap (λ h. behind-at h list_count_size r) e₅ in
-    let e₇ : c.behind-6.new.self ≡ h₇ = moved _ _ _ c.behind-6.ensures ∙ ap (λ h. behind-at h no_count_size o) e₆ in
-    let e₈ : c.behind-7.new.self ≡ h₈ = moved _ _ _ c.behind-7.ensures ∙ ap (λ h. behind-at h sinks_count_size n) e₇ in
+    let e₂ : c.behind-reader.result ≡ h₂ = moved _ _ _ c.behind-reader.ensures in
+    let e₃ : c.behind-reader-2.result ≡ h₃ = moved _ _ _ c.behind-reader-2.ensures ∙ ap (λ h. behind-at h list_count_size k) e₂ in
+    let e₄ : c.behind-reader-3.result ≡ h₄ = moved _ _ _ c.behind-reader-3.ensures ∙ ap (λ h. behind-at h list_count_size l) e₃ in
+    let e₅ : c.behind-reader-4.result ≡ h₅ = moved _ _ _ c.behind-reader-4.ensures ∙ ap (λ h. behind-at h list_count_size t) e₄ in
+    let e₆ : c.behind-reader-5.result ≡ h₆ = moved _ _ _ c.behind-reader-5.ensures ∙ ap (λ h. behind-at h list_count_size r) e₅ in
+    let e₇ : c.behind-reader-6.result ≡ h₇ = moved _ _ _ c.behind-reader-6.ensures ∙ ap (λ h. behind-at h no_count_size o) e₆ in
+    let e₈ : c.behind-reader-7.result ≡ h₈ = moved _ _ _ c.behind-reader-7.ensures ∙ ap (λ h. behind-at h sinks_count_size n) e₇ in
     found_as h₁.sheet.now _ _ (c.body_of.ensures ∙ ap (λ x. body_of x c.endpoint-source.result c.sinks-sinks.result c.at_end-whole.result) c.layout_found-layout.ensures)
     (body-read h₁.sheet.now h₁.place b k l t r o n c.endpoint-source.result c.sinks-sinks.result c.at_end-whole.result c.requires c.block_list-blocks.ensures.is
     (c.position_list-conductors.ensures.is ∙ ap positions-at e₂) (c.position_list-clearances.ensures.is ∙ ap positions-at e₃)

@@ -13,16 +13,16 @@ use Rattle.sheet_reader.proofs.Moved.{front-at, fronted, past-at, behind-at, mov
 use Rattle.sheet_reader.proofs.read_through.Goals as goal
 
 pub four-rest-requires : goal.four-rest-requires
-four-rest-requires c = moved-stands _ _ _ c.past.ensures
+four-rest-requires c = moved-stands _ _ _ c.past-reader.ensures
 
 pub position-sides-requires : goal.position-sides-requires
-position-sides-requires c = moved-stands _ _ _ c.past-2.ensures
+position-sides-requires c = moved-stands _ _ _ c.past-reader-2.ensures
 
 pub config-config-requires : goal.config-config-requires
-config-config-requires c = moved-stands _ _ _ c.behind.ensures
+config-config-requires c = moved-stands _ _ _ c.behind-reader.ensures
 
 pub run-run-requires : goal.run-run-requires
-run-run-requires c = moved-stands _ _ _ c.behind.ensures
+run-run-requires c = moved-stands _ _ _ c.behind-reader.ensures
 
 pub read_body-body-requires : goal.read_body-body-requires
 read_body-body-requires c =
@@ -35,10 +35,10 @@ read_body-body-requires c =
     let h₃ : Reader = behind-at h₂ no_count_size d in
     let h₄ : Reader = behind-at h₃ no_count_size f in
     let e₀ : c.new-reader.result ≡ h₀ = fronted _ _ c.new-reader.ensures in
-    let e₁ : c.past.new.self ≡ h₁ = moved _ _ _ c.past.ensures ∙ ap (λ h. past-at h 1) e₀ in
-    let e₂ : c.past-2.new.self ≡ h₂ = moved _ _ _ c.past-2.ensures ∙ ap (λ h. past-at h 4) e₁ in
-    let e₃ : c.behind.new.self ≡ h₃ = moved _ _ _ c.behind.ensures ∙ ap (λ h. behind-at h no_count_size d) e₂ in
-    let e₄ : c.behind-2.new.self ≡ h₄ = moved _ _ _ c.behind-2.ensures ∙ ap (λ h. behind-at h no_count_size f) e₃ in
+    let e₁ : c.past-reader.result ≡ h₁ = moved _ _ _ c.past-reader.ensures ∙ ap (λ h. past-at h 1) e₀ in
+    let e₂ : c.past-reader-2.result ≡ h₂ = moved _ _ _ c.past-reader-2.ensures ∙ ap (λ h. past-at h 4) e₁ in
+    let e₃ : c.behind-reader.result ≡ h₃ = moved _ _ _ c.behind-reader.ensures ∙ ap (λ h. behind-at h no_count_size d) e₂ in
+    let e₄ : c.behind-reader-2.result ≡ h₄ = moved _ _ _ c.behind-reader-2.ensures ∙ ap (λ h. behind-at h no_count_size f) e₃ in
     rw e₄ (lists-reached s d f (c.sides_list-stands.ensures.is ∙ ap (λ h. sides_at (version_in h.sheet.now) h.place) e₂)
     (c.config_list-settings.ensures ∙ ap (λ h. config_at (version_in h.sheet.now) h.place) e₃))
 
@@ -52,10 +52,10 @@ returns c =
     let h₃ : Reader = behind-at h₂ no_count_size d in
     let h₄ : Reader = behind-at h₃ no_count_size c.config_list-settings.result in
     let e₀ : c.new-reader.result ≡ h₀ = fronted _ _ c.new-reader.ensures in
-    let e₁ : c.past.new.self ≡ h₁ = moved _ _ _ c.past.ensures ∙ ap (λ h. past-at h 1) e₀ in
-    let e₂ : c.past-2.new.self ≡ h₂ = moved _ _ _ c.past-2.ensures ∙ ap (λ h. past-at h 4) e₁ in
-    let e₃ : c.behind.new.self ≡ h₃ = moved _ _ _ c.behind.ensures ∙ ap (λ h. behind-at h no_count_size d) e₂ in
-    let e₄ : c.behind-2.new.self ≡ h₄ = moved _ _ _ c.behind-2.ensures ∙ ap (λ h. behind-at h no_count_size c.config_list-settings.result) e₃ in
+    let e₁ : c.past-reader.result ≡ h₁ = moved _ _ _ c.past-reader.ensures ∙ ap (λ h. past-at h 1) e₀ in
+    let e₂ : c.past-reader-2.result ≡ h₂ = moved _ _ _ c.past-reader-2.ensures ∙ ap (λ h. past-at h 4) e₁ in
+    let e₃ : c.behind-reader.result ≡ h₃ = moved _ _ _ c.behind-reader.ensures ∙ ap (λ h. behind-at h no_count_size d) e₂ in
+    let e₄ : c.behind-reader-2.result ≡ h₄ = moved _ _ _ c.behind-reader-2.ensures ∙ ap (λ h. behind-at h no_count_size c.config_list-settings.result) e₃ in
     all_read s _ _ _ c.found_of.ensures
     (c.head_of-head.ensures
     ∙ head_read s c.byte-version.result c.four-rest.result c.position-sides.result d c.config-config.result c.run-run.result

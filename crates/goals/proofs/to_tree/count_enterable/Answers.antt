@@ -1,13 +1,17 @@
--- `count_enterable` meets its contract: of the list's bytes those are counted that can be entered.
-use mathlib.Core.Path.{◌∙◌}
-use Rattle.std.proofs.Common.{rules, tests}
-use Rattle.std.proofs.lemmas.Iterator.{YieldsList-from_slice}
-use Rattle.std.proofs.lemmas.Iterator.Consumers.{count_from_yields_List, YieldsList-from_filter}
-use Rattle.room_search.specs.Routing.{can_enter}
-use Rattle.goals.specs.EnterLaws.{enterable-filtered}
+-- `count_enterable` meets its contract: each round counts one cell or passes it.
+use native.Mathlib.Omega.{arith}
+use Rattle.goals.specs.EnterLaws.{enterable-none, enterable-one, enterable-other, enterable-all}
 use Rattle.goals.proofs.to_tree.count_enterable.Goals as goal
+use Rattle.goals.proofs.to_tree.count_enterable.Goals.{else-class-ne0, then-class-ne0}
+
+pub loop-class-init : goal.loop-class-init
+loop-class-init c = enterable-none _
+
+pub loop-class-preserved : goal.loop-class-preserved
+loop-class-preserved c =
+    let round = c.loop-class.invariant in
+    let more = c.loop-class-test.true in
+    elim c.if-class-ne0.branch [ then-class-ne0 w ↦ rw w.count-is (enterable-one round more w.if-class-ne0.true) | else-class-ne0 w ↦ rw w.count-is (enterable-other round more w.if-class-ne0.false) ]
 
 pub returns : goal.returns
-returns c =
-    count_from_yields_List c.filter.result _ c.count.ensures.ran (YieldsList-from_filter _ can_enter (YieldsList-from_slice c.args.classes.now cc) c.filter.ensures.closure (λ x r q k. search (rules, tests)))
-    ∙ enterable-filtered c.args.classes.now
+returns c = enterable-all c.loop-class.invariant (omega arith)

@@ -1,7 +1,4 @@
 -- `ends_refused` meets its contract: the cells, then the ends.
-use Rattle.std.specs.Prelude.{◌≡◌, Err}
-use borrow.Author.Rules.{rules}
-use Rattle.outset.specs.declared.Refusal.{Refusal}
 use Rattle.outset.specs.SetOutLaws.{good-room, block-list, source-within, sinks-within}
 use Rattle.job_list.specs.JudgeLaws.{told-repeats, told-good, told-end}
 use Rattle.job_list.proofs.judge.ends_refused.Goals as goal
@@ -24,10 +21,8 @@ realize_ends-requires-clause-within c = source-within c.requires
 pub realize_ends-requires-clause-sink_list : goal.realize_ends-requires-clause-sink_list
 realize_ends-requires-clause-sink_list c = sinks-within c.requires
 
-pub returns-in_err-realize_ends : goal.returns-in_err-realize_ends
-returns-in_err-realize_ends c =
-    let e : c.from_residual.result ≡ Err (Refusal.End c.in_err-realize_ends.field-0.0) = search rules in
-    rw e (told-end c.requires c.cell_repeats.ensures c.if-cell_repeats.false c.realize_ends.ensures c.in_err-realize_ends.was)
+pub returns-in-Err : goal.returns-in-Err
+returns-in-Err c = told-end c.requires c.cell_repeats.ensures c.if-cell_repeats.false c.realize_ends.ensures c.in-Err.is
 
-pub returns : goal.returns
-returns c = told-good c.requires c.cell_repeats.ensures c.if-cell_repeats.false c.realize_ends.ensures c.in_ok-realize_ends.was
+pub returns-in-Ok : goal.returns-in-Ok
+returns-in-Ok c = told-good c.requires c.cell_repeats.ensures c.if-cell_repeats.false c.realize_ends.ensures c.in-Ok.is

@@ -7,7 +7,7 @@ use Rattle.net_tree.specs.LentLaws.{promise_unread, promise_unlent, promise-held
 use Rattle.net_tree.proofs.entry.route_net_tree.Goals as goal
 
 pub returns-then-not-is_good : goal.returns-then-not-is_good
-returns-then-not-is_good c = promise_unread c.read_sheet-reading.ensures (sym c.is_good.ensures ∙ c.if-not-is_good.true) (rw c.number.ensures refl)
+returns-then-not-is_good c = promise_unread c.read_sheet-reading.ensures (sym c.is_good.ensures ∙ c.if-not-is_good.true) (rw c.number-number.ensures refl)
 
 pub lent_enough-requires : goal.lent_enough-requires
 lent_enough-requires c = good-room (accepted-by c.read_sheet-reading.ensures (sym c.is_good.ensures ∙ c.if-not-is_good.false))
