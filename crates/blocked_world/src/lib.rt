@@ -70,13 +70,15 @@ impl World<'_> {
         }
     }
 
-    // What it takes the search to enter a cell.
+    // What it takes the search to enter a cell. What is beneath comes first, so that nothing stands between the look at the
+    // cell and the test that it is Air: a `fill` is a third longer the other way round.
     fn class_seen(&self, cell: usize) -> u8
         requires { cell < volume self.now.ground.room }
         ensures { result ≡ class_seen self.now.ground.mode self.now.ground.room self.now.kinds.now self.now.blocked.now self.now.start self.now.goal cell }
     {
-        let endpoint = an_end(self.start, self.goal, cell);
-        room_search::class_for(endpoint, self.seen_kind(cell), self.seen_beneath(cell))
+        let below = self.seen_beneath(cell);
+        let kind = self.seen_kind(cell);
+        room_search::class_for(an_end(self.start, self.goal, cell), kind, below)
     }
 
     // Writes one cell's class anew.

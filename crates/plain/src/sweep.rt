@@ -131,16 +131,9 @@ pub fn settle(errand: Errand, classes: &[u8], known: &mut [u32], previous: &mut 
     sweeps
 }
 
-// How many cells are known. A counting loop, since the compiler makes it one over several cells at a time, and no chain of
-// `filter` and `count`.
+// How many cells are known.
 pub fn count_known(known: &[u32]) -> usize
     ensures { result ≡ times (ltb 0) known.now }
 {
-    let mut count = 0;
-    for cost in known {
-        if *cost != 0 {
-            count += 1;
-        }
-    }
-    count
+    known.iter().filter(|cost| **cost != 0).count()
 }

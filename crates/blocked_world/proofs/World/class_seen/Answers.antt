@@ -6,4 +6,4 @@ pub returns : goal.returns
 returns c =
     let W = c.args.self.now in
     class_by W.ground.mode W.ground.room W.kinds.now W.blocked.now W.start W.goal W.fits.kinds-long c.args.cell c.requires _ _ _ _
-    c.an_end-endpoint.ensures c.seen_kind.ensures c.seen_beneath.ensures c.class_for.ensures
+    c.an_end.ensures c.seen_kind-kind.ensures c.seen_beneath-below.ensures c.class_for.ensures
